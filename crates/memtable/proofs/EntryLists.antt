@@ -9,7 +9,7 @@ use Rattle.std.specs.FinMap.Entries.{put, is_sorted-put, find-put, same_entries}
 use Rattle.cell_key.specs.Keys.{byte_cmp}
 use Rattle.cell_key.specs.Entries.{Entry, IsRising, IsEntry, or_else, entry_of_key, entry_len}
 use Rattle.memtable.specs.Edits.{bytes_of}
-use Rattle.memtable.specs.Slots.{one_value, over, value_count}
+use Rattle.memtable.specs.Slots.{lock_count, one_lock, one_value, over, value_count}
 use Rattle.cell_key.proofs.TextPlaces.{one_text, find_below, find_lower, first, second}
 
 pub over_rising : (es base : List Entry) → IsRising base → IsRising (over es base)
@@ -96,6 +96,26 @@ bytes-put name v es r =
 
 pub stood_within : (name : List ℕ) (es : List Entry) → stood_len name (entry_of_key es name) ≤ bytes_of es
 stood_within name es = rw (bytes-total es, stood-len name (entry_of_key es name)) (stood_below entry_len name es)
+
+-- how many values of locks stood at a text
+abbrev pub stood_locks : List ℕ → Option (Option (List ℕ)) → ℕ
+stood_locks name None = 0
+stood_locks name (Some v) = one_lock (name, v)
+
+locks-total : (es : List Entry) → lock_count es ≡ total one_lock es
+locks-total [] = refl
+locks-total (e ∷ es) = ap (λ (n : ℕ). one_lock e + n) (locks-total es)
+
+stood-locks : (name : List ℕ) (o : Option (Option (List ℕ))) → stood_locks name o ≡ stood one_lock name o
+stood-locks name None = refl
+stood-locks name (Some v) = refl
+
+pub locks-put : (name : List ℕ) (v : Option (List ℕ)) (es : List Entry) → IsRising es → lock_count (put byte_cmp name v es) + stood_locks name (entry_of_key es name) ≡ lock_count es + one_lock (name, v)
+locks-put name v es r =
+    rw (locks-total (put byte_cmp name v es), locks-total es, stood-locks name (entry_of_key es name)) (total-put one_lock name v es r)
+
+pub stood_locks_within : (name : List ℕ) (es : List Entry) → stood_locks name (entry_of_key es name) ≤ lock_count es
+stood_locks_within name es = rw (locks-total es, stood-locks name (entry_of_key es name)) (stood_below one_lock name es)
 
 -- how many values stood at a text
 abbrev pub stood_value : Option (Option (List ℕ)) → ℕ

@@ -1,5 +1,5 @@
--- How many entries there are, and how many bytes they have.
-use Rattle.std.proofs.Common.{◌≡◌, ◌≤◌, ◌+◌, ◌*◌, ◌^◌, ◌==◌, ℕ, zero, suc, Bool, true, false, cond, List, [], ◌∷◌, length, Option, Some, None, IfSome, is_some, refl, sym, ap, subst, ◌∙◌, arith, length-append}
+-- How many entries there are, how many bytes they have, and how many of them are values of locks.
+use Rattle.std.proofs.Common.{◌≡◌, ◌<◌, ◌≤◌, ◌+◌, ◌*◌, ◌^◌, ◌==◌, ℕ, zero, suc, Bool, true, false, cond, List, [], ◌∷◌, length, Option, Some, None, IfSome, is_some, refl, sym, ap, subst, ◌∙◌, arith, length-append}
 use Rattle.std.proofs.lemmas.Bool.Decides.{nat_tests}
 use Rattle.std.specs.List.{AllByRecursion}
 use Rattle.std.specs.Cmp.Lexicographic.{nat_list_cmp_total}
@@ -11,12 +11,14 @@ use Rattle.cell_key.specs.declared.keys.CellKey.{CellKey}
 use Rattle.cell_key.specs.declared.keys.Qualifier.{Qualifier}
 use Rattle.cell_key.specs.declared.keys.Qualifier.TheVariants.{Data, Lock, Write}
 use Rattle.memtable.specs.Edits.{bytes_of, IsWithinLimits}
-use Rattle.memtable.specs.Slots.{over}
-use Rattle.memtable.specs.Sizes.{IsSizeOf, stood_bytes, or_zero}
+use Rattle.memtable.specs.Slots.{is_lock_text, lock_count, one_lock, one_value, over}
+use Rattle.memtable.specs.Sizes.{IsSizeOf, stood_size, or_nothing}
 use Rattle.memtable.specs.Blocks.{block_entries, AreEntryBlocks, IsKept}
 use Rattle.memtable.specs.declared.blocks.Blocks.{Blocks}
+use Rattle.memtable.specs.declared.size.EntrySize.{EntrySize}
 use Rattle.memtable.specs.declared.size.Size.{Size}
-use Rattle.memtable.proofs.EntryLists.{stood_len, bytes-put, stood_within, over_rising, each-over}
+use Rattle.memtable.proofs.EntryLists.{stood_len, bytes-put, stood_within, stood_locks, locks-put, stood_locks_within, over_rising, each-over}
+use Rattle.memtable.proofs.Values.{one_at_most}
 
 -- ---- the size of one entry
 
@@ -53,30 +55,60 @@ entry_small e is =
 
 -- ---- the size of a list
 
-stood_as_len : (name : List ℕ) (o : Option (Option (List ℕ))) → or_zero (stood_bytes name o) ≡ stood_len name o
+stood_as_len : (name : List ℕ) (o : Option (Option (List ℕ))) → (or_nothing (stood_size name o)).bytes ≡ stood_len name o
 stood_as_len name None = refl
 stood_as_len name (Some v) = refl
 
-stood_some : (name : List ℕ) (o : Option (Option (List ℕ))) → is_some (stood_bytes name o) ≡ is_some o
+stood_as_locks : (name : List ℕ) (o : Option (Option (List ℕ))) → (or_nothing (stood_size name o)).locks ≡ stood_locks name o
+stood_as_locks name None = refl
+stood_as_locks name (Some v) = refl
+
+stood_some : (name : List ℕ) (o : Option (Option (List ℕ))) → is_some (stood_size name o) ≡ is_some o
 stood_some name None = refl
 stood_some name (Some v) = refl
 
--- an entry in the place of one of this many bytes
-module _ (es : List Entry) (name : List ℕ) (replaced : Option ℕ) (found : replaced ≡ stood_bytes name (entry_of_key es name)) where
-  stood : or_zero replaced ≡ stood_len name (entry_of_key es name)
-  stood = ap or_zero found ∙ stood_as_len name (entry_of_key es name)
+one_lock_most : (e : Entry) → one_lock e ≤ 1
+one_lock_most e = go (is_lock_text e.0)
+  where
+    go : (b : Bool) → cond b (one_value e.1) 0 ≤ 1
+    go true = one_at_most e.1
+    go false = omega arith
 
-  pub replaced_within : (size : Size) → IsSizeOf size es → or_zero replaced ≤ size.bytes
+lock_count-within : (es : List Entry) → lock_count es ≤ length es
+lock_count-within [] = omega arith
+lock_count-within (e ∷ es) = let h = lock_count-within es in let one = one_lock_most e in omega (arith, h, one)
+
+-- no more values of locks than entries
+pub locks_within : (size : Size) (es : List Entry) → IsSizeOf size es → size.locks ≤ size.entries
+locks_within size es is = let h = lock_count-within es in let a = is.entries in let b = is.locks in omega (arith, h, a, b)
+
+-- one entry more keeps them few
+pub locks_fit : (e : Entry) (size : Size) (es : List Entry) → IsSizeOf size es → size.entries ≤ 2 ^ 65 → size.locks + one_lock e < 2 ^ 128
+locks_fit e size es is few = let h = locks_within size es is in let one = one_lock_most e in omega (arith, h, one, few)
+
+-- an entry in the place of one of this size
+module _ (es : List Entry) (name : List ℕ) (replaced : Option EntrySize) (found : replaced ≡ stood_size name (entry_of_key es name)) where
+  stood : (or_nothing replaced).bytes ≡ stood_len name (entry_of_key es name)
+  stood = ap (λ (o : Option EntrySize). (or_nothing o).bytes) found ∙ stood_as_len name (entry_of_key es name)
+
+  locked : (or_nothing replaced).locks ≡ stood_locks name (entry_of_key es name)
+  locked = ap (λ (o : Option EntrySize). (or_nothing o).locks) found ∙ stood_as_locks name (entry_of_key es name)
+
+  pub replaced_within : (size : Size) → IsSizeOf size es → (or_nothing replaced).bytes ≤ size.bytes
   replaced_within size is = let e = stood in let h = stood_within name es in let b = is.bytes in omega (arith, e, h, b)
 
-  pub size_step : (v : Option (List ℕ)) (size new : Size) → IsRising es → IsSizeOf size es → new.entries ≡ cond (is_some replaced) size.entries (size.entries + 1) → new.bytes + or_zero replaced ≡ size.bytes + entry_len (name, v) → IsSizeOf new (put byte_cmp name v es)
-  size_step v size new r is count bytes =
+  pub replaced_locks : (size : Size) → IsSizeOf size es → (or_nothing replaced).locks ≤ size.locks
+  replaced_locks size is = let e = locked in let h = stood_locks_within name es in let b = is.locks in omega (arith, e, h, b)
+
+  pub size_step : (v : Option (List ℕ)) (size new : Size) → IsRising es → IsSizeOf size es → new.entries ≡ cond (is_some replaced) size.entries (size.entries + 1) → new.bytes + (or_nothing replaced).bytes ≡ size.bytes + entry_len (name, v) → new.locks + (or_nothing replaced).locks ≡ size.locks + one_lock (name, v) → IsSizeOf new (put byte_cmp name v es)
+  size_step v size new r is count bytes locks =
       record {
         entries =
             count ∙ ap (λ (n : ℕ). cond (is_some replaced) n (n + 1)) is.entries
             ∙ ap (λ (b : Bool). cond b (length es) (length es + 1)) (ap is_some found ∙ stood_some name (entry_of_key es name))
             ∙ sym (length-put byte_cmp nat_list_cmp_total name v es r);
         bytes = let e = stood in let h = bytes-put name v es r in let b = is.bytes in omega (arith, e, h, b, bytes);
+        locks = let e = locked in let h = locks-put name v es r in let b = is.locks in omega (arith, e, h, b, locks);
       }
 
 few_left : (b : Bool) (n new r before : ℕ) → new ≡ cond b n (n + 1) → before ≡ suc r → n + before ≤ 2 ^ 65 → new + r ≤ 2 ^ 65
@@ -84,7 +116,7 @@ few_left true n new r before e len h = omega arith
 few_left false n new r before e len h = omega arith
 
 -- sizes on the way stay small
-pub few_more : (replaced : Option ℕ) (size new : Size) (r before : ℕ) → new.entries ≡ cond (is_some replaced) size.entries (size.entries + 1) → before ≡ suc r → size.entries + before ≤ 2 ^ 65 → new.entries + r ≤ 2 ^ 65
+pub few_more : (replaced : Option EntrySize) (size new : Size) (r before : ℕ) → new.entries ≡ cond (is_some replaced) size.entries (size.entries + 1) → before ≡ suc r → size.entries + before ≤ 2 ^ 65 → new.entries + r ≤ 2 ^ 65
 few_more replaced size new r before e len h = few_left (is_some replaced) size.entries new.entries r before e len h
 
 pub small_more : (n new old one r before : ℕ) → new + old ≡ n + one → one ≤ 2 ^ 18 → before ≡ suc r → n + 2 ^ 18 * before ≤ 2 ^ 83 → new + 2 ^ 18 * r ≤ 2 ^ 83
@@ -113,7 +145,7 @@ over_bytes (e ∷ es) base r all =
 
 -- ---- what a memtable keeps
 
-pub kept : (blocks : Blocks) (staged base : List Entry) (size : Size) → block_entries blocks.filled.items ≡ over staged base → IsEntryList base → AllByRecursion IsEntry staged → IsSizeOf size (over staged base) → IsWithinLimits (over staged base) → AreEntryBlocks blocks → IsKept blocks size.entries size.bytes
+pub kept : (blocks : Blocks) (staged base : List Entry) (size : Size) → block_entries blocks.filled.items ≡ over staged base → IsEntryList base → AllByRecursion IsEntry staged → IsSizeOf size (over staged base) → IsWithinLimits (over staged base) → AreEntryBlocks blocks → IsKept blocks size.entries size.bytes size.locks
 kept blocks staged base size made list limits is within are =
     record {
       list =
@@ -124,6 +156,7 @@ kept blocks staged base size made list limits is within are =
       limits = subst (λ (xs : List Entry). IsWithinLimits xs) (sym made) within;
       count = is.entries ∙ ap length (sym made);
       bytes = is.bytes ∙ ap bytes_of (sym made);
+      locks = is.locks ∙ ap lock_count (sym made);
       blocks = are;
     }
 

@@ -13,11 +13,14 @@ abbrev pub column_text : CellKey → List ℕ
 column_text key =
     ended (escaped key.row) ++ (ended key.family ++ ended (qualifier_name key.qualifier))
 
--- the text of a version is the column's front and the stamp's text
+-- the text of a key is the column's front and the stamp's text
+pub key_in_parts : (key : CellKey) → column_text key ++ stamp_text key.stamp ≡ text key
+key_in_parts key =
+    append_assoc (ended (escaped key.row)) (ended key.family ++ ended (qualifier_name key.qualifier)) (stamp_text key.stamp)
+    ∙ ap (λ (xs : List ℕ). ended (escaped key.row) ++ xs) (append_assoc (ended key.family) (ended (qualifier_name key.qualifier)) (stamp_text key.stamp))
+
 pub in_parts : (v : Version) (s : ℕ) → column_text (key_of v) ++ stamp_text s ≡ text (at_stamp v s)
-in_parts v s =
-    append_assoc (ended (escaped v.row.now)) (ended v.family.now ++ ended (qualifier_name v.qualifier)) (stamp_text s)
-    ∙ ap (λ (xs : List ℕ). ended (escaped v.row.now) ++ xs) (append_assoc (ended v.family.now) (ended (qualifier_name v.qualifier)) (stamp_text s))
+in_parts v s = key_in_parts (at_stamp v s)
 
 pub if_some : {A : Type 0} (o : Option A) (P Q : A → Type 0) → ((x : A) → P x → Q x) → IfSome o P → IfSome o Q
 if_some None P Q f h = tt
@@ -29,7 +32,7 @@ if_none (Some x) f h = tt
 
 -- ---- texts that differ in their last eight bytes alone
 
-before_stamp : (bytes front : List ℕ) (s n : ℕ) → bytes ≡ front ++ stamp_text s → n ≡ length bytes → take (n - 8) bytes ≡ front
+pub before_stamp : (bytes front : List ℕ) (s n : ℕ) → bytes ≡ front ++ stamp_text s → n ≡ length bytes → take (n - 8) bytes ≡ front
 before_stamp bytes front s n e whole =
     let lens = ap length e in
     let stamp : length (stamp_text s) ≡ 8 = refl in

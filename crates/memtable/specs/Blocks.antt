@@ -9,7 +9,7 @@ use Rattle.cell_key.specs.Entries.{Entry, IsEntryList}
 use Rattle.memtable.specs.declared.entries.Slot.{Slot}
 use Rattle.memtable.specs.declared.blocks.Block.{Block}
 use Rattle.memtable.specs.declared.blocks.Blocks.{Blocks}
-use Rattle.memtable.specs.Slots.{slot_entries, value_count}
+use Rattle.memtable.specs.Slots.{lock_count, slot_entries, value_count}
 use Rattle.memtable.specs.Edits.{bytes_of, IsWithinLimits}
 
 -- whether a list has entries, the last of which is below this text
@@ -72,9 +72,10 @@ pub record HasRoom (count : ℕ) (blocks : Blocks) : Type 0 where
   pub spare : count ≤ vec_len blocks.spare
 
 -- what a memtable keeps
-pub record IsKept (table : Blocks) (len total : ℕ) : Type 0 where
+pub record IsKept (table : Blocks) (len total locked : ℕ) : Type 0 where
   pub list : IsEntryList (block_entries table.filled.items)
   pub limits : IsWithinLimits (block_entries table.filled.items)
   pub count : len ≡ length (block_entries table.filled.items)
   pub bytes : total ≡ bytes_of (block_entries table.filled.items)
+  pub locks : locked ≡ lock_count (block_entries table.filled.items)
   pub blocks : AreEntryBlocks table

@@ -1,9 +1,12 @@
 -- The entries that slots stand for.
-use Rattle.std.specs.Prelude.{◌+◌, ℕ, zero, suc, Bool, false, List, [], ◌∷◌, map, Option, Some, None, option_map}
+use Rattle.std.specs.Prelude.{◌+◌, ◌-◌, if◌then◌else◌, length, take, nat_eq, ℕ, zero, suc, Bool, false, List, [], ◌∷◌, map, Option, Some, None, option_map}
 use Rattle.std.specs.declared.boxed.Box.{Box}
 use Rattle.std.specs.Ordering.{is_eq}
 use Rattle.std.specs.FinMap.Entries.{put}
-use Rattle.cell_key.specs.Keys.{byte_cmp}
+use Rattle.std.specs.List.{ends_with}
+use Rattle.cell_key.specs.Keys.{byte_cmp, qualifier_name}
+use Rattle.cell_key.specs.Texts.{ended}
+use Rattle.cell_key.specs.declared.keys.Qualifier.TheVariants.{Lock}
 use Rattle.cell_key.specs.Entries.{Entry}
 use Rattle.std.specs.Borrow.{Bor}
 use Rattle.memtable.specs.declared.entries.Slot.{Slot}
@@ -29,6 +32,20 @@ one_value (Some value) = 1
 abbrev pub value_count : List Entry → ℕ
 value_count [] = 0
 value_count (e ∷ es) = one_value e.1 + value_count es
+
+-- whether a text is that of a lock's key, by what stands before the eight bytes of its stamp
+abbrev pub is_lock_text : List ℕ → Bool
+is_lock_text name =
+    ends_with nat_eq (take (length name - 8) name) (ended (qualifier_name Lock))
+
+-- 1 for a value of a lock, and 0 for any other entry
+abbrev pub one_lock : Entry → ℕ
+one_lock e = if is_lock_text e.0 then one_value e.1 else 0
+
+-- how many locks have a value
+abbrev pub lock_count : List Entry → ℕ
+lock_count [] = 0
+lock_count (e ∷ es) = one_lock e + lock_count es
 
 -- whether the entry at the place has this text
 abbrev pub is_named : List ℕ → List Entry → ℕ → Bool

@@ -7,11 +7,11 @@ ghost use Rattle.std.specs.FinMap.Entries.{put as put_entry};
 ghost use Rattle.cell_key.specs.Keys.{byte_cmp};
 ghost use Rattle.cell_key.specs.Entries.{IsEntry, IsRising, entries_from, entry_of_key};
 ghost use Rattle.memtable.specs.Slots.{slot_entry, slot_entries, first_value, over};
-ghost use Rattle.memtable.specs.Sizes.{IsSizeOf, stood_bytes};
+ghost use Rattle.memtable.specs.Sizes.{IsSizeOf, stood_size};
 ghost use Rattle.memtable.specs.Blocks.{block_entries, lists_of, list_of, ends_below, IsBlockIndex, IsCounted, IsEntryBlock, IsSpare, IsFullAt, AreEntryBlocks, HasRoom};
 
 use crate::entries::{self, Slot};
-use crate::size::Size;
+use crate::size::{EntrySize, Size};
 use crate::sought::Sought;
 use std::alloc::{AllocError, Global};
 
@@ -94,14 +94,14 @@ pub(crate) fn find<S: Sought>(blocks: &[Block], sought: S) -> Option<&Slot>
     entries::find(&block.slots, sought)
 }
 
-/// How many bytes the entry of a text has, if there is one.
-pub(crate) fn stood_bytes(blocks: &[Block], text: &[u8]) -> Option<u128>
+/// The size of the entry of a text, if there is one.
+pub(crate) fn stood_size(blocks: &[Block], text: &[u8]) -> Option<EntrySize>
     requires rising { IsRising (block_entries blocks.now) }
     requires blocks { AllByRecursion IsEntryBlock blocks.now }
-    ensures { result ≡ stood_bytes text.now (entry_of_key (block_entries blocks.now) text.now) }
+    ensures { result ≡ stood_size text.now (entry_of_key (block_entries blocks.now) text.now) }
 {
     match find(blocks, text) {
-        Some(slot) => Some(slot.len()),
+        Some(slot) => Some(slot.size()),
         None => None,
     }
 }
@@ -252,9 +252,9 @@ fn open(blocks: &mut Blocks, slot: Box<Slot>)
     blocks.filled.push(Block { slots, values }).unwrap();
 }
 
-/// Puts an entry at its place in a block that has room for one more. An entry of the same text goes: how many
-/// bytes it had.
-fn put_in(block: &mut Block, slot: Box<Slot>) -> Option<u128>
+/// Puts an entry at its place in a block that has room for one more. Returns the size of the entry of
+/// the same text that it replaces, if there is one.
+fn put_in(block: &mut Block, slot: Box<Slot>) -> Option<EntrySize>
     requires rising { IsRising (list_of block.old) }
     requires room { vec_len block.old.slots < vec_capacity block.old.slots }
     requires few { vec_len block.old.slots < 128 }
@@ -262,7 +262,7 @@ fn put_in(block: &mut Block, slot: Box<Slot>) -> Option<u128>
     ensures entries { list_of block.new
         ≡ put_entry byte_cmp (slot_entry slot.value).0 (slot_entry slot.value).1
         (list_of block.old) }
-    ensures replaced { result ≡ stood_bytes (slot_entry slot.value).0
+    ensures replaced { result ≡ stood_size (slot_entry slot.value).0
         (entry_of_key (list_of block.old) (slot_entry slot.value).0) }
     ensures some { 1 ≤ vec_len block.new.slots }
     ensures len { vec_len block.new.slots ≤ vec_len block.old.slots + 1 }
@@ -273,21 +273,22 @@ fn put_in(block: &mut Block, slot: Box<Slot>) -> Option<u128>
     match entries::put(&mut block.slots, slot) {
         Some(old) => {
             block.values -= old.value_count();
-            Some(old.len())
+            Some(old.size())
         }
         None => None,
     }
 }
 
-/// Puts an entry at its place. There is room for one more. An entry of the same text goes: how many bytes it had.
-pub(crate) fn put(blocks: &mut Blocks, slot: Box<Slot>) -> Option<u128>
+/// Puts an entry at its place. There is room for one more. Returns the size of the entry of the same text that it
+/// replaces, if there is one.
+pub(crate) fn put(blocks: &mut Blocks, slot: Box<Slot>) -> Option<EntrySize>
     requires rising { IsRising (block_entries blocks.old.filled.items) }
     requires blocks { AreEntryBlocks blocks.old }
     requires room { HasRoom 1 blocks.old }
     ensures entries { block_entries blocks.new.filled.items
         ≡ put_entry byte_cmp (slot_entry slot.value).0 (slot_entry slot.value).1
         (block_entries blocks.old.filled.items) }
-    ensures replaced { result ≡ stood_bytes (slot_entry slot.value).0
+    ensures replaced { result ≡ stood_size (slot_entry slot.value).0
         (entry_of_key (block_entries blocks.old.filled.items) (slot_entry slot.value).0) }
     ensures blocks { AreEntryBlocks blocks.new }
     ensures room { (n : ℕ) → HasRoom (n + 1) blocks.old → HasRoom n blocks.new }
@@ -323,7 +324,7 @@ pub(crate) fn put_counted(blocks: &mut Blocks, slot: Box<Slot>, before: Size) ->
     ensures blocks { AreEntryBlocks blocks.new }
     ensures room { (n : ℕ) → HasRoom (n + 1) blocks.old → HasRoom n blocks.new }
 {
-    let added = slot.len();
+    let added = slot.size();
     before.with(added, put(blocks, slot))
 }
 
@@ -344,7 +345,7 @@ pub(crate) fn put_all(blocks: &mut Blocks, mut staged: Vec<Box<Slot>>, before: S
 {
     let mut size = before;
     while let Some(slot) = staged.pop() {
-        let added = slot.len();
+        let added = slot.size();
         size = size.with(added, put(blocks, slot));
     }
     size

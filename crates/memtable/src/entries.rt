@@ -4,9 +4,11 @@ ghost use Rattle.std.specs.Prelude.{◌≡◌, ◌+◌, ◌≤◌, ◌<◌, IfSo
 ghost use Rattle.std.specs.FinMap.Entries.{put as put_entry};
 ghost use Rattle.cell_key.specs.Keys.{byte_cmp};
 ghost use Rattle.cell_key.specs.Entries.{IsPlace, IsRising, entry_of_key, lent_entry, entry_len};
-ghost use Rattle.memtable.specs.Slots.{slot_entry, slot_entries, is_named, first_value, one_value, value_count};
+ghost use Rattle.memtable.specs.Slots.{slot_entry, slot_entries, is_named, first_value, one_lock, one_value, value_count};
+ghost use Rattle.memtable.specs.Sizes.{entry_size};
 
 use crate::key_text::EntryText;
+use crate::size::EntrySize;
 use crate::sought::Sought;
 use cell_key::EntryRef;
 use std::mem;
@@ -30,7 +32,7 @@ impl Slot {
     }
 
     /// How many bytes the entry has in a file.
-    pub(crate) fn len(&self) -> u128
+    fn len(&self) -> u128
         ensures { result ≡ entry_len (slot_entry self.now) }
     {
         let text = 4 + self.text.as_slice().len() as u128;
@@ -47,6 +49,27 @@ impl Slot {
         match &self.value {
             Some(_) => 1,
             None => 0,
+        }
+    }
+
+    /// 1 for a value of a lock, and 0 for any other entry.
+    fn lock_count(&self) -> u128
+        ensures { result ≡ one_lock (slot_entry self.now) }
+    {
+        if self.value.is_some() && self.text.is_lock() {
+            1
+        } else {
+            0
+        }
+    }
+
+    /// What the entry adds to a size.
+    pub(crate) fn size(&self) -> EntrySize
+        ensures { result ≡ entry_size (slot_entry self.now) }
+    {
+        EntrySize {
+            bytes: self.len(),
+            locks: self.lock_count(),
         }
     }
 }

@@ -4,6 +4,7 @@
 ghost use Rattle.std.specs.Prelude.{◌≡◌, ◌≤◌, List, ℕ, length};
 ghost use Rattle.cell_key.specs.Keys.{byte_cmp};
 ghost use Rattle.memtable.specs.Order.{IsFront};
+ghost use Rattle.memtable.specs.Slots.{is_lock_text};
 
 use crate::sought::{Sought, compare_texts};
 use byteorder::{BigEndian, ByteOrder};
@@ -59,6 +60,15 @@ impl EntryText {
         ensures { result.now ≡ self.now }
     {
         self.bytes.as_slice()
+    }
+
+    /// Whether the text is that of a lock's key.
+    pub(crate) fn is_lock(&self) -> bool
+        ensures { result ≡ is_lock_text self.now }
+    {
+        let bytes = self.bytes.as_slice();
+        let (column, _) = bytes.split_at(bytes.len() - 8);
+        column.ends_with(b"lock\0\0")
     }
 
     /// The byte order of some bytes, whose front is given, and this text.

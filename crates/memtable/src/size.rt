@@ -1,7 +1,7 @@
-//! How many entries there are, and how many bytes they have.
+//! How many entries there are, how many bytes they have, and how many of them are values of locks.
 
 ghost use Rattle.std.specs.Prelude.{◌≡◌, ◌+◌, ◌*◌, ◌≤◌, ◌<◌, ◌^◌, IsTrue, is_some, if◌then◌else◌};
-ghost use Rattle.memtable.specs.Sizes.{or_zero};
+ghost use Rattle.memtable.specs.Sizes.{or_nothing};
 
 /// The most entries of a memtable.
 pub(crate) const MOST_ENTRIES: usize = 100_000;
@@ -12,31 +12,47 @@ pub(crate) const MOST_BYTES: usize = 67_108_864;
 /// More bytes than an entry has.
 const ENTRY_BYTES: u128 = 262_144;
 
-/// How many entries there are, and how many bytes they have. Wide enough for any list of edits.
+/// What one entry adds to a size.
+#[derive(Clone, Copy)]
+pub(crate) struct EntrySize {
+    /// How many bytes it has in a file.
+    pub(crate) bytes: u128,
+    /// 1 for a value of a lock, and 0 for any other entry.
+    pub(crate) locks: u128,
+}
+
+/// How many entries there are, how many bytes they have, and how many of them are values of locks. Wide enough for any
+/// list of edits.
 #[derive(Clone, Copy)]
 pub(crate) struct Size {
     pub(crate) entries: u128,
     pub(crate) bytes: u128,
+    pub(crate) locks: u128,
 }
 
 impl Size {
     /// The size with one entry more, or with an entry in the place of another.
-    pub(crate) fn with(self, added: u128, replaced: Option<u128>) -> Size
-        requires replaced { or_zero replaced ≤ self.bytes }
+    pub(crate) fn with(self, added: EntrySize, replaced: Option<EntrySize>) -> Size
+        requires replaced_bytes { (or_nothing replaced).bytes ≤ self.bytes }
+        requires replaced_locks { (or_nothing replaced).locks ≤ self.locks }
         requires few { self.entries + 1 < 2 ^ 128 }
-        requires small { self.bytes + added < 2 ^ 128 }
+        requires small { self.bytes + added.bytes < 2 ^ 128 }
+        requires few_locks { self.locks + added.locks < 2 ^ 128 }
         ensures entries { result.entries
             ≡ (if is_some replaced then self.entries else self.entries + 1) }
-        ensures bytes { result.bytes + or_zero replaced ≡ self.bytes + added }
+        ensures bytes { result.bytes + (or_nothing replaced).bytes ≡ self.bytes + added.bytes }
+        ensures locks { result.locks + (or_nothing replaced).locks ≡ self.locks + added.locks }
     {
         match replaced {
-            Some(bytes) => Size {
+            Some(old) => Size {
                 entries: self.entries,
-                bytes: self.bytes - bytes + added,
+                bytes: self.bytes - old.bytes + added.bytes,
+                locks: self.locks - old.locks + added.locks,
             },
             None => Size {
                 entries: self.entries + 1,
-                bytes: self.bytes + added,
+                bytes: self.bytes + added.bytes,
+                locks: self.locks + added.locks,
             },
         }
     }

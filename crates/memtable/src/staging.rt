@@ -98,7 +98,7 @@ pub(crate) fn size_with(table: &[Block], before: Size, staged: &[Box<Slot>]) -> 
     while at > 0 {
         at -= 1;
         let slot = &staged[at];
-        size = size.with(slot.len(), blocks::stood_bytes(table, slot.text.as_slice()));
+        size = size.with(slot.size(), blocks::stood_size(table, slot.text.as_slice()));
     }
     size
 }

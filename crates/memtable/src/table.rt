@@ -29,6 +29,8 @@ pub struct Memtable {
     blocks: Blocks,
     len: usize,
     bytes: usize,
+    /// How many locks have a value.
+    locks: usize,
 }
 
 impl Model for Memtable {
@@ -40,7 +42,7 @@ impl Model for Memtable {
 
     ghost view = { λ table. block_entries table.blocks.filled.items };
 
-    ghost invariant = { λ table. IsKept table.blocks table.len table.bytes };
+    ghost invariant = { λ table. IsKept table.blocks table.len table.bytes table.locks };
 }
 
 /// Whether a table is within the limits once entries are put over it. If there is room for them whatever they
@@ -83,6 +85,7 @@ impl Memtable {
             },
             len: 0,
             bytes: 0,
+            locks: 0,
         }
     }
 
@@ -130,7 +133,8 @@ impl Memtable {
     }
 
     /// The version of a cell's column with the greatest stamp in `lo..=hi`, if it has one there: its stamp, from
-    /// 1 to 2^63 - 1, and its value of at most 65,536 bytes. An erasure is no version. Takes no memory.
+    /// 1 to 2^63 - 1, and its value of at most 65,536 bytes. An erasure is no version. Of a lock it searches
+    /// nothing if no lock has a value. Takes no memory.
     pub fn newest(
         &self,
         row: &Row,
@@ -144,6 +148,9 @@ impl Memtable {
         ensures limits { IfSome result (λ found. IsVersion found.0 found.1.now) }
         ensures list { IsEntryList self.now }
     {
+        if qualifier == Qualifier::Lock && self.locks == 0 {
+            return None;
+        }
         let sought = Version {
             row,
             family,
@@ -175,6 +182,7 @@ impl Memtable {
         let before = Size {
             entries: self.len as u128,
             bytes: self.bytes as u128,
+            locks: self.locks as u128,
         };
         if edits.len() == 2 && before.has_room(2) {
             return self.put_two(row, edits, before);
@@ -187,6 +195,7 @@ impl Memtable {
         let size = blocks::put_all(&mut self.blocks, staged, before);
         self.len = size.entries as usize;
         self.bytes = size.bytes as usize;
+        self.locks = size.locks as usize;
         Ok(())
     }
 
@@ -213,6 +222,7 @@ impl Memtable {
         let size = blocks::put_counted(&mut self.blocks, last, half);
         self.len = size.entries as usize;
         self.bytes = size.bytes as usize;
+        self.locks = size.locks as usize;
         Ok(())
     }
 }

@@ -3,7 +3,7 @@ use Rattle.memtable.specs.declared.blocks.Block.{Block}
 use Rattle.memtable.specs.declared.entries.Slot.{Slot}
 use Rattle.memtable.specs.Slots.{slot_entry}
 use Rattle.memtable.specs.Blocks.{list_of}
-use Rattle.memtable.specs.Sizes.{stood_bytes}
+use Rattle.memtable.specs.Sizes.{stood_size}
 use Rattle.memtable.proofs.BlockLists.{rising_at}
 use Rattle.memtable.proofs.BlockFacts.{found_chosen, put_chosen, full_at, at_set}
 use Rattle.memtable.proofs.blocks.put.Goals as goal
@@ -45,7 +45,7 @@ returns-then-len-eq-BLOCK_ROOM-clause-replaced c =
     let place = rw (name, c.deref.ensures.value) at c.index_near.ensures.index in
     let text = c.args.slot.value.text in
     c.put_in-replaced.ensures.replaced
-    ∙ ap (stood_bytes text) (sym (found_chosen text c.index_mut.result.now xs c.index_near.result c.min-at.result c.requires.rising c.requires.blocks.filled place (omega (arith, c.if-count-eq0.false)) (λ other. (omega (arith, other, c.if-count-eq0.false), omega (arith, other, c.if-count-eq0.false))) c.index_mut.ensures.value))
+    ∙ ap (stood_size text) (sym (found_chosen text c.index_mut.result.now xs c.index_near.result c.min-at.result c.requires.rising c.requires.blocks.filled place (omega (arith, c.if-count-eq0.false)) (λ other. (omega (arith, other, c.if-count-eq0.false), omega (arith, other, c.if-count-eq0.false))) c.index_mut.ensures.value))
 
 pub returns-else-len-eq-BLOCK_ROOM-clause-replaced : goal.returns-else-len-eq-BLOCK_ROOM-clause-replaced
 returns-else-len-eq-BLOCK_ROOM-clause-replaced c =
@@ -54,4 +54,4 @@ returns-else-len-eq-BLOCK_ROOM-clause-replaced c =
     let place = rw (name, c.deref.ensures.value) at c.index_near.ensures.index in
     let text = c.args.slot.value.text in
     c.put_in-replaced.ensures.replaced
-    ∙ ap (stood_bytes text) (sym (found_chosen text c.index_mut.result.now xs c.index_near.result c.min-at.result c.requires.rising c.requires.blocks.filled place (omega (arith, c.if-count-eq0.false)) (λ other. (omega (arith, other, c.if-count-eq0.false), omega (arith, other, c.if-count-eq0.false))) c.index_mut.ensures.value))
+    ∙ ap (stood_size text) (sym (found_chosen text c.index_mut.result.now xs c.index_near.result c.min-at.result c.requires.rising c.requires.blocks.filled place (omega (arith, c.if-count-eq0.false)) (λ other. (omega (arith, other, c.if-count-eq0.false), omega (arith, other, c.if-count-eq0.false))) c.index_mut.ensures.value))

@@ -3,8 +3,7 @@ use Rattle.std.proofs.lemmas.List.{length-map}
 use Rattle.memtable.specs.declared.entries.Slot.{Slot}
 use Rattle.memtable.specs.Slots.{slot_entry, slot_entries, one_value}
 use Rattle.memtable.specs.Blocks.{list_of}
-use Rattle.memtable.specs.Sizes.{stood_bytes}
-use Rattle.cell_key.specs.Entries.{entry_len}
+use Rattle.memtable.specs.Sizes.{entry_size, stood_size}
 use Rattle.memtable.proofs.EntryLists.{count-put}
 use Rattle.memtable.proofs.Values.{one_at_most, value_count-within}
 use Rattle.memtable.proofs.blocks.put_in.Goals as goal
@@ -33,11 +32,11 @@ pub returns-in-Some-clause-replaced : goal.returns-in-Some-clause-replaced
 returns-in-Some-clause-replaced c =
     let name = c.args.slot.value.text in
     let old = ap slot_entry c.deref-in-Some-2.ensures in
-    ap Some (c.len.ensures ∙ ap entry_len old ∙ ap (λ (n : List ℕ). entry_len (n, (slot_entry c.in-Some.old.value).1)) c.in-Some.ensures.named)
-    ∙ ap (stood_bytes name) c.in-Some.ensures.replaced
+    ap Some (c.size.ensures ∙ ap entry_size old ∙ ap (λ (n : List ℕ). entry_size (n, (slot_entry c.in-Some.old.value).1)) c.in-Some.ensures.named)
+    ∙ ap (stood_size name) c.in-Some.ensures.replaced
 
 pub returns-in-None-clause-replaced : goal.returns-in-None-clause-replaced
-returns-in-None-clause-replaced c = ap (stood_bytes c.args.slot.value.text) c.in-None.ensures.replaced
+returns-in-None-clause-replaced c = ap (stood_size c.args.slot.value.text) c.in-None.ensures.replaced
 
 pub returns-in-Some-clause-counted : goal.returns-in-Some-clause-counted
 returns-in-Some-clause-counted c =

@@ -1,10 +1,22 @@
-use Rattle.std.proofs.Common.{List, ap, subst, refl, ◌∙◌}
+use Rattle.std.proofs.Common.{List, ap, subst, refl, ◌∙◌, arith}
 use Rattle.cell_key.specs.Entries.{Entry}
 use Rattle.memtable.specs.Slots.{slot_entries, over}
 use Rattle.memtable.specs.Blocks.{block_entries}
 use Rattle.memtable.specs.Sizes.{IsSizeOf}
-use Rattle.memtable.proofs.Sizes.{kept}
+use Rattle.memtable.proofs.Sizes.{kept, locks_within}
 use Rattle.memtable.proofs.table.Memtable.apply.Goals as goal
+
+pub overflow_cast-self-3 : goal.overflow_cast-self-3
+overflow_cast-self-3 c =
+    let base = block_entries c.self.inside.blocks.filled.items in
+    let staged = slot_entries c.in_ok-staged.staged.items in
+    let before = ap (λ (xs : _). over staged (block_entries xs)) c.in_ok-make_room.ensures.same in
+    let fits = rw (c.deref.ensures.value, c.deref-2.ensures.value) at c.if-not-fit.ensures in
+    let size = subst (λ (es : List Entry). IsSizeOf c.put_all-size.result es) before c.put_all-size.ensures.size in
+    let locks = locks_within c.put_all-size.result (over staged base) size in
+    let count = size.entries in
+    let most = (fits.0 refl).entries in
+    omega (arith, locks, count, most)
 
 pub invariant_of-self-2 : goal.invariant_of-self-2
 invariant_of-self-2 c =

@@ -7,7 +7,7 @@ use Rattle.memtable.specs.Sizes.{IsSizeOf}
 use Rattle.memtable.specs.Blocks.{block_entries}
 use Rattle.memtable.specs.Edits.{bytes_of, with_edits, IsWithinLimits}
 use Rattle.memtable.proofs.EntryLists.{over_rising}
-use Rattle.memtable.proofs.Sizes.{kept, over_bytes, over_len, two_within}
+use Rattle.memtable.proofs.Sizes.{kept, locks_within, over_bytes, over_len, two_within}
 use Rattle.memtable.proofs.table.Memtable.put_two.Goals as goal
 
 pub put_counted-size-requires-clause-rising : goal.put_counted-size-requires-clause-rising
@@ -87,6 +87,23 @@ overflow_cast-self-2 c =
     let total = size.bytes in
     let most = within.bytes in
     omega (arith, total, most)
+
+pub overflow_cast-self-3 : goal.overflow_cast-self-3
+overflow_cast-self-3 c =
+    let base = block_entries c.self.inside.blocks.filled.items in
+    let first = slot_entry c.in_ok-first.first.value in
+    let last = slot_entry c.in_ok-last.last.value in
+    let half : block_entries c.put_counted-half.new.blocks.filled.items ≡ over (first ∷ []) base = c.put_counted-half.ensures.entries ∙ ap (λ (xs : _). put byte_cmp first.0 first.1 (block_entries xs)) c.in_ok-make_room.ensures.same in
+    let same = ap length c.self.view_is in
+    let bytes = ap bytes_of c.self.view_is in
+    let few = c.requires.entries in
+    let small = c.requires.bytes in
+    let size = subst (λ (es : List Entry). IsSizeOf c.put_counted-size.result (put byte_cmp last.0 last.1 es)) half c.put_counted-size.ensures.size in
+    let within = two_within first last base c.self.invariant.list.rising c.in_ok-first.ensures.limits c.in_ok-last.ensures.limits (omega (arith, same, few)) (omega (arith, bytes, small)) in
+    let count = size.entries in
+    let most = within.entries in
+    let locks = locks_within c.put_counted-size.result (over (last ∷ first ∷ []) base) size in
+    omega (arith, locks, count, most)
 
 pub invariant_of-self-2 : goal.invariant_of-self-2
 invariant_of-self-2 c =
