@@ -1,5 +1,5 @@
 -- The byte order by the numbers that the first bytes spell.
-use Rattle.std.proofs.Common.{◌≡◌, ◌<◌, ◌≤◌, ◌+◌, ◌*◌, ◌^◌, ℕ, zero, suc, List, [], ◌∷◌, length, drop, get_or, slice_index, refl, sym, ap, ◌∙◌, arith}
+use Rattle.std.proofs.Common.{◌≡◌, ◌<◌, ◌≤◌, ◌+◌, ◌*◌, ◌^◌, ℕ, zero, suc, List, [], ◌∷◌, ◌++◌, length, take, drop, get_or, slice_index, refl, sym, ap, ◌∙◌, arith}
 use Rattle.std.specs.declared.cmp.Ordering.{Ordering}
 use Rattle.std.specs.declared.cmp.Ordering.TheVariants.{Less, Equal, Greater}
 use Rattle.std.specs.Ordering.{MatchOrdering, nat_cmp, ordering_then}
@@ -7,6 +7,7 @@ use Rattle.std.specs.Cmp.{ranks}
 use Rattle.std.proofs.Math.Nat.{mul-le-mul_right, pow-succ'}
 use Rattle.byteorder.specs.Endian.{big_from, big_number}
 use Rattle.cell_key.specs.Keys.{byte_cmp}
+use Rattle.cell_key.proofs.KeyLaws.{both_Equal}
 use Rattle.cell_key.proofs.Order.{then_assoc, cmp_below, cmp_above, cmp_same}
 use Rattle.std.specs.FinMap.{nat_cmp-IsAntisymmetric}
 use Rattle.memtable.specs.Order.{IsFront}
@@ -59,6 +60,28 @@ fronts (suc n) (x ∷ xs) (y ∷ ys) p q a b =
     (sym (ap (λ (k : ℕ). nat_cmp (x * 256 ^ n + k) (big_number (suc n) (y ∷ ys))) (later_from 0 n x xs)
     ∙ ap (λ (k : ℕ). nat_cmp (x * 256 ^ n + big_from 0 n xs) (y * 256 ^ n + k)) (later_from 0 n y ys)
     ∙ digits_order (256 ^ n) x y (big_from 0 n xs) (big_from 0 n ys) left right))
+
+-- bytes that spell one number are the same
+pub same_fronts : (n : ℕ) (xs ys : List ℕ) → n ≤ length xs → n ≤ length ys → AreBytes xs → AreBytes ys → big_number n xs ≡ big_number n ys → take n xs ≡ take n ys
+same_fronts zero xs ys p q a b e = refl
+same_fronts (suc n) [] ys p q a b e = absurd (omega arith)
+same_fronts (suc n) (x ∷ xs) [] p q a b e = absurd (omega arith)
+same_fronts (suc n) (x ∷ xs) (y ∷ ys) p q a b e =
+    let r = big_from 0 n xs in
+    let s = big_from 0 n ys in
+    let numbers : x * 256 ^ n + r ≡ y * 256 ^ n + s =
+    sym (ap (λ (k : ℕ). x * 256 ^ n + k) (later_from 0 n x xs)) ∙ e ∙ ap (λ (k : ℕ). y * 256 ^ n + k) (later_from 0 n y ys) in
+    let small = small_from n xs (omega arith) (λ i. a (suc i)) in
+    let smaller = small_from n ys (omega arith) (λ i. b (suc i)) in
+    let both = both_Equal (nat_cmp x y) (nat_cmp r s) (sym (digits_order (256 ^ n) x y r s small smaller) ∙ cmp_same (x * 256 ^ n + r) (y * 256 ^ n + s) numbers) in
+    let head = nat_cmp-IsAntisymmetric x y both.0 in
+    let tail = same_fronts n xs ys (omega arith) (omega arith) (λ i. a (suc i)) (λ i. b (suc i)) (nat_cmp-IsAntisymmetric r s both.1) in
+    λ i. head i ∷ tail i
+
+-- bytes that two texts begin with decide nothing
+pub cmp_behind : (both xs ys : List ℕ) → byte_cmp (both ++ xs) (both ++ ys) ≡ byte_cmp xs ys
+cmp_behind [] xs ys = refl
+cmp_behind (b ∷ both) xs ys = ap (λ (o : Ordering). ordering_then o (byte_cmp (both ++ xs) (both ++ ys))) (cmp_same b b refl) ∙ cmp_behind both xs ys
 
 -- a text compares by its front, and then by what follows
 pub by_fronts : (front other : ℕ) (xs ys : List ℕ) → IsFront front xs → IsFront other ys

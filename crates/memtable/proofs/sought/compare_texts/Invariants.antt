@@ -1,10 +1,12 @@
-use Rattle.std.proofs.Common.{◌≡◌, length}
+use Rattle.std.proofs.Common.{◌≡◌, ◌++◌, List, ℕ, length}
 use Rattle.cell_key.specs.Keys.{byte_cmp}
 use Rattle.memtable.proofs.sought.compare_texts.Given as goal
 
--- what is left decides
+-- what is left decides, behind bytes that both have
 abbrev pub invariant-fronts : goal.invariant-fronts
-invariant-fronts l = byte_cmp l.left l.right ≡ byte_cmp l.fn.a l.fn.b
+invariant-fronts l =
+    (byte_cmp l.left l.right ≡ byte_cmp l.fn.a l.fn.b)
+    × ((both : List ℕ) × (l.fn.a ≡ both ++ l.left) × (l.fn.b ≡ both ++ l.right))
 
 abbrev pub decreases-fronts : goal.decreases-fronts
 decreases-fronts l = length l.left
