@@ -38,6 +38,7 @@ stays_covered disk filter old new same covers = record {
   numbers = subst (All (HasBits filter.numbers.words.items)) (ap (λ (f : SortedFile). f.numbers) (sym (same.rest old.cache))) covers.numbers;
   locks = subst (All (λ (lock : LockStamp). HasBits filter.locks.words.items lock.column)) (ap (λ (f : SortedFile). f.locks) (sym (same.rest old.cache))) covers.locks;
   lock_keys = subst (All (HasBits filter.lock_keys.words.items)) (ap (λ (f : SortedFile). f.lock_keys) (sym (same.rest old.cache))) covers.lock_keys;
+  lock_rows = subst (All (HasBits filter.lock_rows.words.items)) (ap (λ (f : SortedFile). f.lock_rows.items) (sym (same.rest old.cache))) covers.lock_rows;
   bounds = subst (λ (b : ColumnBounds). AreWithin b filter.bounds) (ap (λ (f : SortedFile). f.bounds) (sym (same.rest old.cache))) covers.bounds;
 }
 

@@ -15,7 +15,7 @@ use Rattle.sorted_file.specs.Index.{block_of, blocks_of, entries_in, first_of, r
 use Rattle.sorted_file.specs.Block.{IsParsed, BeginsWith}
 use Rattle.sorted_file.specs.Grammar.{block_bytes, IsFile}
 use Rattle.sorted_file.specs.Bounds.{IsBounded, IsWithin, column_bounds}
-use Rattle.sorted_file.specs.Numbers.{IsLockKeyNumbered, IsLockStamped, IsNumbered, lock_stamp, number_of}
+use Rattle.sorted_file.specs.Numbers.{IsLockKeyNumbered, IsLockRowNumbered, IsLockStamped, IsNumbered, lock_stamp, number_of}
 use Rattle.sorted_file.specs.declared.block.BlockRow.{BlockRow}
 use Rattle.sorted_file.specs.declared.block.Block.{Block}
 use Rattle.sorted_file.specs.declared.format.Format.{Format}
@@ -58,6 +58,7 @@ pub record IsOpen (m : Contents) (file : SortedFile) : Type 0 where
   pub numbered : AllByRecursion (IsNumbered file.numbers) (listed m file)
   pub locked : AllByRecursion (IsLockStamped file.locks) (listed m file)
   pub keyed : AllByRecursion (IsLockKeyNumbered file.lock_keys) (listed m file)
+  pub lock_rows : AllByRecursion (IsLockRowNumbered file.lock_rows.items) (listed m file)
   pub heads : texts_of file.heads.items ≡ map row_head file.rows.items
   pub skips : file.skips.items ≡ skips file.heads.items
   pub counted : file.count ≡ length (listed m file)

@@ -39,6 +39,12 @@ IsLockKeyNumbered numbers entry =
     (key : CellKey) → IsStored key → entry.0 ≡ text key → key.qualifier ≡ Lock
     → Contains numbers (text_number entry.0)
 
+-- if the entry is the value of a lock, the number of its row is among these
+abbrev pub IsLockRowNumbered : List ℕ → Entry → Type 0
+IsLockRowNumbered numbers entry =
+    (key : CellKey) → IsStored key → entry.0 ≡ text key → key.qualifier ≡ Lock → IsSome entry.1
+    → Contains numbers (text_number key.row)
+
 -- each of the first is among the second
 abbrev pub IsAmong : {X : Type 0} → List X → List X → Type 0
 IsAmong {X} old new = (x : X) → Contains old x → Contains new x

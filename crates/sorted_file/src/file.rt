@@ -50,6 +50,8 @@ pub struct SortedFile {
     pub(crate) locks: LockStamps,
     /// A number of the text of each lock's key, of a value or an erasure.
     pub(crate) lock_keys: Numbers,
+    /// A number of the row of each lock that has a value.
+    pub(crate) lock_rows: Vec<u64>,
     /// The blocks that were looked into last, by their numbers.
     cache: LruCache<usize, Block>,
 }
@@ -106,6 +108,7 @@ impl SortedFile {
             numbers,
             locks,
             lock_keys,
+            lock_rows,
         } = columns;
         let skips = skips_of(alloc, &heads)?;
         let cache = no_blocks(alloc, most_blocks)?;
@@ -123,6 +126,7 @@ impl SortedFile {
             numbers,
             locks,
             lock_keys,
+            lock_rows,
             cache,
         })
     }

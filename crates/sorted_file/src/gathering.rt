@@ -1,7 +1,7 @@
 //! What an opening gathers of the entries of blocks as it checks them.
 
 ghost use Rattle.std.specs.Prelude.{◌≡◌, ◌≢◌, ◌<◌, ◌^◌, ◌++◌, ◌∷◌, [], ℕ, List, Option, length, IfOk, IfErr, IfSome, IfNone, OnOk};
-ghost use Rattle.sorted_file.specs.Numbers.{number_of, IsAmong, IsLockKeyNumbered, IsLockStamped};
+ghost use Rattle.sorted_file.specs.Numbers.{number_of, IsAmong, IsLockKeyNumbered, IsLockRowNumbered, IsLockStamped};
 ghost use Rattle.cell_key.specs.Entries.{Entry, IsEntryList, lent_entry};
 ghost use Rattle.cell_key.specs.LentKeys.{IsLentKey};
 ghost use Rattle.sorted_file.specs.Block.{IsBlock, IsParsed, entries_of};
@@ -12,7 +12,7 @@ use crate::block::{Block, next_entry, room_for_starts};
 use crate::bounds::ColumnBounds;
 use crate::lock_stamps::LockStamp;
 use crate::numbers::{column_number, push_number, text_number};
-use cell_key::{EntryRef, KeyRef, Qualifier, Refusal};
+use cell_key::{CellKey, EntryRef, KeyRef, Qualifier, Refusal};
 use std::alloc::Global;
 
 /// What a file keeps of the columns of entries.
@@ -26,6 +26,8 @@ pub(crate) struct Columns {
     pub(crate) locks: Vec<LockStamp>,
     /// A number of the text of each lock's key.
     pub(crate) lock_keys: Vec<u64>,
+    /// A number of the row of each lock that has a value.
+    pub(crate) lock_rows: Vec<u64>,
 }
 
 impl Columns {
@@ -40,6 +42,7 @@ impl Columns {
             numbers: Vec::new(alloc),
             locks: Vec::new(alloc),
             lock_keys: Vec::new(alloc),
+            lock_rows: Vec::new(alloc),
         }
     }
 
@@ -58,6 +61,7 @@ impl Columns {
             return Ok(());
         };
         push_lock(&mut self.locks, key, number)?;
+        push_lock_row(&mut self.lock_rows, key)?;
         self.bounds = self.bounds.with_key(key);
         Ok(())
     }
@@ -71,6 +75,7 @@ impl Columns {
         self.numbers.extend_from_slice(&more.numbers)?;
         self.locks.extend_from_slice(&more.locks)?;
         self.lock_keys.extend_from_slice(&more.lock_keys)?;
+        self.lock_rows.extend_from_slice(&more.lock_rows)?;
         self.bounds = self.bounds.joined(more.bounds);
         Ok(())
     }
@@ -107,6 +112,25 @@ fn push_lock_key(keys: &mut Vec<u64>, key: KeyRef<'_>) -> Result<(), Refusal>
         push_number(keys, text_number(key.text))?;
     }
     Ok(())
+}
+
+/// Adds the number of a key's row, if it is a lock's. Answers `NoMemory` if there is no memory.
+fn push_lock_row(rows: &mut Vec<u64>, key: KeyRef<'_>) -> Result<(), Refusal>
+    requires { IsLentKey key }
+    ensures has { OnOk result ((value : Option (List ℕ))
+        → IsLockRowNumbered rows.new.items (key.entry.text.now, value)) }
+    ensures keeps { OnOk result (IsAmong rows.old.items rows.new.items) }
+    ensures refusal { IfErr result (λ refusal. refusal ≡ Refusal.NoMemory) }
+{
+    match key.qualifier {
+        Qualifier::Lock => {
+            if let Some(lock) = CellKey::decode(*rows.allocator(), key.text)? {
+                push_number(rows, text_number(lock.row.as_bytes()))?;
+            }
+            Ok(())
+        }
+        Qualifier::Data | Qualifier::Write => Ok(()),
+    }
 }
 
 /// Where the entries begin that have these bytes, and their columns; `None` if no entry list has the bytes. Answers

@@ -29,9 +29,10 @@ value_front : (x y : Option (Option (List ℕ))) (v : List ℕ) → value_of x �
 value_front None y v e = let no : None ≡ Some v = e in cc
 value_front (Some o) y v e = e
 
-no_values : (q : Qualifier) (lo hi : ℕ) (m : Contents) (files : List SortedFile) → AllByRecursion (IsOpen m) files → HaveNoValue q lo hi files → (key : CellKey) → IsStored key → key.qualifier ≡ q → lo ≤ key.stamp → key.stamp ≤ hi → AllByRecursion (λ es. value_of (entry_of_key es (text key)) ≡ None) (map (listed m) files)
-no_values q lo hi m [] opened none key stored kind low high = tt
-no_values q lo hi m (file ∷ files) opened none key stored kind low high = (none.0 m opened.0 key stored kind low high, no_values q lo hi m files opened.1 none.1 key stored kind low high)
+no_values : (row : List ℕ) (q : Qualifier) (lo hi : ℕ) (m : Contents) (files : List SortedFile) → AllByRecursion (IsOpen m) files → HaveNoValue row q lo hi files → (key : CellKey) → IsStored key → key.row ≡ row → key.qualifier ≡ q → lo ≤ key.stamp → key.stamp ≤ hi → AllByRecursion (λ es. value_of (entry_of_key es (text key)) ≡ None) (map (listed m) files)
+no_values row q lo hi m [] opened none key stored same kind low high = tt
+no_values row q lo hi m (file ∷ files) opened none key stored same kind low high =
+    (none.0 m opened.0 key stored same kind low high, no_values row q lo hi m files opened.1 none.1 key stored same kind low high)
 
 module _ (cells : Cells) (at : ℕ → CellKey) where
   low_from : (lo hi from : ℕ) (found : Option (ℕ × List ℕ)) → IsNewest cells at lo hi found → IsLater from lo found → lo ≤ from
@@ -68,14 +69,14 @@ module _ (m : Contents) (t : Tablet) (held : Holds m t) (row family : List ℕ) 
         go (Some v) newest low = newest.3 s (omega (arith, low, a)) (omega (arith, b, high))
 
     -- nor has the tablet, where the files have no value there
-    pub none_in_all : (from ≤ to → HaveNoValue q from to (files_of t)) → IsNewest (cells_at m t) at from to None
+    pub none_in_all : (from ≤ to → HaveNoValue row q from to (files_of t)) → IsNewest (cells_at m t) at from to None
     none_in_all none s a b = go (stored_or_hidden (range_of t) (lists_of m t) (held_lists m t held) (at s))
       where
         go : IsStored (at s) ⊎ (get (cells_at m t) (at s) ≡ None) → get (cells_at m t) (at s) ≡ None
         go (inr h) = h
         go (inl stored) =
             let lists = map (listed m) (files_of t) in
-            let each = no_values q from to m (files_of t) held.files (none (omega (arith, a, b))) (at s) stored refl a b in
+            let each = no_values row q from to m (files_of t) held.files (none (omega (arith, a, b))) (at s) stored refl refl a b in
             shown_at s stored
             ∙ value_or (entry_of_key (memory_of t) (text (at s))) (first_naming lists (text (at s))) (none_named lists (text (at s)) each)
             ∙ sym (in_memory s stored) ∙ none_later s a b
@@ -112,7 +113,7 @@ module _ (o : Option Contents) (t : Tablet) (row family : List ℕ) (q : Qualifi
   abbrev Answered : Option (ℕ × List ℕ) → Type 0
   Answered answer = IfSome o (λ m. Holds m t → IsTrue (has_row (range_of t) row) → IsNewest (cells_at m t) (version row family q) lo hi answer)
 
-  pub by_memory : {Z : Type 0} (in_memory : Option (ℕ × Vec ℕ Z)) → option_map stamped in_memory ≡ found → (from ≤ to → HaveNoValue q from to (files_of t)) → Answered (option_map stamped in_memory)
+  pub by_memory : {Z : Type 0} (in_memory : Option (ℕ × Vec ℕ Z)) → option_map stamped in_memory ≡ found → (from ≤ to → HaveNoValue row q from to (files_of t)) → Answered (option_map stamped in_memory)
   by_memory in_memory copy none =
       over_any o _ (λ m held has.
       subst (λ (f : Option (ℕ × List ℕ)). IsNewest (cells_at m t) (version row family q) lo hi f) (sym copy)

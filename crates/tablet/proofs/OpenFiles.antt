@@ -11,7 +11,7 @@ use Rattle.cell_key.specs.Entries.{entry_of_key, first_naming, or_else}
 use Rattle.cell_key.specs.declared.keys.CellKey.{CellKey}
 use Rattle.file_store.specs.Store.{Contents}
 use Rattle.cell_key.specs.declared.keys.Qualifier.{Qualifier}
-use Rattle.sorted_file.specs.Bounds.{HasNoValue}
+use Rattle.sorted_file.specs.Bounds.{HasNoRowValue}
 use Rattle.sorted_file.specs.File.{IsOpen, IsSameFile, listed}
 use Rattle.sorted_file.specs.KeyFilters.{Covers, StaysCovered}
 use Rattle.sorted_file.specs.Newest.{IsNewestStamp, at_stamp}
@@ -41,11 +41,11 @@ covered_more old new count file xs covers keeps all =
     All-cons (Covers new) file (drop count xs) covers (All-drop (Covers new) count xs (All-weaker (Covers old) (Covers new) keeps xs all))
 
 -- no covered file has a value that the filter says none has
-pub none_valued : (filter : KeyFilter) (q : Qualifier) (lo hi : ℕ) → ((file : SortedFile) → Covers filter file → (m : Contents) → IsOpen m file → HasNoValue q lo hi (listed m file))
-    → (xs : List SortedFile) → All (Covers filter) xs → HaveNoValue q lo hi xs
-none_valued filter q lo hi none [] all = tt
-none_valued filter q lo hi none (x ∷ xs) all =
-    (none x (All-head (Covers filter) x xs all), none_valued filter q lo hi none xs (All-tail (Covers filter) x xs all))
+pub none_valued : (filter : KeyFilter) (row : List ℕ) (q : Qualifier) (lo hi : ℕ) → ((file : SortedFile) → Covers filter file → (m : Contents) → IsOpen m file → HasNoRowValue row q lo hi (listed m file))
+    → (xs : List SortedFile) → All (Covers filter) xs → HaveNoValue row q lo hi xs
+none_valued filter row q lo hi none [] all = tt
+none_valued filter row q lo hi none (x ∷ xs) all =
+    (none x (All-head (Covers filter) x xs all), none_valued filter row q lo hi none xs (All-tail (Covers filter) x xs all))
 
 module _ (m : Contents) (filter : KeyFilter) where
   -- no file has what the filter says that none has

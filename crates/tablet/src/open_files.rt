@@ -11,7 +11,7 @@ ghost use Rattle.sorted_file.specs.Source.{IsReadRefusal};
 ghost use Rattle.tablet.specs.Reads.{HasNoLater, HaveNoValue};
 
 use crate::lookup::{find_in_files, newest_stamp};
-use cell_key::{Qualifier, Refusal, Stamp};
+use cell_key::{Qualifier, Refusal, Row, Stamp};
 use file_store::Files;
 use sorted_file::{KeyFilter, LookupKey, SortedFile, stays_covered};
 use std::alloc::Global;
@@ -108,12 +108,12 @@ impl OpenFiles {
         self.files.len()
     }
 
-    /// Whether a file may have a value of a column of this kind at a stamp in `lo..=hi`. Takes no memory and reads no
-    /// file.
-    pub(crate) fn may_have(&self, qualifier: Qualifier, lo: Stamp, hi: Stamp) -> bool
-        ensures { result ≡ false → HaveNoValue qualifier lo hi self.now }
+    /// Whether a file may have a value of a column of this kind in the row, at a stamp in `lo..=hi`. Of a lock a filter of
+    /// the rows that have one is asked too. Takes no memory and reads no file.
+    pub(crate) fn may_have(&self, row: &Row, qualifier: Qualifier, lo: Stamp, hi: Stamp) -> bool
+        ensures { result ≡ false → HaveNoValue row.now qualifier lo hi self.now }
     {
-        self.filter.may_have(qualifier, lo, hi)
+        self.filter.may_have(row, qualifier, lo, hi)
     }
 
     /// Makes room for a file more, of so many entries at most. Answers `NoMemory` if there is no memory. The files stay,

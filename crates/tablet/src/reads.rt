@@ -59,12 +59,13 @@ impl Tablet {
     ghost use Rattle.file_store.specs.Store.{Contents};
     ghost use Rattle.tablet.specs.Views.{range_of, memory_of, files_of, cells_at, Holds, IsSameTablet};
 
-    /// Whether a file may have a value of a column of this kind at a stamp in `lo..=hi`. Takes no memory and reads no
-    /// file.
-    fn may_be_in_files(&self, qualifier: Qualifier, lo: Stamp, hi: Stamp) -> bool
-        ensures { result ≡ false → lo ≤ hi → HaveNoValue qualifier lo hi (files_of self.now) }
+    /// Whether a file may have a value of a column of this kind in the row, at a stamp in `lo..=hi`. Of a lock a filter of
+    /// the rows that have one is asked too. Takes no memory and reads no file.
+    fn may_be_in_files(&self, row: &Row, qualifier: Qualifier, lo: Stamp, hi: Stamp) -> bool
+        ensures { result ≡ false → lo ≤ hi
+            → HaveNoValue row.now qualifier lo hi (files_of self.now) }
     {
-        lo <= hi && self.files.may_have(qualifier, lo, hi)
+        lo <= hi && self.files.may_have(row, qualifier, lo, hi)
     }
 
     /// The value of a version, if the tablet has it, by lookups. No file is asked if the memtable names the version, or
@@ -199,7 +200,7 @@ impl Tablet {
         let from = stamp_after(found, lo).max(1);
         let to = hi.min(MOST_STAMP);
         let in_memory = copy_version(self.alloc, found)?;
-        if !self.may_be_in_files(qualifier, from, to) {
+        if !self.may_be_in_files(row, qualifier, from, to) {
             return Ok(in_memory);
         }
         let later = self.newest_in_files(row, family, qualifier, from, to, files)?;

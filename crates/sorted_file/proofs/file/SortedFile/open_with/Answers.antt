@@ -18,6 +18,7 @@ returns-clause-opened g c =
       numbered = numbered_on _ _ c.in_ok-numbers.ensures.keeps _ o.columns.numbered;
       locked = locked_on _ _ c.new-locks.ensures.keeps _ o.columns.locked;
       keyed = keyed_on _ _ c.in_ok-lock_keys.ensures.keeps _ o.columns.keyed;
+      lock_rows = o.columns.lock_rows;
       heads = o.heads;
       skips = c.in_ok-skips.ensures.skips ∙ ap (λ (l : List (Option (Vec ℕ))). skips l) c.deref.ensures.value;
       counted = o.counted;

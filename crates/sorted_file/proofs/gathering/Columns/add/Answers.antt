@@ -3,7 +3,7 @@ use Rattle.std.specs.Option.{option_copied, IsSome}
 use Rattle.cell_key.specs.Entries.{lent_entry}
 use Rattle.cell_key.proofs.TextPlaces.{clash}
 use Rattle.sorted_file.specs.Bounds.{IsBounded}
-use Rattle.sorted_file.specs.Numbers.{number_of, IsLockKeyNumbered, IsLockStamped}
+use Rattle.sorted_file.specs.Numbers.{number_of, IsLockKeyNumbered, IsLockRowNumbered, IsLockStamped}
 use Rattle.sorted_file.proofs.ColumnsOf.{columns_on}
 use Rattle.sorted_file.proofs.gathering.Columns.add.Goals as goal
 
@@ -19,6 +19,8 @@ returns-in_default-clause-added c = λ es k.
     (λ key stored named lock some. absurd (clash _ (subst (λ (v : Option _). IsSome (option_copied v)) c.in_default.is some) refl))
     c.in_ok-push_lock_key.ensures.keeps
     (subst (λ (name : List ℕ). IsLockKeyNumbered c.push_lock_key.new.keys.items (name, option_copied c.args.entry.value)) c.requires.text (c.in_ok-push_lock_key.ensures.has (option_copied c.args.entry.value)))
+    (λ n there. there)
+    (λ key stored named lock some. absurd (clash _ (subst (λ (v : Option _). IsSome (option_copied v)) c.in_default.is some) refl))
     k
 
 pub returns-clause-added : goal.returns-clause-added
@@ -31,4 +33,6 @@ returns-clause-added c = λ es k.
     (subst (λ (name : List ℕ). IsLockStamped c.push_lock.new.locks.items (name, value)) c.requires.text (c.in_ok-push_lock.ensures.has value))
     c.in_ok-push_lock_key.ensures.keeps
     (subst (λ (name : List ℕ). IsLockKeyNumbered c.push_lock_key.new.keys.items (name, value)) c.requires.text (c.in_ok-push_lock_key.ensures.has value))
+    c.in_ok-push_lock_row.ensures.keeps
+    (subst (λ (name : List ℕ). IsLockRowNumbered c.push_lock_row.new.rows.items (name, value)) c.requires.text (c.in_ok-push_lock_row.ensures.has value))
     k

@@ -11,5 +11,6 @@ returns-clause-keeps c = λ other covers.
       locks = All-weaker (λ (lock : LockStamp). HasBits old.locks.words.items lock.column) (λ (lock : LockStamp). HasBits c.add_to-2.new.filter.words.items lock.column)
           (λ lock is. c.add_to-2.ensures.keeps lock.column is) other.locks covers.locks;
       lock_keys = All-weaker (HasBits old.lock_keys.words.items) (HasBits c.add_to-3.new.filter.words.items) c.add_to-3.ensures.keeps other.lock_keys covers.lock_keys;
+      lock_rows = All-weaker (HasBits old.lock_rows.words.items) (HasBits c.add_all.new.self.words.items) c.add_all.ensures.keeps other.lock_rows.items covers.lock_rows;
       bounds = λ q row stamp within. c.joined-self.ensures.first q row stamp (covers.bounds q row stamp within);
     }

@@ -8,4 +8,4 @@ pub returns : goal.returns
 returns c = λ no.
     let filter = c.self.inside.filter in
     let files = c.args.self.now in
-    none_valued filter c.args.qualifier c.args.lo c.args.hi (c.may_have.ensures no) files (All-same (Covers filter) files _ (sym c.self.view_is) c.self.invariant)
+    none_valued filter c.args.row.now c.args.qualifier c.args.lo c.args.hi (c.may_have.ensures no) files (All-same (Covers filter) files _ (sym c.self.view_is) c.self.invariant)
