@@ -372,19 +372,23 @@ fn lock_tests_read_what_is_locked(rt: HostRuntime) -> Result<(), Fail> {
     let again = vec![in rt.alloc(); SortedFile::open(rt.alloc(), 1, &mut files)?]?;
     let filter = KeyFilter::new(rt.alloc(), &again, 0)?;
     for (row, stamp, reads) in LOCK_TESTS {
+        let row = Row::new(rt.alloc(), row)?;
+        assert!(rt; filter.may_have(&row, Qualifier::Lock, 0, 9) == stamp.is_some());
         let key = CellKey {
-            row: Row::new(rt.alloc(), row)?,
+            row,
             family: Family::new(rt.alloc(), b"bal")?,
             qualifier: Qualifier::Lock,
             stamp: 9,
         };
-        let key = LookupKey::new(rt.alloc(), key)?;
+        let mut key = LookupKey::new(rt.alloc(), key)?;
         file.drop_cache();
         files.reads.clear();
         assert!(rt; filter.may_have_value(&key) == stamp.is_some());
         assert!(rt; file.latest_lock(&key, 0) == stamp);
         assert!(rt; file.newest_stamp(&key, 0, &mut files)? == stamp);
         assert!(rt; files.reads.as_slice() == reads);
+        key.set_stamp(0);
+        assert!(rt; file.latest_lock(&key, 0) == None);
     }
     Ok(())
 }
