@@ -1,6 +1,7 @@
 mod BlockFacts
 mod BlockLists
 mod EntryLists
+mod Least
 mod Locks
 mod Newest
 mod Places

@@ -31,6 +31,8 @@ pub struct Memtable {
     bytes: usize,
     /// How many locks have a value.
     locks: usize,
+    /// No entry's key has a stamp below this one.
+    least: Stamp,
 }
 
 impl Model for Memtable {
@@ -42,7 +44,7 @@ impl Model for Memtable {
 
     ghost view = { λ table. block_entries table.blocks.filled.items };
 
-    ghost invariant = { λ table. IsKept table.blocks table.len table.bytes table.locks };
+    ghost invariant = { λ table. IsKept table.blocks table.len table.bytes table.locks table.least };
 }
 
 /// Whether a table is within the limits once entries are put over it. If there is room for them whatever they
@@ -86,6 +88,7 @@ impl Memtable {
             len: 0,
             bytes: 0,
             locks: 0,
+            least: u64::MAX,
         }
     }
 
@@ -113,13 +116,20 @@ impl Memtable {
         self.bytes
     }
 
-    /// The entry of a key, if it has one: its value, or an erasure. Takes no memory.
+    /// The entry of a key, if it has one: its value, or an erasure. Below the stamps of all entries it searches
+    /// nothing. Takes no memory.
     pub fn lookup(&self, key: &CellKey) -> Option<EntryRef<'_>>
         ensures found { option_map (λ lent. (lent_entry lent).1) result
             ≡ entry_of_key self.now (text key.now) }
         ensures named { IfSome result (λ lent. lent.key.now ≡ text key.now) }
         ensures list { IsEntryList self.now }
     {
+        if key.stamp < self.least {
+            // These calls show that row and family are within their limits.
+            let _row = key.row.as_bytes();
+            let _family = key.family.as_bytes();
+            return None;
+        }
         searches::find_version(&self.blocks.filled, version_of(key))
     }
 
@@ -134,7 +144,7 @@ impl Memtable {
 
     /// The version of a cell's column with the greatest stamp in `lo..=hi`, if it has one there: its stamp, from
     /// 1 to 2^63 - 1, and its value of at most 65,536 bytes. An erasure is no version. Of a lock it searches
-    /// nothing if no lock has a value. Takes no memory.
+    /// nothing if no lock has a value. Below the stamps of all entries it searches nothing. Takes no memory.
     pub fn newest(
         &self,
         row: &Row,
@@ -148,6 +158,9 @@ impl Memtable {
         ensures limits { IfSome result (λ found. IsVersion found.0 found.1.now) }
         ensures list { IsEntryList self.now }
     {
+        if hi < self.least {
+            return None;
+        }
         if qualifier == Qualifier::Lock && self.locks == 0 {
             return None;
         }
@@ -187,6 +200,7 @@ impl Memtable {
         if edits.len() == 2 && before.has_room(2) {
             return self.put_two(row, edits, before);
         }
+        let least = staging::least_of(&edits, self.least);
         let staged = staging::stage(self.alloc, row, edits)?;
         if !fit(&self.blocks.filled, before, &staged) {
             return Err(Refusal::MemtableFull);
@@ -196,6 +210,7 @@ impl Memtable {
         self.len = size.entries as usize;
         self.bytes = size.bytes as usize;
         self.locks = size.locks as usize;
+        self.least = least;
         Ok(())
     }
 
@@ -213,6 +228,7 @@ impl Memtable {
         ensures err { OnErr result (self.new ≡ self.old) }
         ensures refusal { IfErr result (λ refusal. refusal ≡ Refusal.NoMemory) }
     {
+        let least = staging::least_of(&edits, self.least);
         let last = edits.pop().unwrap();
         let first = edits.pop().unwrap();
         let first = staging::slot_of(self.alloc, row, first)?;
@@ -223,6 +239,7 @@ impl Memtable {
         self.len = size.entries as usize;
         self.bytes = size.bytes as usize;
         self.locks = size.locks as usize;
+        self.least = least;
         Ok(())
     }
 }

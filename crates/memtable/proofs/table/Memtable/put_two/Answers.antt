@@ -2,12 +2,15 @@ use Rattle.std.proofs.Common.{◌≡◌, [], ◌∷◌, List, length, rules, sym
 use Rattle.std.specs.FinMap.Entries.{put}
 use Rattle.cell_key.specs.Keys.{byte_cmp}
 use Rattle.cell_key.specs.Entries.{Entry, IsRising}
+use Rattle.std.specs.List.{All, AllByRecursion}
+use Rattle.cell_key.specs.declared.edits.Edit.{Edit}
+use Rattle.memtable.proofs.Least.{least_after}
 use Rattle.memtable.specs.Slots.{slot_entry, over}
 use Rattle.memtable.specs.Sizes.{IsSizeOf}
 use Rattle.memtable.specs.Blocks.{block_entries}
-use Rattle.memtable.specs.Edits.{bytes_of, with_edits, IsWithinLimits}
+use Rattle.memtable.specs.Edits.{bytes_of, with_edits, HasStoredKey, IsEditFrom, IsWithinLimits}
 use Rattle.memtable.proofs.EntryLists.{over_rising}
-use Rattle.memtable.proofs.Sizes.{kept, locks_within, over_bytes, over_len, two_within}
+use Rattle.memtable.proofs.Sizes.{kept, kept_list, locks_within, over_bytes, over_len, two_within}
 use Rattle.memtable.proofs.table.Memtable.put_two.Goals as goal
 
 pub put_counted-size-requires-clause-rising : goal.put_counted-size-requires-clause-rising
@@ -118,7 +121,11 @@ invariant_of-self-2 c =
     let size = subst (λ (es : List Entry). IsSizeOf c.put_counted-size.result (put byte_cmp last.0 last.1 es)) half c.put_counted-size.ensures.size in
     let within = two_within first last base c.self.invariant.list.rising c.in_ok-first.ensures.limits c.in_ok-last.ensures.limits (omega (arith, same, few)) (omega (arith, bytes, small)) in
     let made = c.put_counted-size.ensures.entries ∙ ap (put byte_cmp last.0 last.1) half in
-    kept c.put_counted-size.new.blocks (last ∷ first ∷ []) base c.put_counted-size.result made c.self.invariant.list (c.in_ok-last.ensures.limits, (c.in_ok-first.ensures.limits, tt)) size within c.put_counted-size.ensures.blocks
+    let all : block_entries c.put_counted-size.new.blocks.filled.items ≡ with_edits c.args.self.now c.args.edits.items = search rules in
+    let keys : AllByRecursion HasStoredKey c.args.edits.items = search rules in
+    let edits = subst (λ (xs : List Edit). All (IsEditFrom c.least_of-least.result) xs) c.deref.ensures.value c.least_of-least.ensures.edits in
+    let least = least_after c.self.inside.least c.least_of-least.result c.args.edits.items base (block_entries c.put_counted-size.new.blocks.filled.items) (all ∙ ap (λ (es : List Entry). with_edits es c.args.edits.items) (sym c.self.view_is)) keys c.least_of-least.ensures.below edits c.self.invariant.least in
+    kept c.put_counted-size.new.blocks (last ∷ first ∷ []) base c.put_counted-size.result made c.self.invariant.list (c.in_ok-last.ensures.limits, (c.in_ok-first.ensures.limits, tt)) size within c.put_counted-size.ensures.blocks c.least_of-least.result least
 
 pub returns-clause-list : goal.returns-clause-list
 returns-clause-list c =
@@ -126,14 +133,8 @@ returns-clause-list c =
     let first = slot_entry c.in_ok-first.first.value in
     let last = slot_entry c.in_ok-last.last.value in
     let half : block_entries c.put_counted-half.new.blocks.filled.items ≡ over (first ∷ []) base = c.put_counted-half.ensures.entries ∙ ap (λ (xs : _). put byte_cmp first.0 first.1 (block_entries xs)) c.in_ok-make_room.ensures.same in
-    let same = ap length c.self.view_is in
-    let bytes = ap bytes_of c.self.view_is in
-    let few = c.requires.entries in
-    let small = c.requires.bytes in
-    let size = subst (λ (es : List Entry). IsSizeOf c.put_counted-size.result (put byte_cmp last.0 last.1 es)) half c.put_counted-size.ensures.size in
-    let within = two_within first last base c.self.invariant.list.rising c.in_ok-first.ensures.limits c.in_ok-last.ensures.limits (omega (arith, same, few)) (omega (arith, bytes, small)) in
     let made = c.put_counted-size.ensures.entries ∙ ap (put byte_cmp last.0 last.1) half in
-    (kept c.put_counted-size.new.blocks (last ∷ first ∷ []) base c.put_counted-size.result made c.self.invariant.list (c.in_ok-last.ensures.limits, (c.in_ok-first.ensures.limits, tt)) size within c.put_counted-size.ensures.blocks).list
+    kept_list (block_entries c.put_counted-size.new.blocks.filled.items) (last ∷ first ∷ []) base made c.self.invariant.list (c.in_ok-last.ensures.limits, (c.in_ok-first.ensures.limits, tt))
 
 pub returns-clause-within : goal.returns-clause-within
 returns-clause-within c =
