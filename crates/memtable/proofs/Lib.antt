@@ -1,12 +1,12 @@
 mod BlockFacts
 mod BlockLists
 mod EntryLists
-mod Least
 mod Locks
 mod Newest
 mod Places
 mod Sizes
 mod StackTexts
+mod StampRanges
 mod Values
 mod Versions
 mod Words

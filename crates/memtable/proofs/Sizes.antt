@@ -13,7 +13,9 @@ use Rattle.cell_key.specs.declared.keys.Qualifier.TheVariants.{Data, Lock, Write
 use Rattle.memtable.specs.Edits.{bytes_of, IsWithinLimits}
 use Rattle.memtable.specs.Slots.{is_lock_text, lock_count, one_lock, one_value, over}
 use Rattle.memtable.specs.Sizes.{IsSizeOf, stood_size, or_nothing}
-use Rattle.memtable.specs.Blocks.{block_entries, AreEntryBlocks, IsKept, IsNotBefore}
+use Rattle.memtable.specs.Blocks.{block_entries, AreEntryBlocks, IsKept}
+use Rattle.memtable.specs.StampRanges.{IsEntryWithin}
+use Rattle.memtable.specs.declared.stamp_range.StampRange.{StampRange}
 use Rattle.memtable.specs.declared.blocks.Blocks.{Blocks}
 use Rattle.memtable.specs.declared.size.EntrySize.{EntrySize}
 use Rattle.memtable.specs.declared.size.Size.{Size}
@@ -153,15 +155,15 @@ kept_list es staged base made list limits =
       each = subst (λ (xs : List Entry). AllByRecursion IsEntry xs) (sym made) (each-over staged base limits list.each);
     }
 
-pub kept : (blocks : Blocks) (staged base : List Entry) (size : Size) → block_entries blocks.filled.items ≡ over staged base → IsEntryList base → AllByRecursion IsEntry staged → IsSizeOf size (over staged base) → IsWithinLimits (over staged base) → AreEntryBlocks blocks → (least : ℕ) → AllByRecursion (IsNotBefore least) (block_entries blocks.filled.items) → IsKept blocks size.entries size.bytes size.locks least
-kept blocks staged base size made list limits is within are least all =
+pub kept : (blocks : Blocks) (staged base : List Entry) (size : Size) → block_entries blocks.filled.items ≡ over staged base → IsEntryList base → AllByRecursion IsEntry staged → IsSizeOf size (over staged base) → IsWithinLimits (over staged base) → AreEntryBlocks blocks → (range : StampRange) → AllByRecursion (IsEntryWithin range) (block_entries blocks.filled.items) → IsKept blocks size.entries size.bytes size.locks range
+kept blocks staged base size made list limits is within are range all =
     record {
       list = kept_list (block_entries blocks.filled.items) staged base made list limits;
       limits = subst (λ (xs : List Entry). IsWithinLimits xs) (sym made) within;
       count = is.entries ∙ ap length (sym made);
       bytes = is.bytes ∙ ap bytes_of (sym made);
       locks = is.locks ∙ ap lock_count (sym made);
-      least = all;
+      stamps = all;
       blocks = are;
     }
 

@@ -4,14 +4,15 @@ use Rattle.std.specs.declared.boxed.Box.{Box}
 use Rattle.std.specs.declared.vec.Vec.{Vec}
 use Rattle.std.specs.Ordering.{is_gt}
 use Rattle.std.specs.List.{AllByRecursion, flat_map}
-use Rattle.cell_key.specs.Keys.{byte_cmp, text, IsStored}
-use Rattle.cell_key.specs.declared.keys.CellKey.{CellKey}
+use Rattle.cell_key.specs.Keys.{byte_cmp}
 use Rattle.cell_key.specs.Entries.{Entry, IsEntryList}
 use Rattle.memtable.specs.declared.entries.Slot.{Slot}
 use Rattle.memtable.specs.declared.blocks.Block.{Block}
 use Rattle.memtable.specs.declared.blocks.Blocks.{Blocks}
 use Rattle.memtable.specs.Slots.{lock_count, slot_entries, value_count}
 use Rattle.memtable.specs.Edits.{bytes_of, IsWithinLimits}
+use Rattle.memtable.specs.StampRanges.{IsEntryWithin}
+use Rattle.memtable.specs.declared.stamp_range.StampRange.{StampRange}
 
 -- whether a list has entries, the last of which is below this text
 abbrev pub ends_below : List ℕ → List Entry → Bool
@@ -72,16 +73,12 @@ pub record HasRoom (count : ℕ) (blocks : Blocks) : Type 0 where
   pub filled : vec_len blocks.filled + count ≤ vec_capacity blocks.filled
   pub spare : count ≤ vec_len blocks.spare
 
--- no key of the entry has a stamp below this one
-abbrev pub IsNotBefore : ℕ → Entry → Type 0
-IsNotBefore least e = (key : CellKey) → IsStored key → e.0 ≡ text key → least ≤ key.stamp
-
 -- what a memtable keeps
-pub record IsKept (table : Blocks) (len total locked bound : ℕ) : Type 0 where
+pub record IsKept (table : Blocks) (len total locked : ℕ) (range : StampRange) : Type 0 where
   pub list : IsEntryList (block_entries table.filled.items)
   pub limits : IsWithinLimits (block_entries table.filled.items)
   pub count : len ≡ length (block_entries table.filled.items)
   pub bytes : total ≡ bytes_of (block_entries table.filled.items)
   pub locks : locked ≡ lock_count (block_entries table.filled.items)
-  pub least : AllByRecursion (IsNotBefore bound) (block_entries table.filled.items)
+  pub stamps : AllByRecursion (IsEntryWithin range) (block_entries table.filled.items)
   pub blocks : AreEntryBlocks table

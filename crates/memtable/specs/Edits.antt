@@ -25,10 +25,6 @@ with_edits es (edit ∷ edits) = with_edits (with_edit es edit) edits
 abbrev pub HasStoredKey : Edit → Type 0
 HasStoredKey edit = IsStored (edited_key edit)
 
--- the key of an edit has no stamp below this one
-abbrev pub IsEditFrom : ℕ → Edit → Type 0
-IsEditFrom least edit = least ≤ (edited_key edit).stamp
-
 -- the bytes of the entries of a list
 abbrev pub bytes_of : List Entry → ℕ
 bytes_of [] = 0

@@ -10,6 +10,7 @@ mod size;
 mod sought;
 mod stack_text;
 mod staging;
+mod stamp_range;
 mod table;
 
 pub use cursor::Cursor;

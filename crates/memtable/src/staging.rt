@@ -9,7 +9,7 @@ ghost use Rattle.cell_key.specs.Entries.{Entry, IsRising, IsEntry};
 ghost use Rattle.memtable.specs.Slots.{slot_entry, slot_entries, over};
 ghost use Rattle.memtable.specs.Sizes.{IsSizeOf};
 ghost use Rattle.memtable.specs.Blocks.{block_entries, IsEntryBlock};
-ghost use Rattle.memtable.specs.Edits.{edit_entry, with_edits, HasStoredKey, IsEditFrom};
+ghost use Rattle.memtable.specs.Edits.{edit_entry, with_edits, HasStoredKey};
 
 use crate::blocks::{self, Block};
 use crate::entries::{self, Slot};
@@ -17,7 +17,7 @@ use crate::key_text::EntryText;
 use crate::size::Size;
 use crate::sought::version_of;
 use crate::stack_text::ShortBytes;
-use cell_key::{CellKey, Edit, Refusal, Row, Stamp};
+use cell_key::{CellKey, Edit, Refusal, Row};
 use smallvec::SmallVec;
 use std::alloc::Global;
 
@@ -80,28 +80,6 @@ pub(crate) fn stage(alloc: Global, row: &Row, edits: Vec<Edit>) -> Result<Vec<Bo
         drop(entries::put(&mut staged, slot));
     }
     Ok(staged)
-}
-
-/// The stamp of an edit's key.
-fn stamp_of_edit(edit: &Edit) -> Stamp
-    ensures { result ≡ (edited_key edit.now).stamp }
-{
-    match edit {
-        Edit::Put(key, _) => key.stamp,
-        Edit::Erase(key) => key.stamp,
-    }
-}
-
-/// The least of a stamp and those of edits.
-pub(crate) fn least_of(edits: &[Edit], least: Stamp) -> Stamp
-    ensures below { result ≤ least }
-    ensures edits { All (IsEditFrom result) edits.now }
-{
-    let mut least = least;
-    for edit in edits {
-        least = least.min(stamp_of_edit(edit));
-    }
-    least
 }
 
 /// The size of a table once entries are put over it.

@@ -16,6 +16,7 @@ use crate::cursor::Cursor;
 use crate::entries::Slot;
 use crate::size::{self, Size};
 use crate::sought::{Version, version_of};
+use crate::stamp_range::StampRange;
 use crate::{searches, staging};
 use cell_key::{CellKey, Edit, EntryRef, Family, Qualifier, Refusal, Row, Stamp};
 use std::alloc::Global;
@@ -31,8 +32,8 @@ pub struct Memtable {
     bytes: usize,
     /// How many locks have a value.
     locks: usize,
-    /// No entry's key has a stamp below this one.
-    least: Stamp,
+    /// The stamps of all keys are within it.
+    stamps: StampRange,
 }
 
 impl Model for Memtable {
@@ -44,7 +45,7 @@ impl Model for Memtable {
 
     ghost view = { λ table. block_entries table.blocks.filled.items };
 
-    ghost invariant = { λ table. IsKept table.blocks table.len table.bytes table.locks table.least };
+    ghost invariant = { λ table. IsKept table.blocks table.len table.bytes table.locks table.stamps };
 }
 
 /// Whether a table is within the limits once entries are put over it. If there is room for them whatever they
@@ -88,7 +89,7 @@ impl Memtable {
             len: 0,
             bytes: 0,
             locks: 0,
-            least: u64::MAX,
+            stamps: StampRange::EMPTY,
         }
     }
 
@@ -116,15 +117,15 @@ impl Memtable {
         self.bytes
     }
 
-    /// The entry of a key, if it has one: its value, or an erasure. Below the stamps of all entries it searches
-    /// nothing. Takes no memory.
+    /// The entry of a key, if it has one: its value, or an erasure. If its stamp is outside those of all
+    /// entries it searches nothing. Takes no memory.
     pub fn lookup(&self, key: &CellKey) -> Option<EntryRef<'_>>
         ensures found { option_map (λ lent. (lent_entry lent).1) result
             ≡ entry_of_key self.now (text key.now) }
         ensures named { IfSome result (λ lent. lent.key.now ≡ text key.now) }
         ensures list { IsEntryList self.now }
     {
-        if key.stamp < self.least {
+        if self.stamps.misses(key.stamp, key.stamp) {
             // These calls show that row and family are within their limits.
             let _row = key.row.as_bytes();
             let _family = key.family.as_bytes();
@@ -144,7 +145,7 @@ impl Memtable {
 
     /// The version of a cell's column with the greatest stamp in `lo..=hi`, if it has one there: its stamp, from
     /// 1 to 2^63 - 1, and its value of at most 65,536 bytes. An erasure is no version. Of a lock it searches
-    /// nothing if no lock has a value. Below the stamps of all entries it searches nothing. Takes no memory.
+    /// nothing if no lock has a value. Outside the stamps of all entries it searches nothing. Takes no memory.
     pub fn newest(
         &self,
         row: &Row,
@@ -158,7 +159,7 @@ impl Memtable {
         ensures limits { IfSome result (λ found. IsVersion found.0 found.1.now) }
         ensures list { IsEntryList self.now }
     {
-        if hi < self.least {
+        if self.stamps.misses(lo, hi) {
             return None;
         }
         if qualifier == Qualifier::Lock && self.locks == 0 {
@@ -200,7 +201,7 @@ impl Memtable {
         if edits.len() == 2 && before.has_room(2) {
             return self.put_two(row, edits, before);
         }
-        let least = staging::least_of(&edits, self.least);
+        let stamps = self.stamps.with_edits(&edits);
         let staged = staging::stage(self.alloc, row, edits)?;
         if !fit(&self.blocks.filled, before, &staged) {
             return Err(Refusal::MemtableFull);
@@ -210,7 +211,7 @@ impl Memtable {
         self.len = size.entries as usize;
         self.bytes = size.bytes as usize;
         self.locks = size.locks as usize;
-        self.least = least;
+        self.stamps = stamps;
         Ok(())
     }
 
@@ -228,7 +229,7 @@ impl Memtable {
         ensures err { OnErr result (self.new ≡ self.old) }
         ensures refusal { IfErr result (λ refusal. refusal ≡ Refusal.NoMemory) }
     {
-        let least = staging::least_of(&edits, self.least);
+        let stamps = self.stamps.with_edits(&edits);
         let last = edits.pop().unwrap();
         let first = edits.pop().unwrap();
         let first = staging::slot_of(self.alloc, row, first)?;
@@ -239,7 +240,7 @@ impl Memtable {
         self.len = size.entries as usize;
         self.bytes = size.bytes as usize;
         self.locks = size.locks as usize;
-        self.least = least;
+        self.stamps = stamps;
         Ok(())
     }
 }

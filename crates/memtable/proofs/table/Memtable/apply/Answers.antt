@@ -2,8 +2,8 @@ use Rattle.std.proofs.Common.{List, ap, subst, refl, ◌∙◌, arith}
 use Rattle.std.specs.List.{All}
 use Rattle.cell_key.specs.Entries.{Entry}
 use Rattle.cell_key.specs.declared.edits.Edit.{Edit}
-use Rattle.memtable.specs.Edits.{IsEditFrom}
-use Rattle.memtable.proofs.Least.{least_after}
+use Rattle.memtable.specs.StampRanges.{IsEditWithin}
+use Rattle.memtable.proofs.StampRanges.{stamps_after}
 use Rattle.memtable.specs.Slots.{slot_entries, over}
 use Rattle.memtable.specs.Blocks.{block_entries}
 use Rattle.memtable.specs.Sizes.{IsSizeOf}
@@ -31,9 +31,9 @@ invariant_of-self-2 c =
     let size = subst (λ (es : List Entry). IsSizeOf c.put_all-size.result es) before c.put_all-size.ensures.size in
     let made = c.put_all-size.ensures.entries ∙ before in
     let all = made ∙ c.in_ok-staged.ensures.staged base c.self.invariant.list.rising in
-    let edits = subst (λ (xs : List Edit). All (IsEditFrom c.least_of-least.result) xs) c.deref.ensures.value c.least_of-least.ensures.edits in
-    let least = least_after c.self.inside.least c.least_of-least.result c.args.edits.items base (block_entries c.put_all-size.new.blocks.filled.items) all c.in_ok-staged.ensures.keys c.least_of-least.ensures.below edits c.self.invariant.least in
-    kept c.put_all-size.new.blocks staged base c.put_all-size.result made c.self.invariant.list c.in_ok-staged.ensures.limits size (fits.0 refl) c.put_all-size.ensures.blocks c.least_of-least.result least
+    let edits = subst (λ (xs : List Edit). All (IsEditWithin c.with_edits-stamps.result) xs) c.deref.ensures.value c.with_edits-stamps.ensures.edits in
+    let stamps = stamps_after c.self.inside.stamps c.with_edits-stamps.result c.args.edits.items base (block_entries c.put_all-size.new.blocks.filled.items) all c.in_ok-staged.ensures.keys c.with_edits-stamps.ensures.least c.with_edits-stamps.ensures.greatest edits c.self.invariant.stamps in
+    kept c.put_all-size.new.blocks staged base c.put_all-size.result made c.self.invariant.list c.in_ok-staged.ensures.limits size (fits.0 refl) c.put_all-size.ensures.blocks c.with_edits-stamps.result stamps
 
 pub returns-clause-list : goal.returns-clause-list
 returns-clause-list c =

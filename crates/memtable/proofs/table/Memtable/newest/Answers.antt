@@ -3,7 +3,7 @@ use Rattle.cell_key.specs.Cells.{IsNewest, version}
 use Rattle.cell_key.specs.Entries.{cells_of}
 use Rattle.cell_key.specs.declared.keys.Qualifier.TheVariants.{Lock}
 use Rattle.memtable.specs.Blocks.{block_entries}
-use Rattle.memtable.proofs.Least.{newest_before}
+use Rattle.memtable.proofs.StampRanges.{newest_outside}
 use Rattle.memtable.proofs.Locks.{no_newest}
 use Rattle.memtable.proofs.table.Memtable.newest.Goals as goal
 
@@ -14,8 +14,8 @@ returns-then-self-eq0-clause-found c =
     let found = no_newest es c.self.invariant.list.each (sym c.self.invariant.locks ∙ c.if-self-eq0.true) c.args.row.now c.args.family.now c.args.qualifier is c.args.lo c.args.hi in
     subst (λ (xs : _). IsNewest (cells_of xs) (version c.args.row.now c.args.family.now c.args.qualifier) c.args.lo c.args.hi None) c.self.view_is found
 
-pub returns-then-hi-self-clause-found : goal.returns-then-hi-self-clause-found
-returns-then-hi-self-clause-found c =
+pub returns-then-misses-clause-found : goal.returns-then-misses-clause-found
+returns-then-misses-clause-found c =
     let es = block_entries c.self.inside.blocks.filled.items in
-    let found = newest_before c.self.inside.least es c.self.invariant.list.each c.self.invariant.least c.args.row.now c.args.family.now c.args.qualifier c.args.lo c.args.hi c.if-hi-self.true in
+    let found = newest_outside c.self.inside.stamps es c.self.invariant.list.each c.self.invariant.stamps c.args.row.now c.args.family.now c.args.qualifier c.args.lo c.args.hi (c.misses.ensures.0 c.if-misses.true) in
     subst (λ (xs : _). IsNewest (cells_of xs) (version c.args.row.now c.args.family.now c.args.qualifier) c.args.lo c.args.hi None) c.self.view_is found

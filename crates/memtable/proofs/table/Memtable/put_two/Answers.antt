@@ -4,11 +4,12 @@ use Rattle.cell_key.specs.Keys.{byte_cmp}
 use Rattle.cell_key.specs.Entries.{Entry, IsRising}
 use Rattle.std.specs.List.{All, AllByRecursion}
 use Rattle.cell_key.specs.declared.edits.Edit.{Edit}
-use Rattle.memtable.proofs.Least.{least_after}
+use Rattle.memtable.specs.StampRanges.{IsEditWithin}
+use Rattle.memtable.proofs.StampRanges.{stamps_after}
 use Rattle.memtable.specs.Slots.{slot_entry, over}
 use Rattle.memtable.specs.Sizes.{IsSizeOf}
 use Rattle.memtable.specs.Blocks.{block_entries}
-use Rattle.memtable.specs.Edits.{bytes_of, with_edits, HasStoredKey, IsEditFrom, IsWithinLimits}
+use Rattle.memtable.specs.Edits.{bytes_of, with_edits, HasStoredKey, IsWithinLimits}
 use Rattle.memtable.proofs.EntryLists.{over_rising}
 use Rattle.memtable.proofs.Sizes.{kept, kept_list, locks_within, over_bytes, over_len, two_within}
 use Rattle.memtable.proofs.table.Memtable.put_two.Goals as goal
@@ -123,9 +124,9 @@ invariant_of-self-2 c =
     let made = c.put_counted-size.ensures.entries ∙ ap (put byte_cmp last.0 last.1) half in
     let all : block_entries c.put_counted-size.new.blocks.filled.items ≡ with_edits c.args.self.now c.args.edits.items = search rules in
     let keys : AllByRecursion HasStoredKey c.args.edits.items = search rules in
-    let edits = subst (λ (xs : List Edit). All (IsEditFrom c.least_of-least.result) xs) c.deref.ensures.value c.least_of-least.ensures.edits in
-    let least = least_after c.self.inside.least c.least_of-least.result c.args.edits.items base (block_entries c.put_counted-size.new.blocks.filled.items) (all ∙ ap (λ (es : List Entry). with_edits es c.args.edits.items) (sym c.self.view_is)) keys c.least_of-least.ensures.below edits c.self.invariant.least in
-    kept c.put_counted-size.new.blocks (last ∷ first ∷ []) base c.put_counted-size.result made c.self.invariant.list (c.in_ok-last.ensures.limits, (c.in_ok-first.ensures.limits, tt)) size within c.put_counted-size.ensures.blocks c.least_of-least.result least
+    let edits = subst (λ (xs : List Edit). All (IsEditWithin c.with_edits-stamps.result) xs) c.deref.ensures.value c.with_edits-stamps.ensures.edits in
+    let stamps = stamps_after c.self.inside.stamps c.with_edits-stamps.result c.args.edits.items base (block_entries c.put_counted-size.new.blocks.filled.items) (all ∙ ap (λ (es : List Entry). with_edits es c.args.edits.items) (sym c.self.view_is)) keys c.with_edits-stamps.ensures.least c.with_edits-stamps.ensures.greatest edits c.self.invariant.stamps in
+    kept c.put_counted-size.new.blocks (last ∷ first ∷ []) base c.put_counted-size.result made c.self.invariant.list (c.in_ok-last.ensures.limits, (c.in_ok-first.ensures.limits, tt)) size within c.put_counted-size.ensures.blocks c.with_edits-stamps.result stamps
 
 pub returns-clause-list : goal.returns-clause-list
 returns-clause-list c =
