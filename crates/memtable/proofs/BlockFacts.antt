@@ -1,16 +1,17 @@
 -- Blocks of slots.
-use Rattle.std.proofs.Common.{◌≡◌, ◌<◌, ◌≤◌, ◌+◌, ℕ, zero, suc, Bool, true, false, nat_eq, ◌≢◌, List, [], ◌∷◌, length, map, get_or, set, Option, refl, sym, ap, subst, ◌∙◌, arith, vec_len}
+use Rattle.std.proofs.Common.{◌≡◌, ◌<◌, ◌≤◌, ◌+◌, ◌⊎◌, inl, inr, ℕ, zero, suc, Bool, true, false, nat_eq, nat_lt, ◌≢◌, List, [], ◌∷◌, length, map, get_or, set, Option, refl, sym, ap, subst, ◌∙◌, arith, vec_len}
 use Rattle.std.proofs.lemmas.Bool.Decides.{nat_tests}
-use Rattle.std.proofs.lemmas.List.{length-map}
+use Rattle.std.proofs.lemmas.List.{get_or_default, length-map}
 use Rattle.std.specs.List.{AllByRecursion}
 use Rattle.std.specs.Ordering.{is_gt}
 use Rattle.std.specs.FinMap.Entries.{put}
 use Rattle.cell_key.specs.Keys.{byte_cmp}
-use Rattle.cell_key.specs.Entries.{Entry, IsRising, entry_of_key}
+use Rattle.cell_key.specs.Entries.{Entry, IsPlace, IsRising, entry_of_key}
 use Rattle.memtable.specs.declared.blocks.Block.{Block}
+use Rattle.memtable.specs.declared.blocks.Place.{Place}
 use Rattle.memtable.specs.Slots.{slot_entry}
-use Rattle.memtable.specs.Blocks.{ends_below, list_of, lists_of, block_entries, IsBlockIndex, IsCounted, IsEntryBlock, IsFullAt}
-use Rattle.memtable.proofs.BlockLists.{all_set, found_in, found_last, put_in, put_last}
+use Rattle.memtable.specs.Blocks.{ends_below, list_of, lists_of, block_entries, IsBlockIndex, IsCounted, IsEndOf, IsEntryBlock, IsFullAt, IsPlaceAmong}
+use Rattle.memtable.proofs.BlockLists.{all_at, all_set, each_passed, end_point, ends_at_place, first_point, found_in, found_last, inner_point, place_at_end, put_in, put_last, rising_at, stays_at_place}
 
 -- a block has entries
 block_some : (block : Block) → IsEntryBlock block → 1 ≤ length (list_of block)
@@ -19,6 +20,77 @@ block_some block is = let some = is.some in let len = block.slots.ok.0 in let sa
 pub blocks_some : (blocks : List Block) → AllByRecursion IsEntryBlock blocks → AllByRecursion (λ block. 1 ≤ length (list_of block)) blocks
 blocks_some [] all = tt
 blocks_some (block ∷ blocks) all = (block_some block all.0, blocks_some blocks all.1)
+
+-- the place of a text in a block is its place among all where the block before ends below the text
+module _ (name : List ℕ) (xs : List Block) (rising : IsRising (block_entries xs)) (all : AllByRecursion IsEntryBlock xs) (i j : ℕ) (lt : i < length xs) (place : (d : Block) → IsPlace name (list_of (get_or xs i d)) j) where
+  one_at : (d : Block) → get_or xs i d ≡ get_or xs i (get_or xs i d)
+  one_at d = get_or_default xs i d (get_or xs i d) lt
+
+  pub some_at : (d : Block) → 1 ≤ length (list_of (get_or xs i d))
+  some_at d = all_at (λ (b : Block). 1 ≤ length (list_of b)) xs i (get_or xs i d) (blocks_some xs all) lt (one_at d)
+
+  rising_one : (d : Block) → IsRising (list_of (get_or xs i d))
+  rising_one d = rising_at list_of xs i (get_or xs i d) rising lt (one_at d)
+
+  -- one with its place behind all entries of the last block is behind all
+  pub place_behind : i + 1 ≡ length xs → ((d : Block) → j ≡ length (list_of (get_or xs i d))) → IsPlaceAmong name xs (record { block = i + 1; slot = 0 })
+  place_behind last end = record {
+    block = subst (IsBlockIndex name (lists_of xs)) (sym last)
+        (end_point list_of name xs i rising (blocks_some xs all) (omega (arith, last)) (λ d. ends_at_place name (list_of (get_or xs i d)) j (some_at d) (place d) (end d)));
+    slot = λ d within. absurd (omega (arith, last, within));
+  }
+
+  module _ (inside : (d : Block) → j < length (list_of (get_or xs i d))) where
+    stays : (d : Block) → ends_below name (list_of (get_or xs i d)) ≡ false
+    stays d = stays_at_place name (list_of (get_or xs i d)) j (rising_one d) (place d) (inside d)
+
+    pub place_within : 0 < j → IsPlaceAmong name xs (record { block = i; slot = j })
+    place_within inner = record {
+      block = inner_point list_of name xs i j rising (blocks_some xs all) lt place inner stays;
+      slot = λ d within. place d;
+    }
+
+    pub place_after : ((k : ℕ) (d : Block) → suc k ≡ i → ends_below name (list_of (get_or xs k d)) ≡ true) → IsPlaceAmong name xs (record { block = i; slot = j })
+    place_after ends = record {
+      block = first_point list_of name xs i rising (blocks_some xs all) lt stays ends;
+      slot = λ d within. place d;
+    }
+
+-- where an entry is put whose place this is
+module _ (xs : List Block) (place at : Place) (some : 1 ≤ length xs) (inside : place.block < length xs → at ≡ place) (end : length xs ≤ place.block → IsEndOf xs at) where
+  is_inside : (place.block < length xs) ⊎ (length xs ≤ place.block)
+  is_inside = go (nat_lt place.block (length xs)) refl
+    where
+      go : (b : Bool) → nat_lt place.block (length xs) ≡ b → (place.block < length xs) ⊎ (length xs ≤ place.block)
+      go true e = inl (grind (arith, nat_tests))
+      go false e = inr (grind (arith, nat_tests))
+
+  pub at_within : at.block < length xs
+  at_within = go is_inside
+    where
+      go : (place.block < length xs) ⊎ (length xs ≤ place.block) → at.block < length xs
+      go (inl lt) = subst (λ (p : Place). p.block < length xs) (sym (inside lt)) lt
+      go (inr le) = let last = (end le).block in omega (arith, last)
+
+  pub at_other : at.block ≢ place.block → (at.block + 1 ≡ length xs) × (length xs ≤ place.block)
+  at_other other = go is_inside
+    where
+      go : (place.block < length xs) ⊎ (length xs ≤ place.block) → (at.block + 1 ≡ length xs) × (length xs ≤ place.block)
+      go (inl lt) = absurd (other (ap (λ (p : Place). p.block) (inside lt)))
+      go (inr le) = ((end le).block, le)
+
+  pub at_place : (name : List ℕ) → IsRising (block_entries xs) → IsPlaceAmong name xs place → (d : Block) → IsPlace name (list_of (get_or xs at.block d)) at.slot
+  at_place name rising is d = go is_inside
+    where
+      go : (place.block < length xs) ⊎ (length xs ≤ place.block) → IsPlace name (list_of (get_or xs at.block d)) at.slot
+      go (inl lt) = subst (λ (p : Place). IsPlace name (list_of (get_or xs p.block d)) p.slot) (sym (inside lt)) (is.slot d lt)
+      go (inr le) =
+          let block = get_or xs at.block d in
+          let risen = rising_at list_of xs at.block block rising at_within (get_or_default xs at.block d block at_within) in
+          let len = length-map block.slots.items (λ slot. slot_entry slot.value) in
+          let items = block.slots.ok.0 in
+          let slot = (end le).slot d in
+          subst (IsPlace name (list_of block)) (omega (arith, len, items, slot)) (place_at_end name (list_of block) risen (each_passed list_of name xs place.block at.block d is.block le at_within))
 
 -- a list ends below a text where its last entry is below
 pub by_last : {X : Type 0} (f : X → Entry) (name : List ℕ) (xs : List X) (i : ℕ) (x : X) → i + 1 ≡ length xs → x ≡ get_or xs i x → is_gt (byte_cmp name (f x).0) ≡ ends_below name (map f xs)

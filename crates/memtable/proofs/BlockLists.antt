@@ -7,7 +7,7 @@ use Rattle.std.specs.Ordering.{is_gt, is_eq, ordering_reverse}
 use Rattle.std.specs.Cmp.Lexicographic.{nat_list_cmp_total}
 use Rattle.std.specs.FinMap.Entries.{put, find, below_all}
 use Rattle.cell_key.specs.Keys.{byte_cmp}
-use Rattle.cell_key.specs.Entries.{Entry, IsRising, entry_of_key, entries_from}
+use Rattle.cell_key.specs.Entries.{Entry, IsPlace, IsRising, entry_of_key, entries_from}
 use Rattle.cell_key.proofs.TextPlaces.{first, second, less, clash, find_lower, from_place}
 use Rattle.memtable.specs.Blocks.{ends_below, IsBlockIndex}
 
@@ -56,6 +56,44 @@ module _ (name : List ℕ) where
   head_below : (e : Entry) (es : List Entry) → IsRising (e ∷ es) → ends_below name (e ∷ es) ≡ true → byte_cmp name e.0 ≡ Greater
   head_below e [] r t = greater _ t
   head_below e (f ∷ es) r t = below_end e.0 (f ∷ es) (first _ _ r) t
+
+  -- a list that ends below the text has its place behind all
+  pub place_at_end : (es : List Entry) → IsRising es → ends_below name es ≡ true → IsPlace name es (length es)
+  place_at_end [] r t = cc
+  place_at_end (e ∷ []) r t = (head_below e [] r t, tt)
+  place_at_end (e ∷ f ∷ es) r t = (head_below e (f ∷ es) r t, place_at_end (f ∷ es) (second _ _ r) t)
+
+  -- so does one with its place there
+  pub ends_at_place : (es : List Entry) (i : ℕ) → 1 ≤ length es → IsPlace name es i → i ≡ length es → ends_below name es ≡ true
+  ends_at_place [] i some p e = absurd (omega arith)
+  ends_at_place (e ∷ []) zero some p end = absurd (omega (arith, end))
+  ends_at_place (e ∷ []) (suc i) some p end = ap is_gt p.0
+  ends_at_place (e ∷ f ∷ es) zero some p end = absurd (omega (arith, end))
+  ends_at_place (e ∷ f ∷ es) (suc i) some p end = ends_at_place (f ∷ es) i (omega arith) p.1 (omega (arith, end))
+
+  one_place : (es : List Entry) (i j : ℕ) → IsPlace name es i → IsPlace name es j → i < j → ⊥
+  one_place [] i zero p q lt = absurd (omega (arith, lt))
+  one_place [] i (suc j) p q lt = q
+  one_place (e ∷ es) i zero p q lt = absurd (omega (arith, lt))
+  one_place (e ∷ es) zero (suc j) p q lt = p q.0
+  one_place (e ∷ es) (suc i) (suc j) p q lt = one_place es i j p.1 q.1 (omega (arith, lt))
+
+  -- and one with its place before the end doesn't end below
+  pub stays_at_place : (es : List Entry) (i : ℕ) → IsRising es → IsPlace name es i → i < length es → ends_below name es ≡ false
+  stays_at_place es i r p lt = go (ends_below name es) refl
+    where
+      go : (b : Bool) → ends_below name es ≡ b → ends_below name es ≡ false
+      go false e = e
+      go true e = absurd (one_place es i (length es) p (place_at_end es r e) lt)
+
+  -- the text is above all that is below an entry before its place
+  above_first : (es : List Entry) (i : ℕ) → 0 < i → IsPlace name es i → (low : List ℕ) → T (below_all byte_cmp low es) → byte_cmp name low ≡ Greater
+  above_first es zero some p low h = absurd (omega (arith, some))
+  above_first [] (suc i) some p low h = absurd p
+  above_first (e ∷ es) (suc i) some p low h =
+      let up : byte_cmp e.0 name ≡ Less = nat_list_cmp_total.antisymm e.0 name ∙ ap ordering_reverse p.0 in
+      let lower : byte_cmp low name ≡ Less = nat_list_cmp_total.trans low e.0 name (less _ (first _ _ h)) up in
+      nat_list_cmp_total.antisymm name low ∙ ap ordering_reverse lower
 
   -- a list that ends below the text is passed by
   put_past : (v : Option (List ℕ)) (a b : List Entry) → IsRising a → ends_below name a ≡ true → put byte_cmp name v (a ++ b) ≡ a ++ put byte_cmp name v b
@@ -147,6 +185,13 @@ all_drop P [] (suc i) all = tt
 all_drop P (x ∷ xs) zero all = all
 all_drop P (x ∷ xs) (suc i) all = all_drop P xs i all.1
 
+-- what is left of a list begins with what stands there
+pub first_of_drop : {X : Type 0} (xs : List X) (i : ℕ) (x : X) (later : List X) → drop i xs ≡ x ∷ later → (i < length xs) × (x ≡ get_or xs i x)
+first_of_drop [] zero x later e = cc
+first_of_drop [] (suc i) x later e = cc
+first_of_drop {X} (y ∷ xs) zero x later e = (omega arith, sym (ap (λ (zs : List X). get_or zs 0 x) e))
+first_of_drop (y ∷ xs) (suc i) x later e = let h = first_of_drop xs i x later e in let lt = h.0 in (omega (arith, lt), h.1)
+
 module _ {X : Type 0} (f : X → List Entry) where
   abbrev AreSome : List X → Type 0
   AreSome xs = AllByRecursion (λ x. 1 ≤ length (f x)) xs
@@ -212,6 +257,21 @@ module _ {X : Type 0} (f : X → List Entry) where
         back k d a b true e = absurd (clash _ (parted_blocks xs r some i k d a b e) (stays d))
         back k d a b false e = e
 
+    -- and it is one whose entries are before and behind the text
+    pub inner_point : (xs : List X) (i j : ℕ) → IsRising (flat_map f xs) → AreSome xs → i < length xs → ((d : X) → IsPlace name (f (get_or xs i d)) j) → 0 < j → ((d : X) → is_passed (get_or xs i d) ≡ false) → IsBlockIndex name (map f xs) i
+    inner_point xs i j r some lt place inner stays = first_point xs i r some lt stays (λ k d e. before xs i k d r some lt e place)
+      where
+        before : (xs : List X) (i k : ℕ) (d : X) → IsRising (flat_map f xs) → AreSome xs → i < length xs → suc k ≡ i → ((d : X) → IsPlace name (f (get_or xs i d)) j) → is_passed (get_or xs k d) ≡ true
+        before [] i k d r some lt e place = absurd (omega (arith, lt))
+        before (x ∷ xs) zero k d r some lt e place = absurd (omega (arith, e))
+        before (x ∷ []) (suc i) k d r some lt e place = absurd (omega (arith, lt))
+        before (x ∷ y ∷ xs) (suc zero) zero d r some lt e place =
+            end_below name (f x) (flat_map f (y ∷ xs)) r some.0 (λ low h. above_first name (f y) j inner (place d) low (below_front low (f y) (flat_map f xs) h))
+        before (x ∷ y ∷ xs) (suc zero) (suc k) d r some lt e place = absurd (omega (arith, e))
+        before (x ∷ y ∷ xs) (suc (suc i)) zero d r some lt e place = absurd (omega (arith, e))
+        before (x ∷ y ∷ xs) (suc (suc i)) (suc k) d r some lt e place =
+            before (y ∷ xs) (suc i) k d (rising_back (f x) (flat_map f (y ∷ xs)) r) some.1 (omega (arith, lt)) (omega (arith, e)) place
+
     -- and where the last one ends below, none is left
     pub end_point : (xs : List X) (i : ℕ) → IsRising (flat_map f xs) → AreSome xs → suc i ≡ length xs → ((d : X) → is_passed (get_or xs i d) ≡ true) → IsBlockIndex name (map f xs) (length xs)
     end_point xs i r some e ends =
@@ -242,6 +302,13 @@ module _ {X : Type 0} (f : X → List Entry) where
     found_last (z ∷ w ∷ xs) (suc i) (suc j) x r p le last g =
         find_past name (f z) (flat_map f (w ∷ xs)) (rising_front (f z) (flat_map f (w ∷ xs)) r) p.0
         ∙ found_last (w ∷ xs) i j x (rising_back (f z) (flat_map f (w ∷ xs)) r) p.1 (omega arith) (omega (arith, last)) g
+
+    -- where no block is left, each ends below
+    pub each_passed : (xs : List X) (i k : ℕ) (d : X) → IsBlockIndex name (map f xs) i → length xs ≤ i → k < length xs → is_passed (get_or xs k d) ≡ true
+    each_passed [] i k d p le lt = absurd (omega (arith, lt))
+    each_passed (x ∷ xs) zero k d p le lt = absurd (omega (arith, le))
+    each_passed (x ∷ xs) (suc i) zero d p le lt = p.0
+    each_passed (x ∷ xs) (suc i) (suc k) d p le lt = each_passed xs i k d p.1 (omega (arith, le)) (omega (arith, lt))
 
     abbrev pub from_first : List X → List Entry
     from_first [] = []

@@ -3,6 +3,7 @@ mod BlockLists
 mod EntryLists
 mod Locks
 mod Newest
+mod Parts
 mod Places
 mod Sizes
 mod StackTexts

@@ -8,7 +8,21 @@ use Rattle.std.specs.FinMap.Entries.{put, by_order, find}
 use Rattle.cell_key.specs.Keys.{byte_cmp}
 use Rattle.cell_key.specs.Entries.{Entry, IsPlace, IsRising, entry_of_key}
 use Rattle.cell_key.proofs.TextPlaces.{clash, equal, find_lower, one_text, second}
+use Rattle.memtable.specs.Blocks.{IsBlockIndex}
 use Rattle.memtable.specs.Slots.{is_named}
+
+-- a place is within the list, or right behind it
+pub place_bound : (name : List ℕ) (es : List Entry) (i : ℕ) → IsPlace name es i → i ≤ length es
+place_bound name [] zero p = omega arith
+place_bound name [] (suc i) p = absurd p
+place_bound name (e ∷ es) zero p = omega arith
+place_bound name (e ∷ es) (suc i) p = let h = place_bound name es i p.1 in omega (arith, h)
+
+pub index_bound : (name : List ℕ) (lists : List (List Entry)) (i : ℕ) → IsBlockIndex name lists i → i ≤ length lists
+index_bound name [] zero p = omega arith
+index_bound name [] (suc i) p = absurd p
+index_bound name (es ∷ lists) zero p = omega arith
+index_bound name (es ∷ lists) (suc i) p = let h = index_bound name lists i p.1 in omega (arith, h)
 
 module _ {X : Type 0} (f : X → Entry) (name : List ℕ) where
   pub named_some : (xs : List X) (i : ℕ) (x : X) → i < length xs → x ≡ get_or xs i x → is_named name (map f xs) i ≡ is_eq (byte_cmp name (f x).0)

@@ -5,10 +5,11 @@ use Rattle.std.specs.declared.vec.Vec.{Vec}
 use Rattle.std.specs.Ordering.{is_gt}
 use Rattle.std.specs.List.{AllByRecursion, flat_map}
 use Rattle.cell_key.specs.Keys.{byte_cmp}
-use Rattle.cell_key.specs.Entries.{Entry, IsEntryList}
+use Rattle.cell_key.specs.Entries.{Entry, IsEntryList, IsPlace}
 use Rattle.memtable.specs.declared.entries.Slot.{Slot}
 use Rattle.memtable.specs.declared.blocks.Block.{Block}
 use Rattle.memtable.specs.declared.blocks.Blocks.{Blocks}
+use Rattle.memtable.specs.declared.blocks.Place.{Place}
 use Rattle.memtable.specs.Slots.{lock_count, slot_entries, value_count}
 use Rattle.memtable.specs.Edits.{bytes_of, IsWithinLimits}
 use Rattle.memtable.specs.StampRanges.{IsEntryWithin}
@@ -42,6 +43,17 @@ block_entries blocks = flat_map list_of blocks
 -- a block knows how many of its entries have a value
 abbrev pub IsCounted : Block → Type 0
 IsCounted block = block.values ≡ value_count (list_of block)
+
+-- the place of a text: its block is the first that doesn't end below it, and its entry there the first that isn't below it
+pub record IsPlaceAmong (name : List ℕ) (blocks : List Block) (place : Place) : Type 0 where
+  pub block : IsBlockIndex name (lists_of blocks) place.block
+  pub slot : (d : Block) → place.block < length blocks
+      → IsPlace name (list_of (get_or blocks place.block d)) place.slot
+
+-- the place behind the last entry of the last block
+pub record IsEndOf (blocks : List Block) (place : Place) : Type 0 where
+  pub block : place.block + 1 ≡ length blocks
+  pub slot : (d : Block) → place.slot ≡ vec_len (get_or blocks place.block d).slots
 
 -- a block has entries, and room for one more
 pub record IsEntryBlock (block : Block) : Type 0 where

@@ -1,7 +1,7 @@
 -- The entries that slots stand for.
-use Rattle.std.specs.Prelude.{◌+◌, ◌-◌, if◌then◌else◌, length, take, nat_eq, ℕ, zero, suc, Bool, false, List, [], ◌∷◌, map, Option, Some, None, option_map}
+use Rattle.std.specs.Prelude.{◌≡◌, ◌<◌, ◌≤◌, ◌+◌, ◌-◌, true, get_or, if◌then◌else◌, length, take, nat_eq, ℕ, zero, suc, Bool, false, List, [], ◌∷◌, map, Option, Some, None, option_map}
 use Rattle.std.specs.declared.boxed.Box.{Box}
-use Rattle.std.specs.Ordering.{is_eq}
+use Rattle.std.specs.Ordering.{is_eq, is_gt}
 use Rattle.std.specs.FinMap.Entries.{put}
 use Rattle.std.specs.List.{ends_with}
 use Rattle.cell_key.specs.Keys.{byte_cmp, qualifier_name}
@@ -52,6 +52,25 @@ abbrev pub is_named : List ℕ → List Entry → ℕ → Bool
 is_named name [] i = false
 is_named name (e ∷ es) zero = is_eq (byte_cmp name e.0)
 is_named name (e ∷ es) (suc i) = is_named name es i
+
+-- the texts of all entries before the index are below this one
+abbrev pub AreBelow : {A : Type 0} → List ℕ → List (Box Slot A) → ℕ → Type 0
+AreBelow {A} name slots i =
+    (k : ℕ) (d : Box Slot A) → k < i → k < length slots
+    → is_gt (byte_cmp name (get_or slots k d).value.text) ≡ true
+
+-- the texts of the entry at the index and of all behind it aren't below this one
+abbrev pub AreNotBelow : {A : Type 0} → List ℕ → List (Box Slot A) → ℕ → Type 0
+AreNotBelow {A} name slots i =
+    (k : ℕ) (d : Box Slot A) → i ≤ k → k < length slots
+    → is_gt (byte_cmp name (get_or slots k d).value.text) ≡ false
+
+-- before the part from the one index to the other all texts are below this one, and behind it none is
+pub record IsPartOf {A : Type 0} (name : List ℕ) (slots : List (Box Slot A)) (from to : ℕ) : Type 0 where
+  pub order : from ≤ to
+  pub within : to ≤ length slots
+  pub below : AreBelow name slots from
+  pub above : AreNotBelow name slots to
 
 -- entries put over others, the last of them first
 abbrev pub over : List Entry → List Entry → List Entry

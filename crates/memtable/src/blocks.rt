@@ -1,14 +1,15 @@
 //! Entries in blocks, in the byte order of their texts. To make room, pointers to some entries of one block
 //! are moved, and at times those to the blocks.
 
-ghost use Rattle.std.specs.Prelude.{◌≡◌, ℕ, ◌+◌, ◌≤◌, ◌<◌, ◌^◌, [], ◌∷◌, ◌++◌, IfSome, OnOk, option_map, length, vec_len, vec_capacity};
+ghost use Rattle.std.specs.Prelude.{◌≡◌, ℕ, ◌+◌, ◌≤◌, ◌<◌, ◌^◌, [], ◌∷◌, ◌++◌, IfSome, OnOk, option_map, length, get_or, vec_len, vec_capacity};
 ghost use Rattle.std.specs.List.{AllByRecursion};
 ghost use Rattle.std.specs.FinMap.Entries.{put as put_entry};
 ghost use Rattle.cell_key.specs.Keys.{byte_cmp};
-ghost use Rattle.cell_key.specs.Entries.{IsEntry, IsRising, entries_from, entry_of_key};
+ghost use Rattle.cell_key.specs.Entries.{IsEntry, IsPlace, IsRising, entries_from, entry_of_key};
 ghost use Rattle.memtable.specs.Slots.{slot_entry, slot_entries, first_value, over};
 ghost use Rattle.memtable.specs.Sizes.{IsSizeOf, stood_size};
-ghost use Rattle.memtable.specs.Blocks.{block_entries, lists_of, list_of, ends_below, IsBlockIndex, IsCounted, IsEntryBlock, IsSpare, IsFullAt, AreEntryBlocks, HasRoom};
+ghost use Rattle.memtable.specs.declared.blocks.Block.{Block as BlockOf};
+ghost use Rattle.memtable.specs.Blocks.{block_entries, lists_of, list_of, ends_below, IsBlockIndex, IsCounted, IsEntryBlock, IsSpare, IsEndOf, IsFullAt, IsPlaceAmong, AreEntryBlocks, HasRoom};
 
 use crate::entries::{self, Slot};
 use crate::size::{EntrySize, Size};
@@ -31,8 +32,20 @@ pub(crate) struct Block {
 pub(crate) struct Blocks {
     pub(crate) filled: Vec<Block>,
     pub(crate) spare: Vec<Vec<Box<Slot>>>,
-    /// Where an entry was put last, or any other number. A search tries this block first.
-    pub(crate) near: usize,
+    /// Where an entry was put last, or any other place. A search looks beside it first.
+    pub(crate) near: Place,
+}
+
+/// A place among the entries of blocks: the index of a block, and that of an entry in it.
+#[derive(Clone, Copy, Drop)]
+pub(crate) struct Place {
+    pub(crate) block: usize,
+    pub(crate) slot: usize,
+}
+
+impl Place {
+    /// That of the first entry.
+    pub(crate) const START: Place = Place { block: 0, slot: 0 };
 }
 
 /// Whether all texts of a block are below what is sought.
@@ -55,43 +68,92 @@ pub(crate) fn index_of<S: Sought>(blocks: &[Block], sought: S) -> usize
     blocks.partition_point(|block| ends_below(block, sought))
 }
 
-/// The index of the first block that doesn't end below what is sought. The one at `near` is tried first, and if that is
-/// the last one, the end behind it.
-fn index_near<S: Sought>(blocks: &[Block], sought: S, near: usize) -> usize
+/// The place of the first entry that isn't below what is sought, by halving.
+fn place_of<S: Sought>(blocks: &[Block], sought: S) -> Place
     requires rising { IsRising (block_entries blocks.now) }
     requires blocks { AllByRecursion IsEntryBlock blocks.now }
-    ensures bound { result ≤ length blocks.now }
-    ensures index { IsBlockIndex (S.name sought) (lists_of blocks.now) result }
+    ensures { IsPlaceAmong (S.name sought) blocks.now result }
 {
-    let Some(block) = blocks.get(near) else {
-        return index_of(blocks, sought);
+    let at = index_of(blocks, sought);
+    let slot = match blocks.get(at) {
+        Some(block) => entries::first_from(&block.slots, sought),
+        None => 0,
     };
-    let is_past = ends_below(block, sought);
-    if is_past && near + 1 == blocks.len() {
-        return near + 1;
-    }
-    if is_past {
-        return index_of(blocks, sought);
-    }
-    if near == 0 {
-        return 0;
-    }
-    if ends_below(&blocks[near - 1], sought) {
-        return near;
-    }
-    index_of(blocks, sought)
+    Place { block: at, slot }
 }
 
-/// The entry that is sought.
-pub(crate) fn find<S: Sought>(blocks: &[Block], sought: S) -> Option<&Slot>
+/// The place of the first entry that isn't below what is sought. The first one of the block at an index isn't below.
+fn place_from<S: Sought>(blocks: &[Block], sought: S, at: usize) -> Place
+    requires rising { IsRising (block_entries blocks.now) }
+    requires blocks { AllByRecursion IsEntryBlock blocks.now }
+    requires within { at < length blocks.now }
+    requires above { (d : BlockOf) → IsPlace (S.name sought) (list_of (get_or blocks.now at d)) 0 }
+    ensures { IsPlaceAmong (S.name sought) blocks.now result }
+{
+    if at == 0 {
+        return Place::START;
+    }
+    if !ends_below(&blocks[at - 1], sought) {
+        return place_of(blocks, sought);
+    }
+    Place { block: at, slot: 0 }
+}
+
+/// The place of the first entry that isn't below what is sought. It is looked for beside `near`.
+fn place_near<S: Sought>(blocks: &[Block], sought: S, near: Place) -> Place
+    requires rising { IsRising (block_entries blocks.now) }
+    requires blocks { AllByRecursion IsEntryBlock blocks.now }
+    ensures { IsPlaceAmong (S.name sought) blocks.now result }
+{
+    let Some(block) = blocks.get(near.block) else {
+        return place_of(blocks, sought);
+    };
+    let slot = entries::first_near(&block.slots, sought, near.slot);
+    if slot == block.slots.len() {
+        if near.block + 1 < blocks.len() {
+            return place_of(blocks, sought);
+        }
+        return Place {
+            block: near.block + 1,
+            slot: 0,
+        };
+    }
+    if slot == 0 {
+        return place_from(blocks, sought, near.block);
+    }
+    Place {
+        block: near.block,
+        slot,
+    }
+}
+
+/// Where an entry is put whose place this is: behind the last one, if no block is left there.
+fn room_at(blocks: &[Block], place: Place) -> Place
+    requires some { 1 ≤ length blocks.now }
+    ensures inside { place.block < length blocks.now → result ≡ place }
+    ensures end { length blocks.now ≤ place.block → IsEndOf blocks.now result }
+{
+    if place.block < blocks.len() {
+        return place;
+    }
+    let block = blocks.len() - 1;
+    Place {
+        block,
+        slot: blocks[block].slots.len(),
+    }
+}
+
+/// The entry that is sought. It is looked for beside `near`.
+pub(crate) fn find<S: Sought>(blocks: &[Block], sought: S, near: Place) -> Option<&Slot>
     requires rising { IsRising (block_entries blocks.now) }
     requires blocks { AllByRecursion IsEntryBlock blocks.now }
     ensures found { option_map (λ slot. (slot_entry slot.now).1) result
         ≡ entry_of_key (block_entries blocks.now) (S.name sought) }
     ensures named { IfSome result (λ slot. slot.now.text ≡ S.name sought) }
 {
-    let block = blocks.get(index_of(blocks, sought))?;
-    entries::find(&block.slots, sought)
+    let place = place_near(blocks, sought, near);
+    let block = blocks.get(place.block)?;
+    entries::find_at(&block.slots, place.slot, sought)
 }
 
 /// The size of the entry of a text, if there is one.
@@ -100,18 +162,17 @@ pub(crate) fn stood_size(blocks: &[Block], text: &[u8]) -> Option<EntrySize>
     requires blocks { AllByRecursion IsEntryBlock blocks.now }
     ensures { result ≡ stood_size text.now (entry_of_key (block_entries blocks.now) text.now) }
 {
-    match find(blocks, text) {
+    match find(blocks, text, Place::START) {
         Some(slot) => Some(slot.size()),
         None => None,
     }
 }
 
-/// What isn't below what is sought: the rest of one block, and the blocks after that. The block at `near` is tried
-/// first.
+/// What isn't below what is sought: the rest of one block, and the blocks after that. It is looked for beside `near`.
 pub(crate) fn rest_from<S: Sought>(
     blocks: &[Block],
     sought: S,
-    near: usize,
+    near: Place,
 ) -> (&[Box<Slot>], &[Block])
     requires rising { IsRising (block_entries blocks.now) }
     requires blocks { AllByRecursion IsEntryBlock blocks.now }
@@ -119,12 +180,9 @@ pub(crate) fn rest_from<S: Sought>(
         ≡ entries_from (S.name sought) (block_entries blocks.now) }
     ensures blocks { AllByRecursion IsEntryBlock result.1.now }
 {
-    let at = index_near(blocks, sought, near);
-    match blocks.split_at(at).1.split_first() {
-        Some((block, later)) => {
-            let at = entries::first_from(&block.slots, sought);
-            (block.slots.split_at(at).1, later)
-        }
+    let place = place_near(blocks, sought, near);
+    match blocks.split_at(place.block).1.split_first() {
+        Some((block, later)) => (block.slots.split_at(place.slot).1, later),
         None => (&[], &[]),
     }
 }
@@ -156,8 +214,8 @@ fn first_value(blocks: &[Block]) -> Option<&Slot>
     None
 }
 
-/// The first entry that isn't below what is sought and has a value. The block at `near` is tried first.
-pub(crate) fn first_value_from<S: Sought>(blocks: &[Block], sought: S, near: usize) -> Option<&Slot>
+/// The first entry that isn't below what is sought and has a value. It is looked for beside `near`.
+pub(crate) fn first_value_from<S: Sought>(blocks: &[Block], sought: S, near: Place) -> Option<&Slot>
     requires rising { IsRising (block_entries blocks.now) }
     requires blocks { AllByRecursion IsEntryBlock blocks.now }
     ensures { option_map (λ slot. slot_entry slot.now) result
@@ -252,10 +310,12 @@ fn open(blocks: &mut Blocks, slot: Box<Slot>)
     blocks.filled.push(Block { slots, values }).unwrap();
 }
 
-/// Puts an entry at its place in a block that has room for one more. Returns the size of the entry of
-/// the same text that it replaces, if there is one.
-fn put_in(block: &mut Block, slot: Box<Slot>) -> Option<EntrySize>
+/// Puts an entry at its place in a block that has room for one more: the one at this index. Returns the size of the entry
+/// of the same text that it replaces, if there is one.
+fn put_in(block: &mut Block, at: usize, slot: Box<Slot>) -> Option<EntrySize>
     requires rising { IsRising (list_of block.old) }
+    requires bound { at ≤ vec_len block.old.slots }
+    requires place { IsPlace slot.value.text (list_of block.old) at }
     requires room { vec_len block.old.slots < vec_capacity block.old.slots }
     requires few { vec_len block.old.slots < 128 }
     requires counted { IsCounted block.old }
@@ -270,7 +330,7 @@ fn put_in(block: &mut Block, slot: Box<Slot>) -> Option<EntrySize>
     ensures counted { IsCounted block.new }
 {
     block.values += slot.value_count();
-    match entries::put(&mut block.slots, slot) {
+    match entries::put_at(&mut block.slots, at, slot) {
         Some(old) => {
             block.values -= old.value_count();
             Some(old.size())
@@ -298,11 +358,12 @@ pub(crate) fn put(blocks: &mut Blocks, slot: Box<Slot>) -> Option<EntrySize>
         open(blocks, slot);
         return None;
     }
-    let at = index_near(&blocks.filled, &slot.text, blocks.near).min(count - 1);
+    let place = place_near(&blocks.filled, &slot.text, blocks.near);
+    let at = room_at(&blocks.filled, place);
     blocks.near = at;
-    let replaced = put_in(&mut blocks.filled[at], slot);
-    if blocks.filled[at].slots.len() == BLOCK_ROOM {
-        split(blocks, at);
+    let replaced = put_in(&mut blocks.filled[at.block], at.slot, slot);
+    if blocks.filled[at.block].slots.len() == BLOCK_ROOM {
+        split(blocks, at.block);
     }
     replaced
 }

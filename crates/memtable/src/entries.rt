@@ -4,13 +4,14 @@ ghost use Rattle.std.specs.Prelude.{◌≡◌, ◌+◌, ◌≤◌, ◌<◌, IfSo
 ghost use Rattle.std.specs.FinMap.Entries.{put as put_entry};
 ghost use Rattle.cell_key.specs.Keys.{byte_cmp};
 ghost use Rattle.cell_key.specs.Entries.{IsPlace, IsRising, entry_of_key, lent_entry, entry_len};
-ghost use Rattle.memtable.specs.Slots.{slot_entry, slot_entries, is_named, first_value, one_lock, one_value, value_count};
+ghost use Rattle.memtable.specs.Slots.{slot_entry, slot_entries, is_named, first_value, one_lock, one_value, value_count, AreBelow, AreNotBelow, IsPartOf};
 ghost use Rattle.memtable.specs.Sizes.{entry_size};
 
 use crate::key_text::EntryText;
 use crate::size::EntrySize;
 use crate::sought::Sought;
 use cell_key::EntryRef;
+use std::cmp::Ordering;
 use std::mem;
 
 /// An entry: the text of a key, and its value or an erasure.
@@ -83,6 +84,80 @@ pub(crate) fn first_from<S: Sought>(slots: &[Box<Slot>], sought: S) -> usize
     slots.partition_point(|slot| sought.compare(&slot.text).is_gt())
 }
 
+/// A part of the entries, from an index on, behind which none is below what is sought. It is found in steps that grow.
+fn part_after<S: Sought>(slots: &[Box<Slot>], sought: S, from: usize) -> (usize, usize)
+    requires rising { IsRising (slot_entries slots.now) }
+    requires from { from ≤ length slots.now }
+    requires below { AreBelow (S.name sought) slots.now from }
+    ensures { IsPartOf (S.name sought) slots.now result.0 result.1 }
+{
+    let mut from = from;
+    let mut step: usize = 0;
+    'steps: while from < slots.len() {
+        let at = from.saturating_add(step).min(slots.len() - 1);
+        if !sought.compare(&slots[at].text).is_gt() {
+            return (from, at);
+        }
+        from = at + 1;
+        step = step.saturating_mul(4).saturating_add(1);
+    }
+    (from, from)
+}
+
+/// A part of the entries, up to an index, before which all are below what is sought. It is found in steps that grow.
+fn part_before<S: Sought>(slots: &[Box<Slot>], sought: S, to: usize) -> (usize, usize)
+    requires rising { IsRising (slot_entries slots.now) }
+    requires to { to ≤ length slots.now }
+    requires above { AreNotBelow (S.name sought) slots.now to }
+    ensures { IsPartOf (S.name sought) slots.now result.0 result.1 }
+{
+    let mut to = to;
+    let mut step: usize = 0;
+    'steps: while to > 0 {
+        let at = (to - 1).saturating_sub(step);
+        if sought.compare(&slots[at].text).is_gt() {
+            return (at + 1, to);
+        }
+        to = at;
+        step = step.saturating_mul(4).saturating_add(1);
+    }
+    (0, 0)
+}
+
+/// A part of the entries in which the first is that isn't below what is sought, or behind which it comes next. It is looked
+/// for beside the entry at `near`.
+fn part_near<S: Sought>(slots: &[Box<Slot>], sought: S, near: usize) -> (usize, usize)
+    requires { IsRising (slot_entries slots.now) }
+    ensures { IsPartOf (S.name sought) slots.now result.0 result.1 }
+{
+    let Some(slot) = slots.get(near) else {
+        return (0, slots.len());
+    };
+    match sought.compare(&slot.text) {
+        Ordering::Less => part_before(slots, sought, near),
+        Ordering::Equal => (near, near),
+        Ordering::Greater => part_after(slots, sought, near + 1),
+    }
+}
+
+/// The index of the first entry whose text isn't below what is sought. It is looked for beside the entry at `near`.
+pub(crate) fn first_near<S: Sought>(slots: &[Box<Slot>], sought: S, near: usize) -> usize
+    requires { IsRising (slot_entries slots.now) }
+    ensures bound { result ≤ length slots.now }
+    ensures place { IsPlace (S.name sought) (slot_entries slots.now) result }
+{
+    let (mut from, mut to) = part_near(slots, sought, near);
+    'halves: while from < to {
+        let middle = from + (to - from) / 2;
+        if sought.compare(&slots[middle].text).is_gt() {
+            from = middle + 1;
+        } else {
+            to = middle;
+        }
+    }
+    from
+}
+
 /// Whether the entry at an index has this text.
 fn is_named<S: Sought>(slots: &[Box<Slot>], at: usize, sought: S) -> bool
     ensures { result ≡ is_named (S.name sought) (slot_entries slots.now) at }
@@ -93,14 +168,15 @@ fn is_named<S: Sought>(slots: &[Box<Slot>], at: usize, sought: S) -> bool
     }
 }
 
-/// The entry that is sought.
-pub(crate) fn find<S: Sought>(slots: &[Box<Slot>], sought: S) -> Option<&Slot>
-    requires { IsRising (slot_entries slots.now) }
+/// The entry that is sought, whose place is the one at this index.
+pub(crate) fn find_at<S: Sought>(slots: &[Box<Slot>], at: usize, sought: S) -> Option<&Slot>
+    requires rising { IsRising (slot_entries slots.now) }
+    requires place { IsPlace (S.name sought) (slot_entries slots.now) at }
     ensures found { option_map (λ slot. (slot_entry slot.now).1) result
         ≡ entry_of_key (slot_entries slots.now) (S.name sought) }
     ensures named { IfSome result (λ slot. slot.now.text ≡ S.name sought) }
 {
-    let slot = slots.get(first_from(slots, sought))?;
+    let slot = slots.get(at)?;
     if sought.compare(&slot.text).is_eq() {
         Some(slot)
     } else {
@@ -137,10 +213,12 @@ pub(crate) fn value_count(slots: &[Box<Slot>]) -> usize
     count
 }
 
-/// Puts an entry at its place. There is room for one more. Returns the entry of the same text that it
-/// replaces, if there is one.
-pub(crate) fn put(slots: &mut Vec<Box<Slot>>, slot: Box<Slot>) -> Option<Box<Slot>>
+/// Puts an entry at its place, which is the one at this index. There is room for one more. Returns the entry of the same
+/// text that it replaces, if there is one.
+pub(crate) fn put_at(slots: &mut Vec<Box<Slot>>, at: usize, slot: Box<Slot>) -> Option<Box<Slot>>
     requires rising { IsRising (slot_entries slots.old.items) }
+    requires bound { at ≤ vec_len slots.old }
+    requires place { IsPlace slot.value.text (slot_entries slots.old.items) at }
     requires room { vec_len slots.old < vec_capacity slots.old }
     ensures entries { slot_entries slots.new.items
         ≡ put_entry byte_cmp (slot_entry slot.value).0 (slot_entry slot.value).1
@@ -152,10 +230,24 @@ pub(crate) fn put(slots: &mut Vec<Box<Slot>>, slot: Box<Slot>) -> Option<Box<Slo
     ensures len { vec_len slots.new ≤ vec_len slots.old + 1 }
     ensures capacity { vec_capacity slots.old ≤ vec_capacity slots.new }
 {
-    let at = first_from(slots, &slot.text);
     if is_named(slots, at, &slot.text) {
         return Some(mem::replace(&mut slots[at], slot));
     }
     slots.insert(at, slot).unwrap();
     None
+}
+
+/// Puts an entry at its place. There is room for one more. Returns the entry of the same text that it
+/// replaces, if there is one.
+pub(crate) fn put(slots: &mut Vec<Box<Slot>>, slot: Box<Slot>) -> Option<Box<Slot>>
+    requires rising { IsRising (slot_entries slots.old.items) }
+    requires room { vec_len slots.old < vec_capacity slots.old }
+    ensures entries { slot_entries slots.new.items
+        ≡ put_entry byte_cmp (slot_entry slot.value).0 (slot_entry slot.value).1
+        (slot_entries slots.old.items) }
+    ensures len { vec_len slots.new ≤ vec_len slots.old + 1 }
+    ensures capacity { vec_capacity slots.old ≤ vec_capacity slots.new }
+{
+    let at = first_from(slots, &slot.text);
+    put_at(slots, at, slot)
 }

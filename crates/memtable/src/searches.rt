@@ -10,26 +10,30 @@ ghost use Rattle.memtable.specs.Blocks.{block_entries, IsEntryBlock};
 ghost use Rattle.memtable.specs.Order.{at_stamp, key_of};
 ghost use Rattle.memtable.specs.Slots.{lent_version};
 
-use crate::blocks::{self, Block};
+use crate::blocks::{self, Block, Place};
 use crate::key_text::KeyText;
 use crate::sought::Version;
 use crate::stack_text::{LongBytes, ShortBytes};
 use cell_key::{EntryRef, Stamp};
 
-/// The entry of a text.
-fn find<'a>(blocks: &'a [Block], name: &KeyText<'_>) -> Option<EntryRef<'a>>
+/// The entry of a text. It is looked for beside `near`.
+fn find<'a>(blocks: &'a [Block], near: Place, name: &KeyText<'_>) -> Option<EntryRef<'a>>
     requires list { IsEntryList (block_entries blocks.now) }
     requires blocks { AllByRecursion IsEntryBlock blocks.now }
     ensures found { option_map (λ lent. (lent_entry lent).1) result
         ≡ entry_of_key (block_entries blocks.now) name.now }
     ensures named { IfSome result (λ lent. lent.key.now ≡ name.now) }
 {
-    let slot = blocks::find(blocks, name)?;
+    let slot = blocks::find(blocks, name, near)?;
     Some(slot.lend())
 }
 
 /// The entry of a version whose text is a long one.
-fn find_long<'a>(blocks: &'a [Block], sought: Version<'_>) -> Option<EntryRef<'a>>
+fn find_long<'a>(
+    blocks: &'a [Block],
+    near: Place,
+    sought: Version<'_>,
+) -> Option<EntryRef<'a>>
     requires list { IsEntryList (block_entries blocks.now) }
     requires blocks { AllByRecursion IsEntryBlock blocks.now }
     ensures found { option_map (λ lent. (lent_entry lent).1) result
@@ -38,11 +42,15 @@ fn find_long<'a>(blocks: &'a [Block], sought: Version<'_>) -> Option<EntryRef<'a
 {
     let mut long = LongBytes::new();
     sought.push_long_text(&mut long);
-    find(blocks, &KeyText::of(long.as_slice()))
+    find(blocks, near, &KeyText::of(long.as_slice()))
 }
 
-/// The entry of a version.
-pub(crate) fn find_version<'a>(blocks: &'a [Block], sought: Version<'_>) -> Option<EntryRef<'a>>
+/// The entry of a version. It is looked for beside `near`.
+pub(crate) fn find_version<'a>(
+    blocks: &'a [Block],
+    near: Place,
+    sought: Version<'_>,
+) -> Option<EntryRef<'a>>
     requires list { IsEntryList (block_entries blocks.now) }
     requires blocks { AllByRecursion IsEntryBlock blocks.now }
     ensures found { option_map (λ lent. (lent_entry lent).1) result
@@ -51,15 +59,15 @@ pub(crate) fn find_version<'a>(blocks: &'a [Block], sought: Version<'_>) -> Opti
 {
     let mut short = ShortBytes::new();
     if sought.push_text(&mut short).is_ok() {
-        return find(blocks, &KeyText::of(short.as_slice()));
+        return find(blocks, near, &KeyText::of(short.as_slice()));
     }
-    find_long(blocks, sought)
+    find_long(blocks, near, sought)
 }
 
 /// The version with the greatest stamp from `lo` to that of a version of the same column, whose own text is given.
 fn newest_of<'a>(
     blocks: &'a [Block],
-    near: usize,
+    near: Place,
     sought: Version<'_>,
     own: &KeyText<'_>,
     lo: Stamp,
@@ -88,7 +96,7 @@ fn newest_of<'a>(
 /// The same if the text is a long one.
 fn newest_of_long<'a>(
     blocks: &'a [Block],
-    near: usize,
+    near: Place,
     sought: Version<'_>,
     lo: Stamp,
 ) -> Option<(Stamp, &'a [u8])>
@@ -103,11 +111,11 @@ fn newest_of_long<'a>(
     newest_of(blocks, near, sought, &KeyText::of(long.as_slice()), lo)
 }
 
-/// The version with the greatest stamp from `lo` to that of a version of the same column. The block at `near` is tried
-/// first.
+/// The version with the greatest stamp from `lo` to that of a version of the same column. It is looked for beside
+/// `near`.
 pub(crate) fn newest<'a>(
     blocks: &'a [Block],
-    near: usize,
+    near: Place,
     sought: Version<'_>,
     lo: Stamp,
 ) -> Option<(Stamp, &'a [u8])>

@@ -11,7 +11,7 @@ ghost use Rattle.memtable.specs.Sizes.{IsSizeOf};
 ghost use Rattle.memtable.specs.Blocks.{block_entries, IsEntryBlock};
 ghost use Rattle.memtable.specs.Edits.{with_edits, bytes_of, IsWithinLimits, HasStoredKey};
 
-use crate::blocks::{self, Block, Blocks};
+use crate::blocks::{self, Block, Blocks, Place};
 use crate::cursor::Cursor;
 use crate::entries::Slot;
 use crate::size::{self, Size};
@@ -84,7 +84,7 @@ impl Memtable {
             blocks: Blocks {
                 filled: Vec::new(alloc),
                 spare: Vec::new(alloc),
-                near: 0,
+                near: Place::START,
             },
             len: 0,
             bytes: 0,
@@ -131,7 +131,7 @@ impl Memtable {
             let _family = key.family.as_bytes();
             return None;
         }
-        searches::find_version(&self.blocks.filled, version_of(key))
+        searches::find_version(&self.blocks.filled, self.blocks.near, version_of(key))
     }
 
     /// The entries whose texts aren't below some bytes, in order. Takes no memory.

@@ -22,7 +22,7 @@ overflow_add-block c =
 pub overflow_sub-block : goal.overflow_sub-block
 overflow_sub-block c =
     let slot = slot_entry c.args.slot.value in
-    let made = count-put slot.0 slot.1 (list_of c.args.block.now) (slot_entries c.put.new.slots.items) _ c.requires.rising c.put.ensures.entries c.in-Some.ensures.replaced in
+    let made = count-put slot.0 slot.1 (list_of c.args.block.now) (slot_entries c.put_at.new.slots.items) _ c.requires.rising c.put_at.ensures.entries c.in-Some.ensures.replaced in
     let one = c.value_count.ensures ∙ ap (λ (s : Slot). one_value (slot_entry s).1) c.deref.ensures in
     let gone = c.value_count-in-Some.ensures ∙ ap (λ (s : Slot). one_value (slot_entry s).1) c.deref-in-Some.ensures in
     let counted = c.requires.counted in
@@ -41,7 +41,7 @@ returns-in-None-clause-replaced c = ap (stood_size c.args.slot.value.text) c.in-
 pub returns-in-Some-clause-counted : goal.returns-in-Some-clause-counted
 returns-in-Some-clause-counted c =
     let slot = slot_entry c.args.slot.value in
-    let made = count-put slot.0 slot.1 (list_of c.args.block.now) (slot_entries c.put.new.slots.items) _ c.requires.rising c.put.ensures.entries c.in-Some.ensures.replaced in
+    let made = count-put slot.0 slot.1 (list_of c.args.block.now) (slot_entries c.put_at.new.slots.items) _ c.requires.rising c.put_at.ensures.entries c.in-Some.ensures.replaced in
     let one = c.value_count.ensures ∙ ap (λ (s : Slot). one_value (slot_entry s).1) c.deref.ensures in
     let gone = c.value_count-in-Some.ensures ∙ ap (λ (s : Slot). one_value (slot_entry s).1) c.deref-in-Some.ensures in
     let counted = c.requires.counted in
@@ -50,8 +50,8 @@ returns-in-Some-clause-counted c =
 pub returns-in-None-clause-counted : goal.returns-in-None-clause-counted
 returns-in-None-clause-counted c =
     let slot = slot_entry c.args.slot.value in
-    let none = rw c.in-None.is at c.put.ensures.replaced in
-    let made = count-put slot.0 slot.1 (list_of c.args.block.now) (slot_entries c.put.new.slots.items) _ c.requires.rising c.put.ensures.entries none in
+    let none = rw c.in-None.is at c.put_at.ensures.replaced in
+    let made = count-put slot.0 slot.1 (list_of c.args.block.now) (slot_entries c.put_at.new.slots.items) _ c.requires.rising c.put_at.ensures.entries none in
     let one = c.value_count.ensures ∙ ap (λ (s : Slot). one_value (slot_entry s).1) c.deref.ensures in
     let counted = c.requires.counted in
     omega (arith, made, one, counted)

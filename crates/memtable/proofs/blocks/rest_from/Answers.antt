@@ -1,18 +1,35 @@
-use Rattle.std.proofs.Common.{◌++◌, drop, sym, ap, subst, ◌∙◌, List}
-use Rattle.std.proofs.lemmas.List.{drop-map, nil_from_length}
-use Rattle.cell_key.specs.Entries.{Entry, IsRising}
+use Rattle.std.proofs.Common.{◌≡◌, ◌<◌, ◌++◌, List, drop, get_or, length, sym, ap, subst, ◌∙◌, arith}
+use Rattle.std.proofs.lemmas.List.{drop-map, length-map, nil_from_length}
+use Rattle.cell_key.specs.Entries.{Entry, IsPlace, IsRising}
+use Rattle.memtable.specs.declared.blocks.Block.{Block}
 use Rattle.memtable.specs.Slots.{slot_entry, slot_entries}
-use Rattle.memtable.specs.Blocks.{list_of, block_entries}
+use Rattle.memtable.specs.Blocks.{list_of, lists_of, block_entries}
 use Rattle.cell_key.proofs.TextPlaces.{from_place}
-use Rattle.memtable.proofs.BlockLists.{rising_first, from_first, from_block}
+use Rattle.memtable.proofs.BlockLists.{first_of_drop, rising_first, from_first, from_block}
 use Rattle.memtable.proofs.BlockFacts.{blocks_some}
+use Rattle.memtable.proofs.Places.{index_bound, place_bound}
 use Rattle.memtable.proofs.blocks.rest_from.Goals as goal
 
-pub first_from-at-requires : goal.first_from-at-requires
-first_from-at-requires g c =
+pub split_at-requires : goal.split_at-requires
+split_at-requires g c =
+    let name = g.S.Sought.name c.args.sought in
+    let bound = index_bound name (lists_of c.args.blocks.now) c.place_near-place.result.block c.place_near-place.ensures.block in
+    let len = length-map c.args.blocks.now list_of in
+    omega (arith, bound, len)
+
+pub split_at-requires-in-Some : goal.split_at-requires-in-Some
+split_at-requires-in-Some g c =
+    let name = g.S.Sought.name c.args.sought in
+    let xs = c.args.blocks.now in
+    let block = c.in-Some.block.now in
+    let slot = c.place_near-place.result.slot in
     let tail = sym c.split_at.ensures.back ∙ c.in-Some.ensures.cases.0 in
-    subst (λ (ys : _). IsRising (slot_entries ys)) (sym c.deref.ensures.value)
-    (rising_first list_of c.args.blocks.now c.index_near-at.result c.in-Some.block.now c.in-Some.later.now c.requires.rising tail)
+    let first = first_of_drop xs c.place_near-place.result.block block c.in-Some.later.now tail in
+    let place = subst (λ (b : Block). IsPlace name (list_of b) slot) (sym first.1) (c.place_near-place.ensures.slot block first.0) in
+    let bound = place_bound name (list_of block) slot place in
+    let len = length-map block.slots.items (λ s. slot_entry s.value) in
+    let same = ap length c.deref.ensures.value in
+    omega (arith, bound, len, same)
 
 pub returns-in-Some-clause-entries : goal.returns-in-Some-clause-entries
 returns-in-Some-clause-entries g c =
@@ -21,14 +38,16 @@ returns-in-Some-clause-entries g c =
     let name = g.S.Sought.name c.args.sought in
     let block = c.in-Some.block.now in
     let later = c.in-Some.later.now in
-    let at = c.first_from-at.result in
+    let at = c.place_near-place.result.block in
+    let slot = c.place_near-place.result.slot in
     let rising = c.requires.rising in
     let tail = sym c.split_at.ensures.back ∙ c.in-Some.ensures.cases.0 in
-    let place_in = rw c.deref.ensures.value at c.first_from-at.ensures.place in
-    let rest = c.split_at-in-Some.ensures.back ∙ ap (drop at) c.deref-in-Some.ensures.value in
-    let part = ap slot_entries rest ∙ sym (drop-map (λ (s : _). slot_entry s.value) at block.slots.items)
-    ∙ sym (from_place name (list_of block) at (rising_first entries xs c.index_near-at.result block later rising tail) place_in) in
-    let all = from_block entries name xs c.index_near-at.result rising (blocks_some xs c.requires.blocks) c.index_near-at.ensures.index ∙ ap (from_first entries name) tail in
+    let first = first_of_drop xs at block later tail in
+    let place = subst (λ (b : Block). IsPlace name (list_of b) slot) (sym first.1) (c.place_near-place.ensures.slot block first.0) in
+    let rest = c.split_at-in-Some.ensures.back ∙ ap (drop slot) c.deref.ensures.value in
+    let part = ap slot_entries rest ∙ sym (drop-map (λ (s : _). slot_entry s.value) slot block.slots.items)
+    ∙ sym (from_place name (list_of block) slot (rising_first entries xs at block later rising tail) place) in
+    let all = from_block entries name xs at rising (blocks_some xs c.requires.blocks) c.place_near-place.ensures.block ∙ ap (from_first entries name) tail in
     ap (λ (es : List Entry). es ++ block_entries later) part ∙ sym all
 
 pub returns-in-None-clause-entries : goal.returns-in-None-clause-entries
@@ -37,4 +56,4 @@ returns-in-None-clause-entries g c =
     let xs = c.args.blocks.now in
     let name = g.S.Sought.name c.args.sought in
     let tail = sym c.split_at.ensures.back ∙ nil_from_length c.split_at.result.1.now c.in-None.ensures.cases in
-    sym (from_block entries name xs c.index_near-at.result c.requires.rising (blocks_some xs c.requires.blocks) c.index_near-at.ensures.index ∙ ap (from_first entries name) tail)
+    sym (from_block entries name xs c.place_near-place.result.block c.requires.rising (blocks_some xs c.requires.blocks) c.place_near-place.ensures.block ∙ ap (from_first entries name) tail)

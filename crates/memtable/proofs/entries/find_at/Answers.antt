@@ -5,12 +5,12 @@ use Rattle.cell_key.specs.Keys.{byte_cmp}
 use Rattle.memtable.specs.declared.entries.Slot.{Slot}
 use Rattle.memtable.specs.Slots.{slot_entry}
 use Rattle.cell_key.proofs.TextPlaces.{equal, one_text, found_at, missed_at, missed_end}
-use Rattle.memtable.proofs.entries.find.Goals as goal
+use Rattle.memtable.proofs.entries.find_at.Goals as goal
 
 pub returns-in_err-slot-clause-found : goal.returns-in_err-slot-clause-found
 returns-in_err-slot-clause-found g c =
     ap (option_map (λ (s : Bor Slot). (slot_entry s.now).1)) c.from_residual.ensures
-    ∙ sym (missed_end (λ (s : _). slot_entry s.value) (g.S.Sought.name c.args.sought) c.args.slots.now c.first_from.result c.first_from.ensures.place c.in_err-slot.ensures.lookup.3)
+    ∙ sym (missed_end (λ (s : _). slot_entry s.value) (g.S.Sought.name c.args.sought) c.args.slots.now c.args.at c.requires.place c.in_err-slot.ensures.lookup.3)
 
 pub returns-then-is_eq-clause-found : goal.returns-then-is_eq-clause-found
 returns-then-is_eq-clause-found g c =
@@ -18,7 +18,7 @@ returns-then-is_eq-clause-found g c =
     let text = ap (λ (s : Slot). s.text) c.deref.ensures in
     let same = ap is_eq (ap (byte_cmp name) (sym text) ∙ sym c.compare.ensures) ∙ sym c.if-is_eq.ensures in
     ap (λ (s : Slot). Some (slot_entry s).1) c.deref-then-is_eq.ensures
-    ∙ sym (found_at (λ (s : _). slot_entry s.value) name c.args.slots.now c.first_from.result c.in_ok-slot.slot.now c.first_from.ensures.place c.in_ok-slot.ensures.lookup.3.0 c.in_ok-slot.ensures.lookup.1 same)
+    ∙ sym (found_at (λ (s : _). slot_entry s.value) name c.args.slots.now c.args.at c.in_ok-slot.slot.now c.requires.place c.in_ok-slot.ensures.lookup.3.0 c.in_ok-slot.ensures.lookup.1 same)
 
 pub returns-then-is_eq-clause-named : goal.returns-then-is_eq-clause-named
 returns-then-is_eq-clause-named g c =
@@ -32,4 +32,4 @@ returns-else-is_eq-clause-found g c =
     let name = g.S.Sought.name c.args.sought in
     let text = ap (λ (s : Slot). s.text) c.deref.ensures in
     let other = ap is_eq (ap (byte_cmp name) (sym text) ∙ sym c.compare.ensures) ∙ sym c.if-is_eq.ensures in
-    sym (missed_at (λ (s : _). slot_entry s.value) name c.args.slots.now c.first_from.result c.in_ok-slot.slot.now c.requires c.first_from.ensures.place c.in_ok-slot.ensures.lookup.3.0 c.in_ok-slot.ensures.lookup.1 other)
+    sym (missed_at (λ (s : _). slot_entry s.value) name c.args.slots.now c.args.at c.in_ok-slot.slot.now c.requires.rising c.requires.place c.in_ok-slot.ensures.lookup.3.0 c.in_ok-slot.ensures.lookup.1 other)
