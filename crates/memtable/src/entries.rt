@@ -163,7 +163,7 @@ fn is_named<S: Sought>(slots: &[Box<Slot>], at: usize, sought: S) -> bool
     ensures { result ≡ is_named (S.name sought) (slot_entries slots.now) at }
 {
     match slots.get(at) {
-        Some(slot) => sought.compare(&slot.text).is_eq(),
+        Some(slot) => sought.is(&slot.text),
         None => false,
     }
 }
@@ -177,7 +177,7 @@ pub(crate) fn find_at<S: Sought>(slots: &[Box<Slot>], at: usize, sought: S) -> O
     ensures named { IfSome result (λ slot. slot.now.text ≡ S.name sought) }
 {
     let slot = slots.get(at)?;
-    if sought.compare(&slot.text).is_eq() {
+    if sought.is(&slot.text) {
         Some(slot)
     } else {
         None

@@ -2,6 +2,7 @@
 //! of them compare.
 
 ghost use Rattle.std.specs.Prelude.{◌≡◌, ◌≤◌, List, ℕ, length};
+ghost use Rattle.std.specs.Ordering.{is_eq};
 ghost use Rattle.cell_key.specs.Keys.{byte_cmp};
 ghost use Rattle.memtable.specs.Order.{IsFront};
 ghost use Rattle.memtable.specs.Slots.{is_lock_text};
@@ -71,6 +72,14 @@ impl EntryText {
         column.ends_with(b"lock\0\0")
     }
 
+    /// Whether the text is these bytes.
+    #[inline(always)]
+    pub(crate) fn is(&self, bytes: &[u8]) -> bool
+        ensures { result ≡ is_eq (byte_cmp bytes.now self.now) }
+    {
+        bytes == self.as_slice()
+    }
+
     /// The byte order of some bytes, whose front is given, and this text.
     #[inline(always)]
     fn compare_with(&self, front: u64, bytes: &[u8]) -> Ordering
@@ -92,6 +101,11 @@ impl Sought for &EntryText {
     #[inline(always)]
     fn compare(&self, text: &EntryText) -> Ordering {
         text.compare_with(self.front, self.as_slice())
+    }
+
+    #[inline(always)]
+    fn is(&self, text: &EntryText) -> bool {
+        text.is(self.as_slice())
     }
 }
 
@@ -137,5 +151,10 @@ impl Sought for &KeyText<'_> {
     #[inline(always)]
     fn compare(&self, text: &EntryText) -> Ordering {
         text.compare_with(self.front, self.as_slice())
+    }
+
+    #[inline(always)]
+    fn is(&self, text: &EntryText) -> bool {
+        text.is(self.as_slice())
     }
 }

@@ -1,7 +1,7 @@
 //! What is sought among the entries of a memtable, and how it compares with their texts. This takes no memory.
 
 ghost use Rattle.std.specs.Prelude.{◌≡◌, ◌≢◌, ◌<◌, ◌≤◌, ◌^◌, ℕ, List, ◌++◌, take, drop, length, IfSome, IfNone};
-ghost use Rattle.std.specs.Ordering.{ordering_then};
+ghost use Rattle.std.specs.Ordering.{is_eq, ordering_then};
 ghost use Rattle.std.specs.declared.cmp.Ordering.TheVariants.{Equal};
 ghost use Rattle.cell_key.specs.Keys.{byte_cmp, text};
 ghost use Rattle.cell_key.specs.Texts.{stamp_text};
@@ -105,6 +105,10 @@ pub(crate) trait Sought: Copy {
     /// The byte order of the text that is sought and that of an entry.
     fn compare(&self, text: &EntryText) -> Ordering
         ensures { result ≡ byte_cmp (name self.now) text.now };
+
+    /// Whether the text of an entry is the one that is sought.
+    fn is(&self, text: &EntryText) -> bool
+        ensures { result ≡ is_eq (byte_cmp (name self.now) text.now) };
 }
 
 impl Sought for &[u8] {
@@ -112,6 +116,10 @@ impl Sought for &[u8] {
 
     fn compare(&self, text: &EntryText) -> Ordering {
         compare_texts(self, text.as_slice())
+    }
+
+    fn is(&self, text: &EntryText) -> bool {
+        text.is(self)
     }
 }
 

@@ -10,7 +10,7 @@ pub returns-in-Some : goal.returns-in-Some
 returns-in-Some g c =
     let name = g.S.Sought.name c.args.sought in
     let text = ap (λ (s : Slot). s.text) c.deref.ensures in
-    c.is_eq.ensures ∙ ap is_eq (c.compare.ensures ∙ ap (byte_cmp name) text)
+    c.is.ensures ∙ ap is_eq (ap (byte_cmp name) text)
     ∙ sym (named_some (λ (s : _). slot_entry s.value) name c.args.slots.now c.args.at c.in-Some.slot.now c.in-Some.ensures.lookup.3.0 c.in-Some.ensures.lookup.1)
 
 pub returns-in-None : goal.returns-in-None
