@@ -50,7 +50,7 @@ module _ (m : Contents) (t : Tablet) (held : Holds m t) (row family : List ℕ) 
   in_memory s stored = get-cells_of (memory_of t) held.memory.each (at s) stored
 
   -- what the memtable has is shown
-  still_there : (s : ℕ) (value : List ℕ) → get (cells_of (memory_of t)) (at s) ≡ Some value → get (cells_at m t) (at s) ≡ Some value
+  pub still_there : (s : ℕ) (value : List ℕ) → get (cells_of (memory_of t)) (at s) ≡ Some value → get (cells_at m t) (at s) ≡ Some value
   still_there s value e = go (stored_or_none (memory_of t) held.memory.each (at s))
     where
       go : IsStored (at s) ⊎ (get (cells_of (memory_of t)) (at s) ≡ None) → get (cells_at m t) (at s) ≡ Some value

@@ -1,10 +1,10 @@
 -- What a read finds.
-use Rattle.std.specs.Prelude.{◌≡◌, ℕ, ◌≤◌, ◌<◌, length, List, [], ◌∷◌, Option, Some, None, if◌then◌else◌}
+use Rattle.std.specs.Prelude.{◌≡◌, ℕ, ◌≤◌, ◌<◌, length, Bool, List, [], ◌∷◌, Option, Some, None, is_some, if◌then◌else◌}
 use Rattle.std.specs.List.{AllByRecursion}
 use Rattle.std.specs.Ordering.{is_le}
 use Rattle.cell_key.specs.Names.{IsRow, IsFamily}
 use Rattle.cell_key.specs.Keys.{byte_cmp, text, IsStored}
-use Rattle.cell_key.specs.Cells.{version}
+use Rattle.cell_key.specs.Cells.{Cells, IsNewest, version}
 use Rattle.cell_key.specs.Entries.{Entry, entries_from, first_naming, value_of}
 use Rattle.cell_key.specs.Places.{Place, place_of}
 use Rattle.cell_key.specs.declared.keys.CellKey.{CellKey}
@@ -56,6 +56,12 @@ HaveNoValue row qualifier lo hi files =
 abbrev pub IsLater : ℕ → ℕ → Option (ℕ × List ℕ) → Type 0
 IsLater s lo None = lo ≤ s
 IsLater s lo (Some found) = found.0 < s
+
+-- whether there is a version with a stamp in lo..=hi, where at gives the keys by their stamps
+pub record HasVersion (cells : Cells) (at : ℕ → CellKey) (lo hi : ℕ) (has : Bool) : Type 0 where
+  pub found : Option (ℕ × List ℕ)
+  pub newest : IsNewest cells at lo hi found
+  pub is : has ≡ is_some found
 
 -- Up to that of the key, at no stamp after the one found do lists show a value of the key's column.
 abbrev pub HasNoLater : CellKey → ℕ → Option ℕ → List (List Entry) → Type 0

@@ -13,7 +13,7 @@ ghost use Rattle.sorted_file.specs.Source.{IsReadRefusal};
 ghost use Rattle.std.specs.Bool.{OnFalse};
 ghost use Rattle.tablet.specs.Batches.{AreNextVersions, IsFull};
 ghost use Rattle.tablet.specs.Ranges.{has_row};
-ghost use Rattle.tablet.specs.Reads.{HasNoLater, HaveNoValue, IsLater};
+ghost use Rattle.tablet.specs.Reads.{HasNoLater, HasVersion, HaveNoValue, IsLater};
 
 use crate::batches::{BatchLimits, VersionBatch};
 use crate::lookup::lookup;
@@ -205,6 +205,46 @@ impl Tablet {
         }
         let later = self.newest_in_files(row, family, qualifier, from, to, files)?;
         Ok(later.or(in_memory))
+    }
+
+    /// Whether a cell's column has a version with a stamp in `lo..=hi`: whether `newest` would find one. If the
+    /// memtable has one, nothing hides it, as each file is older: then no file is asked, and nothing takes memory. Else
+    /// the files are asked as by `newest`. The tablet stays what it was, also after an `Err`.
+    ///
+    /// # Errors
+    ///
+    /// `Damaged` only if a file is no longer what was opened, `Device` and `NoMemory`.
+    pub fn has_version<F: Files>(
+        &mut self,
+        row: &Row,
+        family: &Family,
+        qualifier: Qualifier,
+        lo: Stamp,
+        hi: Stamp,
+        files: &mut F,
+    ) -> Result<bool, Refusal>
+        ensures found { IfOk result (λ has.
+            IfSome (F.contents files.old) (λ m. Holds m self.old
+            → IsTrue (has_row (range_of self.old) row.now)
+            → HasVersion (cells_at m self.old) (version row.now family.now qualifier) lo hi has)) }
+        ensures stays { IsSameTablet (F.contents files.old) self.old self.new }
+        ensures damaged { IsErrOf result Refusal.Damaged
+            → IfSome (F.contents files.old) (λ m. ¬ Holds m self.old) }
+        ensures refusal { IfErr result IsReadRefusal }
+        ensures same { F.contents files.new ≡ F.contents files.old }
+        ensures reason { HasReason (F.faults files.old) (F.faults files.new) result }
+    {
+        let in_memory = self.memtable.newest(row, family, qualifier, lo, hi);
+        if in_memory.is_some() {
+            return Ok(true);
+        }
+        let from = lo.max(1);
+        let to = hi.min(MOST_STAMP);
+        if !self.may_be_in_files(row, qualifier, from, to) {
+            return Ok(false);
+        }
+        let found = self.newest_in_files(row, family, qualifier, from, to, files)?;
+        Ok(found.is_some())
     }
 
     /// The first cell of the tablet that has any version, after the cell of `after`, which may lie outside
