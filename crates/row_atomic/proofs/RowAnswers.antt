@@ -1,5 +1,5 @@
 -- What a cluster answers, from what the tablet of a row answers.
-use Rattle.std.proofs.Common.{◌≡◌, ◌<◌, ◌≤◌, ◌+◌, ◌-◌, ℕ, zero, suc, List, [], ◌∷◌, map, set, length, Option, Some, None, IfSome, Result, Ok, Err, IfOk, IfErr, OnOk, OnErr, IsTrue, slice_get, slice_index_or, refl, sym, ap, ◌∙◌, subst, arith}
+use Rattle.std.proofs.Common.{◌≡◌, ◌<◌, ◌≤◌, ◌+◌, ◌-◌, ℕ, zero, suc, Bool, List, [], ◌∷◌, map, set, length, Option, Some, None, IfSome, Result, Ok, Err, IfOk, IfErr, OnOk, OnErr, IsTrue, slice_get, slice_index_or, refl, sym, ap, ◌∙◌, subst, arith}
 use Rattle.std.proofs.lemmas.List.{length-set}
 use Rattle.std.proofs.lemmas.Option.{same_Some}
 use Rattle.std.specs.Prelude.{IsSomeAnd}
@@ -15,6 +15,7 @@ use Rattle.metadata_table.specs.Places.{PlaceView}
 use Rattle.metadata_table.specs.Table.{IsTable, IsHolder}
 use Rattle.sorted_file.specs.File.{name_of}
 use Rattle.tablet.specs.Ranges.{has_row, seen}
+use Rattle.tablet.specs.Reads.{HasVersion}
 use Rattle.tablet.specs.Views.{Holds, IsBelow, IsSameTablet, cells_at, lists_of, range_of, files_of, names_of, memory_of}
 use Rattle.tablet.specs.declared.tablet.Tablet.{Tablet}
 use Rattle.row_atomic.specs.Clusters.{tablet_numbered, cells_in, joined, edits_in, InOrder, ArePlaced, IsMatched, Overfills}
@@ -94,6 +95,19 @@ newest_answer o ts seen row family qualifier lo hi i t (Err e) owns held h = tt
 newest_answer None ts seen row family qualifier lo hi i t (Ok found) owns held h = absurd held
 newest_answer (Some m) ts seen row family qualifier lo hi i t (Ok found) owns held h =
     newest_of_row m ts row family qualifier lo hi (seen found) i t owns (h held owns.has)
+
+-- a version that the row's tablet has is one of the cells
+pub has_answer : (o : Option Contents) (ts : List Tablet) (row family : List ℕ) (qualifier : Qualifier) (lo hi : ℕ) (i : ℕ) (t : Tablet) (r : Result Bool Refusal) → OwnsRow ts row i t → IsSomeAnd o (λ m. Holds m t)
+    → IfOk r (λ has. IfSome o (λ m. Holds m t → IsTrue (has_row (range_of t) row) → HasVersion (cells_at m t) (version row family qualifier) lo hi has)) → IfOk r (HasVersion (cells_in o ts) (version row family qualifier) lo hi)
+has_answer o ts row family qualifier lo hi i t (Err e) owns held h = tt
+has_answer None ts row family qualifier lo hi i t (Ok has) owns held h = absurd held
+has_answer (Some m) ts row family qualifier lo hi i t (Ok has) owns held h =
+    let there = h held owns.has in
+    record {
+      found = there.found;
+      newest = newest_of_row m ts row family qualifier lo hi there.found i t owns there.newest;
+      is = there.is;
+    }
 
 -- the edits of the row's tablet are the cells'
 pub apply_answer : (o : Option Contents) (ts : List Tablet) (row : List ℕ) (i : ℕ) (t u : Tablet) (edits : List Edit) {A : Type 0} (r : Result A Refusal) → OwnsRow ts row i t → IsSomeAnd o (λ m. Holds m t) → range_of u ≡ range_of t → AllByRecursion (IsEditOf row) edits

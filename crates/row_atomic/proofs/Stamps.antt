@@ -1,5 +1,5 @@
 -- Keys between two versions of a cell's column are its versions between their stamps.
-use Rattle.std.proofs.Common.{◌≡◌, ◌<◌, ◌≤◌, ℕ, false, List, Some, None, refl, sym, ap, ◌∙◌, arith}
+use Rattle.std.proofs.Common.{◌≡◌, ◌<◌, ◌≤◌, ℕ, false, List, Option, Some, None, refl, sym, ap, subst, ◌∙◌, arith}
 use Rattle.std.specs.declared.cmp.Ordering.{Ordering}
 use Rattle.std.specs.declared.cmp.Ordering.TheVariants.{Less, Equal, Greater}
 use Rattle.std.specs.declared.ops.Bound.TheVariants.{Included}
@@ -88,3 +88,7 @@ module _ (row family : List ℕ) (qualifier : Qualifier) (lo hi : ℕ) where
         ap (get cells) (sym inside.same) ∙ first.1,
         λ s a b. first.2 (at s) (inside_at s (omega (arith, inside.low)) b) (before s a),
       )
+
+-- the bounds are the versions at the ends
+pub at_ends : (cells : Cells) (from to from' to' : CellKey) (found : Option (CellKey × List ℕ)) → from ≡ from' → to ≡ to' → IsFirstKey cells (Included from) (Included to) found → IsFirstKey cells (Included from') (Included to') found
+at_ends cells from to from' to' found e f first = subst (λ (k : CellKey). IsFirstKey cells (Included from') (Included k) found) f (subst (λ (k : CellKey). IsFirstKey cells (Included k) (Included to) found) e first)

@@ -69,6 +69,17 @@ impl Rows for PlainRows {
         Ok(slots::newest(&self.slots, row, family, qualifier, lo, hi)?)
     }
 
+    fn has_version(
+        &mut self,
+        row: &Row,
+        family: &Family,
+        qualifier: Qualifier,
+        lo: Stamp,
+        hi: Stamp,
+    ) -> Result<bool, Refusal> {
+        Ok(slots::has_version(&self.slots, row, family, qualifier, lo, hi)?)
+    }
+
     fn next_cell(
         &mut self,
         after: Option<(&Row, &Family)>,

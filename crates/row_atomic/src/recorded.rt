@@ -146,6 +146,18 @@ impl<F: Files> Rows for Recorded<F> {
         self.cluster.newest(row, family, qualifier, lo, hi)
     }
 
+    fn has_version(
+        &mut self,
+        row: &Row,
+        family: &Family,
+        qualifier: Qualifier,
+        lo: Stamp,
+        hi: Stamp,
+    ) -> Result<bool, Refusal> {
+        root_is_stored::<F>();
+        self.cluster.has_version(row, family, qualifier, lo, hi)
+    }
+
     fn next_cell(
         &mut self,
         after: Option<(&Row, &Family)>,

@@ -8,6 +8,7 @@ ghost use Rattle.cell_key.specs.Faults.{HasReason};
 ghost use Rattle.cell_key.specs.Places.{AreNextCells, IsNextCell, place_named};
 ghost use Rattle.cell_key.specs.Versions.{IsVersionIn, stamped};
 ghost use Rattle.tablet.specs.Batches.{AreNextVersions, IsFull};
+ghost use Rattle.tablet.specs.Reads.{HasVersion};
 ghost use Rattle.row_atomic.specs.Calls.{Applies, AreReadableFrom, OnlyReads, View};
 ghost use Rattle.row_atomic.specs.Refusals.{IsApplyRefusal, IsRefusalOfRead};
 
@@ -48,6 +49,26 @@ pub trait Rows {
         ensures reads { OnlyReads seen self.old self.new }
         ensures limits { IfOk result (λ found.
             IfSome (option_map stamped found) (IsVersionIn lo hi)) }
+        ensures refusal { IfErr result (IsRefusalOfRead (seen.readable self.old row.now)) }
+        ensures reason { HasReason (faults self.old) (faults self.new) result };
+
+    /// Whether a cell's column has a version with a stamp in `lo..=hi`: whether `newest` would find one. No value that
+    /// is in memory is copied.
+    ///
+    /// # Errors
+    ///
+    /// `Device`, `NoMemory` or `Damaged`, as for every read.
+    fn has_version(
+        &mut self,
+        row: &Row,
+        family: &Family,
+        qualifier: Qualifier,
+        lo: Stamp,
+        hi: Stamp,
+    ) -> Result<bool, Refusal>
+        ensures found { seen.readable self.old row.now → IfOk result (HasVersion
+            (seen.cells self.old) (version row.now family.now qualifier) lo hi) }
+        ensures reads { OnlyReads seen self.old self.new }
         ensures refusal { IfErr result (IsRefusalOfRead (seen.readable self.old row.now)) }
         ensures reason { HasReason (faults self.old) (faults self.new) result };
 

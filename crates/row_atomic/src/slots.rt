@@ -14,6 +14,7 @@ ghost use Rattle.cell_key.specs.Places.{AreNextCells, IsNextCell, place_named};
 ghost use Rattle.cell_key.specs.Versions.{stamped};
 ghost use Rattle.std.specs.Bool.{OnFalse};
 ghost use Rattle.tablet.specs.Batches.{place_in, AreNextVersions, HasNewest, IsFull};
+ghost use Rattle.tablet.specs.Reads.{HasVersion};
 ghost use Rattle.row_atomic.specs.Slots.{slot_cells, slot_at, keyed, HasSlot, KeepsSlots, EmptiesNone, AreFilled, IsFullBut, IsFirstKey, past, HasEdited};
 
 use cell_key::{CellKey, Edit, Family, Qualifier, Row, Stamp, last_place};
@@ -57,6 +58,27 @@ pub(crate) fn newest(
         Some((key, value)) => Ok(Some((key.stamp, value.clone()?))),
         None => Ok(None),
     }
+}
+
+/// Whether a cell's column has a version with a stamp in `lo..=hi`.
+pub(crate) fn has_version(
+    slots: &Slots,
+    row: &Row,
+    family: &Family,
+    qualifier: Qualifier,
+    lo: Stamp,
+    hi: Stamp,
+) -> Result<bool, AllocError>
+    requires { AreFilled slots.now.entries }
+    ensures { IfOk result (HasVersion (slot_cells slots.now.entries)
+        (version row.now family.now qualifier) lo hi) }
+{
+    if hi < lo {
+        return Ok(false);
+    }
+    let from = CellKey::new(row, family, qualifier, hi)?;
+    let to = CellKey::new(row, family, qualifier, lo)?;
+    Ok(first(slots, Bound::Included(from), Bound::Included(to)).is_some())
 }
 
 /// Where the keys after a place begin.

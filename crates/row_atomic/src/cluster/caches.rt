@@ -50,8 +50,8 @@ impl<F: Files> Cluster<F> {
         resize_each(&mut self.tablets, most_blocks);
     }
 
-    /// How many calls of `newest` and `apply` found their row among the 128 that were located last. A count of 2^64 - 1
-    /// stays. Takes no memory.
+    /// How many calls of `newest`, `has_version` and `apply` found their row among the 128 that were located last. A
+    /// count of 2^64 - 1 stays. Takes no memory.
     pub fn place_hits(&self) -> u64 {
         self.place_cache.hits()
     }

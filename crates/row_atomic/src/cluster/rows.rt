@@ -11,6 +11,7 @@ ghost use Rattle.sorted_file.specs.Source.{IsReadRefusal};
 ghost use Rattle.std.specs.Bool.{OnFalse};
 ghost use Rattle.cell_key.specs.Faults.{HasReason};
 ghost use Rattle.tablet.specs.Batches.{AreNextVersions, IsFull};
+ghost use Rattle.tablet.specs.Reads.{HasVersion};
 ghost use Rattle.row_atomic.specs.Calls.{AreReadableFrom, OnlyReads, seen_of};
 ghost use Rattle.row_atomic.specs.Changes.{IsOutOfOrder, MeetsDamage, OfHolder};
 ghost use Rattle.row_atomic.specs.Commands.{cells_shown};
@@ -165,6 +166,28 @@ impl<F: Files> Rows for Cluster<F> {
     {
         let index = index_of(&self.table, &mut self.place_cache, row);
         self.tablets[index].newest(row, family, qualifier, lo, hi, &mut self.files)
+    }
+
+    fn has_version(
+        &mut self,
+        row: &Row,
+        family: &Family,
+        qualifier: Qualifier,
+        lo: Stamp,
+        hi: Stamp,
+    ) -> Result<bool, Refusal>
+        ensures found { IsReadable (F.contents self.old.files) self.old.places self.old.tablets
+            row.now → IfOk result (HasVersion (cells_shown F.contents self.old)
+            (version row.now family.now qualifier) lo hi) }
+        ensures reads { OnlyReads (seen_of F.contents) self.old self.new }
+        ensures damaged { IsErrOf result Refusal.Damaged → OfHolder
+            (IsOutOfOrder (F.contents self.old.files)) row.now self.old.places self.old.tablets }
+        ensures refusal { IfErr result (IsRefusalOfRead (IsReadable
+            (F.contents self.old.files) self.old.places self.old.tablets row.now)) }
+        ensures reason { HasReason (F.faults self.old.files) (F.faults self.new.files) result }
+    {
+        let index = index_of(&self.table, &mut self.place_cache, row);
+        self.tablets[index].has_version(row, family, qualifier, lo, hi, &mut self.files)
     }
 
     fn next_cell(

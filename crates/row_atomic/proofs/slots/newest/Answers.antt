@@ -1,15 +1,9 @@
-use Rattle.std.proofs.Common.{◌≡◌, List, ℕ, Option, Some, None, sym, subst, arith}
-use Rattle.std.specs.declared.ops.Bound.TheVariants.{Included}
+use Rattle.std.proofs.Common.{List, ℕ, Some, None, sym, subst, arith}
 use Rattle.std.specs.List.{each_same}
-use Rattle.cell_key.specs.Cells.{version, Cells, IsNewest}
-use Rattle.cell_key.specs.declared.keys.CellKey.{CellKey}
-use Rattle.row_atomic.specs.Slots.{slot_cells, IsFirstKey}
-use Rattle.row_atomic.proofs.Stamps.{versions_fall, newest_none, newest_some}
+use Rattle.cell_key.specs.Cells.{version, IsNewest}
+use Rattle.row_atomic.specs.Slots.{slot_cells}
+use Rattle.row_atomic.proofs.Stamps.{at_ends, versions_fall, newest_none, newest_some}
 use Rattle.row_atomic.proofs.slots.newest.Goals as goal
-
--- the bounds are the versions at the ends
-at_ends : (cells : Cells) (from to from' to' : CellKey) (found : Option (CellKey × List ℕ)) → from ≡ from' → to ≡ to' → IsFirstKey cells (Included from) (Included to) found → IsFirstKey cells (Included from') (Included to') found
-at_ends cells from to from' to' found e f first = subst (λ (k : CellKey). IsFirstKey cells (Included from') (Included k) found) f (subst (λ (k : CellKey). IsFirstKey cells (Included k) (Included to) found) e first)
 
 pub first-requires-clause-forward : goal.first-requires-clause-forward
 first-requires-clause-forward c =
