@@ -69,12 +69,11 @@ pub(crate) fn is_taken<R: Rows>(rows: &mut R, cell: &Cell, start: Stamp) -> Resu
     ensures refusal { IfErr result (IsRefusalOfRead (R.seen.readable rows.old cell.now.row)) }
     ensures reason { HasReason (R.faults rows.old) (R.faults rows.new) result }
 {
-    let lock = rows.newest(&cell.row, &cell.family, Qualifier::Lock, 0, u64::MAX)?;
-    if lock.is_some() {
+    let is_locked = rows.has_version(&cell.row, &cell.family, Qualifier::Lock, 0, u64::MAX)?;
+    if is_locked {
         return Ok(true);
     }
-    let later = rows.newest(&cell.row, &cell.family, Qualifier::Write, start, u64::MAX)?;
-    Ok(later.is_some())
+    rows.has_version(&cell.row, &cell.family, Qualifier::Write, start, u64::MAX)
 }
 
 /// The two edits that hold a cell which is given a value.
@@ -95,7 +94,7 @@ fn setting(
     ensures under { IfOk result (λ edits. AllByRecursion (IsEditOf cell.now.row) edits.items) }
     ensures refusal { IfErr result (λ refusal. refusal ≡ Refusal.NoMemory) }
 {
-    let mut edits = Vec::new(alloc);
+    let mut edits = Vec::with_capacity(alloc, 2)?;
     let data_key = CellKey::new(&cell.row, &cell.family, Qualifier::Data, start)?;
     let lock_key = CellKey::new(&cell.row, &cell.family, Qualifier::Lock, start)?;
     edits.push(Edit::Put(data_key, value))?;
@@ -114,7 +113,7 @@ fn deleting(alloc: Global, cell: &Cell, start: Stamp, lock: Vec<u8>) -> Result<V
     ensures under { IfOk result (λ edits. AllByRecursion (IsEditOf cell.now.row) edits.items) }
     ensures refusal { IfErr result (λ refusal. refusal ≡ Refusal.NoMemory) }
 {
-    let mut edits = Vec::new(alloc);
+    let mut edits = Vec::with_capacity(alloc, 1)?;
     let lock_key = CellKey::new(&cell.row, &cell.family, Qualifier::Lock, start)?;
     edits.push(Edit::Put(lock_key, lock))?;
     Ok(edits)
@@ -185,8 +184,8 @@ pub(crate) fn record<R: Rows>(
     ensures reason { HasReason (R.faults rows.old) (R.faults rows.new) result }
 {
     let stamp = start.stamp();
-    let lock = rows.newest(&cell.row, &cell.family, Qualifier::Lock, stamp, stamp)?;
-    if lock.is_none() {
+    let stands = rows.has_version(&cell.row, &cell.family, Qualifier::Lock, stamp, stamp)?;
+    if !stands {
         return Ok(false);
     }
     let edits = record_lock(alloc, &cell.row, &cell.family, start, commit, kind)?;
