@@ -50,6 +50,19 @@ fn next_rows<R: Rows>(alloc: Global, rows: &mut R, most: usize) -> Result<Vec<u8
     Ok(found)
 }
 
+/// Those of the rows `a`, `n` and `z` that have data.
+fn rows_with_data<R: Rows>(alloc: Global, rows: &mut R) -> Result<Vec<u8>, Refusal> {
+    let family = Family::new(alloc, b"bal")?;
+    let mut found = Vec::new(alloc);
+    for byte in [b'a', b'n', b'z'] {
+        let row = Row::new(alloc, &[byte])?;
+        if rows.has_version(&row, &family, Qualifier::Data, 0, 9)? {
+            found.push(byte)?;
+        }
+    }
+    Ok(found)
+}
+
 /// The calls of any rows, with `a` and `n`.
 fn rows_answer<R: Rows>(
     alloc: Global,
@@ -64,7 +77,8 @@ fn rows_answer<R: Rows>(
             write(alloc, rows, b'n', 3, b'6')?;
             Ok(wanted.is_empty())
         }
-        _ => Ok(wanted == next_rows(alloc, rows, 9)?.as_slice()),
+        3 => Ok(wanted == next_rows(alloc, rows, 9)?.as_slice()),
+        _ => Ok(wanted == rows_with_data(alloc, rows)?.as_slice()),
     }
 }
 
@@ -74,7 +88,7 @@ pub struct Plain {
     rows: PlainRows,
 }
 
-const PLAIN_CALLS: [Call; 4] = [
+const PLAIN_CALLS: [Call; 5] = [
     // newest
     (b"1", b"12"),
     // next_cell
@@ -82,6 +96,8 @@ const PLAIN_CALLS: [Call; 4] = [
     // apply
     (b"", b"16"),
     // next_cells
+    (b"an", b"12"),
+    // has_version
     (b"an", b"12"),
 ];
 
@@ -113,7 +129,7 @@ pub struct Clustered {
 }
 
 /// The refusals show whether there is a second tablet.
-const CLUSTER_CALLS: [Call; 11] = [
+const CLUSTER_CALLS: [Call; 12] = [
     // newest
     (b"5", b"54\x0E\x0B"),
     // next_cell
@@ -135,6 +151,8 @@ const CLUSTER_CALLS: [Call; 11] = [
     // run
     (b"a", b"54\x0E\x0B"),
     // next_cells
+    (b"an", b"54\x0E\x0B"),
+    // has_version: of a value in a file, of one in the memtable and of none
     (b"an", b"54\x0E\x0B"),
 ];
 
@@ -208,6 +226,7 @@ impl Subject for Clustered {
             8 => return Ok(wanted == [(self.cluster.sweep()? % 256) as u8].as_slice()),
             9 => return is_first(alloc, &mut self.cluster, wanted),
             10 => return rows_answer(alloc, &mut self.cluster, 3, wanted),
+            11 => return rows_answer(alloc, &mut self.cluster, 4, wanted),
             _ => return rows_answer(alloc, &mut self.cluster, number, wanted),
         }
         Ok(wanted.is_empty())

@@ -22,7 +22,7 @@ pub struct Served {
 /// What is read are the row of the first cell, the values of `a`, `b` and `c`, how many lists there are (files, and the
 /// memtable if it has entries) and how many names. So it is as before if a split or an unload that is refused has written
 /// the memtable.
-const CALLS: [Call; 12] = [
+const CALLS: [Call; 13] = [
     // newest
     (b"3", b"a345\x03\x01"),
     // next_cell from the start
@@ -47,6 +47,8 @@ const CALLS: [Call; 12] = [
     (b"", b"a345\x03\x03"),
     // next_cells from the start
     (b"abc", b"a345\x03\x01"),
+    // has_version: of a value in a file, of one in the memtable and of none
+    (b"ab", b"a345\x03\x01"),
 ];
 
 /// A row of one byte forty times, so that it and the texts of its keys take memory.
@@ -107,6 +109,23 @@ fn next(alloc: Global, tablet: &Tablet, files: &mut MemFiles) -> Result<u8, Refu
         Some((row, _)) => Ok(row.as_bytes().first().copied().unwrap_or(b' ')),
         None => Ok(b'-'),
     }
+}
+
+/// Those of the rows `a`, `b` and `d` that have data.
+fn rows_with_data(
+    alloc: Global,
+    tablet: &mut Tablet,
+    files: &mut MemFiles,
+) -> Result<Vec<u8>, Refusal> {
+    let family = Family::new(alloc, b"bal")?;
+    let mut found = Vec::new(alloc);
+    for byte in [b'a', b'b', b'd'] {
+        let row = row_of(alloc, byte)?;
+        if tablet.has_version(&row, &family, Qualifier::Data, 0, 9, files)? {
+            found.push(byte)?;
+        }
+    }
+    Ok(found)
 }
 
 /// The first bytes of the rows of all cells.
@@ -185,6 +204,10 @@ impl Subject for Served {
             }
             9 => load(alloc, files)?,
             11 => return Ok(wanted == all_rows(alloc, &self.tablet, files)?.as_slice()),
+            12 => {
+                let found = rows_with_data(alloc, &mut self.tablet, files)?;
+                return Ok(wanted == found.as_slice());
+            }
             10 => {
                 self.tablet.push_names(&mut self.names)?;
                 return Ok(wanted.is_empty());
