@@ -7,7 +7,7 @@ use Rattle.std.specs.FinMap.Entries.{below_all}
 use Rattle.std.specs.declared.cmp.Ordering.TheVariants.{Less, Equal}
 use Rattle.std.specs.declared.boxed.Box.{Box}
 use Rattle.cell_key.specs.Keys.{byte_cmp}
-use Rattle.cell_key.specs.Entries.{Entry, IsPlace, IsRising}
+use Rattle.cell_key.specs.Entries.{IsPlace, IsRising}
 use Rattle.cell_key.proofs.TextPlaces.{at_point, clash, first, less, one_text, parted, second}
 use Rattle.memtable.specs.declared.entries.Slot.{Slot}
 use Rattle.memtable.specs.Slots.{slot_entry, slot_entries, AreBelow, AreNotBelow, IsPartOf}

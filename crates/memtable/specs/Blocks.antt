@@ -44,7 +44,8 @@ block_entries blocks = flat_map list_of blocks
 abbrev pub IsCounted : Block → Type 0
 IsCounted block = block.values ≡ value_count (list_of block)
 
--- the place of a text: its block is the first that doesn't end below it, and its entry there the first that isn't below it
+-- the place of a text: its block is the first that doesn't end below it, and its entry there the first
+-- that isn't below it
 pub record IsPlaceAmong (name : List ℕ) (blocks : List Block) (place : Place) : Type 0 where
   pub block : IsBlockIndex name (lists_of blocks) place.block
   pub slot : (d : Block) → place.block < length blocks

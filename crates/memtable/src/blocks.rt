@@ -82,7 +82,7 @@ fn place_of<S: Sought>(blocks: &[Block], sought: S) -> Place
     Place { block: at, slot }
 }
 
-/// The place of the first entry that isn't below what is sought. The first one of the block at an index isn't below.
+/// The place of the first entry that isn't below what is sought. No entry of the block at an index is below.
 fn place_from<S: Sought>(blocks: &[Block], sought: S, at: usize) -> Place
     requires rising { IsRising (block_entries blocks.now) }
     requires blocks { AllByRecursion IsEntryBlock blocks.now }
@@ -310,8 +310,8 @@ fn open(blocks: &mut Blocks, slot: Box<Slot>)
     blocks.filled.push(Block { slots, values }).unwrap();
 }
 
-/// Puts an entry at its place in a block that has room for one more: the one at this index. Returns the size of the entry
-/// of the same text that it replaces, if there is one.
+/// Puts an entry at its place in a block that has room for one more: the one at this index. Returns the size of the
+/// entry of the same text that it replaces, if there is one.
 fn put_in(block: &mut Block, at: usize, slot: Box<Slot>) -> Option<EntrySize>
     requires rising { IsRising (list_of block.old) }
     requires bound { at ≤ vec_len block.old.slots }

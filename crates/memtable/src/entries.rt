@@ -84,7 +84,8 @@ pub(crate) fn first_from<S: Sought>(slots: &[Box<Slot>], sought: S) -> usize
     slots.partition_point(|slot| sought.compare(&slot.text).is_gt())
 }
 
-/// A part of the entries, from an index on, behind which none is below what is sought. It is found in steps that grow.
+/// A part of the entries from an index on, before which all are below what is sought: behind it none is. It is found in
+/// steps that grow.
 fn part_after<S: Sought>(slots: &[Box<Slot>], sought: S, from: usize) -> (usize, usize)
     requires rising { IsRising (slot_entries slots.now) }
     requires from { from ≤ length slots.now }
@@ -104,7 +105,8 @@ fn part_after<S: Sought>(slots: &[Box<Slot>], sought: S, from: usize) -> (usize,
     (from, from)
 }
 
-/// A part of the entries, up to an index, before which all are below what is sought. It is found in steps that grow.
+/// A part of the entries up to an index, from which on none is below what is sought: before it all are. It is found in
+/// steps that grow.
 fn part_before<S: Sought>(slots: &[Box<Slot>], sought: S, to: usize) -> (usize, usize)
     requires rising { IsRising (slot_entries slots.now) }
     requires to { to ≤ length slots.now }
@@ -124,8 +126,8 @@ fn part_before<S: Sought>(slots: &[Box<Slot>], sought: S, to: usize) -> (usize, 
     (0, 0)
 }
 
-/// A part of the entries in which the first is that isn't below what is sought, or behind which it comes next. It is looked
-/// for beside the entry at `near`.
+/// A part of the entries: before it all are below what is sought, and behind it none is. It is found beside the entry at
+/// `near`.
 fn part_near<S: Sought>(slots: &[Box<Slot>], sought: S, near: usize) -> (usize, usize)
     requires { IsRising (slot_entries slots.now) }
     ensures { IsPartOf (S.name sought) slots.now result.0 result.1 }
@@ -213,8 +215,8 @@ pub(crate) fn value_count(slots: &[Box<Slot>]) -> usize
     count
 }
 
-/// Puts an entry at its place, which is the one at this index. There is room for one more. Returns the entry of the same
-/// text that it replaces, if there is one.
+/// Puts an entry at its place, the one at this index. There is room for one more. Returns the entry of the same text
+/// that it replaces, if there is one.
 pub(crate) fn put_at(slots: &mut Vec<Box<Slot>>, at: usize, slot: Box<Slot>) -> Option<Box<Slot>>
     requires rising { IsRising (slot_entries slots.old.items) }
     requires bound { at ≤ vec_len slots.old }

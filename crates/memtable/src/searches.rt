@@ -29,11 +29,7 @@ fn find<'a>(blocks: &'a [Block], near: Place, name: &KeyText<'_>) -> Option<Entr
 }
 
 /// The entry of a version whose text is a long one.
-fn find_long<'a>(
-    blocks: &'a [Block],
-    near: Place,
-    sought: Version<'_>,
-) -> Option<EntryRef<'a>>
+fn find_long<'a>(blocks: &'a [Block], near: Place, sought: Version<'_>) -> Option<EntryRef<'a>>
     requires list { IsEntryList (block_entries blocks.now) }
     requires blocks { AllByRecursion IsEntryBlock blocks.now }
     ensures found { option_map (λ lent. (lent_entry lent).1) result

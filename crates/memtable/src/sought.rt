@@ -28,8 +28,8 @@ fn compare_fronts(a: &[u8], b: &[u8]) -> Ordering
 /// From how many bytes on two texts are compared as slices, which takes the longer steps.
 const LONG: usize = 64;
 
-/// The byte order of two texts. Short ones are compared by eight bytes at once while both have as many, and then, if they
-/// are as long as each other, by their last eight.
+/// The byte order of two texts. Short ones are compared by eight bytes at once while both have as many, and then, if
+/// they are as long as each other, by their last eight.
 #[inline(never)]
 pub(crate) fn compare_texts(a: &[u8], b: &[u8]) -> Ordering
     ensures { result ≡ byte_cmp a.now b.now }

@@ -45,7 +45,8 @@ impl Model for Memtable {
 
     ghost view = { λ table. block_entries table.blocks.filled.items };
 
-    ghost invariant = { λ table. IsKept table.blocks table.len table.bytes table.locks table.stamps };
+    ghost invariant = { λ table.
+        IsKept table.blocks table.len table.bytes table.locks table.stamps };
 }
 
 /// Whether a table is within the limits once entries are put over it. If there is room for them whatever they

@@ -1,4 +1,4 @@
-use Rattle.std.proofs.Common.{◌≡◌, ◌≤◌, ap, subst, sym, ◌∙◌, arith, length, vec_len}
+use Rattle.std.proofs.Common.{◌≤◌, ap, subst, sym, ◌∙◌, arith, length, vec_len}
 use Rattle.std.proofs.lemmas.List.{length-map}
 use Rattle.cell_key.specs.Entries.{IsPlace}
 use Rattle.memtable.specs.declared.blocks.Block.{Block}

@@ -1,6 +1,6 @@
-use Rattle.std.proofs.Common.{◌≡◌, ◌<◌, ◌++◌, List, drop, get_or, length, sym, ap, subst, ◌∙◌, arith}
+use Rattle.std.proofs.Common.{◌++◌, List, drop, length, sym, ap, subst, ◌∙◌, arith}
 use Rattle.std.proofs.lemmas.List.{drop-map, length-map, nil_from_length}
-use Rattle.cell_key.specs.Entries.{Entry, IsPlace, IsRising}
+use Rattle.cell_key.specs.Entries.{Entry, IsPlace}
 use Rattle.memtable.specs.declared.blocks.Block.{Block}
 use Rattle.memtable.specs.Slots.{slot_entry, slot_entries}
 use Rattle.memtable.specs.Blocks.{list_of, lists_of, block_entries}
