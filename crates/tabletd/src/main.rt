@@ -20,7 +20,7 @@ use std::io::BufWriter;
 use std::num::NonZeroUsize;
 use std::process::ExitCode;
 use std::rt::{Env, Files as Folders};
-use std::{env, io};
+use std::{env, io, mem};
 
 #[cfg(test)]
 mod tests;
@@ -120,10 +120,13 @@ fn serve<R: AllocGlobal + Input + Print, F: Files + Drop, M: MarkStore + Drop>(
         server.cache_blocks(most_blocks);
     }
     let mut reader = rt.reader();
-    match BufWriter::with_capacity(rt.alloc(), WAITING, io::writer(rt)) {
+    let ended = match BufWriter::with_capacity(rt.alloc(), WAITING, io::writer(rt)) {
         Ok(mut writer) => end_status(&server.serve(&mut reader, &mut writer, u64::MAX)),
         Err(_) => (NO_MEMORY, NO_MEMORY_LINE),
-    }
+    };
+    // The program ends, and the system takes its memory back at once.
+    mem::forget(server);
+    ended
 }
 
 /// Serves the standard input with a server that has opened its log, and gives the exit status with its line on the standard
@@ -150,10 +153,13 @@ fn serve_logged<
         server.cache_blocks(most_blocks);
     }
     let mut reader = rt.reader();
-    match BufWriter::with_capacity(rt.alloc(), WAITING, io::writer(rt)) {
+    let ended = match BufWriter::with_capacity(rt.alloc(), WAITING, io::writer(rt)) {
         Ok(mut writer) => end_status(&server.serve(&mut reader, &mut writer, u64::MAX)),
         Err(_) => (NO_MEMORY, NO_MEMORY_LINE),
-    }
+    };
+    // The program ends, and the system takes its memory back at once.
+    mem::forget(server);
+    ended
 }
 
 /// Serves a store in memory.
