@@ -13,10 +13,13 @@ mod Growth
 mod Halves
 mod Joining
 mod Keeping
+mod KeptLocks
 mod Locked
+mod LockIndexes
 mod LockTimes
 mod LookUps
 mod NextBlocks
+mod NamedLocks
 mod Numbered
 mod Opened
 mod OpenBlocks

@@ -10,7 +10,7 @@ use Rattle.cell_key.specs.declared.keys.Qualifier.{Qualifier}
 use Rattle.cell_key.specs.declared.keys.Qualifier.TheVariants.{Data, Lock, Write}
 use Rattle.sorted_file.specs.File.{MayHaveIn}
 use Rattle.sorted_file.specs.Newest.{at_stamp}
-use Rattle.sorted_file.specs.Numbers.{lock_stamp, number_of, text_number, IsAmong, IsLockKeyNumbered, IsLockRowNumbered, IsLockStamped, IsNumbered}
+use Rattle.sorted_file.specs.Numbers.{lock_stamp, number_of, text_number, IsAmong, IsLockKept, IsLockKeyNumbered, IsLockStamped, IsNumbered}
 use Rattle.sorted_file.specs.declared.file.SortedFile.{SortedFile}
 use Rattle.sorted_file.specs.declared.lock_stamps.LockStamp.{LockStamp}
 use Rattle.sorted_file.proofs.Bounded.{one_text}
@@ -27,9 +27,9 @@ pub keyed_on : (old new : List ℕ) → IsAmong old new → (es : List Entry) �
 keyed_on old new keeps [] all = tt
 keyed_on old new keeps (e ∷ es) all = ((λ key stored named lock. keeps (text_number e.0) (all.0 key stored named lock)), keyed_on old new keeps es all.1)
 
-pub rows_on : (old new : List ℕ) → IsAmong old new → (es : List Entry) → AllByRecursion (IsLockRowNumbered old) es → AllByRecursion (IsLockRowNumbered new) es
-rows_on old new keeps [] all = tt
-rows_on old new keeps (e ∷ es) all = ((λ key stored named lock some. keeps (text_number key.row) (all.0 key stored named lock some)), rows_on old new keeps es all.1)
+pub kept_on : (old new : List CellKey) → IsAmong old new → (es : List Entry) → AllByRecursion (IsLockKept old) es → AllByRecursion (IsLockKept new) es
+kept_on old new keeps [] all = tt
+kept_on old new keeps (e ∷ es) all = ((λ key stored named lock some. keeps key (all.0 key stored named lock some)), kept_on old new keeps es all.1)
 
 -- a lock whose text has no number has no entry
 module _ (numbers : List ℕ) (key : CellKey) (stored : IsStored key) (lock : key.qualifier ≡ Lock) (out : ¬ Contains numbers (text_number (text key))) where
@@ -55,20 +55,6 @@ module _ (locks : List LockStamp) (key : CellKey) (stored : IsStored key) (lock 
     where
       go : value_of (entry_of_key es (text key)) ≡ None → (b : Bool) → eq_by_cmp byte_cmp (text key) name ≡ b → value_of (cond b (Some value) (find byte_cmp (text key) es)) ≡ None
       go more true e = none_here name value all.0 (sym (one_text (text key) name e))
-      go more false e = more
-
--- a lock whose row has no number has no value
-module _ (numbers : List ℕ) (key : CellKey) (stored : IsStored key) (lock : key.qualifier ≡ Lock) (out : ¬ Contains numbers (text_number key.row)) where
-  none_at : (name : List ℕ) (value : Option (List ℕ)) → IsLockRowNumbered numbers (name, value) → name ≡ text key → value ≡ None
-  none_at name None is e = refl
-  none_at name (Some v) is e = absurd (out (is key stored e lock refl))
-
-  pub no_lock_in_row : (es : List Entry) → AllByRecursion (IsLockRowNumbered numbers) es → value_of (entry_of_key es (text key)) ≡ None
-  no_lock_in_row [] all = refl
-  no_lock_in_row ((name, value) ∷ es) all = go (no_lock_in_row es all.1) (eq_by_cmp byte_cmp (text key) name) refl
-    where
-      go : value_of (entry_of_key es (text key)) ≡ None → (b : Bool) → eq_by_cmp byte_cmp (text key) name ≡ b → value_of (cond b (Some value) (find byte_cmp (text key) es)) ≡ None
-      go more true e = none_at name value all.0 (sym (one_text (text key) name e))
       go more false e = more
 
 -- a column that may have no value at a stamp has none there

@@ -43,9 +43,3 @@ abbrev pub HasNoValue : Qualifier → ℕ → ℕ → List Entry → Type 0
 HasNoValue qualifier lo hi es =
     (key : CellKey) → IsStored key → key.qualifier ≡ qualifier → lo ≤ key.stamp → key.stamp ≤ hi
     → value_of (entry_of_key es (text key)) ≡ None
-
--- entries have no value of a column of this kind in this row at these stamps: in other rows they may
-abbrev pub HasNoRowValue : List ℕ → Qualifier → ℕ → ℕ → List Entry → Type 0
-HasNoRowValue row qualifier lo hi es =
-    (key : CellKey) → IsStored key → key.row ≡ row → key.qualifier ≡ qualifier → lo ≤ key.stamp
-    → key.stamp ≤ hi → value_of (entry_of_key es (text key)) ≡ None

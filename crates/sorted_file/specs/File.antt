@@ -15,7 +15,7 @@ use Rattle.sorted_file.specs.Index.{block_of, blocks_of, entries_in, first_of, r
 use Rattle.sorted_file.specs.Block.{IsParsed, BeginsWith}
 use Rattle.sorted_file.specs.Grammar.{block_bytes, IsFile}
 use Rattle.sorted_file.specs.Bounds.{IsBounded, IsWithin, column_bounds}
-use Rattle.sorted_file.specs.Numbers.{IsLockKeyNumbered, IsLockRowNumbered, IsLockStamped, IsNumbered, lock_stamp, number_of}
+use Rattle.sorted_file.specs.Numbers.{IsLockKeyNumbered, IsLockStamped, IsNumbered, KeepsLocks, lock_stamp, number_of}
 use Rattle.sorted_file.specs.declared.block.BlockRow.{BlockRow}
 use Rattle.sorted_file.specs.declared.block.Block.{Block}
 use Rattle.sorted_file.specs.declared.format.Format.{Format}
@@ -35,9 +35,17 @@ pub record HasFile (m : Contents) (name : ℕ) : Type 0 where
   pub there : map.get m name ≡ Some image
   pub form : IsFile format entries image
 
+-- the entries that a file had when it was opened
+abbrev pub listing : SortedFile → List Entry
+listing file = entries_in (blocks_of file.rows.items)
+
 -- the entries that an open file stands for over these files
 abbrev pub listed : Contents → SortedFile → List Entry
-listed m file = entries_in (blocks_of file.rows.items)
+listed m file = listing file
+
+-- what a file keeps of locks is so of its entries
+abbrev pub IsTelling : SortedFile → Type 0
+IsTelling file = KeepsLocks file.lock_values.items file.named_locks.items (listing file)
 
 -- each block that is cached is that of the row of its number
 abbrev pub AreCached : List BlockRow → List (ℕ × Block) → Type 0
@@ -58,7 +66,7 @@ pub record IsOpen (m : Contents) (file : SortedFile) : Type 0 where
   pub numbered : AllByRecursion (IsNumbered file.numbers) (listed m file)
   pub locked : AllByRecursion (IsLockStamped file.locks) (listed m file)
   pub keyed : AllByRecursion (IsLockKeyNumbered file.lock_keys) (listed m file)
-  pub lock_rows : AllByRecursion (IsLockRowNumbered file.lock_rows.items) (listed m file)
+  pub locks_kept : IsTelling file
   pub heads : texts_of file.heads.items ≡ map row_head file.rows.items
   pub skips : file.skips.items ≡ skips file.heads.items
   pub counted : file.count ≡ length (listed m file)

@@ -5,16 +5,13 @@ use Rattle.sorted_file.specs.Bounds.{AreWithin}
 use Rattle.sorted_file.specs.File.{IsSameFile}
 use Rattle.sorted_file.specs.Filters.{HasBits}
 use Rattle.sorted_file.specs.declared.file.SortedFile.{SortedFile}
-use Rattle.sorted_file.specs.declared.lock_stamps.LockStamp.{LockStamp}
 use Rattle.sorted_file.specs.declared.key_filter.KeyFilter.{KeyFilter}
 
--- A filter of keys covers a file: it has the numbers that the file keeps of its columns, of those of locks with a
--- value, of locks' keys, and of rows of locks with a value, and its bounds are around those of the file's values.
+-- A filter of keys covers a file: it has the numbers that the file keeps of its columns and of locks' keys, and its
+-- bounds are around those of the file's values.
 pub record Covers (filter : KeyFilter) (file : SortedFile) : Type 0 where
   pub numbers : All (HasBits filter.numbers.words.items) file.numbers
-  pub locks : All (λ (lock : LockStamp). HasBits filter.locks.words.items lock.column) file.locks
   pub lock_keys : All (HasBits filter.lock_keys.words.items) file.lock_keys
-  pub lock_rows : All (HasBits filter.lock_rows.words.items) file.lock_rows.items
   pub bounds : AreWithin file.bounds filter.bounds
 
 -- a file that is what it was but for its cache is still covered

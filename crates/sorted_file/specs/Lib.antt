@@ -12,6 +12,7 @@ pub mod Filters
 pub mod Index
 pub mod KeyFilters
 pub mod Limits
+pub mod LockIndexes
 pub mod LockStamps
 pub mod LookupKey
 pub mod Newest

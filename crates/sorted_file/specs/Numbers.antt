@@ -1,8 +1,9 @@
 -- The numbers of the columns of which there are entries.
 use Rattle.std.specs.Prelude.{◌≡◌, ◌-◌, ℕ, List, length, take, Contains, IsSome}
 use Rattle.std.specs.Hash.FoldHasher as folding
+use Rattle.std.specs.List.{AllByRecursion}
 use Rattle.cell_key.specs.Keys.{text, IsStored}
-use Rattle.cell_key.specs.Entries.{Entry}
+use Rattle.cell_key.specs.Entries.{Entry, entry_of_key}
 use Rattle.cell_key.specs.declared.keys.CellKey.{CellKey}
 use Rattle.cell_key.specs.declared.keys.Qualifier.TheVariants.{Lock}
 use Rattle.sorted_file.specs.declared.lock_stamps.LockStamp.{LockStamp}
@@ -39,11 +40,20 @@ IsLockKeyNumbered numbers entry =
     (key : CellKey) → IsStored key → entry.0 ≡ text key → key.qualifier ≡ Lock
     → Contains numbers (text_number entry.0)
 
--- if the entry is the value of a lock, the number of its row is among these
-abbrev pub IsLockRowNumbered : List ℕ → Entry → Type 0
-IsLockRowNumbered numbers entry =
+-- if the entry is the value of a lock, its key is among these
+abbrev pub IsLockKept : List CellKey → Entry → Type 0
+IsLockKept locks entry =
     (key : CellKey) → IsStored key → entry.0 ≡ text key → key.qualifier ≡ Lock → IsSome entry.1
-    → Contains numbers (text_number key.row)
+    → Contains locks key
+
+-- entries name each of these keys, by a value or an erasure
+abbrev pub AreNamed : List CellKey → List Entry → Type 0
+AreNamed keys es = (key : CellKey) → Contains keys key → IsSome (entry_of_key es (text key))
+
+-- the first keys are those of all locks that have a value among entries, and the second are named by the entries
+pub record KeepsLocks (locks names : List CellKey) (es : List Entry) : Type 0 where
+  pub values : AllByRecursion (IsLockKept locks) es
+  pub named : AreNamed names es
 
 -- each of the first is among the second
 abbrev pub IsAmong : {X : Type 0} → List X → List X → Type 0

@@ -20,6 +20,7 @@ use crate::format::{
     read_row,
 };
 use crate::gathering::{Columns, ReadBlock, read_block};
+use crate::lock_index::LockIndex;
 use crate::source::{read_part, refusal_of};
 use cell_key::Refusal;
 use file_store::Files;
@@ -176,7 +177,12 @@ impl Opening {
 
     /// The next block, whose row this is. Answers `Damaged` if no block of this length is there, `Device` if a device
     /// fails, and `NoMemory` if there is no memory.
-    fn next_block<F: Files>(&self, row: RowRef<'_>, files: &mut F) -> Result<ReadBlock, Refusal>
+    fn next_block<F: Files>(
+        &self,
+        row: RowRef<'_>,
+        over: &LockIndex,
+        files: &mut F,
+    ) -> Result<ReadBlock, Refusal>
         requires { self.now.end ≤ self.now.size }
         ensures parsed { IfOk result (λ read. IsParsed (entries_of read.block) read.block) }
         ensures columns { IfOk result (λ read. AreColumnsOf read.columns (entries_of read.block)) }
@@ -199,7 +205,7 @@ impl Opening {
             return Err(Refusal::Damaged);
         }
         let bytes = read_part(self.alloc, self.name, self.end, row.length, files)?;
-        let Some(read) = read_block(self.alloc, bytes)? else {
+        let Some(read) = read_block(self.alloc, bytes, over)? else {
             return Err(Refusal::Damaged);
         };
         Ok(read)
@@ -248,13 +254,14 @@ impl Opening {
         let first = Vec::from_slice(self.alloc, row.first)?;
         let head = head_of(self.alloc, &block)?;
         let last = Vec::from_slice(self.alloc, block.last_text())?;
-        self.columns.join(&columns)?;
+        let bounds = columns.bounds;
+        self.columns.join(columns)?;
         let was = Snapshot::of(&block);
         self.rows.push(BlockRow {
             offset: row.offset,
             length: row.length as u32,
             first,
-            bounds: columns.bounds,
+            bounds,
             was,
         })?;
         self.heads.push(head)?;
@@ -270,6 +277,7 @@ impl Opening {
     fn read_next<'i, F: Files>(
         &mut self,
         left: &'i [u8],
+        over: &LockIndex,
         files: &mut F,
     ) -> Result<&'i [u8], Refusal>
         requires { IsOpening self.old }
@@ -288,7 +296,7 @@ impl Opening {
         let Some((row, rest)) = read_row(self.format, left) else {
             return Err(Refusal::Damaged);
         };
-        let read = self.next_block(row, files)?;
+        let read = self.next_block(row, over, files)?;
         if !self.accepts(row, &read.block) {
             return Err(Refusal::Damaged);
         }
@@ -298,7 +306,12 @@ impl Opening {
 
     /// Reads all blocks that an index names. Answers `Damaged` if its rows and the blocks aren't those of a
     /// file, `Device` if a device fails, and `NoMemory` if there is no memory.
-    fn read_blocks<F: Files>(&mut self, index: &[u8], files: &mut F) -> Result<(), Refusal>
+    fn read_blocks<F: Files>(
+        &mut self,
+        index: &[u8],
+        over: &LockIndex,
+        files: &mut F,
+    ) -> Result<(), Refusal>
         requires { IsOpening self.old }
         ensures opening { OnOk result (IsOpening self.new) }
         ensures read { OnOk result ((image end : List ℕ)
@@ -313,7 +326,7 @@ impl Opening {
     {
         let mut rest = index;
         'blocks: while !rest.is_empty() {
-            rest = self.read_next(rest, files)?;
+            rest = self.read_next(rest, over, files)?;
         }
         Ok(())
     }
@@ -338,11 +351,12 @@ impl Opening {
     }
 }
 
-/// Reads a file block by block. Answers `Damaged` if it isn't there or is the file of no entry list, `Device`
+/// Reads a file block by block, which is newer than those whose locks the index has. Answers `Damaged` if it isn't there or is the file of no entry list, `Device`
 /// if a device fails, and `NoMemory` if there is no memory.
 pub(crate) fn read_file<F: Files>(
     alloc: Global,
     name: u64,
+    over: &LockIndex,
     files: &mut F,
 ) -> Result<Opening, Refusal>
     ensures opening { IfOk result IsOpening }
@@ -357,7 +371,7 @@ pub(crate) fn read_file<F: Files>(
     let format = read_format(alloc, name, size, files)?;
     let (index, end) = read_frame(alloc, name, format, size, files)?;
     let mut opening = Opening::new(alloc, name, format, size);
-    opening.read_blocks(&index, files)?;
+    opening.read_blocks(&index, over, files)?;
     if !opening.has_foot(&end)? {
         return Err(Refusal::Damaged);
     }

@@ -7,7 +7,6 @@ ghost use Rattle.cell_key.specs.Faults.{HasReason};
 ghost use Rattle.cell_key.specs.Keys.{text};
 ghost use Rattle.file_store.specs.Store.{Contents};
 ghost use Rattle.lru.specs.LruCache.{lru_cache};
-ghost use Rattle.cell_key.specs.declared.keys.Qualifier.TheVariants.{Lock};
 ghost use Rattle.sorted_file.specs.Index.{block_of, blocks_of, entries_in, Tells};
 ghost use Rattle.sorted_file.specs.File.{IsUncached, IsShortValue, value_bytes};
 ghost use Rattle.sorted_file.specs.Block.{IsParsed, first_value};
@@ -20,7 +19,9 @@ use crate::cache::{few_blocks, keep, no_blocks, promote, resize};
 use crate::check::{Opening, read_file};
 use crate::cursor::FileCursor;
 use crate::gathering::Columns;
+use crate::lock_index::LockIndex;
 use crate::lock_stamps::LockStamps;
+use crate::lock_values::LockValue;
 use crate::lookup_key::LookupKey;
 use crate::numbers::Numbers;
 use crate::source::read_part;
@@ -50,16 +51,18 @@ pub struct SortedFile {
     pub(crate) locks: LockStamps,
     /// A number of the text of each lock's key, of a value or an erasure.
     pub(crate) lock_keys: Numbers,
-    /// A number of the row of each lock that has a value.
-    pub(crate) lock_rows: Vec<u64>,
+    /// The key of each lock that has a value.
+    pub(crate) lock_values: Vec<LockValue>,
+    /// Keys of its entries, values or erasures, in rising order: those that an index of older files' locks seemed to
+    /// have when the file was opened.
+    pub(crate) named_locks: Vec<CellKey>,
     /// The blocks that were looked into last, by their numbers.
     cache: LruCache<usize, Block>,
 }
 
 impl SortedFile {
     ghost use Rattle.sorted_file.specs.Cursor.{cursor_lent, cursor_remaining, CursorHolds};
-    ghost use Rattle.sorted_file.specs.LockStamps.{IsLatest};
-    ghost use Rattle.sorted_file.specs.Newest.{HasNoneAfter, IsFirstIn, IsNewestStamp};
+    ghost use Rattle.sorted_file.specs.Newest.{IsFirstIn, IsNewestStamp};
     ghost use Rattle.sorted_file.specs.Numbers.{number_of};
     ghost use Rattle.sorted_file.specs.Bounds.{column_bounds, HasNoValue, IsWithin};
     ghost use Rattle.sorted_file.specs.File.{HasBlockNow, HasFile, IsCursorOf, IsFoundNow, IsOpen, IsReadFrom, IsReadNow, IsSameFile, IsSearchedNow, KeepsWhatItRead, listed, name_of, MayHaveIn};
@@ -96,19 +99,42 @@ impl SortedFile {
         ensures same { F.contents files.new ≡ F.contents files.old }
         ensures reason { HasReason (F.faults files.old) (F.faults files.new) result }
     {
+        let none = LockIndex::new(alloc);
+        SortedFile::open_over(alloc, name, most_blocks, &none, files)
+    }
+
+    /// Opens a file as `open_with` does, for a reader of older files whose locks the index has: the file then keeps which of
+    /// those locks it names, and an index of all of them can leave these out.
+    pub fn open_over<F: Files>(
+        alloc: Global,
+        name: u64,
+        most_blocks: NonZeroUsize,
+        over: &LockIndex,
+        files: &mut F,
+    ) -> Result<SortedFile, Refusal>
+        ensures opened { IfOk result (λ file. IfSome (F.contents files.old) (λ m. IsOpen m file)) }
+        ensures named { IfOk result (λ file. name_of file ≡ name) }
+        ensures sized { IfOk result (λ file. file.cache.cap ≡ non_zero_usize_get most_blocks) }
+        ensures damaged { IsErrOf result Refusal.Damaged
+            → IfSome (F.contents files.old) (λ m. ¬ HasFile m name) }
+        ensures refusal { IfErr result IsReadRefusal }
+        ensures same { F.contents files.new ≡ F.contents files.old }
+        ensures reason { HasReason (F.faults files.old) (F.faults files.new) result }
+    {
         let Opening {
             rows,
             heads,
             count,
             columns,
             ..
-        } = read_file(alloc, name, files)?;
+        } = read_file(alloc, name, over, files)?;
         let Columns {
             bounds,
             numbers,
             locks,
             lock_keys,
-            lock_rows,
+            lock_values,
+            named_locks,
         } = columns;
         let skips = skips_of(alloc, &heads)?;
         let cache = no_blocks(alloc, most_blocks)?;
@@ -126,7 +152,8 @@ impl SortedFile {
             numbers,
             locks,
             lock_keys,
-            lock_rows,
+            lock_values,
+            named_locks,
             cache,
         })
     }
@@ -167,19 +194,6 @@ impl SortedFile {
                 .is_some(),
             Qualifier::Data | Qualifier::Write => self.numbers.has(key.column_number()),
         }
-    }
-
-    /// The greatest stamp, from `lo` up to that of the key, at which the file may have a value of the key's column, which
-    /// is a lock's: one at which it has a lock of a column with the same number. Later it has none. Takes no memory and
-    /// reads nothing.
-    pub fn latest_lock(&self, key: &LookupKey, lo: Stamp) -> Option<Stamp>
-        requires { key.now.qualifier ≡ Lock }
-        ensures latest { IsLatest
-            self.now.locks (number_of (text key.now)) lo key.now.stamp result }
-        ensures none { (m : Contents) → IsOpen m self.now
-            → HasNoneAfter (listed m self.now) key.now lo result }
-    {
-        self.locks.latest(key.column_number(), lo, key.key().stamp)
     }
 
     /// Whether the file may have an entry of a key, a value or an erasure: of a lock's, whether it may have one of this
@@ -324,8 +338,8 @@ impl SortedFile {
 
     /// The greatest stamp, from `lo` up to that of the key, at which the file has a value of the key's
     /// column. It reads one block at most, and none that can't have such a value, nor any if the column is a lock's and no
-    /// value of it stands in the file; if `may_have` says that there is none it takes no memory. Of a lock `latest_lock`
-    /// says as much as is mostly wanted, and reads nothing. The file stays what it was, also after an `Err`.
+    /// value of it stands in the file; if `may_have` says that there is none it takes no memory. The file stays what it was,
+    /// also after an `Err`.
     ///
     /// # Errors
     ///

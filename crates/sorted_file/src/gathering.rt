@@ -1,16 +1,20 @@
 //! What an opening gathers of the entries of blocks as it checks them.
 
-ghost use Rattle.std.specs.Prelude.{◌≡◌, ◌≢◌, ◌<◌, ◌^◌, ◌++◌, ◌∷◌, [], ℕ, List, Option, length, IfOk, IfErr, IfSome, IfNone, OnOk};
-ghost use Rattle.sorted_file.specs.Numbers.{number_of, IsAmong, IsLockKeyNumbered, IsLockRowNumbered, IsLockStamped};
+ghost use Rattle.std.specs.Prelude.{◌≡◌, ◌≢◌, ◌<◌, ◌^◌, ◌⊎◌, ◌++◌, ◌∷◌, [], ℕ, List, Option, Contains, length, IfOk, IfErr, IfSome, IfNone, OnOk};
+ghost use Rattle.sorted_file.specs.Numbers.{number_of, IsAmong, IsLockKept, IsLockKeyNumbered, IsLockStamped};
 ghost use Rattle.cell_key.specs.Entries.{Entry, IsEntryList, lent_entry};
+ghost use Rattle.cell_key.specs.Keys.{text};
 ghost use Rattle.cell_key.specs.LentKeys.{IsLentKey};
+ghost use Rattle.cell_key.specs.declared.keys.CellKey.{CellKey as KeyOf};
 ghost use Rattle.sorted_file.specs.Block.{IsBlock, IsParsed, entries_of};
 ghost use Rattle.sorted_file.specs.Columns.{AreColumnsOf, IsGathered};
 ghost use Rattle.sorted_file.specs.Grammar.{block_bytes};
 
 use crate::block::{Block, next_entry, room_for_starts};
 use crate::bounds::ColumnBounds;
+use crate::lock_index::LockIndex;
 use crate::lock_stamps::LockStamp;
+use crate::lock_values::LockValue;
 use crate::numbers::{column_number, push_number, text_number};
 use cell_key::{CellKey, EntryRef, KeyRef, Qualifier, Refusal};
 use std::alloc::Global;
@@ -26,8 +30,10 @@ pub(crate) struct Columns {
     pub(crate) locks: Vec<LockStamp>,
     /// A number of the text of each lock's key.
     pub(crate) lock_keys: Vec<u64>,
-    /// A number of the row of each lock that has a value.
-    pub(crate) lock_rows: Vec<u64>,
+    /// The key of each lock that has a value.
+    pub(crate) lock_values: Vec<LockValue>,
+    /// The keys of entries, values or erasures, that the index of the older files' locks seems to have.
+    pub(crate) named_locks: Vec<CellKey>,
 }
 
 impl Columns {
@@ -42,12 +48,14 @@ impl Columns {
             numbers: Vec::new(alloc),
             locks: Vec::new(alloc),
             lock_keys: Vec::new(alloc),
-            lock_rows: Vec::new(alloc),
+            lock_values: Vec::new(alloc),
+            named_locks: Vec::new(alloc),
         }
     }
 
-    /// Adds those of an entry at this key. Answers `NoMemory` if there is no memory.
-    fn add(&mut self, entry: EntryRef<'_>, key: KeyRef<'_>) -> Result<(), Refusal>
+    /// Adds those of an entry at this key, of a file that is newer than those whose locks the index has. Answers `NoMemory`
+    /// if there is no memory.
+    fn add(&mut self, entry: EntryRef<'_>, key: KeyRef<'_>, over: &LockIndex) -> Result<(), Refusal>
         requires key { IsLentKey key }
         requires text { key.text.now ≡ entry.key.now }
         ensures added { OnOk result ((es : List Entry) → AreColumnsOf self.old es
@@ -57,25 +65,28 @@ impl Columns {
         let number = column_number(key.text);
         push_number(&mut self.numbers, number)?;
         push_lock_key(&mut self.lock_keys, key)?;
+        push_named(&mut self.named_locks, key, number, over)?;
         let Some(_) = entry.value else {
             return Ok(());
         };
         push_lock(&mut self.locks, key, number)?;
-        push_lock_row(&mut self.lock_rows, key)?;
+        push_lock_value(&mut self.lock_values, key, number)?;
         self.bounds = self.bounds.with_key(key);
         Ok(())
     }
 
     /// Adds those of more entries. Answers `NoMemory` if there is no memory.
-    pub(crate) fn join(&mut self, more: &Columns) -> Result<(), Refusal>
+    pub(crate) fn join(&mut self, more: Columns) -> Result<(), Refusal>
         ensures joined { OnOk result ((es fs : List Entry) → AreColumnsOf self.old es
-            → AreColumnsOf more.now fs → AreColumnsOf self.new (es ++ fs)) }
+            → AreColumnsOf more fs → AreColumnsOf self.new (es ++ fs)) }
         ensures refusal { IfErr result (λ refusal. refusal ≡ Refusal.NoMemory) }
     {
         self.numbers.extend_from_slice(&more.numbers)?;
         self.locks.extend_from_slice(&more.locks)?;
         self.lock_keys.extend_from_slice(&more.lock_keys)?;
-        self.lock_rows.extend_from_slice(&more.lock_rows)?;
+        let mut more = more;
+        self.lock_values.append(&mut more.lock_values)?;
+        self.named_locks.append(&mut more.named_locks)?;
         self.bounds = self.bounds.joined(more.bounds);
         Ok(())
     }
@@ -114,18 +125,39 @@ fn push_lock_key(keys: &mut Vec<u64>, key: KeyRef<'_>) -> Result<(), Refusal>
     Ok(())
 }
 
-/// Adds the number of a key's row, if it is a lock's. Answers `NoMemory` if there is no memory.
-fn push_lock_row(rows: &mut Vec<u64>, key: KeyRef<'_>) -> Result<(), Refusal>
-    requires { IsLentKey key }
+/// Adds a key, if it is a lock's and the index seems to have that lock. Answers `NoMemory` if there is no memory.
+fn push_named(
+    named: &mut Vec<CellKey>,
+    key: KeyRef<'_>,
+    number: u64,
+    over: &LockIndex,
+) -> Result<(), Refusal>
+    ensures named { OnOk result ((one : KeyOf) → Contains named.new.items one
+        → Contains named.old.items one ⊎ (key.entry.text.now ≡ text one)) }
+    ensures refusal { IfErr result (λ refusal. refusal ≡ Refusal.NoMemory) }
+{
+    if key.qualifier != Qualifier::Lock || !over.has(number, key.stamp) {
+        return Ok(());
+    }
+    if let Some(lock) = CellKey::decode(*named.allocator(), key.text)? {
+        named.push(lock)?;
+    }
+    Ok(())
+}
+
+/// Adds a key, if it is a lock's, which has a value. Answers `NoMemory` if there is no memory.
+fn push_lock_value(values: &mut Vec<LockValue>, key: KeyRef<'_>, number: u64) -> Result<(), Refusal>
+    requires key { IsLentKey key }
+    requires number { number ≡ number_of key.text.now }
     ensures has { OnOk result ((value : Option (List ℕ))
-        → IsLockRowNumbered rows.new.items (key.entry.text.now, value)) }
-    ensures keeps { OnOk result (IsAmong rows.old.items rows.new.items) }
+        → IsLockKept values.new.items (key.entry.text.now, value)) }
+    ensures keeps { OnOk result (IsAmong values.old.items values.new.items) }
     ensures refusal { IfErr result (λ refusal. refusal ≡ Refusal.NoMemory) }
 {
     match key.qualifier {
         Qualifier::Lock => {
-            if let Some(lock) = CellKey::decode(*rows.allocator(), key.text)? {
-                push_number(rows, text_number(lock.row.as_bytes()))?;
+            if let Some(lock) = CellKey::decode(*values.allocator(), key.text)? {
+                values.push(LockValue::new(lock, number))?;
             }
             Ok(())
         }
@@ -135,7 +167,11 @@ fn push_lock_row(rows: &mut Vec<u64>, key: KeyRef<'_>) -> Result<(), Refusal>
 
 /// Where the entries begin that have these bytes, and their columns; `None` if no entry list has the bytes. Answers
 /// `NoMemory` if there is no memory.
-fn gather(alloc: Global, bytes: &[u8]) -> Result<Option<(Vec<u32>, Columns)>, Refusal>
+fn gather(
+    alloc: Global,
+    bytes: &[u8],
+    over: &LockIndex,
+) -> Result<Option<(Vec<u32>, Columns)>, Refusal>
     requires { length bytes.now < 2 ^ 32 }
     ensures found { IfOk result (λ found.
         IfSome found (λ gathered. IsGathered bytes.now gathered.0.items gathered.1)) }
@@ -152,7 +188,7 @@ fn gather(alloc: Global, bytes: &[u8]) -> Result<Option<(Vec<u32>, Columns)>, Re
             return Ok(None);
         };
         starts.push((bytes.len() - rest.len()) as u32)?;
-        columns.add(entry, key)?;
+        columns.add(entry, key, over)?;
         last = Some(key);
         rest = after;
     }
@@ -167,7 +203,11 @@ pub(crate) struct ReadBlock {
 }
 
 /// The block that the bytes are, and its columns; `None` if they are no block. Answers `NoMemory` if there is no memory.
-pub(crate) fn read_block(alloc: Global, bytes: Vec<u8>) -> Result<Option<ReadBlock>, Refusal>
+pub(crate) fn read_block(
+    alloc: Global,
+    bytes: Vec<u8>,
+    over: &LockIndex,
+) -> Result<Option<ReadBlock>, Refusal>
     requires { length bytes.items < 2 ^ 32 }
     ensures found { IfOk result (λ found.
         IfSome found (λ read. IsBlock (entries_of read.block) bytes.items)) }
@@ -179,7 +219,7 @@ pub(crate) fn read_block(alloc: Global, bytes: Vec<u8>) -> Result<Option<ReadBlo
         → ¬ IsBlock es bytes.items)) }
     ensures refusal { IfErr result (λ refusal. refusal ≡ Refusal.NoMemory) }
 {
-    let Some((starts, columns)) = gather(alloc, &bytes)? else {
+    let Some((starts, columns)) = gather(alloc, &bytes, over)? else {
         return Ok(None);
     };
     let block = Block { bytes, starts };

@@ -1,6 +1,7 @@
 //! Laws of the form of files, of open files, and of sources. Each is the contract of a function that does nothing.
 
 ghost use Rattle.sorted_file.specs.KeyFilters.{StaysCovered};
+ghost use Rattle.sorted_file.specs.LockIndexes.{StaysIndexed};
 ghost use Rattle.sorted_file.specs.Grammar.{OneImage, OneList};
 ghost use Rattle.sorted_file.specs.Source.{RestIsList};
 ghost use Rattle.sorted_file.specs.File.{StaysOpen, OneListing, OpenIsThere, WrittenIsThere, WrittenIsListed};
@@ -23,6 +24,11 @@ pub fn stays_open()
 /// A file that a filter of keys covers is still covered when only its cache has changed.
 pub fn stays_covered()
     ensures { StaysCovered }
+{}
+
+/// An index of the locks of files is still one when only their caches have changed.
+pub fn stays_indexed()
+    ensures { StaysIndexed }
 {}
 
 /// Two open files of one name stand for the same entries.

@@ -13,7 +13,9 @@ mod format;
 mod gathering;
 mod key_filter;
 mod laws;
+mod lock_index;
 mod lock_stamps;
+mod lock_values;
 mod lookup_key;
 mod numbers;
 mod source;
@@ -24,9 +26,10 @@ pub use cursor::FileCursor;
 pub use file::SortedFile;
 pub use key_filter::KeyFilter;
 pub use laws::{
-    one_image, one_list, one_listing, open_is_there, rest_is_list, stays_covered, stays_open,
-    written_is_listed, written_is_there,
+    one_image, one_list, one_listing, open_is_there, rest_is_list, stays_covered, stays_indexed,
+    stays_open, written_is_listed, written_is_there,
 };
+pub use lock_index::LockIndex;
 pub use lookup_key::LookupKey;
 pub use source::{Source, refusal_of};
 pub use writer::write_file;

@@ -1,13 +1,10 @@
 //! The stamps of locks that have a value, by which a lock test passes by a file without reading it.
 
-ghost use Rattle.std.specs.Prelude.{◌≡◌, ◌≤◌, ◌⊎◌, ℕ, Some, All, IfSome, length};
-ghost use Rattle.sorted_file.specs.Filters.{HasBits};
+ghost use Rattle.std.specs.Prelude.{◌≡◌, ◌≤◌, ◌⊎◌, ℕ, Some, IfSome};
 ghost use Rattle.sorted_file.specs.LockStamps.{InColumnOrder, IsLatest, IsLatestOf};
 ghost use Rattle.sorted_file.specs.Newest.{IsAfterStamp};
 ghost use Rattle.sorted_file.specs.Numbers.{IsAmong};
-ghost use Rattle.sorted_file.specs.declared.lock_stamps.LockStamp.{LockStamp as StampOf};
 
-use crate::filter::Filter;
 use cell_key::Stamp;
 use std::marker::Model;
 
@@ -76,13 +73,6 @@ impl LockStamps {
         LockStamps { sorted }
     }
 
-    /// How many they are.
-    pub(crate) fn len(&self) -> usize
-        ensures { result ≡ length self.now }
-    {
-        self.sorted.len()
-    }
-
     /// The greatest stamp in `lo..=hi` of a lock of this column.
     pub(crate) fn latest(&self, column: u64, lo: Stamp, hi: Stamp) -> Option<Stamp>
         ensures { IsLatest self.now column lo hi result }
@@ -91,17 +81,5 @@ impl LockStamps {
         let up_to = self.sorted.split_at(to).0;
         let from = up_to.partition_point(|lock| lock.column < column);
         latest_of(up_to.split_at(from).1, lo, hi)
-    }
-
-    /// Adds the number of each column to a filter.
-    pub(crate) fn add_to(&self, filter: &mut Filter)
-        ensures each { All (λ (lock : StampOf). HasBits filter.new.words.items lock.column)
-            self.now }
-        ensures keeps { (other : ℕ) → HasBits filter.old.words.items other
-            → HasBits filter.new.words.items other }
-    {
-        for lock in &self.sorted {
-            filter.add(lock.column);
-        }
     }
 }

@@ -3,8 +3,9 @@ use Rattle.std.specs.Option.{option_copied, IsSome}
 use Rattle.cell_key.specs.Entries.{lent_entry}
 use Rattle.cell_key.proofs.TextPlaces.{clash}
 use Rattle.sorted_file.specs.Bounds.{IsBounded}
-use Rattle.sorted_file.specs.Numbers.{number_of, IsLockKeyNumbered, IsLockRowNumbered, IsLockStamped}
+use Rattle.sorted_file.specs.Numbers.{number_of, IsLockKept, IsLockKeyNumbered, IsLockStamped}
 use Rattle.sorted_file.proofs.ColumnsOf.{columns_on}
+use Rattle.sorted_file.proofs.NamedLocks.{named_more}
 use Rattle.sorted_file.proofs.gathering.Columns.add.Goals as goal
 
 pub push_lock-requires-clause-number : goal.push_lock-requires-clause-number
@@ -21,6 +22,7 @@ returns-in_default-clause-added c = λ es k.
     (subst (λ (name : List ℕ). IsLockKeyNumbered c.push_lock_key.new.keys.items (name, option_copied c.args.entry.value)) c.requires.text (c.in_ok-push_lock_key.ensures.has (option_copied c.args.entry.value)))
     (λ n there. there)
     (λ key stored named lock some. absurd (clash _ (subst (λ (v : Option _). IsSome (option_copied v)) c.in_default.is some) refl))
+    (named_more _ _ es (lent_entry c.args.entry) c.args.key.text.now c.requires.text c.in_ok-push_named.ensures.named k.locks_kept.named)
     k
 
 pub returns-clause-added : goal.returns-clause-added
@@ -33,6 +35,10 @@ returns-clause-added c = λ es k.
     (subst (λ (name : List ℕ). IsLockStamped c.push_lock.new.locks.items (name, value)) c.requires.text (c.in_ok-push_lock.ensures.has value))
     c.in_ok-push_lock_key.ensures.keeps
     (subst (λ (name : List ℕ). IsLockKeyNumbered c.push_lock_key.new.keys.items (name, value)) c.requires.text (c.in_ok-push_lock_key.ensures.has value))
-    c.in_ok-push_lock_row.ensures.keeps
-    (subst (λ (name : List ℕ). IsLockRowNumbered c.push_lock_row.new.rows.items (name, value)) c.requires.text (c.in_ok-push_lock_row.ensures.has value))
+    c.in_ok-push_lock_value.ensures.keeps
+    (subst (λ (name : List ℕ). IsLockKept c.push_lock_value.new.values.items (name, value)) c.requires.text (c.in_ok-push_lock_value.ensures.has value))
+    (named_more _ _ es (lent_entry c.args.entry) c.args.key.text.now c.requires.text c.in_ok-push_named.ensures.named k.locks_kept.named)
     k
+
+pub push_lock_value-requires-clause-number : goal.push_lock_value-requires-clause-number
+push_lock_value-requires-clause-number c = c.column_number-number.ensures

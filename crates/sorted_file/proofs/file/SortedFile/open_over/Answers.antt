@@ -5,7 +5,7 @@ use Rattle.sorted_file.proofs.Keeping.{none_kept}
 use Rattle.sorted_file.proofs.Locked.{keyed_on, locked_on}
 use Rattle.sorted_file.proofs.Numbered.{numbered_on}
 use Rattle.sorted_file.proofs.Results.{if_some}
-use Rattle.sorted_file.proofs.file.SortedFile.open_with.Goals as goal
+use Rattle.sorted_file.proofs.file.SortedFile.open_over.Goals as goal
 
 pub returns-clause-opened : goal.returns-clause-opened
 returns-clause-opened g c =
@@ -18,7 +18,7 @@ returns-clause-opened g c =
       numbered = numbered_on _ _ c.in_ok-numbers.ensures.keeps _ o.columns.numbered;
       locked = locked_on _ _ c.new-locks.ensures.keeps _ o.columns.locked;
       keyed = keyed_on _ _ c.in_ok-lock_keys.ensures.keeps _ o.columns.keyed;
-      lock_rows = o.columns.lock_rows;
+      locks_kept = o.columns.locks_kept;
       heads = o.heads;
       skips = c.in_ok-skips.ensures.skips ∙ ap (λ (l : List (Option (Vec ℕ))). skips l) c.deref.ensures.value;
       counted = o.counted;
