@@ -21,18 +21,13 @@ use Rattle.tablet.specs.Views.{range_of, memory_of, files_of, lists_of, cells_at
 use Rattle.tablet.specs.declared.tablet.Tablet.{Tablet}
 use Rattle.tablet.proofs.Lookups.{if_one}
 use Rattle.tablet.proofs.Held.{held_lists}
-use Rattle.tablet.proofs.LeftOut.{none_named, value_or}
+use Rattle.tablet.proofs.LeftOut.{value_or}
 use Rattle.tablet.proofs.Passed.{over_any}
 use Rattle.tablet.proofs.Shown.{first_at, shown, stored_or_hidden, stored_or_none}
 
 value_front : (x y : Option (Option (List ℕ))) (v : List ℕ) → value_of x ≡ Some v → value_of (or_else x y) ≡ Some v
 value_front None y v e = let no : None ≡ Some v = e in cc
 value_front (Some o) y v e = e
-
-no_values : (row : List ℕ) (q : Qualifier) (lo hi : ℕ) (m : Contents) (files : List SortedFile) → AllByRecursion (IsOpen m) files → HaveNoValue row q lo hi files → (key : CellKey) → IsStored key → key.row ≡ row → key.qualifier ≡ q → lo ≤ key.stamp → key.stamp ≤ hi → AllByRecursion (λ es. value_of (entry_of_key es (text key)) ≡ None) (map (listed m) files)
-no_values row q lo hi m [] opened none key stored same kind low high = tt
-no_values row q lo hi m (file ∷ files) opened none key stored same kind low high =
-    (none.0 m opened.0 key stored same kind low high, no_values row q lo hi m files opened.1 none.1 key stored same kind low high)
 
 module _ (cells : Cells) (at : ℕ → CellKey) where
   low_from : (lo hi from : ℕ) (found : Option (ℕ × List ℕ)) → IsNewest cells at lo hi found → IsLater from lo found → lo ≤ from
@@ -76,9 +71,8 @@ module _ (m : Contents) (t : Tablet) (held : Holds m t) (row family : List ℕ) 
         go (inr h) = h
         go (inl stored) =
             let lists = map (listed m) (files_of t) in
-            let each = no_values row q from to m (files_of t) held.files (none (omega (arith, a, b))) (at s) stored refl refl a b in
             shown_at s stored
-            ∙ value_or (entry_of_key (memory_of t) (text (at s))) (first_naming lists (text (at s))) (none_named lists (text (at s)) each)
+            ∙ value_or (entry_of_key (memory_of t) (text (at s))) (first_naming lists (text (at s))) (none (omega (arith, a, b)) m held.files (at s) stored refl refl a b)
             ∙ sym (in_memory s stored) ∙ none_later s a b
 
     none_above : (s : ℕ) → s ≤ hi → (1 ≤ s → s ≤ to → get (cells_at m t) (at s) ≡ None) → get (cells_at m t) (at s) ≡ None

@@ -1,24 +1,27 @@
 -- Files that a filter of their keys covers.
-use Rattle.std.proofs.Common.{◌≡◌, ◌∙◌, ℕ, List, [], ◌∷◌, map, drop, length, Option, None, refl, sym, ap}
+use Rattle.std.proofs.Common.{◌≡◌, ◌∙◌, ◌≤◌, ℕ, List, [], ◌∷◌, map, drop, length, Contains, Option, Some, None, refl, sym, ap, subst}
+use Rattle.std.specs.Option.{is_some}
 use Rattle.std.proofs.lemmas.List.{with_items_is}
 use Rattle.std.proofs.lemmas.List.Elements.{All-cons, All-drop, All-head, All-nil, All-same, All-tail, All-weaker}
 use Rattle.std.specs.List.{AllByRecursion, AllZip}
 use Rattle.std.specs.Prelude.{All}
 use Rattle.std.specs.Vec.{with_items}
 use Rattle.std.specs.declared.vec.Vec.{Vec}
-use Rattle.cell_key.specs.Keys.{text}
-use Rattle.cell_key.specs.Entries.{entry_of_key, first_naming, or_else}
+use Rattle.cell_key.specs.Keys.{text, IsStored}
+use Rattle.cell_key.specs.Entries.{entry_of_key, first_naming, or_else, value_of}
 use Rattle.cell_key.specs.declared.keys.CellKey.{CellKey}
 use Rattle.file_store.specs.Store.{Contents}
 use Rattle.cell_key.specs.declared.keys.Qualifier.{Qualifier}
-use Rattle.sorted_file.specs.Bounds.{HasNoRowValue}
-use Rattle.sorted_file.specs.File.{IsOpen, IsSameFile, listed}
+use Rattle.cell_key.specs.declared.keys.Qualifier.TheVariants.{Lock}
+use Rattle.sorted_file.specs.Bounds.{HasNoValue}
+use Rattle.sorted_file.specs.File.{IsOpen, IsSameFile, IsTelling, listed}
 use Rattle.sorted_file.specs.KeyFilters.{Covers, StaysCovered}
+use Rattle.sorted_file.specs.LockIndexes.{IsIndexOf, StaysIndexed}
 use Rattle.sorted_file.specs.Newest.{IsNewestStamp, at_stamp}
 use Rattle.sorted_file.specs.declared.file.SortedFile.{SortedFile}
 use Rattle.sorted_file.specs.declared.key_filter.KeyFilter.{KeyFilter}
 use Rattle.tablet.specs.Reads.{HasNoLater, HaveNoValue}
-use Rattle.tablet.proofs.LeftOut.{value_or}
+use Rattle.tablet.proofs.LeftOut.{none_named as none_in_each, value_or}
 
 -- files that are what they were are still covered
 still_covered : StaysCovered → (o : Option Contents) (filter : KeyFilter) (xs ys : List SortedFile) → AllZip (IsSameFile o) xs ys → All (Covers filter) xs → All (Covers filter) ys
@@ -41,11 +44,39 @@ covered_more old new count file xs covers keeps all =
     All-cons (Covers new) file (drop count xs) covers (All-drop (Covers new) count xs (All-weaker (Covers old) (Covers new) keeps xs all))
 
 -- no covered file has a value that the filter says none has
-pub none_valued : (filter : KeyFilter) (row : List ℕ) (q : Qualifier) (lo hi : ℕ) → ((file : SortedFile) → Covers filter file → (m : Contents) → IsOpen m file → HasNoRowValue row q lo hi (listed m file))
+none_each : (filter : KeyFilter) (q : Qualifier) (lo hi : ℕ) → ((file : SortedFile) → Covers filter file → (m : Contents) → IsOpen m file → HasNoValue q lo hi (listed m file))
+    → (xs : List SortedFile) → All (Covers filter) xs → (m : Contents) → AllByRecursion (IsOpen m) xs → (key : CellKey) → IsStored key → key.qualifier ≡ q → lo ≤ key.stamp → key.stamp ≤ hi
+    → AllByRecursion (λ es. value_of (entry_of_key es (text key)) ≡ None) (map (listed m) xs)
+none_each filter q lo hi none [] all m opened key stored kind low high = tt
+none_each filter q lo hi none (x ∷ xs) all m opened key stored kind low high =
+    (none x (All-head (Covers filter) x xs all) m opened.0 key stored kind low high, none_each filter q lo hi none xs (All-tail (Covers filter) x xs all) m opened.1 key stored kind low high)
+
+pub none_valued : (filter : KeyFilter) (row : List ℕ) (q : Qualifier) (lo hi : ℕ) → ((file : SortedFile) → Covers filter file → (m : Contents) → IsOpen m file → HasNoValue q lo hi (listed m file))
     → (xs : List SortedFile) → All (Covers filter) xs → HaveNoValue row q lo hi xs
-none_valued filter row q lo hi none [] all = tt
-none_valued filter row q lo hi none (x ∷ xs) all =
-    (none x (All-head (Covers filter) x xs all), none_valued filter row q lo hi none xs (All-tail (Covers filter) x xs all))
+none_valued filter row q lo hi none xs all m opened key stored same kind low high =
+    none_in_each (map (listed m) xs) (text key) (none_each filter q lo hi none xs all m opened key stored kind low high)
+
+-- ---- the index of locks
+
+-- open files keep of their locks what an index rests on
+told_of : (m : Contents) (xs : List SortedFile) → AllByRecursion (IsOpen m) xs → AllByRecursion IsTelling xs
+told_of m [] opened = tt
+told_of m (x ∷ xs) opened = (opened.0.locks_kept, told_of m xs opened.1)
+
+-- a lock that isn't in the index of open files has no value in them
+pub not_indexed : (index : List CellKey) (xs : List SortedFile) → IsIndexOf index xs → (m : Contents) → AllByRecursion (IsOpen m) xs → (key : CellKey) → IsStored key → key.qualifier ≡ Lock → ¬ Contains index key
+    → value_of (first_naming (map (listed m) xs) (text key)) ≡ None
+not_indexed index xs is m opened key stored lock out = go (value_of (first_naming (map (listed m) xs) (text key))) refl
+  where
+    go : (o : Option (List ℕ)) → value_of (first_naming (map (listed m) xs) (text key)) ≡ o → o ≡ None
+    go None e = refl
+    go (Some v) e = absurd (out (is (told_of m xs opened) key stored lock (ap is_some e)))
+
+-- the index of files that are what they were still is theirs, also where they were lent as a slice
+pub indexed_after : {Z : Type 0} → StaysIndexed → (o : Option Contents) (index : List CellKey) (files : Vec SortedFile Z) (lent now : List SortedFile) → lent ≡ files.items → length now ≡ length lent → AllZip (IsSameFile o) lent now
+    → IsIndexOf index files.items → IsIndexOf index (with_items files now).items
+indexed_after stays o index files lent now is size same before =
+    subst (IsIndexOf index) (sym (with_items_is files now (size ∙ ap length is ∙ sym files.ok.0))) (stays o index lent now same (subst (IsIndexOf index) (sym is) before))
 
 module _ (m : Contents) (filter : KeyFilter) where
   -- no file has what the filter says that none has

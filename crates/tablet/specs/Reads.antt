@@ -1,5 +1,5 @@
 -- What a read finds.
-use Rattle.std.specs.Prelude.{◌≡◌, ℕ, ◌≤◌, ◌<◌, length, Bool, List, [], ◌∷◌, Option, Some, None, is_some, if◌then◌else◌}
+use Rattle.std.specs.Prelude.{◌≡◌, ℕ, ◌≤◌, ◌<◌, length, Bool, List, [], ◌∷◌, Option, Some, None, is_some, if◌then◌else◌, map}
 use Rattle.std.specs.List.{AllByRecursion}
 use Rattle.std.specs.Ordering.{is_le}
 use Rattle.cell_key.specs.Names.{IsRow, IsFamily}
@@ -13,7 +13,6 @@ use Rattle.cell_key.specs.declared.keys.Qualifier.TheVariants.{Write}
 use Rattle.file_store.specs.Store.{Contents}
 use Rattle.sorted_file.specs.Newest.{at_stamp, IsAfterStamp}
 use Rattle.sorted_file.specs.File.{IsOpen, listed}
-use Rattle.sorted_file.specs.Bounds.{HasNoRowValue}
 use Rattle.sorted_file.specs.declared.file.SortedFile.{SortedFile}
 use Rattle.tablet.specs.Ranges.{lower_fence}
 use Rattle.tablet.specs.declared.ranges.RowRange.{RowRange}
@@ -45,12 +44,12 @@ abbrev pub NamesPlace : Option (List ℕ × List ℕ) → Option Place → Type 
 NamesPlace found None = found ≡ None
 NamesPlace found (Some place) = IsOfPlace found place
 
--- files have no value of a column of this kind in this row at these stamps
+-- files have together no value of a column of this kind in this row at these stamps
 abbrev pub HaveNoValue : List ℕ → Qualifier → ℕ → ℕ → List SortedFile → Type 0
 HaveNoValue row qualifier lo hi files =
-    AllByRecursion
-    (λ file. (m : Contents) → IsOpen m file → HasNoRowValue row qualifier lo hi (listed m file))
-    files
+    (m : Contents) → AllByRecursion (IsOpen m) files → (key : CellKey) → IsStored key
+    → key.row ≡ row → key.qualifier ≡ qualifier → lo ≤ key.stamp → key.stamp ≤ hi
+    → value_of (first_naming (map (listed m) files) (text key)) ≡ None
 
 -- a stamp that comes after that of a version, or from the least one on if there is none
 abbrev pub IsLater : ℕ → ℕ → Option (ℕ × List ℕ) → Type 0

@@ -27,7 +27,7 @@ use cell_key::Refusal;
 use compaction::{keeps_one_list, merge_into, names_first, writes_entry_lists};
 use file_store::Files;
 use memtable::Memtable;
-use sorted_file::{SortedFile, Source, stays_open, written_is_listed, written_is_there};
+use sorted_file::{LockIndex, SortedFile, Source, stays_open, written_is_listed, written_is_there};
 use std::alloc::Global;
 use std::num::NonZeroUsize;
 
@@ -62,13 +62,15 @@ fn take_name(next_name: &mut u64) -> Result<u64, Refusal>
     Ok(name)
 }
 
-/// Writes what sources mean together as a file of the next name, and opens it to cache this many blocks at most.
+/// Writes what sources mean together as a file of the next name, and opens it to cache this many blocks at most, over the
+/// index of the locks of older files.
 fn write_new<F: Files, S: Source<F> + Drop>(
     alloc: Global,
     sources: Vec<S>,
     keep_erasures: bool,
     file_limit: u64,
     most_blocks: NonZeroUsize,
+    over: &LockIndex,
     next_name: &mut u64,
     files: &mut F,
 ) -> Result<SortedFile, Refusal>
@@ -108,7 +110,7 @@ fn write_new<F: Files, S: Source<F> + Drop>(
     written_is_listed();
     let name = take_name(next_name)?;
     merge_into(alloc, sources, keep_erasures, name, file_limit, files)?;
-    SortedFile::open_with(alloc, name, most_blocks, files)
+    SortedFile::open_over(alloc, name, most_blocks, over, files)
 }
 
 impl Tablet {
@@ -138,6 +140,19 @@ impl Tablet {
             Compaction::Minor => true,
             Compaction::Merge(count) => (count as usize) < self.files.len(),
             Compaction::Major => false,
+        }
+    }
+
+    /// The index of the locks of the files behind those that a compaction replaces; `None` of a minor one, which replaces
+    /// none. Answers `NoMemory` if there is no memory.
+    fn older_locks(&self, compaction: Compaction) -> Result<Option<LockIndex>, Refusal>
+        requires { HasAsMany compaction (length (files_of self.now)) }
+        ensures { IfErr result (λ refusal. refusal ≡ Refusal.NoMemory) }
+    {
+        match compaction {
+            Compaction::Minor => Ok(None),
+            Compaction::Merge(count) => Ok(Some(self.files.locks_behind(count as usize)?)),
+            Compaction::Major => Ok(Some(LockIndex::new(self.alloc))),
         }
     }
 
@@ -185,12 +200,15 @@ impl Tablet {
         let (memtable, old) = self.inputs(compaction);
         let sources = sources::<F>(self.alloc, memtable, old, &from, end.as_deref())?;
         let keep_erasures = self.keeps_erasures(compaction);
+        let older = self.older_locks(compaction)?;
+        let over = older.as_ref().unwrap_or(self.files.locks());
         write_new(
             self.alloc,
             sources,
             keep_erasures,
             file_limit,
             self.most_blocks,
+            over,
             next_name,
             files,
         )

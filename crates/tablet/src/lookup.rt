@@ -6,15 +6,14 @@ ghost use Rattle.std.specs.List.{AllByRecursion, AllZip};
 ghost use Rattle.cell_key.specs.Entries.{entry_of_key, first_naming, value_of};
 ghost use Rattle.cell_key.specs.Faults.{HasReason};
 ghost use Rattle.cell_key.specs.Keys.{text};
-ghost use Rattle.cell_key.specs.declared.keys.Qualifier.TheVariants.{Lock};
 ghost use Rattle.file_store.specs.Store.{Contents};
 ghost use Rattle.sorted_file.specs.File.{IsOpen, IsSameFile, IsShortValue, listed, value_bytes};
 ghost use Rattle.sorted_file.specs.Source.{IsReadRefusal};
-ghost use Rattle.sorted_file.specs.Newest.{HasNoneAfter, IsAfterStamp};
+ghost use Rattle.sorted_file.specs.Newest.{IsAfterStamp};
 ghost use Rattle.tablet.specs.Reads.{HasNoLater, IsValue};
 
 use crate::open_files::OpenFiles;
-use cell_key::{Qualifier, Refusal, Stamp};
+use cell_key::{Refusal, Stamp};
 use file_store::Files;
 use memtable::Memtable;
 use sorted_file::{LookupKey, SortedFile};
@@ -56,45 +55,6 @@ pub(crate) fn first_after(found: Option<Stamp>, lo: Stamp) -> Stamp
     }
 }
 
-/// The greatest stamp, from `lo` up to that of the key, at which a file may have a value of the key's column, which is a
-/// lock's: later it has none. The stamps of its locks aren't searched if all of them are outside this range.
-fn latest_lock_in(file: &SortedFile, key: &LookupKey, lo: Stamp) -> Option<Stamp>
-    requires { key.now.qualifier ≡ Lock }
-    ensures none { (m : Contents) → IsOpen m file.now
-        → HasNoneAfter (listed m file.now) key.now lo result }
-    ensures within { IfSome result (λ stamp. (lo ≤ stamp) × (stamp ≤ key.now.stamp)) }
-{
-    if !file.may_have(Qualifier::Lock, lo, key.key().stamp) {
-        return None;
-    }
-    file.latest_lock(key, lo)
-}
-
-/// The greatest stamp, from `lo` up to that of the key, at which a file may have a value of the key's column: later it has
-/// none. Of a lock the file says so without a read. The file stays what it was.
-fn newest_in_file<F: Files>(
-    file: &mut SortedFile,
-    key: &LookupKey,
-    lo: Stamp,
-    store: &mut F,
-) -> Result<Option<Stamp>, Refusal>
-    ensures none { IfOk result (λ found. IfSome (F.contents store.old) (λ m. IsOpen m file.old
-        → HasNoneAfter (listed m file.old) key.now lo found)) }
-    ensures within { IfOk result (λ found.
-        IfSome found (λ stamp. (lo ≤ stamp) × (stamp ≤ key.now.stamp))) }
-    ensures stays { IsSameFile (F.contents store.old) file.old file.new }
-    ensures damaged { IsErrOf result Refusal.Damaged
-        → IfSome (F.contents store.old) (λ m. ¬ IsOpen m file.old) }
-    ensures refusal { IfErr result IsReadRefusal }
-    ensures same { F.contents store.new ≡ F.contents store.old }
-    ensures reason { HasReason (F.faults store.old) (F.faults store.new) result }
-{
-    match key.key().qualifier {
-        Qualifier::Lock => Ok(latest_lock_in(file, key, lo)),
-        Qualifier::Data | Qualifier::Write => file.newest_stamp(key, lo, store),
-    }
-}
-
 /// The greatest stamp, from `lo` up to that of the key, at which any of some files may have a value of the key's
 /// column: later none has one. The files stay what they were.
 pub(crate) fn newest_stamp<F: Files>(
@@ -119,7 +79,7 @@ pub(crate) fn newest_stamp<F: Files>(
     let mut found = None;
     for file in files.iter_mut() {
         let from = first_after(found, lo);
-        let later = newest_in_file(file, key, from, store)?;
+        let later = file.newest_stamp(key, from, store)?;
         found = later.or(found);
     }
     Ok(found)

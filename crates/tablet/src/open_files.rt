@@ -1,4 +1,4 @@
-//! The open files of a tablet, with a filter of their keys.
+//! The open files of a tablet, with a filter of their keys and an index of their locks.
 
 ghost use Rattle.std.specs.Prelude.{◌≡◌, ◌≤◌, ◌<◌, ◌^◌, ◌∷◌, [], false, Option, option_map, map, drop, length, vec_len, IfOk, IfErr, IfSome, IsErrOf, OnOk, OnErr};
 ghost use Rattle.std.specs.List.{AllByRecursion, AllZip};
@@ -7,13 +7,14 @@ ghost use Rattle.cell_key.specs.Faults.{HasReason};
 ghost use Rattle.cell_key.specs.Keys.{text};
 ghost use Rattle.file_store.specs.Store.{Contents};
 ghost use Rattle.sorted_file.specs.File.{IsOpen, IsSameFile, IsShortValue, listed, value_bytes};
+ghost use Rattle.sorted_file.specs.LockIndexes.{IsIndexOf};
 ghost use Rattle.sorted_file.specs.Source.{IsReadRefusal};
 ghost use Rattle.tablet.specs.Reads.{HasNoLater, HaveNoValue};
 
 use crate::lookup::{find_in_files, newest_stamp};
 use cell_key::{Qualifier, Refusal, Row, Stamp};
 use file_store::Files;
-use sorted_file::{KeyFilter, LookupKey, SortedFile, stays_covered};
+use sorted_file::{KeyFilter, LockIndex, LookupKey, SortedFile, stays_covered, stays_indexed};
 use std::alloc::Global;
 use std::marker::Model;
 use std::num::NonZeroUsize;
@@ -28,6 +29,22 @@ fn replace_newest(files: &mut Vec<SortedFile>, count: usize, file: SortedFile)
         let _ = files.remove(0);
     }
     files[0] = file;
+}
+
+/// Puts a file in the place of the first `count` ones. Answers `NoMemory` if there is no memory, and the files are then
+/// as they were.
+fn put_newest(files: &mut Vec<SortedFile>, count: usize, file: SortedFile) -> Result<(), Refusal>
+    requires { count ≤ vec_len files.old }
+    ensures ok { OnOk result (files.new.items ≡ file ∷ drop count files.old.items) }
+    ensures err { OnErr result (files.new.items ≡ files.old.items) }
+    ensures refusal { IfErr result (λ refusal. refusal ≡ Refusal.NoMemory) }
+{
+    if count == 0 {
+        files.insert(0, file)?;
+    } else {
+        replace_newest(files, count, file);
+    }
+    Ok(())
 }
 
 /// Empties the caches of some files. The files stay what they were.
@@ -55,18 +72,22 @@ pub(crate) struct OpenFiles {
     files: Vec<SortedFile>,
     /// It covers each file.
     filter: KeyFilter,
+    /// The index of the files' locks.
+    locks: LockIndex,
 }
 
 impl Model for OpenFiles {
     ghost use Rattle.std.specs.Prelude.{List, All};
     ghost use Rattle.sorted_file.specs.KeyFilters.{Covers};
+    ghost use Rattle.sorted_file.specs.LockIndexes.{IsIndexOf};
     ghost use Rattle.sorted_file.specs.declared.file.SortedFile.{SortedFile as FileOf};
 
     ghost Value = { List FileOf };
 
     ghost view = { λ opened. opened.files.items };
 
-    ghost invariant = { λ opened. All (Covers opened.filter) opened.files.items };
+    ghost invariant = { λ opened. All (Covers opened.filter) opened.files.items
+        × IsIndexOf opened.locks opened.files.items };
 }
 
 impl OpenFiles {
@@ -78,19 +99,22 @@ impl OpenFiles {
             alloc,
             files: Vec::new(alloc),
             filter: KeyFilter::without_room(alloc),
+            locks: LockIndex::new(alloc),
         }
     }
 
-    /// These files. Answers `NoMemory` if there is no memory for the filter.
+    /// These files. Answers `NoMemory` if there is no memory for the filter or the index.
     pub(crate) fn of(alloc: Global, files: Vec<SortedFile>) -> Result<OpenFiles, Refusal>
         ensures files { IfOk result (λ opened. opened ≡ files.items) }
         ensures refusal { IfErr result (λ refusal. refusal ≡ Refusal.NoMemory) }
     {
         let filter = KeyFilter::new(alloc, &files, 0)?;
+        let locks = LockIndex::of(alloc, &files)?;
         Ok(OpenFiles {
             alloc,
             files,
             filter,
+            locks,
         })
     }
 
@@ -108,12 +132,45 @@ impl OpenFiles {
         self.files.len()
     }
 
-    /// Whether a file may have a value of a column of this kind in the row, at a stamp in `lo..=hi`. Of a lock a filter of
-    /// the rows that have one is asked too. Takes no memory and reads no file.
+    /// The index of the files' locks.
+    pub(crate) fn locks(&self) -> &LockIndex {
+        &self.locks
+    }
+
+    /// The index of the locks of the files behind the first `count` ones. Answers `NoMemory` if there is no memory.
+    pub(crate) fn locks_behind(&self, count: usize) -> Result<LockIndex, Refusal>
+        requires { count ≤ length self.now }
+        ensures index { IfOk result (λ index. IsIndexOf index (drop count self.now)) }
+        ensures refusal { IfErr result (λ refusal. refusal ≡ Refusal.NoMemory) }
+    {
+        LockIndex::of(self.alloc, &self.files[count..])
+    }
+
+    /// The index of the locks of a file and of those behind the first `count` ones. Answers `NoMemory` if there is no
+    /// memory.
+    fn locks_over(&self, count: usize, file: &SortedFile) -> Result<LockIndex, Refusal>
+        requires { count ≤ length self.now }
+        ensures index { IfOk result (λ index. IsIndexOf index (file.now ∷ drop count self.now)) }
+        ensures refusal { IfErr result (λ refusal. refusal ≡ Refusal.NoMemory) }
+    {
+        if count == 0 {
+            return self.locks.over(file);
+        }
+        self.locks_behind(count)?.over(file)
+    }
+
+    /// Whether the files together may have a value of a column of this kind in the row, at a stamp in `lo..=hi`. Of a lock
+    /// the index is asked for the row too. Takes no memory and reads no file.
     pub(crate) fn may_have(&self, row: &Row, qualifier: Qualifier, lo: Stamp, hi: Stamp) -> bool
         ensures { result ≡ false → HaveNoValue row.now qualifier lo hi self.now }
     {
-        self.filter.may_have(row, qualifier, lo, hi)
+        if !self.filter.may_have(qualifier, lo, hi) {
+            return false;
+        }
+        match qualifier {
+            Qualifier::Lock => self.locks.may_have_row(row),
+            Qualifier::Data | Qualifier::Write => true,
+        }
     }
 
     /// Makes room for a file more, of so many entries at most. Answers `NoMemory` if there is no memory. The files stay,
@@ -127,26 +184,23 @@ impl OpenFiles {
         Ok(())
     }
 
-    /// Puts a file in the place of the first `count` ones. Takes no memory if `count` isn't 0 or room was made before.
-    /// Else it answers `NoMemory` if there is none, and the files are then as they were.
+    /// Puts a file in the place of the first `count` ones. Answers `NoMemory` if there is no memory, and the files are then
+    /// as they were.
     pub(crate) fn replace_newest(&mut self, count: usize, file: SortedFile) -> Result<(), Refusal>
         requires { count ≤ length self.old }
         ensures ok { OnOk result (self.new ≡ file ∷ drop count self.old) }
         ensures err { OnErr result (self.new ≡ self.old) }
         ensures refusal { IfErr result (λ refusal. refusal ≡ Refusal.NoMemory) }
     {
+        let locks = self.locks_over(count, &file)?;
         self.filter.add(&file);
-        if count == 0 {
-            self.files.insert(0, file)?;
-        } else {
-            replace_newest(&mut self.files, count, file);
-        }
+        put_newest(&mut self.files, count, file)?;
+        self.locks = locks;
         Ok(())
     }
 
-    /// The greatest stamp, from `lo` up to that of the key, at which any of the files may have a value of the key's
-    /// column: later none has one. No file is asked if the filter says that none has one. The files stay what they were.
-    pub(crate) fn newest_stamp<F: Files>(
+    /// What `newest_stamp` answers, by the files. No file is asked if the filter says that none has a value of the column.
+    fn newest_in_files<F: Files>(
         &mut self,
         key: &LookupKey,
         lo: Stamp,
@@ -166,10 +220,39 @@ impl OpenFiles {
         ensures reason { HasReason (F.faults store.old) (F.faults store.new) result }
     {
         stays_covered();
+        stays_indexed();
         if !self.filter.may_have_value(key) {
             return Ok(None);
         }
         newest_stamp(&mut self.files, key, lo, store)
+    }
+
+    /// The greatest stamp, from `lo` up to that of the key, at which the files may have a value of the key's column: later
+    /// they have none together. Of a lock the index says so. Else no file is asked if the filter says that none has one.
+    /// The files stay what they were.
+    pub(crate) fn newest_stamp<F: Files>(
+        &mut self,
+        key: &LookupKey,
+        lo: Stamp,
+        store: &mut F,
+    ) -> Result<Option<Stamp>, Refusal>
+        requires { key.now.stamp < 2 ^ 63 }
+        ensures found { IfOk result (λ found. IfSome (F.contents store.old) (λ m.
+            AllByRecursion (IsOpen m) self.old
+            → HasNoLater key.now lo found (map (listed m) self.old))) }
+        ensures within { IfOk result (λ found.
+            IfSome found (λ stamp. (lo ≤ stamp) × (stamp ≤ key.now.stamp))) }
+        ensures stay { AllZip (IsSameFile (F.contents store.old)) self.old self.new }
+        ensures damaged { IsErrOf result Refusal.Damaged → IfSome (F.contents store.old)
+            (λ m. ¬ AllByRecursion (IsOpen m) self.old) }
+        ensures refusal { IfErr result IsReadRefusal }
+        ensures same { F.contents store.new ≡ F.contents store.old }
+        ensures reason { HasReason (F.faults store.old) (F.faults store.new) result }
+    {
+        match key.key().qualifier {
+            Qualifier::Lock => Ok(self.locks.latest(key, lo)),
+            Qualifier::Data | Qualifier::Write => self.newest_in_files(key, lo, store),
+        }
     }
 
     /// What the first of the files that names a key has of it. No file is asked if the filter says that none names the
@@ -193,6 +276,7 @@ impl OpenFiles {
         ensures reason { HasReason (F.faults store.old) (F.faults store.new) result }
     {
         stays_covered();
+        stays_indexed();
         if !self.filter.may_have_key(key) {
             return Ok(None);
         }
@@ -204,6 +288,7 @@ impl OpenFiles {
         ensures { (disk : Option Contents) → AllZip (IsSameFile disk) self.old self.new }
     {
         stays_covered();
+        stays_indexed();
         drop_each(&mut self.files);
     }
 
@@ -212,6 +297,7 @@ impl OpenFiles {
         ensures { (disk : Option Contents) → AllZip (IsSameFile disk) self.old self.new }
     {
         stays_covered();
+        stays_indexed();
         resize_each(&mut self.files, most_blocks);
     }
 }

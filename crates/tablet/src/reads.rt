@@ -59,8 +59,8 @@ impl Tablet {
     ghost use Rattle.file_store.specs.Store.{Contents};
     ghost use Rattle.tablet.specs.Views.{range_of, memory_of, files_of, cells_at, Holds, IsSameTablet};
 
-    /// Whether a file may have a value of a column of this kind in the row, at a stamp in `lo..=hi`. Of a lock a filter of
-    /// the rows that have one is asked too. Takes no memory and reads no file.
+    /// Whether the files together may have a value of a column of this kind in the row, at a stamp in `lo..=hi`. Of a lock
+    /// the index of the files' locks is asked for the row too. Takes no memory and reads no file.
     fn may_be_in_files(&self, row: &Row, qualifier: Qualifier, lo: Stamp, hi: Stamp) -> bool
         ensures { result ≡ false → lo ≤ hi
             → HaveNoValue row.now qualifier lo hi (files_of self.now) }
@@ -141,8 +141,8 @@ impl Tablet {
         Ok(None)
     }
 
-    /// The greatest stamp, from `lo` up to that of the key, at which a file may have a value of the key's column: later
-    /// none has one. No file is asked if the filter of their keys says that none has one.
+    /// The greatest stamp, from `lo` up to that of the key, at which the files may have a value of the key's column: later
+    /// they have none together. No file is asked of a lock, nor if the filter of their keys says that none has one.
     fn newest_file_stamp<F: Files>(
         &mut self,
         key: &LookupKey,

@@ -8,7 +8,7 @@ use crate::tests::slow::found_at;
 use cell_key::{CellKey, Family, Qualifier, Refusal, Row, Stamp};
 use file_store::{Files, MemFiles, read_whole};
 use memtable::Memtable;
-use sorted_file::{KeyFilter, LookupKey, SortedFile, write_file};
+use sorted_file::{KeyFilter, LockIndex, LookupKey, SortedFile, few_blocks, write_file};
 use std::alloc::{AllocError, Global};
 use std::num::NonZeroUsize;
 use std::test::Fail;
@@ -371,9 +371,12 @@ fn lock_tests_read_what_is_locked(rt: HostRuntime) -> Result<(), Fail> {
     let mut file = SortedFile::open(rt.alloc(), 1, &mut files)?;
     let again = vec![in rt.alloc(); SortedFile::open(rt.alloc(), 1, &mut files)?]?;
     let filter = KeyFilter::new(rt.alloc(), &again, 0)?;
+    let index = LockIndex::of(rt.alloc(), &again)?;
+    assert!(rt; filter.may_have(Qualifier::Lock, 0, 9));
+    assert!(rt; !filter.may_have(Qualifier::Lock, 2, 9));
     for (row, stamp, reads) in LOCK_TESTS {
         let row = Row::new(rt.alloc(), row)?;
-        assert!(rt; filter.may_have(&row, Qualifier::Lock, 0, 9) == stamp.is_some());
+        assert!(rt; index.may_have_row(&row) == stamp.is_some());
         let key = CellKey {
             row,
             family: Family::new(rt.alloc(), b"bal")?,
@@ -383,12 +386,42 @@ fn lock_tests_read_what_is_locked(rt: HostRuntime) -> Result<(), Fail> {
         let mut key = LookupKey::new(rt.alloc(), key)?;
         file.drop_cache();
         files.reads.clear();
-        assert!(rt; filter.may_have_value(&key) == stamp.is_some());
-        assert!(rt; file.latest_lock(&key, 0) == stamp);
+        assert!(rt; index.latest(&key, 0) == stamp);
         assert!(rt; file.newest_stamp(&key, 0, &mut files)? == stamp);
         assert!(rt; files.reads.as_slice() == reads);
         key.set_stamp(0);
-        assert!(rt; file.latest_lock(&key, 0) == None);
+        assert!(rt; index.latest(&key, 0) == None);
+    }
+    Ok(())
+}
+
+/// A file of an erasure of the lock of `a`, at the stamp 1.
+const ERASED: &[u8] = b"TABLET01\
+    \0\0\0\x16a\0\0bal\0\0lock\0\0\xFF\xFF\xFF\xFF\xFF\xFF\xFF\xFE\0\
+    \0\0\0\x08\0\0\0\x1B\0\0\0\x16a\0\0bal\0\0lock\0\0\xFF\xFF\xFF\xFF\xFF\xFF\xFF\xFE\
+    \0\0\0\x23\0\0\0\x01\0\0\0\x01\0\0\0\x5DTABLETZZ";
+
+#[test]
+fn erased_locks_leave_the_index(rt: HostRuntime) -> Result<(), Fail> {
+    let mut files = Recorder::new(rt.alloc());
+    files.put(1, LOCKS)?;
+    files.put(2, ERASED)?;
+    let older = vec![in rt.alloc(); SortedFile::open(rt.alloc(), 1, &mut files)?]?;
+    let index = LockIndex::of(rt.alloc(), &older)?;
+    let newer = SortedFile::open_over(rt.alloc(), 2, few_blocks(), &index, &mut files)?;
+    let both = index.over(&newer)?;
+    for (row, before, after) in [(b"a", Some(1), None), (b"c", Some(1), Some(1))] {
+        let row = Row::new(rt.alloc(), row)?;
+        assert!(rt; index.may_have_row(&row));
+        let key = CellKey {
+            row,
+            family: Family::new(rt.alloc(), b"bal")?,
+            qualifier: Qualifier::Lock,
+            stamp: 9,
+        };
+        let key = LookupKey::new(rt.alloc(), key)?;
+        assert!(rt; index.latest(&key, 0) == before);
+        assert!(rt; both.latest(&key, 0) == after);
     }
     Ok(())
 }

@@ -28,30 +28,30 @@ used_within before after used left most = omega arith
 
 pub returns-clause-made : goal.returns-clause-made
 returns-clause-made g c =
-    opened_as_written c.written_is_listed.ensures c.open_with.result (g.F.Files.contents c.args.files.now) (g.F.Files.contents c.merge_into.new.files) _ c.in_ok-name.name c.args.file_limit
+    opened_as_written c.written_is_listed.ensures c.open_over.result (g.F.Files.contents c.args.files.now) (g.F.Files.contents c.merge_into.new.files) _ c.in_ok-name.name c.args.file_limit
     (λ m. AreAtStart g.S.Source.lent (g.S.Source.holds m) c.args.sources.items) (λ m. written c.args.keep_erasures (map (g.S.Source.remaining m) c.args.sources.items))
-    c.in_ok-merge_into.ensures.written c.open_with.ensures.same c.open_with.ensures.opened c.open_with.ensures.named
+    c.in_ok-merge_into.ensures.written c.open_over.ensures.same c.open_over.ensures.opened c.open_over.ensures.named
 
 pub returns-clause-others : goal.returns-clause-others
 returns-clause-others g c =
-    let kept = others_kept (g.F.Files.contents c.args.files.now) (g.F.Files.contents c.open_with.new.files) c.in_ok-name.name c.in_ok-merge_into.ensures.written.0 (c.open_with.ensures.same ∙ c.in_ok-merge_into.ensures.written.1.0) in
-    as_on_ok c.open_with.result (subst (λ (name : ℕ). KeepsOthers name (g.F.Files.contents c.args.files.now) (g.F.Files.contents c.open_with.new.files)) c.in_ok-name.ensures.name kept)
+    let kept = others_kept (g.F.Files.contents c.args.files.now) (g.F.Files.contents c.open_over.new.files) c.in_ok-name.name c.in_ok-merge_into.ensures.written.0 (c.open_over.ensures.same ∙ c.in_ok-merge_into.ensures.written.1.0) in
+    as_on_ok c.open_over.result (subst (λ (name : ℕ). KeepsOthers name (g.F.Files.contents c.args.files.now) (g.F.Files.contents c.open_over.new.files)) c.in_ok-name.ensures.name kept)
 
 pub returns-clause-name : goal.returns-clause-name
 returns-clause-name g c =
-    let kept = others_kept (g.F.Files.contents c.args.files.now) (g.F.Files.contents c.open_with.new.files) c.in_ok-name.name c.in_ok-merge_into.ensures.written.0 (c.open_with.ensures.same ∙ c.in_ok-merge_into.ensures.written.1.0) in
-    inr (c.in_ok-name.ensures.used, subst (λ (name : ℕ). KeepsOthers name (g.F.Files.contents c.args.files.now) (g.F.Files.contents c.open_with.new.files)) c.in_ok-name.ensures.name kept)
+    let kept = others_kept (g.F.Files.contents c.args.files.now) (g.F.Files.contents c.open_over.new.files) c.in_ok-name.name c.in_ok-merge_into.ensures.written.0 (c.open_over.ensures.same ∙ c.in_ok-merge_into.ensures.written.1.0) in
+    inr (c.in_ok-name.ensures.used, subst (λ (name : ℕ). KeepsOthers name (g.F.Files.contents c.args.files.now) (g.F.Files.contents c.open_over.new.files)) c.in_ok-name.ensures.name kept)
 
 pub returns-clause-damaged : goal.returns-clause-damaged
 returns-clause-damaged g c = λ err.
     not_missing c.written_is_there.ensures (g.F.Files.contents c.args.files.now) (g.F.Files.contents c.merge_into.new.files) c.in_ok-name.name c.args.file_limit
     (λ m. AreAtStart g.S.Source.lent (g.S.Source.holds m) c.args.sources.items) (λ m. written c.args.keep_erasures (map (g.S.Source.remaining m) c.args.sources.items))
     (λ m start. start_written c.writes_entry_lists.ensures c.args.keep_erasures g.S.Source.lent (g.S.Source.holds m) (g.S.Source.remaining m) (g.met.S.Source.list m) c.args.sources.items start)
-    c.in_ok-merge_into.ensures.written (c.open_with.ensures.damaged err)
+    c.in_ok-merge_into.ensures.written (c.open_over.ensures.damaged err)
 
 pub returns-clause-fits : goal.returns-clause-fits
 returns-clause-fits g c =
-    as_on_ok c.open_with.result (within_limit (g.F.Files.contents c.args.files.now) (g.F.Files.contents c.merge_into.new.files) c.in_ok-name.name c.args.file_limit
+    as_on_ok c.open_over.result (within_limit (g.F.Files.contents c.args.files.now) (g.F.Files.contents c.merge_into.new.files) c.in_ok-name.name c.args.file_limit
     (λ m. AreAtStart g.S.Source.lent (g.S.Source.holds m) c.args.sources.items) (λ m. written c.args.keep_erasures (map (g.S.Source.remaining m) c.args.sources.items))
     c.in_ok-merge_into.ensures.written)
 
@@ -138,28 +138,28 @@ pub returns-in_err-merge_into-clause-reason : goal.returns-in_err-merge_into-cla
 returns-in_err-merge_into-clause-reason g c = passed_reason c.from_residual-in_err-merge_into.result _ c.in_err-merge_into.field-0.0 _ _ c.from_residual-in_err-merge_into.ensures.1 refl c.in_err-merge_into.ensures.reason
 
 pub returns-clause-named : goal.returns-clause-named
-returns-clause-named g c = subst (λ (n : ℕ). IfOk c.open_with.result (λ file. name_of file ≡ n)) c.in_ok-name.ensures.name c.open_with.ensures.named
+returns-clause-named g c = subst (λ (n : ℕ). IfOk c.open_over.result (λ file. name_of file ≡ n)) c.in_ok-name.ensures.name c.open_over.ensures.named
 
 pub returns-clause-used : goal.returns-clause-used
-returns-clause-used g c = as_on_ok c.open_with.result c.in_ok-name.ensures.used
+returns-clause-used g c = as_on_ok c.open_over.result c.in_ok-name.ensures.used
 
 pub returns-clause-left : goal.returns-clause-left
-returns-clause-left g c = as_on_ok c.open_with.result c.in_ok-name.ensures.left
+returns-clause-left g c = as_on_ok c.open_over.result c.in_ok-name.ensures.left
 
 pub returns-clause-limit : goal.returns-clause-limit
 returns-clause-limit g c = used_within _ _ c.in_ok-name.ensures.used c.in_ok-name.ensures.left
 
 pub returns-clause-exhausted : goal.returns-clause-exhausted
-returns-clause-exhausted g c = λ is. absurd (err_kind c.open_with.result _ IsReadRefusal c.open_with.ensures.refusal is)
+returns-clause-exhausted g c = λ is. absurd (err_kind c.open_over.result _ IsReadRefusal c.open_over.ensures.refusal is)
 
 pub returns-clause-large : goal.returns-clause-large
-returns-clause-large g c = λ is. absurd (err_kind c.open_with.result _ IsReadRefusal c.open_with.ensures.refusal is)
+returns-clause-large g c = λ is. absurd (err_kind c.open_over.result _ IsReadRefusal c.open_over.ensures.refusal is)
 
 pub returns-clause-refusal : goal.returns-clause-refusal
-returns-clause-refusal g c = err_map c.open_with.result IsReadRefusal IsCompactionRefusal reads_of c.open_with.ensures.refusal
+returns-clause-refusal g c = err_map c.open_over.result IsReadRefusal IsCompactionRefusal reads_of c.open_over.ensures.refusal
 
 pub returns-clause-reason : goal.returns-clause-reason
-returns-clause-reason g c = reason_after _ _ _ (c.in_ok-merge_into.ensures.reason.told (not_err _ Device)) c.open_with.ensures.reason
+returns-clause-reason g c = reason_after _ _ _ (c.in_ok-merge_into.ensures.reason.told (not_err _ Device)) c.open_over.ensures.reason
 
 pub returns-in_err-name-clause-comes : goal.returns-in_err-name-clause-comes
 returns-in_err-name-clause-comes g c = passed_none c.from_residual.result c.in_err-name.field-0.0 _ c.from_residual.ensures.1
@@ -168,7 +168,7 @@ pub returns-in_err-merge_into-clause-comes : goal.returns-in_err-merge_into-clau
 returns-in_err-merge_into-clause-comes g c = passed_none c.from_residual-in_err-merge_into.result c.in_err-merge_into.field-0.0 _ c.from_residual-in_err-merge_into.ensures.1
 
 pub returns-clause-comes : goal.returns-clause-comes
-returns-clause-comes g c = as_on_ok c.open_with.result c.in_ok-merge_into.ensures.comes
+returns-clause-comes g c = as_on_ok c.open_over.result c.in_ok-merge_into.ensures.comes
 
 pub returns-in_err-name-clause-too_much : goal.returns-in_err-name-clause-too_much
 returns-in_err-name-clause-too_much g c = λ is. absurd (passed_kind c.from_residual.result c.in_err-name.field-0.0 _ IsExhausted c.from_residual.ensures.1 (subst IsExhausted (sym c.in_err-name.ensures.refusal) tt) is)
@@ -184,8 +184,8 @@ returns-in_err-merge_into-clause-broken g c = λ is.
     broken_told g.S.Source.steps g.S.Source.lent g.S.Source.breaks c.args.keep_erasures c.args.sources.items (g.F.Files.contents c.args.files.now) (c.in_err-merge_into.ensures.broken (passed_on c.from_residual-in_err-merge_into.result _ c.in_err-merge_into.field-0.0 _ c.from_residual-in_err-merge_into.ensures.1 refl is))
 
 pub returns-clause-too_much : goal.returns-clause-too_much
-returns-clause-too_much g c = λ is. absurd (err_kind c.open_with.result _ IsReadRefusal c.open_with.ensures.refusal is)
+returns-clause-too_much g c = λ is. absurd (err_kind c.open_over.result _ IsReadRefusal c.open_over.ensures.refusal is)
 
 pub returns-clause-broken : goal.returns-clause-broken
 returns-clause-broken g c = λ err.
-    no_list g.S.Source.steps g.S.Source.lent g.S.Source.breaks c.args.keep_erasures c.args.sources.items c.written_is_there.ensures (g.F.Files.contents c.args.files.now) (g.F.Files.contents c.merge_into.new.files) c.in_ok-name.name c.in_ok-merge_into.ensures.whole (c.open_with.ensures.damaged err)
+    no_list g.S.Source.steps g.S.Source.lent g.S.Source.breaks c.args.keep_erasures c.args.sources.items c.written_is_there.ensures (g.F.Files.contents c.args.files.now) (g.F.Files.contents c.merge_into.new.files) c.in_ok-name.name c.in_ok-merge_into.ensures.whole (c.open_over.ensures.damaged err)

@@ -2,7 +2,7 @@ use Rattle.std.proofs.Common.{sym}
 use Rattle.std.proofs.lemmas.List.Elements.{All-same}
 use Rattle.cell_key.specs.Keys.{text}
 use Rattle.sorted_file.specs.KeyFilters.{Covers}
-use Rattle.tablet.proofs.OpenFiles.{covered_after, none_named}
+use Rattle.tablet.proofs.OpenFiles.{covered_after, indexed_after, none_named}
 use Rattle.tablet.proofs.Passed.{over_any}
 use Rattle.tablet.proofs.SameFiles.{same_files}
 use Rattle.tablet.proofs.open_files.OpenFiles.find.Goals as goal
@@ -11,7 +11,7 @@ pub returns-then-not-may_have_key-clause-found : goal.returns-then-not-may_have_
 returns-then-not-may_have_key-clause-found g c =
     let filter = c.self.inside.filter in
     let files = c.args.self.now in
-    let all = All-same (Covers filter) files _ (sym c.self.view_is) c.self.invariant in
+    let all = All-same (Covers filter) files _ (sym c.self.view_is) c.self.invariant.0 in
     over_any (g.F.Files.contents c.args.store.now) _ (λ m each.
     none_named m filter (text c.args.key.now) (c.may_have_key.ensures.none c.if-not-may_have_key.true) files all each)
 
@@ -19,4 +19,7 @@ pub returns-then-not-may_have_key-clause-stay : goal.returns-then-not-may_have_k
 returns-then-not-may_have_key-clause-stay g c = same_files (g.F.Files.contents c.args.store.now) c.args.self.now
 
 pub invariant_of-self : goal.invariant_of-self
-invariant_of-self g c = covered_after c.stays_covered.ensures (g.F.Files.contents c.args.store.now) c.self.inside.filter c.self.inside.files c.deref_mut.result.now c.find_in_files.new.files c.deref_mut.ensures.value c.find_in_files.auto.files c.find_in_files.ensures.stay c.self.invariant
+invariant_of-self g c = (
+  covered_after c.stays_covered.ensures (g.F.Files.contents c.args.store.now) c.self.inside.filter c.self.inside.files c.deref_mut.result.now c.find_in_files.new.files c.deref_mut.ensures.value c.find_in_files.auto.files c.find_in_files.ensures.stay c.self.invariant.0,
+  indexed_after c.stays_indexed.ensures (g.F.Files.contents c.args.store.now) c.self.inside.locks c.self.inside.files c.deref_mut.result.now c.find_in_files.new.files c.deref_mut.ensures.value c.find_in_files.auto.files c.find_in_files.ensures.stay c.self.invariant.1,
+)

@@ -187,3 +187,48 @@ returns-in_err-sources-clause-too_much g c = λ is. absurd (passed_kind c.from_r
 
 pub returns-in_err-sources-clause-broken : goal.returns-in_err-sources-clause-broken
 returns-in_err-sources-clause-broken g c = λ is. absurd (passed_kind c.from_residual-in_err-sources.result c.in_err-sources.field-0.0 _ IsNoMemory c.from_residual-in_err-sources.ensures.1 (no_memory c.in_err-sources.field-0.0 c.in_err-sources.ensures.refusal) is)
+
+pub returns-in_err-older-clause-named : goal.returns-in_err-older-clause-named
+returns-in_err-older-clause-named g c = passed_none c.from_residual-in_err-older.result c.in_err-older.field-0.0 _ c.from_residual-in_err-older.ensures.1
+
+pub returns-in_err-older-clause-made : goal.returns-in_err-older-clause-made
+returns-in_err-older-clause-made g c = passed_none c.from_residual-in_err-older.result c.in_err-older.field-0.0 _ c.from_residual-in_err-older.ensures.1
+
+pub returns-in_err-older-clause-used : goal.returns-in_err-older-clause-used
+returns-in_err-older-clause-used g c = passed_none c.from_residual-in_err-older.result c.in_err-older.field-0.0 _ c.from_residual-in_err-older.ensures.1
+
+pub returns-in_err-older-clause-others : goal.returns-in_err-older-clause-others
+returns-in_err-older-clause-others g c = passed_none c.from_residual-in_err-older.result c.in_err-older.field-0.0 _ c.from_residual-in_err-older.ensures.1
+
+pub returns-in_err-older-clause-fits : goal.returns-in_err-older-clause-fits
+returns-in_err-older-clause-fits g c = passed_none c.from_residual-in_err-older.result c.in_err-older.field-0.0 _ c.from_residual-in_err-older.ensures.1
+
+pub returns-in_err-older-clause-name : goal.returns-in_err-older-clause-name
+returns-in_err-older-clause-name g c = inl (refl, refl)
+
+pub returns-in_err-older-clause-limit : goal.returns-in_err-older-clause-limit
+returns-in_err-older-clause-limit g c = λ most. most
+
+pub returns-in_err-older-clause-exhausted : goal.returns-in_err-older-clause-exhausted
+returns-in_err-older-clause-exhausted g c = λ is. absurd (passed_kind c.from_residual-in_err-older.result c.in_err-older.field-0.0 _ IsNoMemory c.from_residual-in_err-older.ensures.1 (no_memory c.in_err-older.field-0.0 c.in_err-older.ensures) is)
+
+pub returns-in_err-older-clause-large : goal.returns-in_err-older-clause-large
+returns-in_err-older-clause-large g c = λ is. absurd (passed_kind c.from_residual-in_err-older.result c.in_err-older.field-0.0 _ IsNoMemory c.from_residual-in_err-older.ensures.1 (no_memory c.in_err-older.field-0.0 c.in_err-older.ensures) is)
+
+pub returns-in_err-older-clause-damaged : goal.returns-in_err-older-clause-damaged
+returns-in_err-older-clause-damaged g c = λ is. absurd (passed_kind c.from_residual-in_err-older.result c.in_err-older.field-0.0 _ IsNoMemory c.from_residual-in_err-older.ensures.1 (no_memory c.in_err-older.field-0.0 c.in_err-older.ensures) is)
+
+pub returns-in_err-older-clause-refusal : goal.returns-in_err-older-clause-refusal
+returns-in_err-older-clause-refusal g c = passed_err c.from_residual-in_err-older.result c.in_err-older.field-0.0 _ c.from_residual-in_err-older.ensures.1 (subst IsCompactionRefusal (sym c.in_err-older.ensures) tt)
+
+pub returns-in_err-older-clause-reason : goal.returns-in_err-older-clause-reason
+returns-in_err-older-clause-reason g c = quiet_reason c.from_residual-in_err-older.result _ (λ is. absurd (passed_kind c.from_residual-in_err-older.result c.in_err-older.field-0.0 _ IsNoMemory c.from_residual-in_err-older.ensures.1 (no_memory c.in_err-older.field-0.0 c.in_err-older.ensures) is))
+
+pub returns-in_err-older-clause-read : goal.returns-in_err-older-clause-read
+returns-in_err-older-clause-read g c = passed_none c.from_residual-in_err-older.result c.in_err-older.field-0.0 _ c.from_residual-in_err-older.ensures.1
+
+pub returns-in_err-older-clause-too_much : goal.returns-in_err-older-clause-too_much
+returns-in_err-older-clause-too_much g c = λ is. absurd (passed_kind c.from_residual-in_err-older.result c.in_err-older.field-0.0 _ IsNoMemory c.from_residual-in_err-older.ensures.1 (no_memory c.in_err-older.field-0.0 c.in_err-older.ensures) is)
+
+pub returns-in_err-older-clause-broken : goal.returns-in_err-older-clause-broken
+returns-in_err-older-clause-broken g c = λ is. absurd (passed_kind c.from_residual-in_err-older.result c.in_err-older.field-0.0 _ IsNoMemory c.from_residual-in_err-older.ensures.1 (no_memory c.in_err-older.field-0.0 c.in_err-older.ensures) is)
