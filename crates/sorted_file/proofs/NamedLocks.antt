@@ -1,5 +1,5 @@
 -- Keys that entries name.
-use Rattle.std.proofs.Common.{◌≡◌, ◌∙◌, Bool, true, false, cond, List, ℕ, [], ◌∷◌, ◌++◌, ◌⊎◌, ⊎_elim, Contains, Option, Some, None, refl, sym, ap, subst}
+use Rattle.std.proofs.Common.{◌≡◌, ◌∙◌, Bool, true, false, cond, List, ℕ, [], ◌∷◌, ◌++◌, ◌⊎◌, ⊎_elim, Contains, Some, None, refl, sym, ap, subst}
 use Rattle.std.specs.Option.{IsSome, is_some}
 use Rattle.std.proofs.lemmas.List.Elements.{Contains-append_cases}
 use Rattle.std.specs.Ordering.{eq_by_cmp}

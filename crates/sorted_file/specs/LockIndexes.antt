@@ -2,7 +2,7 @@
 use Rattle.std.specs.Prelude.{◌≡◌, ℕ, List, Option, Contains, IsSome, map}
 use Rattle.std.specs.List.{AllByRecursion, AllZip}
 use Rattle.cell_key.specs.Keys.{text, IsStored}
-use Rattle.cell_key.specs.Entries.{Entry, first_naming, value_of}
+use Rattle.cell_key.specs.Entries.{first_naming, value_of}
 use Rattle.cell_key.specs.declared.keys.CellKey.{CellKey}
 use Rattle.cell_key.specs.declared.keys.Qualifier.TheVariants.{Lock}
 use Rattle.file_store.specs.Store.{Contents}

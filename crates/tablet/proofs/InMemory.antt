@@ -1,6 +1,5 @@
 -- What the memtable alone tells of a column.
-use Rattle.std.proofs.Common.{◌≡◌, ◌≤◌, ◌<◌, ◌^◌, ℕ, Bool, true, cond, List, [], ◌∷◌, ◌⊎◌, inl, inr, map, Option, Some, None, refl, sym, ap, subst, ◌∙◌, arith}
-use Rattle.std.specs.List.{AllByRecursion}
+use Rattle.std.proofs.Common.{◌≡◌, ◌≤◌, ◌<◌, ◌^◌, ℕ, Bool, true, cond, List, ◌⊎◌, inl, inr, map, Option, Some, None, refl, sym, ap, subst, ◌∙◌, arith}
 use Rattle.std.specs.Prelude.{IfSome, IsTrue, option_map}
 use Rattle.std.specs.Option.{option_or}
 use Rattle.std.specs.declared.vec.Vec.{Vec}
@@ -13,8 +12,7 @@ use Rattle.cell_key.specs.declared.keys.CellKey.{CellKey}
 use Rattle.cell_key.specs.declared.keys.Qualifier.{Qualifier}
 use Rattle.cell_key.proofs.EntryLaws.{get-cells_of}
 use Rattle.file_store.specs.Store.{Contents}
-use Rattle.sorted_file.specs.File.{IsOpen, listed}
-use Rattle.sorted_file.specs.declared.file.SortedFile.{SortedFile}
+use Rattle.sorted_file.specs.File.{listed}
 use Rattle.tablet.specs.Ranges.{has_row}
 use Rattle.tablet.specs.Reads.{HaveNoValue, IsLater}
 use Rattle.tablet.specs.Views.{range_of, memory_of, files_of, lists_of, cells_at, Holds}

@@ -1,7 +1,7 @@
 -- Tablets after the calls that change them.
-use Rattle.std.proofs.Common.{◌≡◌, ℕ, zero, suc, ◌+◌, ◌<◌, ◌≤◌, List, [], ◌∷◌, map, drop, take, get_or, sym, subst, ◌∙◌, arith}
+use Rattle.std.proofs.Common.{◌≡◌, ℕ, zero, suc, ◌+◌, ◌<◌, ◌≤◌, List, [], ◌∷◌, map, drop, take, sym, subst, ◌∙◌, arith}
 use Rattle.std.proofs.lemmas.List.{drop-map}
-use Rattle.std.specs.Prelude.{◌≢◌, Option, Some, None, Result, Ok, Err, OnOk, IfSome, IsSomeAnd, IsTrue, length}
+use Rattle.std.specs.Prelude.{◌≢◌, Option, Some, None, Result, Ok, Err, OnOk, IfSome, IsSomeAnd, IsTrue}
 use Rattle.std.proofs.Common.{inl, inr}
 use Rattle.std.specs.List.{AllByRecursion}
 use Rattle.std.specs.FinMap.{get}
@@ -11,7 +11,7 @@ use Rattle.cell_key.specs.declared.edits.Edit.{Edit}
 use Rattle.cell_key.specs.declared.refusals.Refusal.{Refusal}
 use Rattle.file_store.specs.Store.{Contents, KeepsOthers}
 use Rattle.memtable.specs.Edits.{HasStoredKey, with_edits}
-use Rattle.sorted_file.specs.File.{HasFile, IsOpen, StaysOpen, listed, name_of}
+use Rattle.sorted_file.specs.File.{IsOpen, StaysOpen, listed, name_of}
 use Rattle.sorted_file.specs.declared.file.SortedFile.{SortedFile}
 use Rattle.tablet.specs.Ranges.{has_row}
 use Rattle.tablet.specs.Compactions.{HasPut, IsNewFile, ReadsOpen, files_after}
@@ -140,22 +140,6 @@ still_keeps stays None new next after t u same uses = tt
 still_keeps stays (Some m) new next after t u same (inl e) = subst (λ (o : Option Contents). Keeps (Some m) next t o after u) (sym e.1) (λ h below. unchanged_keeps m next after t u same e.0 h below)
 still_keeps stays (Some m) None next after t u same (inr e) = absurd e.1
 still_keeps stays (Some m) (Some n) next after t u same (inr e) = λ h below. same_keeps stays m n next after t u same e.1 e.0 h below
-
--- ---- files that are opened one by one
-
-fewer : (i n : ℕ) → suc i < suc n → i < n
-fewer i n l = omega arith
-
-all_at : (P : ℕ → Type 0) (names : List ℕ) (i : ℕ) → i < length names → AllByRecursion P names → P (get_or names i 0)
-all_at P [] i l h = absurd (omega arith)
-all_at P (name ∷ names) zero l h = h.0
-all_at P (name ∷ names) (suc i) l h = all_at P names i (fewer i (length names) l) h.1
-
-pub missing_one : (old now : Option Contents) (names : List ℕ) (i : ℕ) → now ≡ old → i < length names → IfSome now (λ m. ¬ (HasFile m (get_or names i 0))) → IfSome old (λ m. ¬ (AllByRecursion (HasFile m) names))
-missing_one None now names i same l h = tt
-missing_one (Some m) now names i same l h =
-    let one = subst (λ (o : Option Contents). IfSome o (λ m. ¬ (HasFile m (get_or names i 0)))) same h in
-    λ all. one (all_at (HasFile m) names i l all)
 
 -- what a compaction reads of a tablet is open where it is of one that is as it was
 pub still_reads : (compaction : Compaction) (told : Option Contents) (t u : Tablet) → IsUnchanged t u → ReadsOpen compaction told t → ReadsOpen compaction told u

@@ -103,21 +103,6 @@ impl OpenFiles {
         }
     }
 
-    /// These files. Answers `NoMemory` if there is no memory for the filter or the index.
-    pub(crate) fn of(alloc: Global, files: Vec<SortedFile>) -> Result<OpenFiles, Refusal>
-        ensures files { IfOk result (λ opened. opened ≡ files.items) }
-        ensures refusal { IfErr result (λ refusal. refusal ≡ Refusal.NoMemory) }
-    {
-        let filter = KeyFilter::new(alloc, &files, 0)?;
-        let locks = LockIndex::of(alloc, &files)?;
-        Ok(OpenFiles {
-            alloc,
-            files,
-            filter,
-            locks,
-        })
-    }
-
     /// The files.
     pub(crate) fn as_slice(&self) -> &[SortedFile]
         ensures { result.now ≡ self.now }

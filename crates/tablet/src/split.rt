@@ -26,7 +26,7 @@ use std::num::NonZeroUsize;
 
 impl Tablet {
     /// Opens the files of these names, the newest first, as a tablet of a range with an empty memtable. Each file, and each
-    /// that it opens later, caches `most_blocks` blocks at most.
+    /// that it opens later, caches `most_blocks` blocks at most. The oldest is opened first.
     ///
     /// # Errors
     ///
@@ -49,16 +49,19 @@ impl Tablet {
         ensures same { F.contents files.new ≡ F.contents files.old }
         ensures reason { HasReason (F.faults files.old) (F.faults files.new) result }
     {
-        let mut open = Vec::new(alloc);
-        'names: for name in names {
-            let file = SortedFile::open_with(alloc, *name, most_blocks, files)?;
-            open.push(file)?;
+        let mut open = OpenFiles::new(alloc);
+        let mut newer = names;
+        'names: while let Some((name, rest)) = newer.split_last() {
+            let file = SortedFile::open_over(alloc, *name, most_blocks, open.locks(), files)?;
+            open.reserve(file.len())?;
+            open.replace_newest(0, file)?;
+            newer = rest;
         }
         Ok(Tablet {
             alloc,
             range,
             memtable: Memtable::new(alloc),
-            files: OpenFiles::of(alloc, open)?,
+            files: open,
             most_blocks,
         })
     }

@@ -1,5 +1,5 @@
 -- What is added is the key of the text.
-use Rattle.std.proofs.Common.{◌≡◌, ◌⊎◌, inl, inr, ⊎_elim, List, Contains, ◌∙◌, ap, subst}
+use Rattle.std.proofs.Common.{◌≡◌, inl, inr, ⊎_elim, List, Contains, ◌∙◌, ap, subst}
 use Rattle.std.proofs.lemmas.List.Elements.{Contains-push_cases}
 use Rattle.cell_key.specs.Keys.{text}
 use Rattle.cell_key.specs.declared.keys.CellKey.{CellKey}

@@ -1,4 +1,4 @@
-use Rattle.std.proofs.Common.{List, take, ap, sym, subst, ◌∙◌, arith}
+use Rattle.std.proofs.Common.{take, ap, subst, ◌∙◌, arith}
 use Rattle.std.specs.Prelude.{All}
 use Rattle.std.proofs.lemmas.List.{take_all}
 use Rattle.std.proofs.lemmas.List.Elements.{All-more, All-weaker}

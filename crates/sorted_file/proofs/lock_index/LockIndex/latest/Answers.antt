@@ -1,4 +1,4 @@
-use Rattle.std.proofs.Common.{ℕ, List, map, ◌∙◌, ap, subst}
+use Rattle.std.proofs.Common.{ℕ, List, map, subst}
 use Rattle.cell_key.specs.declared.keys.CellKey.{CellKey}
 use Rattle.cell_key.specs.Keys.{text}
 use Rattle.sorted_file.specs.LockIndexes.{stamp_of}

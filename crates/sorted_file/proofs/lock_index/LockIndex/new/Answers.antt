@@ -1,4 +1,4 @@
-use Rattle.std.proofs.Common.{◌∙◌, ap, length, map, arith}
+use Rattle.std.proofs.Common.{ap, length, map, arith}
 use Rattle.sorted_file.specs.LockIndexes.{stamp_of}
 use Rattle.sorted_file.proofs.KeptLocks.{none_in}
 use Rattle.sorted_file.proofs.lock_index.LockIndex.new.Goals as goal

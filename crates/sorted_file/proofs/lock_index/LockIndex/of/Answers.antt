@@ -1,7 +1,5 @@
-use Rattle.std.proofs.Common.{◌≡◌, ◌∙◌, ◌∷◌, ◌++◌, [], List, ap, refl, sym, subst}
-use Rattle.std.proofs.lemmas.List.{append-nil, append_assoc}
-use Rattle.cell_key.specs.declared.keys.CellKey.{CellKey}
-use Rattle.sorted_file.specs.LockIndexes.{IsIndexOf}
+use Rattle.std.proofs.Common.{◌∙◌, ◌∷◌, ◌++◌, [], List, ap, sym}
+use Rattle.std.proofs.lemmas.List.{append_assoc}
 use Rattle.sorted_file.specs.declared.file.SortedFile.{SortedFile}
 use Rattle.sorted_file.proofs.lock_index.LockIndex.of.Goals as goal
 

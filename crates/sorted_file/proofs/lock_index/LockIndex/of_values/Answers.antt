@@ -1,6 +1,5 @@
 use Rattle.std.proofs.Common.{◌∙◌, ap, List, map, Contains, sym, subst}
 use Rattle.std.specs.Prelude.{All}
-use Rattle.cell_key.specs.declared.keys.CellKey.{CellKey}
 use Rattle.sorted_file.specs.LockIndexes.{HasRow, stamp_of}
 use Rattle.sorted_file.specs.declared.lock_stamps.LockStamp.{LockStamp}
 use Rattle.sorted_file.proofs.lock_index.LockIndex.of_values.Goals as goal

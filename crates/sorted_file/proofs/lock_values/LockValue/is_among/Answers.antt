@@ -1,4 +1,4 @@
-use Rattle.std.proofs.Common.{List, Contains, ◌∙◌, sym, subst}
+use Rattle.std.proofs.Common.{Contains, ◌∙◌, sym, subst}
 use Rattle.cell_key.specs.declared.keys.CellKey.{CellKey}
 use Rattle.sorted_file.proofs.KeptLocks.{found_among}
 use Rattle.sorted_file.proofs.lock_values.LockValue.is_among.Goals as goal

@@ -1,6 +1,5 @@
-use Rattle.std.proofs.Common.{◌∷◌, drop, List, sym, subst}
+use Rattle.std.proofs.Common.{◌∷◌, drop}
 use Rattle.std.proofs.lemmas.Result.{IfOk-weaker}
-use Rattle.cell_key.specs.declared.keys.CellKey.{CellKey}
 use Rattle.sorted_file.specs.LockIndexes.{IsIndexOf}
 use Rattle.tablet.proofs.open_files.OpenFiles.locks_over.Goals as goal
 

@@ -1,4 +1,4 @@
-use Rattle.std.proofs.Common.{List, Contains, ◌∙◌, sym, subst}
+use Rattle.std.proofs.Common.{◌∙◌, sym, subst}
 use Rattle.std.proofs.lemmas.List.Elements.{All-same}
 use Rattle.sorted_file.specs.KeyFilters.{Covers}
 use Rattle.sorted_file.specs.LockIndexes.{IsIndexOf}
