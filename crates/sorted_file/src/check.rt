@@ -351,8 +351,8 @@ impl Opening {
     }
 }
 
-/// Reads a file block by block, which is newer than those whose locks the index has. Answers `Damaged` if it isn't there or is the file of no entry list, `Device`
-/// if a device fails, and `NoMemory` if there is no memory.
+/// Reads a file block by block, which is newer than those whose locks the index has. Answers `Damaged` if it isn't there
+/// or is the file of no entry list, `Device` if a device fails, and `NoMemory` if there is no memory.
 pub(crate) fn read_file<F: Files>(
     alloc: Global,
     name: u64,
