@@ -203,9 +203,9 @@ fn push_collect_reply(done: &CollectReply, out: &mut Vec<u8>)
     }
 }
 
-/// Appends the body of a reply.
+/// Appends the body of a reply, for which there is room. Takes no memory.
 #[tactic(auto, using(crate::proofs::Fields::lengths))]
-fn push_reply(reply: &Reply, out: &mut Vec<u8>)
+pub fn push_reply(reply: &Reply, out: &mut Vec<u8>)
     requires fits { ReplyBytesFit (replied reply.now) }
     requires room { vec_len out.old
         + length (reply_body (replied reply.now)) ≤ vec_capacity out.old }

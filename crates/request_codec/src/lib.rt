@@ -17,7 +17,7 @@ mod write_fields;
 mod write_scans;
 
 pub use decode_replies::decode_reply;
-pub use encode_replies::{encode_reply, reply_length};
+pub use encode_replies::{encode_reply, push_reply, reply_length};
 pub use framer::{Framer, LONGEST_BODY, Next};
 pub use frames::split_frame;
 pub use laws::{

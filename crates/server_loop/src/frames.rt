@@ -7,7 +7,7 @@ ghost use Rattle.request_codec.specs.Stream.{frame};
 ghost use Rattle.server_loop.specs.Runs.{KeepsToLimits};
 
 use crate::statuses::{End, ServeFault};
-use request_codec::{LONGEST_REPLY, Reply, encode_reply, reply_length};
+use request_codec::{LONGEST_REPLY, Reply, push_reply, reply_length};
 use std::io::Write;
 
 /// A write failed or took no byte.
@@ -41,7 +41,7 @@ pub(crate) fn push_frame(reply: &Reply, out: &mut Vec<u8>)
 {
     let length = reply_length(reply) as u32;
     out.extend_from_slice(&length.to_be_bytes()).unwrap();
-    encode_reply(reply, out).unwrap();
+    push_reply(reply, out);
 }
 
 /// Puts the frame of a reply in place of what the buffer holds.

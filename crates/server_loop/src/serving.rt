@@ -65,10 +65,10 @@ pub(crate) fn reply_to_body<A: Answering>(server: &mut A, body: &[u8]) -> Reply
     ensures says { SaysOf A.says server.old (Body body.now) (replied result) server.new }
     ensures limits { KeepsToLimits result }
 {
-    match decode_request(body) {
-        Some(request) => server.reply_to(request),
-        None => Reply::Refused(Refusal::BadRequest),
-    }
+    let Some(request) = decode_request(body) else {
+        return Reply::Refused(Refusal::BadRequest);
+    };
+    server.reply_to(request)
 }
 
 /// Writes a reply to its end, and lets the server do what comes after it.
