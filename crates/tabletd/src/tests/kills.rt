@@ -367,11 +367,11 @@ type Calls = [Result<u64, u64>; 7];
 const ASKED_CALLS: Calls = [Ok(105), Ok(103), Ok(111), Ok(111), Ok(111), Ok(29), Ok(29)];
 
 const CHECKPOINT_CALLS: Calls = [
-    Ok(570),
-    Ok(570),
-    Ok(570),
-    Ok(570),
-    Ok(570),
+    Ok(569),
+    Ok(569),
+    Ok(569),
+    Ok(569),
+    Ok(569),
     Ok(101),
     Ok(101),
 ];
