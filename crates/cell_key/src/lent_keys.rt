@@ -11,6 +11,9 @@ ghost use Rattle.cell_key.specs.declared.keys.Qualifier.{Qualifier as Names};
 use crate::decoding::{split_place, stored_stamp_of};
 use crate::keys::{Qualifier, Stamp};
 
+/// How many bytes of a key's text its stamp has.
+const STAMP: usize = 8;
+
 /// A key that is lent as its text, with what the text says behind the row and the family.
 #[derive(Clone, Copy, Debug)]
 pub struct KeyRef<'a> {
@@ -84,6 +87,54 @@ fn is_before(first: (Qualifier, Stamp), second: (Qualifier, Stamp)) -> bool
     }
 }
 
+/// Whether bytes are the same. They are compared by eight at once.
+#[inline(always)]
+fn are_same(bytes: &[u8], other: &[u8]) -> bool
+    ensures { IsTrue result ↔ (bytes.now ≡ other.now) }
+{
+    let mut left = bytes;
+    let mut right = other;
+    'words: while let Some((word, rest)) = left.split_first_chunk::<8>() {
+        let Some((other_word, other_rest)) = right.split_first_chunk::<8>() else {
+            return false;
+        };
+        if word != other_word {
+            return false;
+        }
+        left = rest;
+        right = other_rest;
+    }
+    left == right
+}
+
+/// The key whose text the bytes are, if it is an older version of the last one's column, which comes after it.
+#[inline(always)]
+fn in_column<'a>(last: KeyRef<'_>, bytes: &'a [u8]) -> Option<KeyRef<'a>>
+    requires { IsLentKey last }
+    ensures found { IfSome result IsLentKey }
+    ensures text { IfSome result (λ key. key.text.now ≡ bytes.now) }
+    ensures above { IfSome result (λ key. byte_cmp last.entry.text.now bytes.now ≡ Less) }
+{
+    if bytes.len() != last.text.len() {
+        return None;
+    }
+    let at = bytes.len().saturating_sub(STAMP);
+    let (column, falling) = bytes.split_at(at);
+    if !are_same(column, last.text.split_at(at).0) {
+        return None;
+    }
+    let stamp = stored_stamp_of(falling)?;
+    if stamp >= last.stamp {
+        return None;
+    }
+    Some(KeyRef {
+        text: bytes,
+        place_len: last.place_len,
+        qualifier: last.qualifier,
+        stamp,
+    })
+}
+
 /// The key behind a place that stands in the text of another key too, if it comes after that one.
 #[inline(always)]
 fn in_place<'a>(last: KeyRef<'_>, bytes: &'a [u8], tail: &[u8]) -> Option<KeyRef<'a>>
@@ -109,7 +160,7 @@ fn in_place<'a>(last: KeyRef<'_>, bytes: &'a [u8], tail: &[u8]) -> Option<KeyRef
 
 /// The key whose text the bytes are, if it is within all limits and comes after the last one; `None` if they are no
 /// such text. If the bytes begin as the text of the last one does, up to the end of the place, only what follows the
-/// place is looked at. Takes no memory.
+/// place is looked at, and only the stamp if they begin as it does up to that. Takes no memory.
 #[inline(always)]
 pub fn next_key<'a>(last: Option<KeyRef<'_>>, bytes: &'a [u8]) -> Option<KeyRef<'a>>
     requires { IfSome last IsLentKey }
@@ -123,6 +174,9 @@ pub fn next_key<'a>(last: Option<KeyRef<'_>>, bytes: &'a [u8]) -> Option<KeyRef<
     let Some(last) = last else {
         return lend_key(bytes);
     };
+    if let Some(key) = in_column(last, bytes) {
+        return Some(key);
+    }
     let (place, _) = last.text.split_at(last.place_len);
     if let Some(tail) = bytes.strip_prefix(place) {
         return in_place(last, bytes, tail);
