@@ -1,7 +1,7 @@
 //! Entries in blocks, in the byte order of their texts. To make room, pointers to some entries of one block
 //! are moved, and at times those to the blocks.
 
-ghost use Rattle.std.specs.Prelude.{◌≡◌, ℕ, ◌+◌, ◌≤◌, ◌<◌, ◌^◌, [], ◌∷◌, ◌++◌, IfSome, OnOk, option_map, length, get_or, vec_len, vec_capacity};
+ghost use Rattle.std.specs.Prelude.{◌≡◌, ◌≢◌, ℕ, ◌+◌, ◌≤◌, ◌<◌, ◌^◌, [], ◌∷◌, ◌++◌, IfSome, OnOk, option_map, length, get_or, vec_len, vec_capacity};
 ghost use Rattle.std.specs.List.{AllByRecursion};
 ghost use Rattle.std.specs.FinMap.Entries.{put as put_entry};
 ghost use Rattle.cell_key.specs.Keys.{byte_cmp};
@@ -32,8 +32,8 @@ pub(crate) struct Block {
 pub(crate) struct Blocks {
     pub(crate) filled: Vec<Block>,
     pub(crate) spare: Vec<Vec<Box<Slot>>>,
-    /// Where an entry was put last, or any other place. A search looks beside it first.
-    pub(crate) near: Place,
+    /// Where entries were found or put last, or any other places. A search looks beside them first.
+    pub(crate) recent: RecentPlaces,
 }
 
 /// A place among the entries of blocks: the index of a block, and that of an entry in it.
@@ -46,6 +46,42 @@ pub(crate) struct Place {
 impl Place {
     /// That of the first entry.
     pub(crate) const START: Place = Place { block: 0, slot: 0 };
+}
+
+/// Two places: requests mostly go on with one row, or alternate between two. Since a place was recorded it may have
+/// become that of another entry, or of none: then a search beside it is in vain, and no answer is wrong.
+#[derive(Clone, Copy, Drop)]
+pub(crate) struct RecentPlaces {
+    /// The one that was recorded last.
+    pub(crate) last: Place,
+    /// The last one in another block than that.
+    pub(crate) before: Place,
+}
+
+impl RecentPlaces {
+    /// Both are the place of the first entry.
+    pub(crate) const START: RecentPlaces = RecentPlaces {
+        last: Place::START,
+        before: Place::START,
+    };
+
+    /// The places once this one is recorded too.
+    fn with(self, place: Place) -> RecentPlaces
+        ensures last { result.last ≡ place }
+        ensures stays { place.block ≡ self.last.block → result.before ≡ self.before }
+        ensures other { place.block ≢ self.last.block → result.before ≡ self.last }
+    {
+        if place.block == self.last.block {
+            return RecentPlaces {
+                last: place,
+                before: self.before,
+            };
+        }
+        RecentPlaces {
+            last: place,
+            before: self.last,
+        }
+    }
 }
 
 /// Whether all texts of a block are below what is sought.
@@ -82,49 +118,79 @@ fn place_of<S: Sought>(blocks: &[Block], sought: S) -> Place
     Place { block: at, slot }
 }
 
-/// The place of the first entry that isn't below what is sought. No entry of the block at an index is below.
-fn place_from<S: Sought>(blocks: &[Block], sought: S, at: usize) -> Place
+/// The start of the block at an index, of which no entry is below what is sought, if that is the place of the first
+/// entry that isn't below.
+fn place_from<S: Sought>(blocks: &[Block], sought: S, at: usize) -> Option<Place>
     requires rising { IsRising (block_entries blocks.now) }
     requires blocks { AllByRecursion IsEntryBlock blocks.now }
     requires within { at < length blocks.now }
     requires above { (d : BlockOf) → IsPlace (S.name sought) (list_of (get_or blocks.now at d)) 0 }
-    ensures { IsPlaceAmong (S.name sought) blocks.now result }
+    ensures { IfSome result (IsPlaceAmong (S.name sought) blocks.now) }
 {
     if at == 0 {
-        return Place::START;
+        return Some(Place::START);
     }
     if !ends_below(&blocks[at - 1], sought) {
-        return place_of(blocks, sought);
+        return None;
     }
-    Place { block: at, slot: 0 }
+    Some(Place { block: at, slot: 0 })
 }
 
-/// The place of the first entry that isn't below what is sought. It is looked for beside `near`.
-fn place_near<S: Sought>(blocks: &[Block], sought: S, near: Place) -> Place
+/// The place of the first entry that isn't below what is sought, if it is in the block of `near`, or behind it and this
+/// is the last block. It is looked for beside `near`.
+fn place_beside<S: Sought>(blocks: &[Block], sought: S, near: Place) -> Option<Place>
     requires rising { IsRising (block_entries blocks.now) }
     requires blocks { AllByRecursion IsEntryBlock blocks.now }
-    ensures { IsPlaceAmong (S.name sought) blocks.now result }
+    ensures { IfSome result (IsPlaceAmong (S.name sought) blocks.now) }
 {
-    let Some(block) = blocks.get(near.block) else {
-        return place_of(blocks, sought);
-    };
+    let block = blocks.get(near.block)?;
     let slot = entries::first_near(&block.slots, sought, near.slot);
     if slot == block.slots.len() {
         if near.block + 1 < blocks.len() {
-            return place_of(blocks, sought);
+            return None;
         }
-        return Place {
+        return Some(Place {
             block: near.block + 1,
             slot: 0,
-        };
+        });
     }
     if slot == 0 {
         return place_from(blocks, sought, near.block);
     }
-    Place {
+    Some(Place {
         block: near.block,
         slot,
+    })
+}
+
+/// The place of the first entry that isn't below what is sought. It is looked for beside the recent places, and then
+/// among all blocks.
+fn place_near<S: Sought>(blocks: &[Block], sought: S, recent: &RecentPlaces) -> Place
+    requires rising { IsRising (block_entries blocks.now) }
+    requires blocks { AllByRecursion IsEntryBlock blocks.now }
+    ensures { IsPlaceAmong (S.name sought) blocks.now result }
+{
+    if let Some(place) = place_beside(blocks, sought, recent.last) {
+        return place;
     }
+    if let Some(place) = place_beside(blocks, sought, recent.before) {
+        return place;
+    }
+    place_of(blocks, sought)
+}
+
+/// The place of the first entry that isn't below what is sought. It is looked for beside the recent places. If there is
+/// such an entry, its place is recorded.
+fn record_place<S: Sought>(blocks: &[Block], sought: S, recent: &mut RecentPlaces) -> Place
+    requires rising { IsRising (block_entries blocks.now) }
+    requires blocks { AllByRecursion IsEntryBlock blocks.now }
+    ensures { IsPlaceAmong (S.name sought) blocks.now result }
+{
+    let place = place_near(blocks, sought, recent);
+    if place.block < blocks.len() {
+        *recent = recent.with(place);
+    }
+    place
 }
 
 /// Where an entry is put whose place this is: behind the last one, if no block is left there.
@@ -143,15 +209,19 @@ fn room_at(blocks: &[Block], place: Place) -> Place
     }
 }
 
-/// The entry that is sought. It is looked for beside `near`.
-pub(crate) fn find<S: Sought>(blocks: &[Block], sought: S, near: Place) -> Option<&Slot>
+/// The entry that is sought. It is looked for beside the recent places.
+pub(crate) fn find<'a, S: Sought>(
+    blocks: &'a [Block],
+    sought: S,
+    recent: &RecentPlaces,
+) -> Option<&'a Slot>
     requires rising { IsRising (block_entries blocks.now) }
     requires blocks { AllByRecursion IsEntryBlock blocks.now }
     ensures found { option_map (λ slot. (slot_entry slot.now).1) result
         ≡ entry_of_key (block_entries blocks.now) (S.name sought) }
     ensures named { IfSome result (λ slot. slot.now.text ≡ S.name sought) }
 {
-    let place = place_near(blocks, sought, near);
+    let place = place_near(blocks, sought, recent);
     let block = blocks.get(place.block)?;
     entries::find_at(&block.slots, place.slot, sought)
 }
@@ -162,25 +232,26 @@ pub(crate) fn stood_size(blocks: &[Block], text: &[u8]) -> Option<EntrySize>
     requires blocks { AllByRecursion IsEntryBlock blocks.now }
     ensures { result ≡ stood_size text.now (entry_of_key (block_entries blocks.now) text.now) }
 {
-    match find(blocks, text, Place::START) {
+    match find(blocks, text, &RecentPlaces::START) {
         Some(slot) => Some(slot.size()),
         None => None,
     }
 }
 
-/// What isn't below what is sought: the rest of one block, and the blocks after that. It is looked for beside `near`.
-pub(crate) fn rest_from<S: Sought>(
-    blocks: &[Block],
+/// What isn't below what is sought: the rest of one block, and the blocks after that. Where it begins is looked for
+/// beside the recent places, and recorded.
+pub(crate) fn rest_from<'a, S: Sought>(
+    blocks: &'a [Block],
     sought: S,
-    near: Place,
-) -> (&[Box<Slot>], &[Block])
+    recent: &mut RecentPlaces,
+) -> (&'a [Box<Slot>], &'a [Block])
     requires rising { IsRising (block_entries blocks.now) }
     requires blocks { AllByRecursion IsEntryBlock blocks.now }
     ensures entries { slot_entries result.0.now ++ block_entries result.1.now
         ≡ entries_from (S.name sought) (block_entries blocks.now) }
     ensures blocks { AllByRecursion IsEntryBlock result.1.now }
 {
-    let place = place_near(blocks, sought, near);
+    let place = record_place(blocks, sought, recent);
     match blocks.split_at(place.block).1.split_first() {
         Some((block, later)) => (block.slots.split_at(place.slot).1, later),
         None => (&[], &[]),
@@ -214,14 +285,19 @@ fn first_value(blocks: &[Block]) -> Option<&Slot>
     None
 }
 
-/// The first entry that isn't below what is sought and has a value. It is looked for beside `near`.
-pub(crate) fn first_value_from<S: Sought>(blocks: &[Block], sought: S, near: Place) -> Option<&Slot>
+/// The first entry that isn't below what is sought and has a value. The first that isn't below is looked for beside the
+/// recent places, and its place is recorded.
+pub(crate) fn first_value_from<'a, S: Sought>(
+    blocks: &'a [Block],
+    sought: S,
+    recent: &mut RecentPlaces,
+) -> Option<&'a Slot>
     requires rising { IsRising (block_entries blocks.now) }
     requires blocks { AllByRecursion IsEntryBlock blocks.now }
     ensures { option_map (λ slot. slot_entry slot.now) result
         ≡ first_value (entries_from (S.name sought) (block_entries blocks.now)) }
 {
-    let (rest, later) = rest_from(blocks, sought, near);
+    let (rest, later) = rest_from(blocks, sought, recent);
     match entries::first_value(rest) {
         Some(slot) => Some(slot),
         None => first_value(later),
@@ -358,9 +434,9 @@ pub(crate) fn put(blocks: &mut Blocks, slot: Box<Slot>) -> Option<EntrySize>
         open(blocks, slot);
         return None;
     }
-    let place = place_near(&blocks.filled, &slot.text, blocks.near);
+    let place = place_near(&blocks.filled, &slot.text, &blocks.recent);
     let at = room_at(&blocks.filled, place);
-    blocks.near = at;
+    blocks.recent = blocks.recent.with(at);
     let replaced = put_in(&mut blocks.filled[at.block], at.slot, slot);
     if blocks.filled[at.block].slots.len() == BLOCK_ROOM {
         split(blocks, at.block);

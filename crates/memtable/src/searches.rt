@@ -10,26 +10,30 @@ ghost use Rattle.memtable.specs.Blocks.{block_entries, IsEntryBlock};
 ghost use Rattle.memtable.specs.Order.{at_stamp, key_of};
 ghost use Rattle.memtable.specs.Slots.{lent_version};
 
-use crate::blocks::{self, Block, Place};
+use crate::blocks::{self, Block, RecentPlaces};
 use crate::key_text::KeyText;
 use crate::sought::Version;
 use crate::stack_text::{LongBytes, ShortBytes};
 use cell_key::{EntryRef, Stamp};
 
-/// The entry of a text. It is looked for beside `near`.
-fn find<'a>(blocks: &'a [Block], near: Place, name: &KeyText<'_>) -> Option<EntryRef<'a>>
+/// The entry of a text. It is looked for beside the recent places.
+fn find<'a>(blocks: &'a [Block], recent: &RecentPlaces, name: &KeyText<'_>) -> Option<EntryRef<'a>>
     requires list { IsEntryList (block_entries blocks.now) }
     requires blocks { AllByRecursion IsEntryBlock blocks.now }
     ensures found { option_map (λ lent. (lent_entry lent).1) result
         ≡ entry_of_key (block_entries blocks.now) name.now }
     ensures named { IfSome result (λ lent. lent.key.now ≡ name.now) }
 {
-    let slot = blocks::find(blocks, name, near)?;
+    let slot = blocks::find(blocks, name, recent)?;
     Some(slot.lend())
 }
 
 /// The entry of a version whose text is a long one.
-fn find_long<'a>(blocks: &'a [Block], near: Place, sought: Version<'_>) -> Option<EntryRef<'a>>
+fn find_long<'a>(
+    blocks: &'a [Block],
+    recent: &RecentPlaces,
+    sought: Version<'_>,
+) -> Option<EntryRef<'a>>
     requires list { IsEntryList (block_entries blocks.now) }
     requires blocks { AllByRecursion IsEntryBlock blocks.now }
     ensures found { option_map (λ lent. (lent_entry lent).1) result
@@ -38,13 +42,13 @@ fn find_long<'a>(blocks: &'a [Block], near: Place, sought: Version<'_>) -> Optio
 {
     let mut long = LongBytes::new();
     sought.push_long_text(&mut long);
-    find(blocks, near, &KeyText::of(long.as_slice()))
+    find(blocks, recent, &KeyText::of(long.as_slice()))
 }
 
-/// The entry of a version. It is looked for beside `near`.
+/// The entry of a version. It is looked for beside the recent places.
 pub(crate) fn find_version<'a>(
     blocks: &'a [Block],
-    near: Place,
+    recent: &RecentPlaces,
     sought: Version<'_>,
 ) -> Option<EntryRef<'a>>
     requires list { IsEntryList (block_entries blocks.now) }
@@ -55,15 +59,16 @@ pub(crate) fn find_version<'a>(
 {
     let mut short = ShortBytes::new();
     if sought.push_text(&mut short).is_ok() {
-        return find(blocks, near, &KeyText::of(short.as_slice()));
+        return find(blocks, recent, &KeyText::of(short.as_slice()));
     }
-    find_long(blocks, near, sought)
+    find_long(blocks, recent, sought)
 }
 
-/// The version with the greatest stamp from `lo` to that of a version of the same column, whose own text is given.
+/// The version with the greatest stamp from `lo` to that of a version of the same column, whose own text is given. It
+/// is looked for beside the recent places, and its place is recorded.
 fn newest_of<'a>(
     blocks: &'a [Block],
-    near: Place,
+    recent: &mut RecentPlaces,
     sought: Version<'_>,
     own: &KeyText<'_>,
     lo: Stamp,
@@ -78,7 +83,7 @@ fn newest_of<'a>(
     // These calls show that row and family are within their limits.
     let _row = sought.row.as_bytes();
     let _family = sought.family.as_bytes();
-    let slot = blocks::first_value_from(blocks, own, near)?;
+    let slot = blocks::first_value_from(blocks, own, recent)?;
     let stamp = sought.stamp_in(own, slot.text.as_slice())?;
     if stamp < lo {
         return None;
@@ -92,7 +97,7 @@ fn newest_of<'a>(
 /// The same if the text is a long one.
 fn newest_of_long<'a>(
     blocks: &'a [Block],
-    near: Place,
+    recent: &mut RecentPlaces,
     sought: Version<'_>,
     lo: Stamp,
 ) -> Option<(Stamp, &'a [u8])>
@@ -104,14 +109,14 @@ fn newest_of_long<'a>(
 {
     let mut long = LongBytes::new();
     sought.push_long_text(&mut long);
-    newest_of(blocks, near, sought, &KeyText::of(long.as_slice()), lo)
+    newest_of(blocks, recent, sought, &KeyText::of(long.as_slice()), lo)
 }
 
 /// The version with the greatest stamp from `lo` to that of a version of the same column. It is looked for beside
-/// `near`.
+/// the recent places, and its place is recorded.
 pub(crate) fn newest<'a>(
     blocks: &'a [Block],
-    near: Place,
+    recent: &mut RecentPlaces,
     sought: Version<'_>,
     lo: Stamp,
 ) -> Option<(Stamp, &'a [u8])>
@@ -123,7 +128,7 @@ pub(crate) fn newest<'a>(
 {
     let mut short = ShortBytes::new();
     if sought.push_text(&mut short).is_ok() {
-        return newest_of(blocks, near, sought, &KeyText::of(short.as_slice()), lo);
+        return newest_of(blocks, recent, sought, &KeyText::of(short.as_slice()), lo);
     }
-    newest_of_long(blocks, near, sought, lo)
+    newest_of_long(blocks, recent, sought, lo)
 }

@@ -1,6 +1,8 @@
 //! The memtable: recent writes, in the order of their keys.
 
 ghost use Rattle.std.specs.Prelude.{◌≡◌, ◌↔◌, ◌+◌, ◌≤◌, ◌^◌, [], length, vec_len, IsTrue, OnOk, OnErr, IfErr, IfSome, IsErrOf, option_map, None, ◌⊎◌};
+ghost use Rattle.std.specs.Borrow.{sem};
+ghost use Rattle.std.specs.Io.BufRead.{Rests};
 ghost use Rattle.std.specs.List.{AllByRecursion};
 ghost use Rattle.cell_key.specs.Keys.{text};
 ghost use Rattle.cell_key.specs.Cells.{IsEditOf, IsNewest, version};
@@ -9,9 +11,10 @@ ghost use Rattle.cell_key.specs.Entries.{IsEntry, IsEntryList, IsRising, cells_o
 ghost use Rattle.memtable.specs.Slots.{lent_version, over, slot_entries};
 ghost use Rattle.memtable.specs.Sizes.{IsSizeOf};
 ghost use Rattle.memtable.specs.Blocks.{block_entries, IsEntryBlock};
+ghost use Rattle.memtable.specs.contracts.table.Memtable.{the_row};
 ghost use Rattle.memtable.specs.Edits.{with_edits, bytes_of, IsWithinLimits, HasStoredKey};
 
-use crate::blocks::{self, Block, Blocks, Place};
+use crate::blocks::{self, Block, Blocks, RecentPlaces};
 use crate::cursor::Cursor;
 use crate::entries::Slot;
 use crate::size::{self, Size};
@@ -85,7 +88,7 @@ impl Memtable {
             blocks: Blocks {
                 filled: Vec::new(alloc),
                 spare: Vec::new(alloc),
-                near: Place::START,
+                recent: RecentPlaces::START,
             },
             len: 0,
             bytes: 0,
@@ -132,7 +135,7 @@ impl Memtable {
             let _family = key.family.as_bytes();
             return None;
         }
-        searches::find_version(&self.blocks.filled, self.blocks.near, version_of(key))
+        searches::find_version(&self.blocks.filled, &self.blocks.recent, version_of(key))
     }
 
     /// The entries whose texts aren't below some bytes, in order. Takes no memory.
@@ -140,25 +143,29 @@ impl Memtable {
         ensures cursor { result ≡ (None, entries_from from.now self.now) }
         ensures list { IsEntryList self.now }
     {
-        let (rest, later) = blocks::rest_from(&self.blocks.filled, from, self.blocks.near);
+        // A copy: a cursor leaves the places as they are.
+        let mut recent = self.blocks.recent;
+        let (rest, later) = blocks::rest_from(&self.blocks.filled, from, &mut recent);
         Cursor::new(rest, later)
     }
 
     /// The version of a cell's column with the greatest stamp in `lo..=hi`, if it has one there: its stamp, from
     /// 1 to 2^63 - 1, and its value of at most 65,536 bytes. An erasure is no version. Of a lock it searches
-    /// nothing if no lock has a value. Outside the stamps of all entries it searches nothing. Takes no memory.
+    /// nothing if no lock has a value. Outside the stamps of all entries it searches nothing. The entries stay: it
+    /// changes only where the next search begins. Takes no memory.
     pub fn newest(
-        &self,
+        &mut self,
         row: &Row,
         family: &Family,
         qualifier: Qualifier,
         lo: Stamp,
         hi: Stamp,
     ) -> Option<(Stamp, &[u8])>
-        ensures found { IsNewest (cells_of self.now) (version row.now family.now qualifier) lo hi
+        ensures found { IsNewest (cells_of self.old) (version row.now family.now qualifier) lo hi
             (option_map lent_version result) }
         ensures limits { IfSome result (λ found. IsVersion found.0 found.1.now) }
-        ensures list { IsEntryList self.now }
+        ensures list { IsEntryList self.old }
+        ensures* same { sem 𝓛 (Rests the_row self.entry (λ after. after ≡ self.old)) }
     {
         if self.stamps.misses(lo, hi) {
             return None;
@@ -172,7 +179,7 @@ impl Memtable {
             qualifier,
             stamp: hi,
         };
-        searches::newest(&self.blocks.filled, self.blocks.near, sought, lo)
+        searches::newest(&self.blocks.filled, &mut self.blocks.recent, sought, lo)
     }
 
     /// Makes edits under one row in order, all of them or none: a put sets the entry of its key to the
