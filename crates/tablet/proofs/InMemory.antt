@@ -7,7 +7,7 @@ use Rattle.std.specs.FinMap.{get}
 use Rattle.cell_key.specs.Keys.{text, IsStored}
 use Rattle.cell_key.specs.Cells.{Cells, IsNewest, version}
 use Rattle.cell_key.specs.Versions.{stamped}
-use Rattle.cell_key.specs.Entries.{cells_of, entry_of_key, first_naming, or_else, value_of}
+use Rattle.cell_key.specs.Entries.{Entry, cells_of, entry_of_key, first_naming, or_else, value_of}
 use Rattle.cell_key.specs.declared.keys.CellKey.{CellKey}
 use Rattle.cell_key.specs.declared.keys.Qualifier.{Qualifier}
 use Rattle.cell_key.proofs.EntryLaws.{get-cells_of}
@@ -22,6 +22,10 @@ use Rattle.tablet.proofs.Held.{held_lists}
 use Rattle.tablet.proofs.LeftOut.{value_or}
 use Rattle.tablet.proofs.Passed.{over_any}
 use Rattle.tablet.proofs.Shown.{first_at, shown, stored_or_hidden, stored_or_none}
+
+-- a tablet with an equal memtable is the same
+pub with_equal : (t : Tablet) (es : List Entry) → es ≡ memory_of t → record t { memtable = es } ≡ t
+with_equal t es same = ap (λ (es : List Entry). record t { memtable = es }) same
 
 value_front : (x y : Option (Option (List ℕ))) (v : List ℕ) → value_of x ≡ Some v → value_of (or_else x y) ≡ Some v
 value_front None y v e = let no : None ≡ Some v = e in cc

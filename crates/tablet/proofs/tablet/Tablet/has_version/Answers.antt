@@ -13,9 +13,9 @@ use Rattle.file_store.specs.Store.{Contents}
 use Rattle.memtable.specs.Slots.{lent_version}
 use Rattle.tablet.specs.Ranges.{has_row}
 use Rattle.tablet.specs.Reads.{HasVersion}
-use Rattle.tablet.specs.Views.{range_of, memory_of, cells_at, Holds}
+use Rattle.tablet.specs.Views.{range_of, memory_of, cells_at, Holds, IsSameTablet}
 use Rattle.tablet.specs.declared.tablet.Tablet.{Tablet}
-use Rattle.tablet.proofs.InMemory.{by_files, by_memory, still_there}
+use Rattle.tablet.proofs.InMemory.{by_files, by_memory, still_there, with_equal}
 use Rattle.tablet.proofs.Lookups.{if_one}
 use Rattle.tablet.proofs.Passed.{over_any}
 use Rattle.tablet.proofs.tablet.Tablet.has_version.Goals as goal
@@ -77,7 +77,7 @@ module _ (o : Option Contents) (t : Tablet) (row family : List ℕ) (q : Qualifi
 pub returns-then-is_some-clause-found : goal.returns-then-is_some-clause-found
 returns-then-is_some-clause-found g c =
     in_memory (g.F.Files.contents c.args.files.now) c.args.self.now c.args.row.now c.args.family.now c.args.qualifier c.args.lo c.args.hi
-    c.newest-in_memory.result (sym c.is_some.ensures ∙ c.if-is_some.true) c.newest-in_memory.ensures.found
+    c.newest.result (sym c.is_some.ensures ∙ c.if-is_some.true) c.newest.ensures.found
 
 pub returns-then-not-may_be_in_files-clause-found : goal.returns-then-not-may_be_in_files-clause-found
 returns-then-not-may_be_in_files-clause-found g c =
@@ -85,7 +85,7 @@ returns-then-not-may_be_in_files-clause-found g c =
     let to = c.min-to.ensures in
     let o = g.F.Files.contents c.args.files.now in
     let t = c.args.self.now in
-    let memory = none_lent (cells_of (memory_of t)) (version c.args.row.now c.args.family.now c.args.qualifier) c.args.lo c.args.hi c.newest-in_memory.result (sym c.is_some.ensures ∙ c.if-is_some.false) c.newest-in_memory.ensures.found in
+    let memory = none_lent (cells_of (memory_of t)) (version c.args.row.now c.args.family.now c.args.qualifier) c.args.lo c.args.hi c.newest.result (sym c.is_some.ensures ∙ c.if-is_some.false) c.newest.ensures.found in
     let first : (s : ℕ) → 1 ≤ s → c.args.lo ≤ s → c.max-from.result ≤ s = λ s one later. omega (arith, one, later) in
     let last : (s : ℕ) → s < 2 ^ 63 → s ≤ c.args.hi → s ≤ c.min-to.result = λ s small high. omega (arith, small, high) in
     let none = c.may_be_in_files.ensures c.if-not-may_be_in_files.true in
@@ -99,13 +99,30 @@ returns-clause-found g c =
     let to = c.min-to.ensures in
     let o = g.F.Files.contents c.args.files.now in
     let t = c.args.self.now in
-    let memory = none_lent (cells_of (memory_of t)) (version c.args.row.now c.args.family.now c.args.qualifier) c.args.lo c.args.hi c.newest-in_memory.result (sym c.is_some.ensures ∙ c.if-is_some.false) c.newest-in_memory.ensures.found in
+    let memory = none_lent (cells_of (memory_of t)) (version c.args.row.now c.args.family.now c.args.qualifier) c.args.lo c.args.hi c.newest.result (sym c.is_some.ensures ∙ c.if-is_some.false) c.newest.ensures.found in
     let first : (s : ℕ) → 1 ≤ s → c.args.lo ≤ s → c.max-from.result ≤ s = λ s one later. omega (arith, one, later) in
     let last : (s : ℕ) → s < 2 ^ 63 → s ≤ c.args.hi → s ≤ c.min-to.result = λ s small high. omega (arith, small, high) in
+    let at = version c.args.row.now c.args.family.now c.args.qualifier in
+    let same = with_equal t c.newest.follows.lender-at-none c.newest.follows.holds-at-none in
+    let later = subst (λ (t : Tablet). IfSome o (λ m. Holds m t → IsTrue (has_row (range_of t) c.args.row.now) → IsNewest (cells_of (memory_of t)) at c.max-from.result c.min-to.result None → IsNewest (cells_at m t) at c.max-from.result c.min-to.result (option_map stamped c.in_ok-found.found))) same c.in_ok-found.ensures.found in
     if_one o (by_files o t c.args.row.now c.args.family.now c.args.qualifier c.args.lo c.args.hi None memory
-    c.max-from.result c.min-to.result (omega arith) first (omega arith) last c.in_ok-found.found None refl c.in_ok-found.ensures.found) (λ m newest held has.
+    c.max-from.result c.min-to.result (omega arith) first (omega arith) last c.in_ok-found.found None refl later) (λ m newest held has.
     record {
       found = option_map stamped (option_or c.in_ok-found.found None);
       newest = newest held has;
       is = c.is_some-2.ensures ∙ same_some c.in_ok-found.found;
     })
+
+pub returns-in_err-found-clause-stays : goal.returns-in_err-found-clause-stays
+returns-in_err-found-clause-stays g c =
+    let o = g.F.Files.contents c.args.files.now in
+    let t = c.args.self.now in
+    let same = with_equal t c.newest.follows.lender-at-none c.newest.follows.holds-at-none in
+    subst (λ (t : Tablet). IsSameTablet o t c.newest_in_files.new.self) same c.in_err-found.ensures.stays
+
+pub returns-clause-stays : goal.returns-clause-stays
+returns-clause-stays g c =
+    let o = g.F.Files.contents c.args.files.now in
+    let t = c.args.self.now in
+    let same = with_equal t c.newest.follows.lender-at-none c.newest.follows.holds-at-none in
+    subst (λ (t : Tablet). IsSameTablet o t c.newest_in_files.new.self) same c.in_ok-found.ensures.stays
