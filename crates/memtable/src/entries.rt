@@ -86,14 +86,14 @@ pub(crate) fn first_from<S: Sought>(slots: &[Box<Slot>], sought: S) -> usize
 
 /// A part of the entries from an index on, before which all are below what is sought: behind it none is. It is found in
 /// steps that grow.
-fn part_after<S: Sought>(slots: &[Box<Slot>], sought: S, from: usize) -> (usize, usize)
+fn steps_after<S: Sought>(slots: &[Box<Slot>], sought: S, from: usize) -> (usize, usize)
     requires rising { IsRising (slot_entries slots.now) }
     requires from { from ≤ length slots.now }
     requires below { AreBelow (S.name sought) slots.now from }
     ensures { IsPartOf (S.name sought) slots.now result.0 result.1 }
 {
     let mut from = from;
-    let mut step: usize = 0;
+    let mut step: usize = 1;
     'steps: while from < slots.len() {
         let at = from.saturating_add(step).min(slots.len() - 1);
         if !sought.compare(&slots[at].text).is_gt() {
@@ -105,16 +105,37 @@ fn part_after<S: Sought>(slots: &[Box<Slot>], sought: S, from: usize) -> (usize,
     (from, from)
 }
 
+/// A part of the entries from an index on, before which all are below what is sought: behind it none is. The entry at
+/// the index is compared first, and then the last one: what lies beyond all entries takes no more.
+fn part_after<S: Sought>(slots: &[Box<Slot>], sought: S, from: usize) -> (usize, usize)
+    requires rising { IsRising (slot_entries slots.now) }
+    requires from { from ≤ length slots.now }
+    requires below { AreBelow (S.name sought) slots.now from }
+    ensures { IsPartOf (S.name sought) slots.now result.0 result.1 }
+{
+    if from == slots.len() {
+        return (from, from);
+    }
+    if !sought.compare(&slots[from].text).is_gt() {
+        return (from, from);
+    }
+    let last = slots.len() - 1;
+    if from < last && sought.compare(&slots[last].text).is_gt() {
+        return (slots.len(), slots.len());
+    }
+    steps_after(slots, sought, from + 1)
+}
+
 /// A part of the entries up to an index, from which on none is below what is sought: before it all are. It is found in
 /// steps that grow.
-fn part_before<S: Sought>(slots: &[Box<Slot>], sought: S, to: usize) -> (usize, usize)
+fn steps_before<S: Sought>(slots: &[Box<Slot>], sought: S, to: usize) -> (usize, usize)
     requires rising { IsRising (slot_entries slots.now) }
     requires to { to ≤ length slots.now }
     requires above { AreNotBelow (S.name sought) slots.now to }
     ensures { IsPartOf (S.name sought) slots.now result.0 result.1 }
 {
     let mut to = to;
-    let mut step: usize = 0;
+    let mut step: usize = 1;
     'steps: while to > 0 {
         let at = (to - 1).saturating_sub(step);
         if sought.compare(&slots[at].text).is_gt() {
@@ -124,6 +145,26 @@ fn part_before<S: Sought>(slots: &[Box<Slot>], sought: S, to: usize) -> (usize, 
         step = step.saturating_mul(4).saturating_add(1);
     }
     (0, 0)
+}
+
+/// A part of the entries up to an index, from which on none is below what is sought: before it all are. The entry
+/// before the index is compared first, and then the first one: what lies before all entries takes no more.
+fn part_before<S: Sought>(slots: &[Box<Slot>], sought: S, to: usize) -> (usize, usize)
+    requires rising { IsRising (slot_entries slots.now) }
+    requires to { to ≤ length slots.now }
+    requires above { AreNotBelow (S.name sought) slots.now to }
+    ensures { IsPartOf (S.name sought) slots.now result.0 result.1 }
+{
+    if to == 0 {
+        return (to, to);
+    }
+    if sought.compare(&slots[to - 1].text).is_gt() {
+        return (to, to);
+    }
+    if to > 1 && !sought.compare(&slots[0].text).is_gt() {
+        return (0, 0);
+    }
+    steps_before(slots, sought, to - 1)
 }
 
 /// A part of the entries: before it all are below what is sought, and behind it none is. It is found beside the entry at

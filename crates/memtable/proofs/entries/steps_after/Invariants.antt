@@ -1,6 +1,6 @@
 use Rattle.std.proofs.Common.{◌≤◌, ◌-◌, length}
 use Rattle.memtable.specs.Slots.{AreBelow}
-use Rattle.memtable.proofs.entries.part_after.Given as goal
+use Rattle.memtable.proofs.entries.steps_after.Given as goal
 
 -- all before the index are below
 abbrev pub invariant-steps : goal.invariant-steps

@@ -1,6 +1,6 @@
 use Rattle.std.proofs.Common.{◌≤◌, length}
 use Rattle.memtable.specs.Slots.{AreNotBelow}
-use Rattle.memtable.proofs.entries.part_before.Given as goal
+use Rattle.memtable.proofs.entries.steps_before.Given as goal
 
 -- none from the index on is below
 abbrev pub invariant-steps : goal.invariant-steps

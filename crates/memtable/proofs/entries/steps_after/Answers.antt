@@ -1,0 +1,39 @@
+use Rattle.std.proofs.Common.{◌≡◌, ◌<◌, false, true, length, sym, ap, ◌∙◌, arith}
+use Rattle.std.specs.Ordering.{is_gt}
+use Rattle.cell_key.specs.Keys.{byte_cmp}
+use Rattle.memtable.specs.declared.entries.Slot.{Slot}
+use Rattle.memtable.proofs.Parts.{from_on, up_to}
+use Rattle.memtable.proofs.entries.steps_after.Goals as goal
+
+pub returns-then-not-is_gt : goal.returns-then-not-is_gt
+returns-then-not-is_gt g c =
+    let name = g.S.Sought.name c.args.sought in
+    let xs = c.args.slots.now in
+    let at = c.min-at.result in
+    let next = c.saturating_add.ensures in
+    let least = c.min-at.ensures in
+    let test = c.steps-test.true in
+    let within : at < length xs = omega (arith, least, test) in
+    let above : is_gt (byte_cmp name c.index-slots-at.result.value.text) ≡ false =
+    ap (λ (s : Slot). is_gt (byte_cmp name s.text)) (sym c.deref.ensures) ∙ ap is_gt (sym c.compare.ensures) ∙ sym c.is_gt.ensures ∙ c.if-not-is_gt.true in
+    record {
+      order = omega (arith, next, least, test);
+      within = omega (arith, within);
+      below = c.steps.invariant.below;
+      above = from_on name xs c.requires.rising at c.index-slots-at.result within c.index-slots-at.is above;
+    }
+
+pub steps-preserved : goal.steps-preserved
+steps-preserved g c =
+    let name = g.S.Sought.name c.args.sought in
+    let xs = c.args.slots.now in
+    let at = c.min-at.result in
+    let least = c.min-at.ensures in
+    let test = c.steps-test.true in
+    let within : at < length xs = omega (arith, least, test) in
+    let below : is_gt (byte_cmp name c.index-slots-at.result.value.text) ≡ true =
+    ap (λ (s : Slot). is_gt (byte_cmp name s.text)) (sym c.deref.ensures) ∙ ap is_gt (sym c.compare.ensures) ∙ sym c.is_gt.ensures ∙ c.if-not-is_gt.false in
+    record {
+      within = omega (arith, within);
+      below = up_to name xs c.requires.rising at c.index-slots-at.result within c.index-slots-at.is below;
+    }
