@@ -10,6 +10,7 @@ ghost use Rattle.cell_key.specs.declared.keys.Qualifier.{Qualifier as Names};
 
 use crate::decoding::{split_place, stored_stamp_of};
 use crate::keys::{Qualifier, Stamp};
+use crate::text_order::compare_texts;
 
 /// How many bytes of a key's text its stamp has.
 const STAMP: usize = 8;
@@ -182,7 +183,7 @@ pub fn next_key<'a>(last: Option<KeyRef<'_>>, bytes: &'a [u8]) -> Option<KeyRef<
         return in_place(last, bytes, tail);
     }
     let key = lend_key(bytes)?;
-    if last.text.cmp(&bytes).is_lt() {
+    if compare_texts(last.text, bytes).is_lt() {
         Some(key)
     } else {
         None

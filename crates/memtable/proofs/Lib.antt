@@ -1,6 +1,7 @@
 mod BlockFacts
 mod BlockLists
 mod EntryLists
+mod Fronts
 mod Locks
 mod Newest
 mod Parts
@@ -10,4 +11,3 @@ mod StackTexts
 mod StampRanges
 mod Values
 mod Versions
-mod Words

@@ -7,8 +7,9 @@ ghost use Rattle.cell_key.specs.Keys.{byte_cmp};
 ghost use Rattle.memtable.specs.Order.{IsFront};
 ghost use Rattle.memtable.specs.Slots.{is_lock_text};
 
-use crate::sought::{Sought, compare_texts};
+use crate::sought::Sought;
 use byteorder::{BigEndian, ByteOrder};
+use cell_key::compare_texts;
 use smallvec::SmallVec;
 use std::cmp::Ordering;
 use std::marker::Model;

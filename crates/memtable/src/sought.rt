@@ -1,58 +1,14 @@
 //! What is sought among the entries of a memtable, and how it compares with their texts. This takes no memory.
 
 ghost use Rattle.std.specs.Prelude.{◌≡◌, ◌≢◌, ◌<◌, ◌≤◌, ◌^◌, ℕ, List, ◌++◌, take, drop, length, IfSome, IfNone};
-ghost use Rattle.std.specs.Ordering.{is_eq, ordering_then};
-ghost use Rattle.std.specs.declared.cmp.Ordering.TheVariants.{Equal};
+ghost use Rattle.std.specs.Ordering.{is_eq};
 ghost use Rattle.cell_key.specs.Keys.{byte_cmp, text};
 ghost use Rattle.cell_key.specs.Texts.{stamp_text};
 ghost use Rattle.memtable.specs.Order.{at_stamp, key_of};
 
 use crate::key_text::{EntryText, KeyText};
-use byteorder::{BigEndian, ByteOrder};
-use cell_key::{CellKey, Family, Qualifier, Row, Stamp, stamp_of};
+use cell_key::{CellKey, Family, Qualifier, Row, Stamp, compare_texts, stamp_of};
 use std::cmp::Ordering;
-
-/// The order of the first eight bytes of two texts.
-fn compare_fronts(a: &[u8], b: &[u8]) -> Ordering
-    requires first { 8 ≤ length a.now }
-    requires second { 8 ≤ length b.now }
-    ensures order { byte_cmp a.now b.now
-        ≡ ordering_then result (byte_cmp (drop 8 a.now) (drop 8 b.now)) }
-    ensures same { result ≡ Equal → take 8 a.now ≡ take 8 b.now }
-{
-    let front = BigEndian::read_u64(a);
-    let other = BigEndian::read_u64(b);
-    front.cmp(&other)
-}
-
-/// From how many bytes on two texts are compared as slices, which takes the longer steps.
-const LONG: usize = 64;
-
-/// The byte order of two texts. Short ones are compared by eight bytes at once while both have as many, and then, if
-/// they are as long as each other, by their last eight.
-#[inline(never)]
-pub(crate) fn compare_texts(a: &[u8], b: &[u8]) -> Ordering
-    ensures { result ≡ byte_cmp a.now b.now }
-{
-    if a.len() >= LONG && b.len() >= LONG {
-        return a.cmp(&b);
-    }
-    let mut left = a;
-    let mut right = b;
-    'fronts: while left.len() >= 8 && right.len() >= 8 {
-        let order = compare_fronts(left, right);
-        if order.is_ne() {
-            return order;
-        }
-        left = left.split_at(8).1;
-        right = right.split_at(8).1;
-    }
-    if a.len() == b.len() && a.len() >= 8 {
-        let at = a.len() - 8;
-        return compare_fronts(a.split_at(at).1, b.split_at(at).1);
-    }
-    left.cmp(&right)
-}
 
 /// The stamp of a text that differs from another one in its last eight bytes alone.
 fn stamp_beside(text: &[u8], bytes: &[u8]) -> Option<Stamp>

@@ -15,7 +15,7 @@ ghost use Rattle.sorted_file.specs.Source.{IsReadRefusal};
 
 use crate::bounds::ColumnBounds;
 use crate::format::{BLOCK_LIMIT, LENGTH, MOST_VALUE, is_same, is_short, read_entry, spelled_len};
-use cell_key::{EntryRef, KeyRef, Refusal, next_key};
+use cell_key::{EntryRef, KeyRef, Refusal, compare_texts, next_key};
 use std::alloc::Global;
 use std::snapshot::Snapshot;
 
@@ -146,7 +146,7 @@ impl Block {
             → IfSome (slice_get es at) (λ e. byte_cmp text.now e.0 ≢ Greater) }
     {
         self.entry(at)
-            .is_some_and(|entry| text.cmp(&entry.key).is_gt())
+            .is_some_and(|entry| compare_texts(text, entry.key).is_gt())
     }
 
     /// The index of the first entry whose text isn't below this one.
@@ -173,7 +173,7 @@ impl Block {
             → option_map (λ entry. (lent_entry entry).1) result ≡ entry_of_key es text.now }
     {
         let entry = self.entry(self.position(text))?;
-        if text.cmp(&entry.key).is_eq() {
+        if compare_texts(text, entry.key).is_eq() {
             Some(entry)
         } else {
             None
@@ -289,7 +289,7 @@ pub(crate) fn rows_to(rows: &[BlockRow], text: &[u8]) -> usize
     ensures bound { result ≤ length rows.now }
     ensures position { IsRising (map first_of rows.now) → IsRowPosition text.now rows.now result }
 {
-    rows.partition_point(|row| text.cmp(&row.first.as_slice()).is_ge())
+    rows.partition_point(|row| compare_texts(text, &row.first).is_ge())
 }
 
 /// Whether a block with this first entry can follow the last of the blocks that rows name.
@@ -317,7 +317,7 @@ pub(crate) fn bytes_from<'a>(bytes: &'a [u8], text: &[u8]) -> Option<&'a [u8]>
     let mut rest = bytes;
     'below: while !rest.is_empty() {
         let (entry, after) = read_entry(rest)?;
-        if text.cmp(&entry.key).is_le() {
+        if compare_texts(text, entry.key).is_le() {
             return Some(rest);
         }
         rest = after;

@@ -9,7 +9,7 @@ ghost use Rattle.std.specs.Ordering.{is_lt};
 ghost use Rattle.sorted_file.specs.Index.{row_bytes};
 ghost use Rattle.sorted_file.specs.Grammar.{IsNoFile, head, foot_len, most, number_bytes, number_len, foot};
 
-use cell_key::{EntryRef, Refusal};
+use cell_key::{EntryRef, Refusal, compare_texts};
 
 /// How many bytes the head has.
 pub(crate) const HEAD: u64 = 8;
@@ -91,7 +91,7 @@ pub(crate) fn is_same(first: &[u8], second: &[u8]) -> bool
 pub(crate) fn is_below(first: &[u8], second: &[u8]) -> bool
     ensures { result ≡ is_lt (byte_cmp first.now second.now) }
 {
-    first.cmp(&second).is_lt()
+    compare_texts(first, second).is_lt()
 }
 
 /// The number of four bytes at the front, and what follows.

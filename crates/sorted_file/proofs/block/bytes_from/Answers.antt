@@ -18,7 +18,7 @@ pub returns-then-is_le-clause-found : goal.returns-then-is_le-clause-found
 returns-then-is_le-clause-found c = λ es rising e.
     let i = c.below.invariant in
     let short = i.shorter in
-    past_here c.args.text.now c.below.rest.now es (i.past es rising e) c.in_ok-entry.after.now (lent_entry c.in_ok-entry.entry) (omega (arith, short, c.requires)) c.in_ok-entry.ensures.found (ap is_le (sym c.cmp.ensures) ∙ sym c.is_le.ensures ∙ c.if-is_le.true)
+    past_here c.args.text.now c.below.rest.now es (i.past es rising e) c.in_ok-entry.after.now (lent_entry c.in_ok-entry.entry) (omega (arith, short, c.requires)) c.in_ok-entry.ensures.found (ap is_le (sym c.compare_texts.ensures) ∙ sym c.is_le.ensures ∙ c.if-is_le.true)
 
 pub below-preserved : goal.below-preserved
 below-preserved c =
@@ -26,8 +26,8 @@ below-preserved c =
     let short = i.shorter in
     let len = ap length c.in_ok-entry.ensures.found ∙ length-append (spelled (lent_entry c.in_ok-entry.entry)) c.in_ok-entry.after.now in
     record {
-      past = λ es rising e. past_entry c.args.text.now c.below.rest.now es (i.past es rising e) c.in_ok-entry.after.now (lent_entry c.in_ok-entry.entry) (omega (arith, short, c.requires)) c.in_ok-entry.ensures.found (ap is_le (sym c.cmp.ensures) ∙ sym c.is_le.ensures ∙ c.if-is_le.false);
-      behind = behind_next c.args.text.now c.args.bytes.now c.below.rest.now c.in_ok-entry.after.now (lent_entry c.in_ok-entry.entry) i.behind c.in_ok-entry.ensures.found (ap is_le (sym c.cmp.ensures) ∙ sym c.is_le.ensures ∙ c.if-is_le.false);
+      past = λ es rising e. past_entry c.args.text.now c.below.rest.now es (i.past es rising e) c.in_ok-entry.after.now (lent_entry c.in_ok-entry.entry) (omega (arith, short, c.requires)) c.in_ok-entry.ensures.found (ap is_le (sym c.compare_texts.ensures) ∙ sym c.is_le.ensures ∙ c.if-is_le.false);
+      behind = behind_next c.args.text.now c.args.bytes.now c.below.rest.now c.in_ok-entry.after.now (lent_entry c.in_ok-entry.entry) i.behind c.in_ok-entry.ensures.found (ap is_le (sym c.compare_texts.ensures) ∙ sym c.is_le.ensures ∙ c.if-is_le.false);
       shorter = omega (arith, short, len);
     }
 
@@ -39,7 +39,7 @@ returns-then-is_le-clause-begins c = inr (
   lent_entry c.in_ok-entry.entry,
   c.in_ok-entry.after.now,
   c.in_ok-entry.ensures.found,
-  not_greater _ (ap is_le (sym c.cmp.ensures) ∙ sym c.is_le.ensures ∙ c.if-is_le.true),
+  not_greater _ (ap is_le (sym c.compare_texts.ensures) ∙ sym c.is_le.ensures ∙ c.if-is_le.true),
 )
 
 pub returns-clause-begins : goal.returns-clause-begins

@@ -1,7 +1,7 @@
 use Rattle.std.proofs.Common.{◌≡◌, ◌∙◌, drop, ap, subst, arith}
 use Rattle.cell_key.specs.Keys.{byte_cmp}
 use Rattle.memtable.specs.Order.{IsFront}
-use Rattle.memtable.proofs.Words.{front_decides, front_ties}
+use Rattle.memtable.proofs.Fronts.{front_decides, front_ties}
 use Rattle.memtable.proofs.key_text.EntryText.compare_with.Goals as goal
 
 pub returns-then-front-self : goal.returns-then-front-self

@@ -14,9 +14,9 @@ returns-in_err-entry c = λ es p.
 pub returns-then-is_eq : goal.returns-then-is_eq
 returns-then-is_eq c = λ es p.
     let some = sym (c.entry.ensures es p) ∙ ap (option_map lent_entry) c.in_ok-entry.was in
-    sym (found_at c.args.text.now es c.position.result (c.position.ensures es p) (lent_entry c.in_ok-entry.entry) some (ap is_eq (sym c.cmp.ensures) ∙ sym c.is_eq.ensures ∙ c.if-is_eq.true))
+    sym (found_at c.args.text.now es c.position.result (c.position.ensures es p) (lent_entry c.in_ok-entry.entry) some (ap is_eq (sym c.compare_texts.ensures) ∙ sym c.is_eq.ensures ∙ c.if-is_eq.true))
 
 pub returns-else-is_eq : goal.returns-else-is_eq
 returns-else-is_eq c = λ es p.
     let some = sym (c.entry.ensures es p) ∙ ap (option_map lent_entry) c.in_ok-entry.was in
-    sym (missed_at c.args.text.now es c.position.result (c.position.ensures es p) (lent_entry c.in_ok-entry.entry) some p.list.rising (ap is_eq (sym c.cmp.ensures) ∙ sym c.is_eq.ensures ∙ c.if-is_eq.false))
+    sym (missed_at c.args.text.now es c.position.result (c.position.ensures es p) (lent_entry c.in_ok-entry.entry) some p.list.rising (ap is_eq (sym c.compare_texts.ensures) ∙ sym c.is_eq.ensures ∙ c.if-is_eq.false))

@@ -3,8 +3,8 @@ use Rattle.std.specs.FinMap.{nat_cmp-IsAntisymmetric}
 use Rattle.std.specs.Ordering.{nat_cmp, ordering_then}
 use Rattle.byteorder.specs.Endian.{big_number}
 use Rattle.cell_key.specs.Keys.{byte_cmp}
-use Rattle.memtable.proofs.Words.{fronts, same_fronts}
-use Rattle.memtable.proofs.sought.compare_fronts.Goals as goal
+use Rattle.cell_key.proofs.Words.{fronts, same_fronts}
+use Rattle.cell_key.proofs.text_order.compare_fronts.Goals as goal
 
 pub returns : goal.returns
 returns c =

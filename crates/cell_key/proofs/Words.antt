@@ -10,7 +10,6 @@ use Rattle.cell_key.specs.Keys.{byte_cmp}
 use Rattle.cell_key.proofs.KeyLaws.{both_Equal}
 use Rattle.cell_key.proofs.Order.{then_assoc, cmp_below, cmp_above, cmp_same}
 use Rattle.std.specs.FinMap.{nat_cmp-IsAntisymmetric}
-use Rattle.memtable.specs.Order.{IsFront}
 
 -- the high digits decide, and then the low ones
 digits_order : (w a b r s : ℕ) → r < w → s < w → nat_cmp (a * w + r) (b * w + s) ≡ ordering_then (nat_cmp a b) (nat_cmp r s)
@@ -82,30 +81,3 @@ same_fronts (suc n) (x ∷ xs) (y ∷ ys) p q a b e =
 pub cmp_behind : (both xs ys : List ℕ) → byte_cmp (both ++ xs) (both ++ ys) ≡ byte_cmp xs ys
 cmp_behind [] xs ys = refl
 cmp_behind (b ∷ both) xs ys = ap (λ (o : Ordering). ordering_then o (byte_cmp (both ++ xs) (both ++ ys))) (cmp_same b b refl) ∙ cmp_behind both xs ys
-
--- a text compares by its front, and then by what follows
-pub by_fronts : (front other : ℕ) (xs ys : List ℕ) → IsFront front xs → IsFront other ys
-    → byte_cmp xs ys ≡ ordering_then (nat_cmp front other) (byte_cmp (drop 8 xs) (drop 8 ys))
-by_fronts front other xs ys first second =
-    fronts 8 xs ys first.long second.long first.bytes second.bytes
-    ∙ ap (λ (n : ℕ). ordering_then (nat_cmp n (big_number 8 ys)) (byte_cmp (drop 8 xs) (drop 8 ys))) (sym first.is)
-    ∙ ap (λ (n : ℕ). ordering_then (nat_cmp front n) (byte_cmp (drop 8 xs) (drop 8 ys))) (sym second.is)
-
--- fronts that differ decide
-pub front_decides : (front other : ℕ) (xs ys : List ℕ) → IsFront front xs → IsFront other ys → (front ≡ other → ⊥) → nat_cmp front other ≡ byte_cmp xs ys
-front_decides front other xs ys first second apart = go (nat_cmp front other) refl
-  where
-    rest : Ordering
-    rest = byte_cmp (drop 8 xs) (drop 8 ys)
-
-    go : (o : Ordering) → nat_cmp front other ≡ o → nat_cmp front other ≡ byte_cmp xs ys
-    go Less p = p ∙ ap (λ (o : Ordering). ordering_then o rest) (sym p) ∙ sym (by_fronts front other xs ys first second)
-    go Equal p = absurd (apart (nat_cmp-IsAntisymmetric front other p))
-    go Greater p = p ∙ ap (λ (o : Ordering). ordering_then o rest) (sym p) ∙ sym (by_fronts front other xs ys first second)
-
--- where they are equal, what follows decides
-pub front_ties : (front other : ℕ) (xs ys : List ℕ) → IsFront front xs → IsFront other ys → front ≡ other
-    → byte_cmp (drop 8 xs) (drop 8 ys) ≡ byte_cmp xs ys
-front_ties front other xs ys first second same =
-    ap (λ (o : Ordering). ordering_then o (byte_cmp (drop 8 xs) (drop 8 ys))) (sym (cmp_same front other same))
-    ∙ sym (by_fronts front other xs ys first second)

@@ -5,9 +5,9 @@ use Rattle.std.specs.Ordering.{is_ne, ordering_then}
 use Rattle.std.proofs.Math.ListN.{drop_of_length-le}
 use Rattle.std.proofs.lemmas.List.{drop-append-le, length-append, length-drop, take-append-drop}
 use Rattle.cell_key.specs.Keys.{byte_cmp}
-use Rattle.memtable.proofs.Words.{cmp_behind}
-use Rattle.memtable.proofs.sought.compare_texts.Goals as goal
-use Rattle.memtable.proofs.sought.compare_texts.Goals.{then-fronts-test+else-right-ge8, else-fronts-test}
+use Rattle.cell_key.proofs.Words.{cmp_behind}
+use Rattle.cell_key.proofs.text_order.compare_texts.Goals as goal
+use Rattle.cell_key.proofs.text_order.compare_texts.Goals.{then-fronts-test+else-right-ge8, else-fronts-test}
 
 then_nothing : (o : Ordering) → ordering_then o Equal ≡ o
 then_nothing Less = refl

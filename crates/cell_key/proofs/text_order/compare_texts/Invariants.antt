@@ -1,6 +1,6 @@
 use Rattle.std.proofs.Common.{◌≡◌, ◌++◌, List, ℕ, length}
 use Rattle.cell_key.specs.Keys.{byte_cmp}
-use Rattle.memtable.proofs.sought.compare_texts.Given as goal
+use Rattle.cell_key.proofs.text_order.compare_texts.Given as goal
 
 -- what is left decides, behind bytes that both have
 abbrev pub invariant-fronts : goal.invariant-fronts
