@@ -4,7 +4,6 @@ use Rattle.std.specs.Cmp.Lexicographic.{pointwise, bytes_decides}
 use Rattle.std.specs.List.{AllByRecursion}
 use Rattle.std.specs.Map.{lookup, lookup_entry, remove_entry}
 use Rattle.std.specs.Option.{option_map_or}
-use Rattle.std.specs.declared.vec.Vec.{Vec}
 use Rattle.lru.specs.LruCache.{LruCache, lru_cache, promoted, put_entries}
 use Rattle.lru.proofs.CallerLemmas.{Contains-lookup, Contains-promoted, Contains-put_entries}
 use Rattle.metadata_table.specs.Places.{PlaceView}
@@ -37,73 +36,69 @@ module _ {K V : Type 0} (test : K → Bool) where
 
 -- ---- the row that was located last
 
-first_test : {Z : Type 0} (row : List ℕ) (key : Vec ℕ Z) → key.items ≡ row → is_key_of row key ≡ true
-first_test row key same = (bytes_decides row key.items).1 (sym same)
+is_own_key : (row : List ℕ) → is_key_of row row ≡ true
+is_own_key row = (bytes_decides row row).1 refl
 
-pub first_number : {Z : Type 0} (row : List ℕ) (kept : List (Vec ℕ Z × ℕ)) (n : ℕ) → IsLocatedLast row kept n → Some n ≡ number_kept row kept
-first_number row [] n is = let none = is.1 in cc
+pub first_number : (row : List ℕ) (kept : List (List ℕ × ℕ)) (n : ℕ) → IsLocatedLast row kept n → Some n ≡ number_kept row kept
+first_number row [] n is = cc
 first_number row (e ∷ es) n is =
-    let same : e ≡ (is.0, n) = let some = is.1 in cc in
-    sym (ap (λ (b : Bool). cond b (Some e.1) (lookup (is_key_of row) es)) (ap (is_key_of row) (ap (λ p. p.0) same) ∙ first_test row is.0 is.2) ∙ ap (λ p. Some p.1) same)
+    let same : e ≡ (row, n) = cc in
+    sym (ap (λ (b : Bool). cond b (Some e.1) (lookup (is_key_of row) es)) (ap (is_key_of row) (ap (λ p. p.0) same) ∙ is_own_key row) ∙ ap (λ p. Some p.1) same)
 
-pub first_stays : {Z : Type 0} (row : List ℕ) (kept : List (Vec ℕ Z × ℕ)) (n : ℕ) → IsLocatedLast row kept n → kept ≡ promoted (is_key_of row) kept
-first_stays row [] n is = let none = is.1 in cc
-first_stays {Z} row (e ∷ es) n is =
-    let same : e ≡ (is.0, n) = let some = is.1 in cc in
-    let test : is_key_of row e.0 ≡ true = ap (is_key_of row) (ap (λ p. p.0) same) ∙ first_test row is.0 is.2 in
-    sym (ap (λ (b : Bool). option_map_or (λ (f : Vec ℕ Z × ℕ). f ∷ cond b es (e ∷ remove_entry (is_key_of row) es)) (cond b (Some e) (lookup_entry (is_key_of row) es)) (e ∷ es)) test)
+pub first_stays : (row : List ℕ) (kept : List (List ℕ × ℕ)) (n : ℕ) → IsLocatedLast row kept n → kept ≡ promoted (is_key_of row) kept
+first_stays row [] n is = cc
+first_stays row (e ∷ es) n is =
+    let same : e ≡ (row, n) = cc in
+    let test : is_key_of row e.0 ≡ true = ap (is_key_of row) (ap (λ p. p.0) same) ∙ is_own_key row in
+    sym (ap (λ (b : Bool). option_map_or (λ (f : List ℕ × ℕ). f ∷ cond b es (e ∷ remove_entry (is_key_of row) es)) (cond b (Some e) (lookup_entry (is_key_of row) es)) (e ∷ es)) test)
 
 -- ---- what is kept
 
-module _ {Z : Type 0} (places : List PlaceView) where
-  pub none_held : (kept : List (Vec ℕ Z × ℕ)) → kept ≡ [] → AreHeld places kept
+module _ (places : List PlaceView) where
+  pub none_held : (kept : List (List ℕ × ℕ)) → kept ≡ [] → AreHeld places kept
   none_held kept none entry there =
       let less = there.1 in
-      let zero : length kept ≡ 0 = ap (λ (es : List (Vec ℕ Z × ℕ)). length es) none in
+      let zero : length kept ≡ 0 = ap (λ (es : List (List ℕ × ℕ)). length es) none in
       absurd (omega arith)
 
-  pub held_promoted : (row : List ℕ) (kept : List (Vec ℕ Z × ℕ)) → AreHeld places kept → AreHeld places (promoted (is_key_of row) kept)
+  pub held_promoted : (row : List ℕ) (kept : List (List ℕ × ℕ)) → AreHeld places kept → AreHeld places (promoted (is_key_of row) kept)
   held_promoted row kept held entry there = held entry (Contains-promoted (is_key_of row) kept entry there)
 
-  pub held_added : (row : List ℕ) (n : ℕ) (old new : List (Vec ℕ Z × ℕ)) → AreHeld places old → IsHeldBy places row n → AddsOnly row n old new → AreHeld places new
+  pub held_added : (row : List ℕ) (n : ℕ) (old new : List (List ℕ × ℕ)) → AreHeld places old → IsHeldBy places row n → AddsOnly row n old new → AreHeld places new
   held_added row n old new held this adds entry there = elim (adds entry there) [
     | inl was ↦ held entry was
-    | inr is ↦ subst (λ (r : List ℕ). IsHeldBy places r entry.1) (sym is.0) (subst (IsHeldBy places row) (sym is.1) this)
+    | inr is ↦ subst (λ (e : List ℕ × ℕ). IsHeldBy places e.0 e.1) (sym is) this
   ]
 
   -- what is kept with a row is the number of its tablet
-  pub found_held : (row : List ℕ) (kept : List (Vec ℕ Z × ℕ)) (n : ℕ) → AreHeld places kept → number_kept row kept ≡ Some n → IsHeldBy places row n
+  pub found_held : (row : List ℕ) (kept : List (List ℕ × ℕ)) (n : ℕ) → AreHeld places kept → number_kept row kept ≡ Some n → IsHeldBy places row n
   found_held row kept n held is =
       let at = Contains-lookup (is_key_of row) kept n is in
-      subst (λ (r : List ℕ). IsHeldBy places r n) (sym ((bytes_decides row at.0.items).0 at.2)) (held (at.0, n) at.1)
+      subst (λ (r : List ℕ). IsHeldBy places r n) (sym ((bytes_decides row at.0).0 at.2)) (held (at.0, n) at.1)
 
   -- files that a place lists change no number
-  pub held_listed : (n : ℕ) (names : List ℕ) (kept : List (Vec ℕ Z × ℕ)) → AreHeld places kept → AreHeld (with_files n names places) kept
+  pub held_listed : (n : ℕ) (names : List ℕ) (kept : List (List ℕ × ℕ)) → AreHeld places kept → AreHeld (with_files n names places) kept
   held_listed n names kept held entry there =
       let was = held entry there in
-      record { place = naming n names was.place; holder = holder_listed n names entry.0.items places was.place was.holder; number = same_tablet n names was.place ∙ was.number }
+      record { place = naming n names was.place; holder = holder_listed n names entry.0 places was.place was.holder; number = same_tablet n names was.place ∙ was.number }
 
 -- ---- what is put
 
-module _ {Z : Type 0} where
-  abbrev pub same_bytes : Vec ℕ Z → Vec ℕ Z → Bool
-  same_bytes x y = pointwise nat_eq x.items y.items
+pub added : (old : LruCache (List ℕ) ℕ) (row : List ℕ) (n : ℕ) → AddsOnly row n old.entries (put_entries (pointwise nat_eq) old row n)
+added old row n entry there = elim (Contains-put_entries (pointwise nat_eq) old row n entry there) [
+  | inl was ↦ inl was
+  | inr is ↦
+      let key : entry.0 ≡ row = elim is.1 [
+        | inl same ↦ same
+        | inr kept ↦ sym ((bytes_decides row entry.0).0 kept.2)
+      ] in
+      let value = is.0 in
+      inr (λ i. (key i, value i))
+]
 
-  pub added : (old : LruCache (Vec ℕ Z) ℕ) (key : Vec ℕ Z) (n : ℕ) → AddsOnly key.items n old.entries (put_entries same_bytes old key n)
-  added old key n entry there = elim (Contains-put_entries same_bytes old key n entry there) [
-    | inl was ↦ inl was
-    | inr is ↦ inr (
-      elim is.1 [
-        | inl same ↦ ap (λ k. k.items) same
-        | inr kept ↦ sym ((bytes_decides key.items entry.0.items).0 kept.2)
-      ],
-      is.0,
-    )
-  ]
-
-  pub added_by : {A B : Type 0} (r : Result A B) (new old : LruCache (Vec ℕ Z) ℕ) (key : Vec ℕ Z) (n : ℕ) → OnOk r (new ≡ lru_cache (put_entries same_bytes old key n) old.cap) → OnErr r (new ≡ old) → AddsOnly key.items n old.entries new.entries
-  added_by (Ok x) new old key n ok err = subst (λ (c : LruCache (Vec ℕ Z) ℕ). AddsOnly key.items n old.entries c.entries) (sym ok) (added old key n)
-  added_by (Err x) new old key n ok err = subst (λ (c : LruCache (Vec ℕ Z) ℕ). AddsOnly key.items n old.entries c.entries) (sym err) (λ entry there. inl there)
+pub added_by : {A B : Type 0} (r : Result A B) (new old : LruCache (List ℕ) ℕ) (row : List ℕ) (n : ℕ) → OnOk r (new ≡ lru_cache (put_entries (pointwise nat_eq) old row n) old.cap) → OnErr r (new ≡ old) → AddsOnly row n old.entries new.entries
+added_by (Ok x) new old row n ok err = subst (λ (c : LruCache (List ℕ) ℕ). AddsOnly row n old.entries c.entries) (sym ok) (added old row n)
+added_by (Err x) new old row n ok err = subst (λ (c : LruCache (List ℕ) ℕ). AddsOnly row n old.entries c.entries) (sym err) (λ entry there. inl there)
 
 -- ---- the tablet at the index
 

@@ -2,7 +2,6 @@
 use Rattle.std.specs.Prelude.{◌≡◌, ◌+◌, ◌-◌, ◌^◌, ◌⊎◌, ℕ, Bool, List, Contains, Option, None, Some, min, nat_eq, slice_get}
 use Rattle.std.specs.Cmp.Lexicographic.{pointwise}
 use Rattle.std.specs.Map.{lookup}
-use Rattle.std.specs.declared.vec.Vec.{Vec}
 use Rattle.metadata_table.specs.Places.{PlaceView}
 use Rattle.metadata_table.specs.Table.{IsHolder}
 
@@ -13,27 +12,26 @@ pub record IsHeldBy (places : List PlaceView) (row : List ℕ) (n : ℕ) : Type 
   pub number : place.tablet ≡ n
 
 -- Each row that is stored has the number of the tablet that holds it.
-abbrev pub AreHeld : {Z : Type 0} → List PlaceView → List (Vec ℕ Z × ℕ) → Type 0
-AreHeld {Z} places kept =
-    (entry : Vec ℕ Z × ℕ) → Contains kept entry → IsHeldBy places entry.0.items entry.1
+abbrev pub AreHeld : List PlaceView → List (List ℕ × ℕ) → Type 0
+AreHeld places kept =
+    (entry : List ℕ × ℕ) → Contains kept entry → IsHeldBy places entry.0 entry.1
 
--- a key is that of a row
-abbrev pub is_key_of : {Z : Type 0} → List ℕ → Vec ℕ Z → Bool
-is_key_of row key = pointwise nat_eq row key.items
+-- a key is the row
+abbrev pub is_key_of : List ℕ → List ℕ → Bool
+is_key_of row key = pointwise nat_eq row key
 
 -- the number that is stored with a row
-abbrev pub number_kept : {Z : Type 0} → List ℕ → List (Vec ℕ Z × ℕ) → Option ℕ
+abbrev pub number_kept : List ℕ → List (List ℕ × ℕ) → Option ℕ
 number_kept row kept = lookup (is_key_of row) kept
 
 -- a row is the one that was located last, and this number is stored with it
-abbrev pub IsLocatedLast : {Z : Type 0} → List ℕ → List (Vec ℕ Z × ℕ) → ℕ → Type 0
-IsLocatedLast {Z} row kept n =
-    (key : Vec ℕ Z) × (slice_get kept 0 ≡ Some (key, n)) × (key.items ≡ row)
+abbrev pub IsLocatedLast : List ℕ → List (List ℕ × ℕ) → ℕ → Type 0
+IsLocatedLast row kept n = slice_get kept 0 ≡ Some (row, n)
 
 -- No row is stored that wasn't before, but this one, with this number.
-abbrev pub AddsOnly : {Z : Type 0} → List ℕ → ℕ → List (Vec ℕ Z × ℕ) → List (Vec ℕ Z × ℕ) → Type 0
-AddsOnly {Z} row n old new = (entry : Vec ℕ Z × ℕ) → Contains new entry
-    → Contains old entry ⊎ ((entry.0.items ≡ row) × (entry.1 ≡ n))
+abbrev pub AddsOnly : List ℕ → ℕ → List (List ℕ × ℕ) → List (List ℕ × ℕ) → Type 0
+AddsOnly row n old new = (entry : List ℕ × ℕ) → Contains new entry
+    → Contains old entry ⊎ (entry ≡ (row, n))
 
 -- one hit more if a row was found, up to the greatest number of eight bytes
 abbrev pub hits_after : Option ℕ → ℕ → ℕ

@@ -18,8 +18,7 @@ const ROWS: usize = 128;
 /// and not its number.
 #[derive(Drop)]
 pub(crate) struct PlaceCache {
-    alloc: Global,
-    numbers: LruCache<Vec<u8>, u32>,
+    numbers: LruCache<Row, u32>,
     hits: u64,
 }
 
@@ -33,11 +32,7 @@ impl PlaceCache {
     {
         let rows = NonZeroUsize::new(ROWS).unwrap();
         let numbers = LruCache::new(alloc, rows)?;
-        Ok(PlaceCache {
-            alloc,
-            numbers,
-            hits: 0,
-        })
+        Ok(PlaceCache { numbers, hits: 0 })
     }
 
     /// How many rows were found. A count of 2^64 - 1 stays.
@@ -68,12 +63,8 @@ impl PlaceCache {
     fn last(&self, row: &Row) -> Option<u32>
         ensures { IfSome result (IsLocatedLast row.now self.now.numbers.entries) }
     {
-        let (bytes, number) = self.numbers.peek_mru()?;
-        if row.as_bytes() == bytes.as_slice() {
-            Some(*number)
-        } else {
-            None
-        }
+        let (kept, number) = self.numbers.peek_mru()?;
+        if row == kept { Some(*number) } else { None }
     }
 
     /// The number that is stored with a row. The row is then the one that was located last.
@@ -87,7 +78,7 @@ impl PlaceCache {
         if let Some(number) = self.last(row) {
             return Some(number);
         }
-        if self.numbers.promote(row.as_bytes()) {
+        if self.numbers.promote(row) {
             self.first()
         } else {
             None
@@ -108,14 +99,14 @@ impl PlaceCache {
     }
 
     /// Keeps a number with a row, in place of the row that was located the longest ago if there are 128. If there is no
-    /// memory for it nothing is stored.
+    /// memory for it nothing is stored. The copy of a row of at most 32 bytes takes none.
     fn keep(&mut self, row: &Row, number: u32)
         ensures adds { AddsOnly row.now number self.old.numbers.entries self.new.numbers.entries }
         ensures rows { self.new.numbers.cap ≡ self.old.numbers.cap }
         ensures hits { self.new.hits ≡ self.old.hits }
     {
-        if let Ok(bytes) = Vec::from_slice(self.alloc, row.as_bytes()) {
-            let _told: Result<_, _> = self.numbers.put(bytes, number);
+        if let Ok(row) = row.clone() {
+            let _told: Result<_, _> = self.numbers.put(row, number);
         }
     }
 }

@@ -4,5 +4,5 @@ use Rattle.row_atomic.proofs.place_cache.PlaceCache.last.Goals as goal
 
 pub returns-then-eq : goal.returns-then-eq
 returns-then-eq c =
-    let same = (bytes_decides c.as_bytes.result.now c.as_slice.result.now).0 (sym c.eq.ensures ∙ c.if-eq.true) in
-    (c.in_ok-bytes.bytes.now, search rules, sym c.as_slice.ensures.value ∙ (sym same ∙ c.as_bytes.ensures.bytes))
+    let same = (bytes_decides c.args.row.now c.in_ok-kept.kept.now).0 (sym c.eq.ensures ∙ c.if-eq.true) in
+    search rules

@@ -1,6 +1,6 @@
 -- What is found comes first.
-use Rattle.std.proofs.Common.{List, ℕ, sym, ap, ◌∙◌, option_map, slice_get}
-use Rattle.row_atomic.specs.PlaceCaches.{is_key_of, number_kept}
+use Rattle.std.proofs.Common.{sym, ap, ◌∙◌, option_map, slice_get}
+use Rattle.row_atomic.specs.PlaceCaches.{is_key_of}
 use Rattle.row_atomic.proofs.PlaceCaches.{first_number, first_promoted, first_stays}
 use Rattle.row_atomic.proofs.place_cache.PlaceCache.number_of.Goals as goal
 
@@ -16,5 +16,4 @@ pub returns-then-promote-clause-found : goal.returns-then-promote-clause-found
 returns-then-promote-clause-found c =
     c.first.ensures
     ∙ ap (λ kept. option_map (λ entry. entry.1) (slice_get kept.entries 0)) c.promote.ensures.entries
-    ∙ first_promoted (is_key_of c.as_bytes.result.now) c.args.self.now.numbers.entries (sym c.promote.ensures.value ∙ c.if-promote.true)
-    ∙ ap (λ (row : List ℕ). number_kept row c.args.self.now.numbers.entries) c.as_bytes.ensures.bytes
+    ∙ first_promoted (is_key_of c.args.row.now) c.args.self.now.numbers.entries (sym c.promote.ensures.value ∙ c.if-promote.true)
