@@ -10,7 +10,7 @@ ghost use Rattle.cell_key.specs.declared.keys.Qualifier.{Qualifier as Names};
 
 use crate::decoding::{split_place, stored_stamp_of};
 use crate::keys::{Qualifier, Stamp};
-use crate::text_order::compare_texts;
+use crate::text_order::{are_same, compare_texts};
 
 /// How many bytes of a key's text its stamp has.
 const STAMP: usize = 8;
@@ -86,26 +86,6 @@ fn is_before(first: (Qualifier, Stamp), second: (Qualifier, Stamp)) -> bool
         (Qualifier::Data, _) | (Qualifier::Lock, Qualifier::Write) => true,
         (Qualifier::Lock, Qualifier::Data) | (Qualifier::Write, _) => false,
     }
-}
-
-/// Whether bytes are the same. They are compared by eight at once.
-#[inline(always)]
-fn are_same(bytes: &[u8], other: &[u8]) -> bool
-    ensures { IsTrue result ↔ (bytes.now ≡ other.now) }
-{
-    let mut left = bytes;
-    let mut right = other;
-    'words: while let Some((word, rest)) = left.split_first_chunk::<8>() {
-        let Some((other_word, other_rest)) = right.split_first_chunk::<8>() else {
-            return false;
-        };
-        if word != other_word {
-            return false;
-        }
-        left = rest;
-        right = other_rest;
-    }
-    left == right
 }
 
 /// The key whose text the bytes are, if it is an older version of the last one's column, which comes after it.

@@ -1,6 +1,6 @@
-//! The byte order of texts, by eight bytes at once.
+//! Texts compared by eight bytes at once: whether they are the same, and their byte order.
 
-ghost use Rattle.std.specs.Prelude.{◌≡◌, ◌≤◌, take, drop, length};
+ghost use Rattle.std.specs.Prelude.{◌≡◌, ◌↔◌, ◌≤◌, ◌<◌, ◌++◌, ℕ, List, take, drop, length, IsTrue};
 ghost use Rattle.std.specs.Ordering.{ordering_then};
 ghost use Rattle.std.specs.declared.cmp.Ordering.TheVariants.{Equal};
 ghost use Rattle.cell_key.specs.Keys.{byte_cmp};
@@ -48,4 +48,46 @@ pub fn compare_texts(a: &[u8], b: &[u8]) -> Ordering
         return compare_fronts(a.split_at(at).1, b.split_at(at).1);
     }
     left.cmp(&right)
+}
+
+/// Whether two texts of one length are the same, of which fewer than eight bytes are left behind what both have: by their
+/// last eight, or, if they have fewer, by what is left.
+#[inline(always)]
+fn are_ends_same(first: &[u8], second: &[u8], left: &[u8], right: &[u8]) -> bool
+    requires long { length first.now ≡ length second.now }
+    requires few { length left.now < 8 }
+    requires both { (both : List ℕ)
+        × (first.now ≡ both ++ left.now) × (second.now ≡ both ++ right.now) }
+    ensures { IsTrue result ↔ (first.now ≡ second.now) }
+{
+    if let Some((_, end)) = first.split_last_chunk::<8>() {
+        if let Some((_, other)) = second.split_last_chunk::<8>() {
+            return end == other;
+        }
+    }
+    left == right
+}
+
+/// Whether two texts are the same. Short ones are compared by eight bytes at once while so many are left, and then by
+/// their last eight. Takes no memory.
+#[inline(always)]
+pub fn are_same(first: &[u8], second: &[u8]) -> bool
+    ensures { IsTrue result ↔ (first.now ≡ second.now) }
+{
+    if first.len() != second.len() || first.len() >= LONG {
+        return first == second;
+    }
+    let mut left = first;
+    let mut right = second;
+    'words: while let Some((word, rest)) = left.split_first_chunk::<8>() {
+        let Some((other, other_rest)) = right.split_first_chunk::<8>() else {
+            return false;
+        };
+        if word != other {
+            return false;
+        }
+        left = rest;
+        right = other_rest;
+    }
+    are_ends_same(first, second, left, right)
 }

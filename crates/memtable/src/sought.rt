@@ -7,7 +7,7 @@ ghost use Rattle.cell_key.specs.Texts.{stamp_text};
 ghost use Rattle.memtable.specs.Order.{at_stamp, key_of};
 
 use crate::key_text::{EntryText, KeyText};
-use cell_key::{CellKey, Family, Qualifier, Row, Stamp, compare_texts, stamp_of};
+use cell_key::{CellKey, Family, Qualifier, Row, Stamp, are_same, compare_texts, stamp_of};
 use std::cmp::Ordering;
 
 /// The stamp of a text that differs from another one in its last eight bytes alone.
@@ -23,7 +23,7 @@ fn stamp_beside(text: &[u8], bytes: &[u8]) -> Option<Stamp>
     }
     let (front, _) = text.split_at(text.len() - 8);
     let (other, falling) = bytes.split_at(text.len() - 8);
-    if front == other {
+    if are_same(front, other) {
         stamp_of(falling)
     } else {
         None

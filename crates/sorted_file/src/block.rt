@@ -14,8 +14,8 @@ ghost use Rattle.sorted_file.specs.File.{IsShortValue, value_bytes};
 ghost use Rattle.sorted_file.specs.Source.{IsReadRefusal};
 
 use crate::bounds::ColumnBounds;
-use crate::format::{BLOCK_LIMIT, LENGTH, MOST_VALUE, is_same, is_short, read_entry, spelled_len};
-use cell_key::{EntryRef, KeyRef, Refusal, compare_texts, next_key};
+use crate::format::{BLOCK_LIMIT, LENGTH, MOST_VALUE, is_short, read_entry, spelled_len};
+use cell_key::{EntryRef, KeyRef, Refusal, are_same, compare_texts, next_key};
 use std::alloc::Global;
 use std::snapshot::Snapshot;
 
@@ -135,7 +135,7 @@ impl Block {
         ensures { (es : List Entry) → IsParsed es self.now
             → (IsTrue result ↔ BeginsWith text.now es) }
     {
-        self.entry(0).is_some_and(|entry| is_same(text, entry.key))
+        self.entry(0).is_some_and(|entry| are_same(text, entry.key))
     }
 
     /// Whether there is an entry of this index, and its text is below this one.

@@ -14,8 +14,7 @@ ghost use Rattle.sorted_file.specs.Index.{first_some, skips};
 ghost use Rattle.sorted_file.specs.Bounds.{front, IsWithin, column_bounds, AreWithin, IsBounded};
 
 use crate::block::Block;
-use crate::format::is_same;
-use cell_key::{CellKey, KeyRef, Qualifier, Refusal, Stamp, stamp_of};
+use cell_key::{CellKey, KeyRef, Qualifier, Refusal, Stamp, are_same, stamp_of};
 use std::alloc::Global;
 
 /// The byte of a row at an index, or 0 behind its end.
@@ -271,7 +270,7 @@ pub(crate) fn stamp_in(column: &[u8], bytes: &[u8]) -> Option<Stamp>
     }
     let at = column.len() - 8;
     let (front, falling) = bytes.split_at(at);
-    if is_same(front, column.split_at(at).0) {
+    if are_same(front, column.split_at(at).0) {
         stamp_of(falling)
     } else {
         None

@@ -16,13 +16,12 @@ ghost use Rattle.sorted_file.specs.Source.{IsReadRefusal};
 use crate::block::{Block, BlockRow, is_followed};
 use crate::bounds::head_of;
 use crate::format::{
-    Format, HEAD, LONGEST_BLOCK, RowRef, format_of, index_offset, is_below, is_same, push_foot,
-    read_row,
+    Format, HEAD, LONGEST_BLOCK, RowRef, format_of, index_offset, is_below, push_foot, read_row,
 };
 use crate::gathering::{Columns, ReadBlock, read_block};
 use crate::lock_index::LockIndex;
 use crate::source::{read_part, refusal_of};
-use cell_key::Refusal;
+use cell_key::{Refusal, are_same};
 use file_store::Files;
 use std::alloc::Global;
 use std::snapshot::Snapshot;
@@ -224,7 +223,7 @@ impl Opening {
         if row.offset != self.end {
             return false;
         }
-        if !is_same(row.first, first.key) {
+        if !are_same(row.first, first.key) {
             return false;
         }
         if !is_followed(&self.rows, first) {
@@ -347,7 +346,7 @@ impl Opening {
             self.count,
             self.size,
         )?;
-        Ok(is_same(&foot, end))
+        Ok(are_same(&foot, end))
     }
 }
 

@@ -9,7 +9,7 @@ ghost use Rattle.std.specs.Ordering.{is_lt};
 ghost use Rattle.sorted_file.specs.Index.{row_bytes};
 ghost use Rattle.sorted_file.specs.Grammar.{IsNoFile, head, foot_len, most, number_bytes, number_len, foot};
 
-use cell_key::{EntryRef, Refusal, compare_texts};
+use cell_key::{EntryRef, Refusal, are_same, compare_texts};
 
 /// How many bytes the head has.
 pub(crate) const HEAD: u64 = 8;
@@ -71,20 +71,13 @@ pub(crate) fn format_of(bytes: &[u8]) -> Option<Format>
     ensures found { IfSome result (λ format. bytes.now ≡ head format) }
     ensures none { IfNone result ((format : Format) → bytes.now ≢ head format) }
 {
-    if is_same(bytes, Format::One.head()) {
+    if are_same(bytes, Format::One.head()) {
         return Some(Format::One);
     }
-    if is_same(bytes, Format::Two.head()) {
+    if are_same(bytes, Format::Two.head()) {
         return Some(Format::Two);
     }
     None
-}
-
-/// Whether the bytes are the same.
-pub(crate) fn is_same(first: &[u8], second: &[u8]) -> bool
-    ensures { IsTrue result ↔ (first.now ≡ second.now) }
-{
-    first == second
 }
 
 /// Whether a text is below another.

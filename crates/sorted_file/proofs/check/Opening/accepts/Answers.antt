@@ -20,6 +20,6 @@ returns c =
     let order : c.is_below.result ≡ is_lt (byte_cmp c.args.self.now.last.items e.0) = c.is_below.ensures ∙ ap (λ (t : List ℕ). is_lt (byte_cmp t e.0)) c.deref-2.ensures.value in
     let rows = subst (λ (l : List BlockRow). AreRows 8 l) (sym c.deref.ensures.value) o.rows_are in
     let followed = subst (λ (l : List BlockRow). IsFollowed (blocks_of l) (e ∷ drop 1 es)) c.deref.ensures.value ((c.is_followed.ensures rows (drop 1 es)).0 c.if-not-is_followed.false) in (
-      λ t. is_next c.args.self.now c.args.row es e o c.requires.parsed.list first c.if-row-self.false (c.is_same.ensures.0 c.if-not-is_same.false) followed (is_less _ (sym order ∙ t)),
+      λ t. is_next c.args.self.now c.args.row es e o c.requires.parsed.list first c.if-row-self.false (c.are_same.ensures.0 c.if-not-are_same.false) followed (is_less _ (sym order ∙ t)),
       λ n. order ∙ ap is_lt (next_above c.args.self.now c.args.row es e o c.requires.parsed.list first n),
     )

@@ -1,9 +1,9 @@
 use Rattle.std.proofs.Common.{◌≡◌, ◌++◌, List, ℕ, length}
-use Rattle.cell_key.proofs.lent_keys.are_same.Given as goal
+use Rattle.cell_key.proofs.text_order.are_same.Given as goal
 
 -- what is left stands behind bytes that both have
 abbrev pub invariant-words : goal.invariant-words
-invariant-words l = (both : List ℕ) × (l.fn.bytes ≡ both ++ l.left) × (l.fn.other ≡ both ++ l.right)
+invariant-words l = (both : List ℕ) × (l.fn.first ≡ both ++ l.left) × (l.fn.second ≡ both ++ l.right)
 
 abbrev pub decreases-words : goal.decreases-words
 decreases-words l = length l.left

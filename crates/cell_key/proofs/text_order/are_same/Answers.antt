@@ -2,7 +2,7 @@ use Rattle.std.proofs.Common.{◌≡◌, ◌++◌, List, ℕ, Bool, take, drop, 
 use Rattle.std.specs.Cmp.Lexicographic.{pointwise, bytes_decides}
 use Rattle.std.proofs.lemmas.List.{append_cancel_left, take-append-drop}
 use Rattle.cell_key.proofs.TextPlaces.{clash}
-use Rattle.cell_key.proofs.lent_keys.are_same.Goals as goal
+use Rattle.cell_key.proofs.text_order.are_same.Goals as goal
 
 -- where bytes are the same, so is what is left of them, and its front
 rest_same : (bytes other both left right : List ℕ) → bytes ≡ both ++ left → other ≡ both ++ right → bytes ≡ other → left ≡ right
@@ -30,9 +30,9 @@ returns-then-ne c =
     let two = c.in-Some-split_first_chunk.ensures.cases in (
       λ t. absurd (clash false t refl),
       λ same.
-          let front = one.0 ∙ ap (take 8) (rest_same c.args.bytes.now c.args.other.now i.0 c.words.left.now c.words.right.now i.1 i.2 same) ∙ sym two.0 in
-          let told = (bytes_decides c.in-Some.word.now c.in-Some-split_first_chunk.other_word.now).1 front in
-          absurd (both_true c.ne.result (pointwise nat_eq c.in-Some.word.now c.in-Some-split_first_chunk.other_word.now) c.ne.ensures c.if-ne.true told),
+          let front = one.0 ∙ ap (take 8) (rest_same c.args.first.now c.args.second.now i.0 c.words.left.now c.words.right.now i.1 i.2 same) ∙ sym two.0 in
+          let told = (bytes_decides c.in-Some.word.now c.in-Some-split_first_chunk.other.now).1 front in
+          absurd (both_true c.ne.result (pointwise nat_eq c.in-Some.word.now c.in-Some-split_first_chunk.other.now) c.ne.ensures c.if-ne.true told),
     )
 
 pub words-preserved : goal.words-preserved
@@ -40,17 +40,9 @@ words-preserved c =
     let i = c.words.invariant in
     let one = c.in-Some.ensures.cases in
     let two = c.in-Some-split_first_chunk.ensures.cases in
-    let equal = turned c.ne.result (pointwise nat_eq c.in-Some.word.now c.in-Some-split_first_chunk.other_word.now) c.ne.ensures c.if-ne.false in
-    let front = (bytes_decides c.in-Some.word.now c.in-Some-split_first_chunk.other_word.now).0 equal in (
+    let equal = turned c.ne.result (pointwise nat_eq c.in-Some.word.now c.in-Some-split_first_chunk.other.now) c.ne.ensures c.if-ne.false in
+    let front = (bytes_decides c.in-Some.word.now c.in-Some-split_first_chunk.other.now).0 equal in (
       i.0 ++ c.in-Some.word.now,
-      more c.args.bytes.now i.0 c.words.left.now c.in-Some.word.now c.in-Some.rest.now i.1 (sym one.0) one.1,
-      more c.args.other.now i.0 c.words.right.now c.in-Some.word.now c.in-Some-split_first_chunk.other_rest.now i.2 (sym two.0 ∙ sym front) two.1,
-    )
-
-pub returns : goal.returns
-returns c =
-    let i = c.words.invariant in
-    let test = bytes_decides c.words.left.now c.words.right.now in (
-      λ t. i.1 ∙ ap (λ (r : List ℕ). i.0 ++ r) (test.0 (sym c.eq.ensures ∙ t)) ∙ sym i.2,
-      λ same. c.eq.ensures ∙ (test.1 (rest_same c.args.bytes.now c.args.other.now i.0 c.words.left.now c.words.right.now i.1 i.2 same)),
+      more c.args.first.now i.0 c.words.left.now c.in-Some.word.now c.in-Some.rest.now i.1 (sym one.0) one.1,
+      more c.args.second.now i.0 c.words.right.now c.in-Some.word.now c.in-Some-split_first_chunk.other_rest.now i.2 (sym two.0 ∙ sym front) two.1,
     )
