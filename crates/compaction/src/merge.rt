@@ -10,7 +10,7 @@ ghost use Rattle.compaction.specs.Least.{IsLeast};
 ghost use Rattle.compaction.specs.Merging.{AreAtStart, BreaksAmong, GoesPast, IsAtLeast, IsMoved, MayStep, MovesPast, lent_at, Moves, StepsTo, MergeHolds, HasStarted, cost, one};
 ghost use Rattle.compaction.specs.Ties.{comes_first, ties};
 
-use cell_key::{EntryRef, Refusal};
+use cell_key::{EntryRef, Refusal, compare_texts};
 use file_store::Files;
 use sorted_file::Source;
 
@@ -28,7 +28,7 @@ fn is_tied<F: Files, S: Source<F>>(a: &S, b: &S) -> bool
     ensures { result ≡ ties (S.lent a.now) (S.lent b.now) }
 {
     match (a.current(), b.current()) {
-        (Some(x), Some(y)) => x.key.cmp(&y.key).is_eq(),
+        (Some(x), Some(y)) => compare_texts(x.key, y.key).is_eq(),
         _ => false,
     }
 }
@@ -42,7 +42,7 @@ fn is_first<F: Files, S: Source<F>>(a: &S, b: Option<&S>) -> bool
     };
     match b {
         Some(b) => match b.current() {
-            Some(y) => x.key.cmp(&y.key).is_le(),
+            Some(y) => compare_texts(x.key, y.key).is_le(),
             None => true,
         },
         None => true,

@@ -4,4 +4,4 @@ use Rattle.compaction.specs.Ties.{ties}
 use Rattle.compaction.proofs.merge.is_tied.Goals as goal
 
 pub returns-in-Some-Some : goal.returns-in-Some-Some
-returns-in-Some-Some g c = c.is_eq.ensures ∙ ap is_eq c.cmp.ensures ∙ (λ i. ties (c.in-Some-Some.ensures i) (c.in-Some-Some.ensures' i))
+returns-in-Some-Some g c = c.is_eq.ensures ∙ ap is_eq c.compare_texts.ensures ∙ (λ i. ties (c.in-Some-Some.ensures i) (c.in-Some-Some.ensures' i))
