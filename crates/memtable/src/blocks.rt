@@ -138,6 +138,7 @@ fn place_from<S: Sought>(blocks: &[Block], sought: S, at: usize) -> Option<Place
 
 /// The place of the first entry that isn't below what is sought, if it is in the block of `near`, or behind it and this
 /// is the last block. It is looked for beside `near`.
+#[inline(always)]
 fn place_beside<S: Sought>(blocks: &[Block], sought: S, near: Place) -> Option<Place>
     requires rising { IsRising (block_entries blocks.now) }
     requires blocks { AllByRecursion IsEntryBlock blocks.now }

@@ -9,7 +9,7 @@ ghost use Rattle.memtable.specs.Slots.{is_lock_text};
 
 use crate::sought::Sought;
 use byteorder::{BigEndian, ByteOrder};
-use cell_key::{are_same, compare_texts};
+use cell_key::compare_texts;
 use smallvec::SmallVec;
 use std::cmp::Ordering;
 use std::marker::Model;
@@ -78,7 +78,7 @@ impl EntryText {
     pub(crate) fn is(&self, bytes: &[u8]) -> bool
         ensures { result ≡ is_eq (byte_cmp bytes.now self.now) }
     {
-        are_same(bytes, self.as_slice())
+        bytes == self.as_slice()
     }
 
     /// The byte order of some bytes, whose front is given, and this text.
