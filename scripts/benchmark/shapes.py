@@ -116,6 +116,29 @@ def random_commits(count: int) -> Iterator[Exchange]:
     return commits(count, shuffled_rows(count).__getitem__)
 
 
+def accounts(size: int) -> Iterator[Exchange]:
+    """Puts 1,000 into each of 1,000 accounts, whatever the size."""
+    for number in range(1000):
+        yield from transaction(number, [(short_row(number), b"1000")])
+
+
+def transfers(count: int) -> Iterator[Exchange]:
+    """Transactions that read two of these accounts, and then move a part of the first into the second."""
+    balances = [1000] * 1000
+    draws = random.Random(3)
+    for number in range(1000, 1000 + count):
+        start, _ = stamps_of(number)
+        pair = draws.sample(range(1000), 2)
+        reads = [get(start, short_row(account), b"%d" % balances[account]) for account in pair]
+        amount = draws.randrange(balances[pair[0]] + 1)
+        balances[pair[0]] -= amount
+        balances[pair[1]] += amount
+        exchanges = transaction(number, [(short_row(account), b"%d" % balances[account]) for account in pair])
+        yield next(exchanges)
+        yield from reads
+        yield from exchanges
+
+
 def first_row(number: int) -> bytes:
     """The row of the first cell of a transaction that stops after its commit."""
     return b"a%08d" % number
@@ -277,6 +300,9 @@ SHAPES = {
     ),
     "random": Shape(33_000, "commits of one cell on rows in a random order", random_commits),
     "hot": Shape(15_000, "commits of one hot cell", lambda size: commits(size, hot_row)),
+    "transfer": Shape(
+        15_000, "transfers between two of 1,000 rows: two Gets and two Sets", transfers, loaded=accounts
+    ),
     "files": Shape(
         160_000,
         "commits of one cell on 1,000 rows, with 48 files written on the way",
