@@ -106,7 +106,8 @@ fn steps_after<S: Sought>(slots: &[Box<Slot>], sought: S, from: usize) -> (usize
 }
 
 /// A part of the entries from an index on, before which all are below what is sought: behind it none is. The entry at
-/// the index is compared first, and then the last one: what lies beyond all entries takes no more.
+/// the index is compared first. If it begins otherwise than what is sought, the last one is compared next: what lies
+/// beyond all entries takes no more.
 fn part_after<S: Sought>(slots: &[Box<Slot>], sought: S, from: usize) -> (usize, usize)
     requires rising { IsRising (slot_entries slots.now) }
     requires from { from ≤ length slots.now }
@@ -120,8 +121,10 @@ fn part_after<S: Sought>(slots: &[Box<Slot>], sought: S, from: usize) -> (usize,
         return (from, from);
     }
     let last = slots.len() - 1;
-    if from < last && sought.compare(&slots[last].text).is_gt() {
-        return (slots.len(), slots.len());
+    if from < last && !sought.has_front(&slots[from].text) {
+        if sought.compare(&slots[last].text).is_gt() {
+            return (slots.len(), slots.len());
+        }
     }
     steps_after(slots, sought, from + 1)
 }
@@ -148,7 +151,8 @@ fn steps_before<S: Sought>(slots: &[Box<Slot>], sought: S, to: usize) -> (usize,
 }
 
 /// A part of the entries up to an index, from which on none is below what is sought: before it all are. The entry
-/// before the index is compared first, and then the first one: what lies before all entries takes no more.
+/// before the index is compared first. If it begins otherwise than what is sought, the first one is compared next: what
+/// lies before all entries takes no more.
 fn part_before<S: Sought>(slots: &[Box<Slot>], sought: S, to: usize) -> (usize, usize)
     requires rising { IsRising (slot_entries slots.now) }
     requires to { to ≤ length slots.now }
@@ -161,8 +165,10 @@ fn part_before<S: Sought>(slots: &[Box<Slot>], sought: S, to: usize) -> (usize, 
     if sought.compare(&slots[to - 1].text).is_gt() {
         return (to, to);
     }
-    if to > 1 && !sought.compare(&slots[0].text).is_gt() {
-        return (0, 0);
+    if to > 1 && !sought.has_front(&slots[to - 1].text) {
+        if !sought.compare(&slots[0].text).is_gt() {
+            return (0, 0);
+        }
     }
     steps_before(slots, sought, to - 1)
 }

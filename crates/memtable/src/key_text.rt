@@ -108,6 +108,11 @@ impl Sought for &EntryText {
     fn is(&self, text: &EntryText) -> bool {
         text.is(self.as_slice())
     }
+
+    #[inline(always)]
+    fn has_front(&self, text: &EntryText) -> bool {
+        self.front == text.front
+    }
 }
 
 /// The text of a key, lent.
@@ -157,5 +162,10 @@ impl Sought for &KeyText<'_> {
     #[inline(always)]
     fn is(&self, text: &EntryText) -> bool {
         text.is(self.as_slice())
+    }
+
+    #[inline(always)]
+    fn has_front(&self, text: &EntryText) -> bool {
+        self.front == text.front
     }
 }

@@ -65,6 +65,9 @@ pub(crate) trait Sought: Copy {
     /// Whether the text of an entry is the one that is sought.
     fn is(&self, text: &EntryText) -> bool
         ensures { result ≡ is_eq (byte_cmp (name self.now) text.now) };
+
+    /// Whether the text of an entry seems to begin with the same eight bytes. It says only where to look next.
+    fn has_front(&self, text: &EntryText) -> bool;
 }
 
 impl Sought for &[u8] {
@@ -76,6 +79,13 @@ impl Sought for &[u8] {
 
     fn is(&self, text: &EntryText) -> bool {
         text.is(self)
+    }
+
+    fn has_front(&self, text: &EntryText) -> bool {
+        match text.as_slice().first_chunk::<8>() {
+            Some(front) => self.starts_with(front),
+            None => false,
+        }
     }
 }
 

@@ -40,7 +40,7 @@ returns-then-is_gt g c =
     let last = length xs - 1 in
     let within : last < length xs = omega (arith, test) in
     let below : is_gt (byte_cmp name c.index-slots-last.result.value.text) ≡ true =
-    ap (λ (s : Slot). is_gt (byte_cmp name s.text)) (sym c.deref-then-from-last.ensures) ∙ ap is_gt (sym c.compare-then-from-last.ensures) ∙ sym c.is_gt-then-from-last.ensures ∙ c.if-is_gt.true in
+    ap (λ (s : Slot). is_gt (byte_cmp name s.text)) (sym c.deref-then-not-has_front.ensures) ∙ ap is_gt (sym c.compare-then-not-has_front.ensures) ∙ sym c.is_gt-then-not-has_front.ensures ∙ c.if-is_gt.true in
     let all : AreBelow name xs (last + 1) = up_to name xs c.requires.rising last c.index-slots-last.result within c.index-slots-last.is below in
     record {
       order = omega arith;

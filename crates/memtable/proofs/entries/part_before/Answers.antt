@@ -42,7 +42,7 @@ returns-then-not-is_gt g c =
     let test = c.if-to-gt1.true in
     let within : 0 < length xs = omega (arith, most, test) in
     let above : is_gt (byte_cmp name c.index-slots-0.result.value.text) ≡ false =
-    ap (λ (s : Slot). is_gt (byte_cmp name s.text)) (sym c.deref-then-to-gt1.ensures) ∙ ap is_gt (sym c.compare-then-to-gt1.ensures) ∙ sym c.is_gt-then-to-gt1.ensures ∙ c.if-not-is_gt.true in
+    ap (λ (s : Slot). is_gt (byte_cmp name s.text)) (sym c.deref-then-not-has_front.ensures) ∙ ap is_gt (sym c.compare-then-not-has_front.ensures) ∙ sym c.is_gt-then-not-has_front.ensures ∙ c.if-not-is_gt.true in
     record {
       order = omega arith;
       within = omega arith;
