@@ -54,8 +54,26 @@ fn split_byte(text: &[u8]) -> Option<(u8, &[u8])>
     Some((0, rest))
 }
 
-/// The number of the first eight bytes of the row of the key with this text, a row of fewer filled up with zeros.
-fn front_in(bytes: &[u8]) -> u64
+/// The number of the first eight bytes, if there are as many and none is 0: the row of the key with this text has them.
+fn plain_front_in(bytes: &[u8]) -> Option<u64>
+    ensures { IfSome result (λ number. (key : KeyOf) → bytes.now ≡ text key
+        → number ≡ front key.row) }
+{
+    if bytes.len() < 8 {
+        return None;
+    }
+    let (eight, _) = bytes.split_at(8);
+    if eight.contains(&0) {
+        return None;
+    }
+    Some(u64::from_be_bytes([
+        eight[0], eight[1], eight[2], eight[3], eight[4], eight[5], eight[6], eight[7],
+    ]))
+}
+
+/// The number of the first eight bytes of the row of the key with this text, byte by byte, a row of fewer filled up with
+/// zeros.
+fn short_front_in(bytes: &[u8]) -> u64
     ensures { (key : KeyOf) → bytes.now ≡ text key → result ≡ front key.row }
 {
     let mut front = [0u8; 8];
@@ -68,6 +86,16 @@ fn front_in(bytes: &[u8]) -> u64
         left = after;
     }
     u64::from_be_bytes(front)
+}
+
+/// The number of the first eight bytes of the row of the key with this text, a row of fewer filled up with zeros.
+fn front_in(bytes: &[u8]) -> u64
+    ensures { (key : KeyOf) → bytes.now ≡ text key → result ≡ front key.row }
+{
+    match plain_front_in(bytes) {
+        Some(front) => front,
+        None => short_front_in(bytes),
+    }
 }
 
 /// Bounds of values: their stamps from the least to the greatest, and the fronts of their rows from the first to the
@@ -89,17 +117,15 @@ impl Bounds {
         last: 0,
     };
 
-    /// These bounds, widened to a value at this stamp of a row with this front.
-    fn with(self, number: u64, stamp: Stamp) -> Bounds
-        ensures has { (row : List ℕ) → number ≡ front row → IsWithin result row stamp }
-        ensures keeps { (row : List ℕ) (s : ℕ) → IsWithin self row s → IsWithin result row s }
+    /// Widens the bounds to a value at this stamp of a row with this front.
+    fn widen(&mut self, number: u64, stamp: Stamp)
+        ensures has { (row : List ℕ) → number ≡ front row → IsWithin self.new row stamp }
+        ensures keeps { (row : List ℕ) (s : ℕ) → IsWithin self.old row s → IsWithin self.new row s }
     {
-        Bounds {
-            least: self.least.min(stamp),
-            greatest: self.greatest.max(stamp),
-            first: self.first.min(number),
-            last: self.last.max(number),
-        }
+        self.least = self.least.min(stamp);
+        self.greatest = self.greatest.max(stamp);
+        self.first = self.first.min(number);
+        self.last = self.last.max(number);
     }
 
     /// Bounds of the values of both.
@@ -159,19 +185,18 @@ impl ColumnBounds {
         }
     }
 
-    /// These bounds, widened to a value of this kind at this stamp of a row with this front.
-    fn with(self, qualifier: Qualifier, number: u64, stamp: Stamp) -> ColumnBounds
-        ensures has { (row : List ℕ) → number ≡ front row
-            → IsWithin (column_bounds result qualifier) row stamp }
-        ensures keeps { AreWithin self result }
+    /// Widens the bounds to a value at this key.
+    pub(crate) fn widen(&mut self, key: KeyRef<'_>)
+        requires { IsLentKey key }
+        ensures has { (value : Option (List ℕ)) → IsBounded self.new (key.entry.text.now, value) }
+        ensures keeps { AreWithin self.old self.new }
     {
-        let mut bounds = self;
-        match qualifier {
-            Qualifier::Data => bounds.data = self.data.with(number, stamp),
-            Qualifier::Lock => bounds.lock = self.lock.with(number, stamp),
-            Qualifier::Write => bounds.write = self.write.with(number, stamp),
+        let number = front_in(key.text);
+        match key.qualifier {
+            Qualifier::Data => self.data.widen(number, key.stamp),
+            Qualifier::Lock => self.lock.widen(number, key.stamp),
+            Qualifier::Write => self.write.widen(number, key.stamp),
         }
-        bounds
     }
 
     /// Bounds of the values of both.
@@ -201,15 +226,6 @@ impl ColumnBounds {
     {
         let bounds = self.of(key.qualifier);
         bounds.meets(lo, key.stamp) && bounds.has_front(front_of(key.row.as_bytes()))
-    }
-
-    /// These bounds, widened to a value at this key.
-    pub(crate) fn with_key(self, key: KeyRef<'_>) -> ColumnBounds
-        requires { IsLentKey key }
-        ensures has { (value : Option (List ℕ)) → IsBounded result (key.entry.text.now, value) }
-        ensures keeps { AreWithin self result }
-    {
-        self.with(key.qualifier, front_in(key.text), key.stamp)
     }
 }
 

@@ -71,7 +71,7 @@ impl Columns {
         };
         push_lock(&mut self.locks, key, number)?;
         push_lock_value(&mut self.lock_values, key, number)?;
-        self.bounds = self.bounds.with_key(key);
+        self.bounds.widen(key);
         Ok(())
     }
 

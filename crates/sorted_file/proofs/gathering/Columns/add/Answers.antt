@@ -29,8 +29,8 @@ pub returns-clause-added : goal.returns-clause-added
 returns-clause-added c = λ es k.
     let here = subst (λ (n : ℕ). Contains c.push_number.new.numbers.items n) (c.column_number-number.ensures ∙ ap number_of c.requires.text) c.in_ok-push_number.ensures.has in
     let value = option_copied c.args.entry.value in
-    columns_on c.args.self.now _ es (lent_entry c.args.entry) c.with_key-self.ensures.keeps
-    (subst (λ (name : List ℕ). IsBounded c.with_key-self.result (name, value)) c.requires.text (c.with_key-self.ensures.has value))
+    columns_on c.args.self.now _ es (lent_entry c.args.entry) c.widen.ensures.keeps
+    (subst (λ (name : List ℕ). IsBounded c.widen.new.self (name, value)) c.requires.text (c.widen.ensures.has value))
     c.in_ok-push_number.ensures.keeps here c.in_ok-push_lock.ensures.keeps
     (subst (λ (name : List ℕ). IsLockStamped c.push_lock.new.locks.items (name, value)) c.requires.text (c.in_ok-push_lock.ensures.has value))
     c.in_ok-push_lock_key.ensures.keeps

@@ -1,6 +1,6 @@
 use Rattle.std.proofs.Common.{◌≡◌, ◌<◌, ℕ, subst, ◌∙◌, arith}
 use Rattle.sorted_file.proofs.RowFronts.{full_front, none_read, one_read, short_front, IsFrontRead}
-use Rattle.sorted_file.proofs.bounds.front_in.Goals as goal
+use Rattle.sorted_file.proofs.bounds.short_front_in.Goals as goal
 
 pub loop-at-init : goal.loop-at-init
 loop-at-init c = none_read c.args.bytes.now
