@@ -1,5 +1,7 @@
 mod AcceptedBlocks
 mod Behind
+mod BuiltFiles
+mod BuiltImages
 mod Breaks
 mod ColumnsOf
 mod Counting
@@ -10,6 +12,7 @@ mod Framing
 mod Filtered
 mod Fronts
 mod Growth
+mod GrowingBlocks
 mod Halves
 mod Joining
 mod Keeping
@@ -27,8 +30,8 @@ mod OpenFiles
 mod Parsed
 mod Passed
 mod Places
+mod PutFiles
 mod Reading
-mod Rest
 mod Results
 mod RowFronts
 mod Rows

@@ -1,65 +1,60 @@
--- What a source has passed over is written.
-use Rattle.std.proofs.Common.{◌≡◌, ℕ, ◌+◌, ◌<◌, ◌≤◌, ◌^◌, ◌⊎◌, false, List, [], ◌∷◌, ◌++◌, length, refl, subst}
-use Rattle.std.specs.Prelude.{Option, Some, None, is_some}
-use Rattle.cell_key.specs.Entries.{Entry, entry_len}
+-- What a source has passed over, and what remains of its list.
+use Rattle.std.proofs.Common.{◌≡◌, false, List, [], ◌∷◌, ◌++◌, refl, sym, ap, subst, ◌∙◌, append_assoc}
+use Rattle.std.specs.Prelude.{Option, Some, None, is_some, IsSome}
+use Rattle.std.proofs.lemmas.List.{append-nil}
+use Rattle.cell_key.specs.Entries.{Entry, IsEntry, IsEntryList, Takes}
 use Rattle.file_store.specs.Store.{Contents}
-use Rattle.sorted_file.specs.Builder.{State, IsBuilt}
-use Rattle.sorted_file.specs.Grammar.{FitsIn, IsFile}
-use Rattle.sorted_file.specs.declared.format.Format.TheVariants.{Two}
-use Rattle.sorted_file.specs.Passing.{BreaksAfter, IsFileOf, PassesOver, PassesTooMuch, passes_none, passes_one}
-use Rattle.sorted_file.proofs.Rest.{too_large}
-
--- a file so far is that of the entries that a source has passed over
-pub record HasPassed {S : Type 0} (steps : S → S → Type 0) (lent : S → Option Entry) (b : State) (s t : S) : Type 0 where
-  pub done : List Entry
-  pub passes : PassesOver steps lent s done t
-  pub built : IsBuilt b done
-
-pub passed_none : {S : Type 0} (steps : S → S → Type 0) (lent : S → Option Entry) (b : State) (s : S) → IsBuilt b [] → HasPassed steps lent b s s
-passed_none steps lent b s h = record { done = []; passes = passes_none; built = h }
+use Rattle.sorted_file.specs.Passing.{EndsAfter, PassesOver, passes_none, passes_one}
+use Rattle.sorted_file.specs.Source.{pending, ComesToEnd, ends, goes_on}
+use Rattle.sorted_file.proofs.Joining.{all_front, rising_front}
+use Rattle.sorted_file.proofs.Places.{rest_list}
 
 none_of : (o : Option Entry) → is_some o ≡ false → o ≡ None
 none_of None e = refl
 none_of (Some e) p = cc
 
 module _ {S : Type 0} (steps : Option Contents → S → S → Type 0) (lent : S → Option Entry) where
-  passes_on : (disk : Option Contents) {s t u : S} {e : Entry} {es : List Entry} → PassesOver (steps disk) lent s es t → steps disk t u → lent u ≡ Some e → PassesOver (steps disk) lent s (es ++ e ∷ []) u
-  passes_on disk passes_none step is = passes_one step is passes_none
-  passes_on disk (passes_one first here more) step is = passes_one first here (passes_on disk more step is)
-
   -- a step over files that hold the same
   over_same : (was disk : Option Contents) (s t : S) → was ≡ disk → steps was s t → steps disk s t
   over_same was disk s t same step = subst (λ (d : Option Contents). steps d s t) same step
 
+  passes_on : (disk : Option Contents) {s t u : S} {e : Entry} {es : List Entry} → PassesOver (steps disk) lent s es t → steps disk t u → lent u ≡ Some e → PassesOver (steps disk) lent s (es ++ e ∷ []) u
+  passes_on disk passes_none step is = passes_one step is passes_none
+  passes_on disk (passes_one first here more) step is = passes_one first here (passes_on disk more step is)
+
   -- an entry more
-  pub passed_one : (was disk : Option Contents) (b d : State) (s t u : S) (e : Entry) → was ≡ disk → steps was t u → lent u ≡ Some e
-      → ((es : List Entry) → IsBuilt b es → IsBuilt d (es ++ e ∷ [])) → HasPassed (steps disk) lent b s t → HasPassed (steps disk) lent d s u
-  passed_one was disk b d s t u e same step is f h =
-      record { done = h.done ++ e ∷ []; passes = passes_on disk h.passes (over_same was disk t u same step) is; built = f h.done h.built }
+  pub passed_one : (was disk : Option Contents) (s t u : S) (es : List Entry) (e : Entry) → was ≡ disk → steps was t u → lent u ≡ Some e → PassesOver (steps disk) lent s es t → PassesOver (steps disk) lent s (es ++ e ∷ []) u
+  passed_one was disk s t u es e same step is h = passes_on disk h (over_same was disk t u same step) is
 
-  -- it doesn't fit
-  pub passed_large : (was disk : Option Contents) (b : State) (s t u : S) (e : Entry) (limit : ℕ) → was ≡ disk → steps was t u → lent u ≡ Some e
-      → HasPassed (steps disk) lent b s t → (limit < length b.out + entry_len e) ⊎ (2 ^ 32 ≤ entry_len e) → PassesTooMuch (steps disk) lent limit s
-  passed_large was disk b s t u e limit same step is h large =
-      record {
-        entries = h.done ++ e ∷ [];
-        last = u;
-        passes = passes_on disk h.passes (over_same was disk t u same step) is;
-        large = too_large b (h.done ++ e ∷ []) (e ∷ []) [] e limit refl (record { done = h.done; built = h.built; parts = refl }) large;
-      }
+  -- all of them
+  pub passed_all : (was disk : Option Contents) (s t u : S) (es : List Entry) → was ≡ disk → steps was t u → is_some (lent u) ≡ false → PassesOver (steps disk) lent s es t → EndsAfter (steps disk) lent es s
+  passed_all was disk s t u es same step none h = record { last = t; passes = h; end = u; step = over_same was disk t u same step; none = none_of (lent u) none }
 
-  -- all of them don't
-  pub passed_much : (disk : Option Contents) (b : State) (s t : S) (limit : ℕ) → HasPassed (steps disk) lent b s t → ((es : List Entry) → IsBuilt b es → ¬ FitsIn limit es) → PassesTooMuch (steps disk) lent limit s
-  passed_much disk b s t limit h large = record { entries = h.done; last = t; passes = h.passes; large = large h.done h.built }
+  come_to : (disk : Option Contents) {s t : S} {es : List Entry} → PassesOver (steps disk) lent s es t → ComesToEnd (steps disk) lent t → ComesToEnd (steps disk) lent s
+  come_to disk passes_none h = h
+  come_to disk (passes_one step is more) h = goes_on step (subst (λ (o : Option Entry). IsSome o) (sym is) refl) (come_to disk more h)
 
-  pub passed_all : (was disk : Option Contents) (b : State) (s t u : S) (image : List ℕ) → was ≡ disk → steps was t u → is_some (lent u) ≡ false
-      → HasPassed (steps disk) lent b s t → ((es : List Entry) → IsBuilt b es → IsFile Two es image) → IsFileOf (steps disk) lent s image
-  passed_all was disk b s t u image same step none h form =
-      record {
-        entries = h.done;
-        all = record { last = t; passes = h.passes; end = u; step = over_same was disk t u same step; none = none_of (lent u) none };
-        form = form h.done h.built;
-      }
+  pub comes_to_end : (disk : Option Contents) (s : S) (es : List Entry) → EndsAfter (steps disk) lent es s → ComesToEnd (steps disk) lent s
+  comes_to_end disk s es h = come_to disk h.passes (ends h.step h.none)
 
-  pub breaks_after : (was disk : Option Contents) (breaks : Option Contents → S → Type 0) (b : State) (s t : S) → was ≡ disk → HasPassed (steps disk) lent b s t → breaks was t → BreaksAfter (steps disk) lent (breaks disk) s
-  breaks_after was disk breaks b s t same h broken = record { entries = h.done; last = t; passes = h.passes; here = subst (λ (d : Option Contents). breaks d t) same broken }
+-- ---- what remains
+
+pub takes_some : (o : Option Entry) (e : Entry) (old new : List Entry) → o ≡ Some e → Takes o old new → old ≡ e ∷ new
+takes_some o e old new is t = subst (λ (q : Option Entry). Takes q old new) is t
+
+pub takes_none : (o : Option Entry) (old new : List Entry) → is_some o ≡ false → Takes o old new → old ≡ []
+takes_none None old new is t = t.0
+takes_none (Some e) old new is t = cc
+
+-- the next one was taken, or none was left
+pub taken : (done old new all : List Entry) (e : Entry) → old ≡ e ∷ new → done ++ old ≡ all → (done ++ e ∷ []) ++ new ≡ all
+taken done old new all e is parts = append_assoc done (e ∷ []) new ∙ ap (λ (l : List Entry). done ++ l) (sym is) ∙ parts
+
+pub all_taken : (done old all : List Entry) → old ≡ [] → done ++ old ≡ all → done ≡ all
+all_taken done old all none parts = sym (append-nil done) ∙ ap (λ (l : List Entry). done ++ l) (sym none) ∙ parts
+
+-- what was taken of an entry list is one
+pub taken_list : (lent : Option Entry) (all done more : List Entry) → IsEntryList (pending lent all) → done ++ more ≡ all → IsEntryList done
+taken_list lent all done more list parts =
+    let rest = subst IsEntryList (sym parts) (rest_list lent all list) in
+    record { rising = rising_front done more rest.rising; each = all_front IsEntry done more rest.each }

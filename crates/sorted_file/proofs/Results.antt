@@ -43,3 +43,15 @@ as_told (Some a) P f = f a refl
 
 pub of_told : {A : Type 0} (o : Option A) (a : A) (P : A → Type 0) → o ≡ Some a → IfSome o P → P a
 of_told o a P e h = subst (λ (q : Option _). IfSome q P) e h
+
+pub on_both : {A E : Type 0} (r : Result A E) (P Q : Type 0) → OnOk r P → OnOk r Q → OnOk r (P × Q)
+on_both (Ok a) P Q p q = (p, q)
+on_both (Err e) P Q p q = p
+
+pub some_both : {A : Type 0} (o : Option A) (P Q : A → Type 0) → IfSome o P → IfSome o Q → IfSome o (λ a. P a × Q a)
+some_both (Some a) P Q p q = (p, q)
+some_both None P Q p q = p
+
+pub if_none : {A : Type 0} (o : Option A) (P Q : Type 0) → (P → Q) → IfNone o P → IfNone o Q
+if_none None P Q f h = f h
+if_none (Some a) P Q f h = h

@@ -7,7 +7,7 @@ use Rattle.file_store.specs.Store.{Contents}
 use Rattle.cell_key.specs.Entries.{Entry, field, spelled}
 use Rattle.sorted_file.specs.Grammar.{block_bytes, body, foot_len, head, index, most, number_bytes, row, foot, AreBlocks, IsFile, IsNoFile}
 use Rattle.sorted_file.specs.Index.{block_of, blocks_of, entries_in, Tells}
-use Rattle.sorted_file.specs.Check.{IsFramed, IsOpening, IsRead, IsReading, IsWhole}
+use Rattle.sorted_file.specs.Check.{IsFormed, IsFramed, IsOpening, IsRead, IsReading, IsWhole}
 use Rattle.sorted_file.specs.File.{HasFile}
 use Rattle.sorted_file.specs.declared.block.BlockRow.{BlockRow}
 use Rattle.sorted_file.specs.declared.format.Format.{Format}
@@ -35,10 +35,6 @@ few_blocks ((e ∷ es) ∷ blocks) g =
     let k : length (e ∷ es) ≡ 1 + length es = length-append (e ∷ []) es in
     let j : length ((e ∷ es) ∷ blocks) ≡ 1 + length blocks = length-append ((e ∷ es) ∷ []) blocks in
     omega (arith, l, m, n, k, j)
-
-pub record IsFormed (o : Opening) (image : List ℕ) : Type 0 where
-  pub form : IsFile o.format (entries_in (blocks_of o.rows.items)) image
-  pub blocks : form.blocks ≡ blocks_of o.rows.items
 
 -- the bytes are the file of these entries in these blocks
 pub record HasBlocks (f : Format) (es : List Entry) (image : List ℕ) (blocks : List (List Entry)) : Type 0 where

@@ -36,7 +36,7 @@ IsFollowed [] next = Unit {0}
 IsFollowed (es ∷ []) next = IsFullBlock es (next ∷ [])
 IsFollowed (es ∷ fs ∷ blocks) next = IsFollowed (fs ∷ blocks) next
 
--- an opening has read blocks so far, and keeps of them what an open file keeps, and the last text
+-- an opening has blocks so far, and keeps of them what an open file keeps, and the last text
 pub record IsOpening (o : Opening) : Type 0 where
   pub rows_are : AreRows 8 o.rows.items
   pub grammar : AreBlocks (blocks_of o.rows.items)
@@ -64,6 +64,11 @@ pub record IsNext (o : Opening) (row : RowRef) (block : List Entry) : Type 0 whe
   pub first : IsFirstText row.first.now block
   pub followed : IsFollowed (blocks_of o.rows.items) block
   pub rising : IsRising (entries_in (blocks_of o.rows.items) ++ block)
+
+-- these bytes are the file of the blocks of an opening
+pub record IsFormed (o : Opening) (image : List ℕ) : Type 0 where
+  pub form : IsFile o.format (entries_in (blocks_of o.rows.items)) image
+  pub blocks : form.blocks ≡ blocks_of o.rows.items
 
 -- under this name there is the file of the blocks that were read
 pub record IsWhole (m : Contents) (name : ℕ) (o : Opening) : Type 0 where

@@ -1,6 +1,6 @@
 -- What a source passes over, whatever it stands for: entries that stand in the files now.
 use Rattle.std.specs.Prelude.{◌≡◌, ℕ, List, [], ◌∷◌, Option, Some, None}
-use Rattle.cell_key.specs.Entries.{Entry}
+use Rattle.cell_key.specs.Entries.{Entry, IsEntryList}
 use Rattle.sorted_file.specs.Grammar.{FitsIn, IsFile}
 use Rattle.sorted_file.specs.declared.format.Format.TheVariants.{Two}
 
@@ -32,6 +32,13 @@ module _ {S : Type 0} (steps : S → S → Type 0) (lent : S → Option Entry) w
     pub last : S
     pub passes : PassesOver steps lent s entries last
     pub large : ¬ FitsIn limit entries
+
+  -- a source passes over entries, perhaps not all, that are no entry list
+  pub record PassesNoList (s : S) : Type 0 where
+    pub entries : List Entry
+    pub last : S
+    pub passes : PassesOver steps lent s entries last
+    pub none : ¬ IsEntryList entries
 
   -- a source passes over entries, perhaps none, and breaks off after them
   pub record BreaksAfter (breaks : S → Type 0) (s : S) : Type 0 where

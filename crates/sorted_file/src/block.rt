@@ -6,7 +6,7 @@ ghost use Rattle.std.specs.declared.cmp.Ordering.TheVariants.{Less, Greater};
 ghost use Rattle.cell_key.specs.Entries.{IsEntry, lent_entry, Entry, IsEntryList, entries_from, entry_of_key, IsRising, spelled};
 ghost use Rattle.cell_key.specs.Keys.{byte_cmp};
 ghost use Rattle.cell_key.specs.LentKeys.{IsLentKey};
-ghost use Rattle.sorted_file.specs.Index.{first_of, IsRowPosition, blocks_of, AreRows};
+ghost use Rattle.sorted_file.specs.Index.{first_of, IsFirstText, IsRowPosition, blocks_of, AreRows};
 ghost use Rattle.sorted_file.specs.Check.{IsFollowed};
 ghost use Rattle.sorted_file.specs.Grammar.{block_bytes, Fits};
 ghost use Rattle.sorted_file.specs.Block.{last_text, BeginsFrom, IsLastText, IsBehind, IsSpelling, BeginsWith, IsParsed, bytes_at, entry_at, first_value};
@@ -27,6 +27,24 @@ pub(crate) struct Block {
     pub(crate) starts: Vec<u32>,
 }
 
+/// The key of an entry, if the entry can be the next of a list behind the one of the last key.
+#[inline(always)]
+pub(crate) fn key_behind<'a>(last: Option<KeyRef<'_>>, entry: EntryRef<'a>) -> Option<KeyRef<'a>>
+    requires { IfSome last IsLentKey }
+    ensures entry { IfSome result (λ _. IsEntry (lent_entry entry.entry)) }
+    ensures key { IfSome result IsLentKey }
+    ensures text { IfSome result (λ key. key.text.now ≡ entry.entry.key.now) }
+    ensures above { IfSome result (λ _.
+        byte_cmp (last_text last.entry) entry.entry.key.now ≡ Less) }
+    ensures none { IfNone result (IsEntry (lent_entry entry.entry)
+        → byte_cmp (last_text last.entry) entry.entry.key.now ≢ Less) }
+{
+    if !is_short(entry.value) {
+        return None;
+    }
+    next_key(last, entry.key)
+}
+
 /// The entry at the front, if it can be the next of a list behind the one of the last key, with its key, and what
 /// follows.
 #[inline(always)]
@@ -45,10 +63,7 @@ pub(crate) fn next_entry<'a>(
         → IsEntry e → byte_cmp (last_text last.entry) e.0 ≡ Less → bytes.now ≢ spelled e ++ rest) }
 {
     let (entry, rest) = read_entry(bytes)?;
-    if !is_short(entry.value) {
-        return None;
-    }
-    let key = next_key(last, entry.key)?;
+    let key = key_behind(last, entry)?;
     Some((entry, key, rest))
 }
 
@@ -108,6 +123,13 @@ impl Block {
         self.starts.len()
     }
 
+    /// Whether there are no entries.
+    pub(crate) fn is_empty(&self) -> bool
+        ensures { (es : List Entry) → IsParsed es self.now → (IsTrue result ↔ (es ≡ [])) }
+    {
+        self.starts.is_empty()
+    }
+
     /// Whether the entries fit into a block.
     pub(crate) fn fits(&self) -> bool
         ensures { (es : List Entry) → IsParsed es self.now → (IsTrue result ↔ Fits es) }
@@ -128,6 +150,27 @@ impl Block {
         let (_, rest) = self.bytes.split_at(start.min(self.bytes.len()));
         let (entry, _) = read_entry(rest)?;
         Some(entry)
+    }
+
+    /// The text of the first entry, or no bytes if there is none.
+    pub(crate) fn first_text(&self) -> &[u8]
+        ensures { (es : List Entry) → IsParsed es self.now → IsFirstText result.now es }
+    {
+        match self.entry(0) {
+            Some(entry) => entry.key,
+            None => &[],
+        }
+    }
+
+    /// Whether the block fits with an entry more.
+    pub(crate) fn has_room(&self, entry: EntryRef<'_>) -> bool
+        ensures { (es : List Entry) → IsParsed es self.now
+            → (IsTrue result ↔ Fits (es ++ lent_entry entry.entry ∷ [])) }
+    {
+        if self.is_empty() {
+            return true;
+        }
+        self.bytes.len() as u128 + spelled_len(entry) <= BLOCK_LIMIT
     }
 
     /// Whether the first entry has this text.

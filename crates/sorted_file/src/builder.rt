@@ -1,198 +1,257 @@
-//! A file that is built in memory, entry by entry.
+//! A file that is built in memory, entry by entry, and what an open file keeps of it.
 
-ghost use Rattle.std.specs.Prelude.{◌≡◌, ◌≤◌, ◌<◌, ◌+◌, ◌-◌, ◌^◌, ◌++◌, ◌∷◌, [], List, length, IfOk, IfErr, OnOk, IsErrOf, IsOkUnless, ◌⊎◌, IsTrue, ◌↔◌};
-ghost use Rattle.cell_key.specs.Entries.{Entry, lent_entry, entry_len};
-ghost use Rattle.sorted_file.specs.Builder.{IsSound, IsBuilt, IsClosed, HasMadeRoom, state_of, opened, closed, image_from, image_len};
-ghost use Rattle.sorted_file.specs.Grammar.{IsFile, FitsIn};
+ghost use Rattle.std.specs.List.{AllByRecursion};
+ghost use Rattle.std.specs.Prelude.{◌≡◌, ◌≤◌, ◌<◌, ◌+◌, ◌^◌, ◌++◌, ◌∷◌, [], true, false, List, length, flat_map, IfOk, IfErr, IfSome, IfNone, OnOk, IsErrOf, IsOkUnless, ◌⊎◌};
+ghost use Rattle.cell_key.specs.Entries.{Entry, IsEntryList, entry_len, lent_entry};
+ghost use Rattle.cell_key.specs.LentKeys.{IsLentKey};
+ghost use Rattle.sorted_file.specs.Block.{IsLastText, entries_of, last_text};
+ghost use Rattle.sorted_file.specs.Builder.{HasRoom, HasShortText, IsReady, IsSound, built, row_spelled};
+ghost use Rattle.sorted_file.specs.Check.{IsFollowed, IsFormed, IsOpening};
+ghost use Rattle.sorted_file.specs.Grammar.{Fits, FitsIn};
+ghost use Rattle.sorted_file.specs.Index.{blocks_of, entries_in};
+ghost use Rattle.sorted_file.specs.declared.format.Format.TheVariants.{Two};
 
-use crate::format::{
-    BLOCK_LIMIT, Format, HEAD, push_entry, push_field, push_foot, push_number, spelled_len,
-};
-use cell_key::{EntryRef, Refusal};
+use crate::block::{BlockRow, key_behind};
+use crate::check::Opening;
+use crate::format::{Format, push_field, push_foot, push_number, spelled_len};
+use crate::gathering::GatheredBlock;
+use crate::lock_index::LockIndex;
+use cell_key::{EntryRef, KeyRef, Qualifier, Refusal, Stamp};
 use std::alloc::Global;
+use std::mem;
 
-/// The bytes of a file of format 2 so far. After an `Err` it is given up.
+/// What the text of the last key says behind its row and family.
+#[derive(Clone, Copy, Drop)]
+pub(crate) struct LastKey {
+    /// How many bytes of the text name the row and the family.
+    pub(crate) place_len: usize,
+    pub(crate) qualifier: Qualifier,
+    pub(crate) stamp: Stamp,
+}
+
+/// A file of format 2 so far. After an `Err` it is given up.
 #[derive(Drop)]
 pub(crate) struct FileBuilder {
-    limit: u64,
-    /// The head and the entries.
+    alloc: Global,
+    /// The head and the blocks that are closed.
     out: Vec<u8>,
-    /// The index rows of the blocks that are closed.
-    rows: Vec<u8>,
-    /// The first text of the open block.
-    first: Vec<u8>,
-    /// Where the open block begins.
-    start: u64,
-    blocks: u64,
-    entries: u64,
+    /// What an open file keeps of these blocks.
+    pub(crate) opening: Opening,
+    /// The block that entries are added to.
+    pub(crate) current: GatheredBlock,
+    /// Of the key of its last entry.
+    last: Option<LastKey>,
 }
 
 impl FileBuilder {
-    /// A file of no entries so far, which may have at most `limit` bytes.
-    pub(crate) fn new(alloc: Global, limit: u64) -> Result<FileBuilder, Refusal>
-        requires { 8 ≤ limit }
-        ensures sound { IfOk result (λ builder. IsSound (state_of builder)) }
-        ensures limit { IfOk result (λ builder. builder.limit ≡ limit) }
-        ensures built { IfOk result (λ builder. IsBuilt (state_of builder) []) }
+    /// A file of no entries so far, which may have at most `limit` bytes. Answers `NoMemory` if there is no memory.
+    pub(crate) fn new(alloc: Global, name: u64, limit: u64) -> Result<FileBuilder, Refusal>
+        requires { 48 ≤ limit }
+        ensures ready { IfOk result IsReady }
+        ensures size { IfOk result (λ builder. builder.opening.size ≡ limit) }
+        ensures built { IfOk result (λ builder. built builder ≡ []) }
         ensures memory { IsOkUnless result Refusal.NoMemory }
     {
-        let out = Vec::from_slice(alloc, Format::Two.head())?;
         Ok(FileBuilder {
-            limit,
-            out,
-            rows: Vec::new(alloc),
-            first: Vec::new(alloc),
-            start: HEAD,
-            blocks: 0,
-            entries: 0,
+            alloc,
+            out: Vec::from_slice(alloc, Format::Two.head())?,
+            opening: Opening::new(alloc, name, Format::Two, limit),
+            current: GatheredBlock::with_room(alloc)?,
+            last: None,
         })
     }
 
-    /// Begins a block with an entry of this text.
-    fn open_block(&mut self, text: &[u8]) -> Result<(), Refusal>
-        ensures ok { OnOk result (state_of self.new ≡ opened (state_of self.old) text.now) }
-        ensures memory { IsOkUnless result Refusal.NoMemory }
+    /// The key of the last entry, if there is one.
+    fn last_key(&self) -> Option<KeyRef<'_>>
+        requires { IsReady self.now }
+        ensures lent { IfSome result IsLentKey }
+        ensures text { IsLastText (built self.now) (last_text result) }
     {
-        self.first.clear();
-        self.first.extend_from_slice(text)?;
-        self.start = self.out.len() as u64;
-        Ok(())
+        match self.last {
+            Some(last) => Some(KeyRef {
+                text: self.current.block.last_text(),
+                place_len: last.place_len,
+                qualifier: last.qualifier,
+                stamp: last.stamp,
+            }),
+            None => None,
+        }
     }
 
-    /// Ends the open block.
+    /// The key of an entry, if the entry can be the next one.
+    fn key_of_next<'a>(&self, entry: EntryRef<'a>) -> Option<KeyRef<'a>>
+        requires { IsReady self.now }
+        ensures key { IfSome result IsLentKey }
+        ensures text { IfSome result (λ key. key.text.now ≡ entry.entry.key.now) }
+        ensures list { IfSome result (λ _.
+            IsEntryList (built self.now ++ lent_entry entry.entry ∷ [])) }
+        ensures none { IfNone result (¬ IsEntryList
+            (built self.now ++ lent_entry entry.entry ∷ [])) }
+    {
+        key_behind(self.last_key(), entry)
+    }
+
+    /// Closes the open block, and opens one of no entries. Answers `NoMemory` if there is no memory.
     fn close_block(&mut self) -> Result<(), Refusal>
-        requires sound { IsSound (state_of self.old) }
-        requires counted { self.old.blocks < 2 ^ 64 - 1 }
-        ensures ok { OnOk result (state_of self.new ≡ closed (state_of self.old)) }
+        requires sound { IsSound self.old }
+        requires fits { Fits (entries_of self.old.current.block) }
+        requires followed { IsFollowed (blocks_of self.old.opening.rows.items)
+            (entries_of self.old.current.block) }
+        ensures sound { OnOk result (IsSound self.new) }
+        ensures blocks { OnOk result (blocks_of self.new.opening.rows.items
+            ≡ blocks_of self.old.opening.rows.items ++ entries_of self.old.current.block ∷ []) }
+        ensures none { OnOk result (entries_of self.new.current.block ≡ []) }
+        ensures size { OnOk result (self.new.opening.size ≡ self.old.opening.size) }
         ensures memory { IsOkUnless result Refusal.NoMemory }
     {
-        let len = self.out.len() as u64 - self.start;
-        push_number(&mut self.rows, Format::Two, self.start)?;
-        push_number(&mut self.rows, Format::Two, len)?;
-        push_field(&mut self.rows, &self.first)?;
-        self.blocks += 1;
-        Ok(())
+        let next = GatheredBlock::with_room(self.alloc)?;
+        let closed = mem::replace(&mut self.current, next);
+        self.out.extend_from_slice(&closed.block.bytes)?;
+        self.opening.add(closed)
     }
 
-    /// Whether the open block has room for an entry.
-    fn has_room(&self, entry: EntryRef<'_>) -> bool
-        requires { IsSound (state_of self.now) }
-        ensures { IsTrue result ↔ (length self.now.out.items - self.now.start
-            + entry_len (lent_entry entry.entry) ≤ 4096) }
-    {
-        let len = self.out.len() as u128 - self.start as u128;
-        len + spelled_len(entry) <= BLOCK_LIMIT
-    }
-
-    /// Sees that the open block may take an entry next.
+    /// Sees that the open block may take an entry next. Answers `NoMemory` if there is no memory.
     fn make_room(&mut self, entry: EntryRef<'_>) -> Result<(), Refusal>
-        requires sound { IsSound (state_of self.old) }
-        requires small { length self.old.out.items + entry_len (lent_entry entry) ≤ self.old.limit }
-        requires short { entry_len (lent_entry entry) < 2 ^ 32 }
-        ensures room { OnOk result (HasMadeRoom
-            (state_of self.old) (lent_entry entry.entry) (state_of self.new)) }
+        requires { IsReady self.old }
+        ensures sound { OnOk result (IsSound self.new) }
+        ensures built { OnOk result (built self.new ≡ built self.old) }
+        ensures size { OnOk result (self.new.opening.size ≡ self.old.opening.size) }
+        ensures room { OnOk result (HasRoom self.new (lent_entry entry.entry)) }
         ensures memory { IsOkUnless result Refusal.NoMemory }
     {
-        if self.entries == 0 {
-            return self.open_block(entry.key);
-        }
-        if self.has_room(entry) {
-            return Ok(());
-        }
-        self.close_block()?;
-        self.open_block(entry.key)
-    }
-
-    /// Adds an entry. Answers `FileTooLarge` if it doesn't fit behind the bytes so far, or its lengths don't fit
-    /// four bytes, and `NoMemory` if there is no memory for it.
-    pub(crate) fn push(&mut self, entry: EntryRef<'_>) -> Result<(), Refusal>
-        requires { IsSound (state_of self.old) }
-        ensures sound { OnOk result (IsSound (state_of self.new)) }
-        ensures limit { OnOk result (self.new.limit ≡ self.old.limit) }
-        ensures built { OnOk result ((es : List Entry) → IsBuilt (state_of self.old) es
-            → IsBuilt (state_of self.new) (es ++ lent_entry entry.entry ∷ [])) }
-        ensures large { IsErrOf result Refusal.FileTooLarge
-            → (self.old.limit < length self.old.out.items + entry_len (lent_entry entry.entry))
-            ⊎ (2 ^ 32 ≤ entry_len (lent_entry entry.entry)) }
-        ensures refusal { IfErr result (λ refusal. (refusal ≡ Refusal.FileTooLarge)
-            ⊎ (refusal ≡ Refusal.NoMemory)) }
-    {
-        let len = spelled_len(entry);
-        if self.out.len() as u128 + len > self.limit as u128 || len > u32::MAX as u128 {
-            return Err(Refusal::FileTooLarge);
-        }
-        self.make_room(entry)?;
-        push_entry(&mut self.out, entry)?;
-        self.entries += 1;
-        Ok(())
-    }
-
-    /// Ends the last block, if there is one.
-    fn close_last(&mut self) -> Result<(), Refusal>
-        requires { IsSound (state_of self.old) }
-        ensures closed { OnOk result ((es : List Entry) → IsBuilt (state_of self.old) es
-            → IsClosed (state_of self.new) es) }
-        ensures limit { OnOk result (self.new.limit ≡ self.old.limit) }
-        ensures out { OnOk result (self.new.out.items ≡ self.old.out.items) }
-        ensures memory { IsOkUnless result Refusal.NoMemory }
-    {
-        if self.entries == 0 {
+        if self.current.block.has_room(entry) {
             return Ok(());
         }
         self.close_block()
     }
 
-    /// The file. Answers `FileTooLarge` if it has more bytes than it may have, and `NoMemory` if there is no memory for
-    /// it.
-    pub(crate) fn finish(mut self) -> Result<Vec<u8>, Refusal>
-        requires { IsSound (state_of self) }
-        ensures file { IfOk result (λ image. (es : List Entry) → IsBuilt (state_of self) es
-            → IsFile Format.Two es image.items) }
-        ensures within { IfOk result (λ image. length image.items ≤ self.limit) }
+    /// Whether the file with an entry more keeps to its limit, without an index and a foot.
+    fn allows(&self, entry: EntryRef<'_>) -> bool
+        requires { IsReady self.now }
+        ensures allows { result ≡ true → self.now.opening.end + length self.now.current.block.bytes.items
+            + entry_len (lent_entry entry.entry) ≤ self.now.opening.size }
+        ensures large { result ≡ false → (es : List Entry)
+            → ¬ FitsIn self.now.opening.size (built self.now ++ lent_entry entry.entry ∷ es) }
+    {
+        let len = self.opening.end as u128 + self.current.block.bytes.len() as u128;
+        len + spelled_len(entry) <= self.opening.size as u128
+    }
+
+    /// Adds an entry, of a file that is newer than those whose locks the index has. Answers `Damaged` if the entries are
+    /// no entry list with it, `FileTooLarge` if it doesn't fit behind the bytes so far, and `NoMemory` if there is no
+    /// memory for it.
+    pub(crate) fn push(&mut self, entry: EntryRef<'_>, over: &LockIndex) -> Result<(), Refusal>
+        requires { IsReady self.old }
+        ensures ready { OnOk result (IsReady self.new) }
+        ensures size { OnOk result (self.new.opening.size ≡ self.old.opening.size) }
+        ensures built { OnOk result (built self.new
+            ≡ built self.old ++ lent_entry entry.entry ∷ []) }
+        ensures damaged { IsErrOf result Refusal.Damaged
+            → ¬ IsEntryList (built self.old ++ lent_entry entry.entry ∷ []) }
+        ensures large { IsErrOf result Refusal.FileTooLarge → (es : List Entry)
+            → ¬ FitsIn self.old.opening.size (built self.old ++ lent_entry entry.entry ∷ es) }
+        ensures refusal { IfErr result (λ refusal. (refusal ≡ Refusal.Damaged)
+            ⊎ (refusal ≡ Refusal.FileTooLarge) ⊎ (refusal ≡ Refusal.NoMemory)) }
+    {
+        let Some(key) = self.key_of_next(entry) else {
+            return Err(Refusal::Damaged);
+        };
+        if !self.allows(entry) {
+            return Err(Refusal::FileTooLarge);
+        }
+        self.make_room(entry)?;
+        self.current.push(entry, key, over)?;
+        self.last = Some(LastKey {
+            place_len: key.place_len,
+            qualifier: key.qualifier,
+            stamp: key.stamp,
+        });
+        Ok(())
+    }
+
+    /// What an open file keeps of the file, and its bytes. Answers `FileTooLarge` if it has more bytes than it may have,
+    /// and `NoMemory` if there is no memory for it.
+    pub(crate) fn finish(self) -> Result<(Opening, Vec<u8>), Refusal>
+        requires { IsReady self }
+        ensures opening { IfOk result (λ made. IsOpening made.0) }
+        ensures formed { IfOk result (λ made. IsFormed made.0 made.1.items) }
+        ensures entries { IfOk result (λ made.
+            entries_in (blocks_of made.0.rows.items) ≡ built self) }
+        ensures format { IfOk result (λ made. made.0.format ≡ Two) }
+        ensures within { IfOk result (λ made. length made.1.items ≤ self.opening.size) }
         ensures large { IsErrOf result Refusal.FileTooLarge
-            → (es : List Entry) → IsBuilt (state_of self) es → ¬ FitsIn self.limit es }
+            → ¬ FitsIn self.opening.size (built self) }
         ensures refusal { IfErr result (λ refusal. (refusal ≡ Refusal.FileTooLarge)
             ⊎ (refusal ≡ Refusal.NoMemory)) }
     {
-        self.close_last()?;
-        self.into_image()
+        if self.current.block.is_empty() {
+            return self.into_image();
+        }
+        let mut builder = self;
+        builder.close_block()?;
+        builder.into_image()
     }
 
-    /// The file of blocks that are closed.
-    fn into_image(self) -> Result<Vec<u8>, Refusal>
-        requires { length self.out.items ≤ self.limit }
-        ensures file { IfOk result (λ image. image.items ≡ image_from (state_of self)) }
-        ensures within { IfOk result (λ image. image_len (state_of self) ≤ self.limit) }
-        ensures large { IsErrOf result Refusal.FileTooLarge
-            → self.limit < image_len (state_of self) }
+    /// What an open file keeps of the blocks that are closed, and the file of them. Answers `FileTooLarge` if that has
+    /// more bytes than it may have, and `NoMemory` if there is no memory for it.
+    fn into_image(self) -> Result<(Opening, Vec<u8>), Refusal>
+        requires { IsSound self }
+        ensures opening { IfOk result (λ made. made.0 ≡ self.opening) }
+        ensures formed { IfOk result (λ made. IsFormed self.opening made.1.items) }
+        ensures within { IfOk result (λ made. length made.1.items ≤ self.opening.size) }
+        ensures large { IsErrOf result Refusal.FileTooLarge → ¬ FitsIn self.opening.size
+            (entries_in (blocks_of self.opening.rows.items)) }
         ensures refusal { IfErr result (λ refusal. (refusal ≡ Refusal.FileTooLarge)
             ⊎ (refusal ≡ Refusal.NoMemory)) }
     {
         let FileBuilder {
-            limit,
+            alloc,
             mut out,
-            rows,
-            first: _,
-            start: _,
-            blocks,
-            entries,
+            opening,
+            ..
         } = self;
+        let rows = index_of(alloc, &opening.rows)?;
         let foot_len = Format::Two.foot_len();
         let size = out.len() as u128 + rows.len() as u128 + foot_len as u128;
-        if size > limit as u128 {
+        if size > opening.size as u128 {
             return Err(Refusal::FileTooLarge);
         }
-        let index_at = out.len() as u64;
         out.reserve_exact(rows.len() + foot_len as usize)?;
         out.extend_from_slice(&rows)?;
         push_foot(
             &mut out,
             Format::Two,
-            index_at,
-            blocks,
-            entries,
+            opening.end,
+            opening.rows.len() as u64,
+            opening.count,
             size as u64,
         )?;
-        Ok(out)
+        Ok((opening, out))
     }
+}
+
+/// Appends the row of a block to an index. Answers `NoMemory` if there is no memory.
+fn push_row(index: &mut Vec<u8>, row: &BlockRow) -> Result<(), Refusal>
+    requires { length row.now.first.items < 2 ^ 32 }
+    ensures ok { OnOk result (index.new.items ≡ index.old.items ++ row_spelled row.now) }
+    ensures memory { IsOkUnless result Refusal.NoMemory }
+{
+    push_number(index, Format::Two, row.offset)?;
+    push_number(index, Format::Two, row.length as u64)?;
+    push_field(index, &row.first)
+}
+
+/// The index of blocks with these rows. Answers `NoMemory` if there is no memory.
+fn index_of(alloc: Global, rows: &[BlockRow]) -> Result<Vec<u8>, Refusal>
+    requires { AllByRecursion HasShortText rows.now }
+    ensures index { IfOk result (λ index. index.items ≡ flat_map row_spelled rows.now) }
+    ensures memory { IsOkUnless result Refusal.NoMemory }
+{
+    let mut index = Vec::new(alloc);
+    let mut rest = rows;
+    'rows: while let Some((row, after)) = rest.split_first() {
+        push_row(&mut index, row)?;
+        rest = after;
+    }
+    Ok(index)
 }

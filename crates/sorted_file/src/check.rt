@@ -7,7 +7,7 @@ ghost use Rattle.cell_key.specs.Faults.{HasReason};
 ghost use Rattle.file_store.specs.Store.{part};
 ghost use Rattle.sorted_file.specs.Grammar.{IsNoFile, foot_len, head, most, block_bytes, foot, Fits};
 ghost use Rattle.sorted_file.specs.Index.{Tells, blocks_of, entries_in};
-ghost use Rattle.sorted_file.specs.Check.{IsFramed, IsNext, IsOpening, IsReading, IsWhole};
+ghost use Rattle.sorted_file.specs.Check.{IsFollowed, IsFramed, IsNext, IsOpening, IsReading, IsWhole};
 ghost use Rattle.sorted_file.specs.Block.{IsBlock, IsParsed, entries_of};
 ghost use Rattle.sorted_file.specs.Columns.{AreColumnsOf};
 ghost use Rattle.sorted_file.specs.File.{HasFile};
@@ -18,7 +18,7 @@ use crate::bounds::head_of;
 use crate::format::{
     Format, HEAD, LONGEST_BLOCK, RowRef, format_of, index_offset, is_below, push_foot, read_row,
 };
-use crate::gathering::{Columns, ReadBlock, read_block};
+use crate::gathering::{Columns, GatheredBlock, read_block};
 use crate::lock_index::LockIndex;
 use crate::source::{read_part, refusal_of};
 use cell_key::{Refusal, are_same};
@@ -130,13 +130,14 @@ fn read_frame<F: Files>(
     Ok((index, foot))
 }
 
-/// A file that is being opened: the blocks that were read so far.
+/// A file that is being opened, as it is read or written: what an open file keeps of its blocks so far.
 #[derive(Drop)]
 pub(crate) struct Opening {
     alloc: Global,
     name: u64,
     format: Format,
-    size: u64,
+    /// How many bytes the file has, or may have at most if it is written.
+    pub(crate) size: u64,
     pub(crate) rows: Vec<BlockRow>,
     /// The text of the first value of each block that has one.
     pub(crate) heads: Vec<Option<Vec<u8>>>,
@@ -146,12 +147,12 @@ pub(crate) struct Opening {
     /// The text of the last entry, or no bytes before the first.
     last: Vec<u8>,
     /// Where the next block begins.
-    end: u64,
+    pub(crate) end: u64,
 }
 
 impl Opening {
-    /// A file of this format and size, no block of which was read yet.
-    fn new(alloc: Global, name: u64, format: Format, size: u64) -> Opening
+    /// A file of this format and size, of no blocks so far.
+    pub(crate) fn new(alloc: Global, name: u64, format: Format, size: u64) -> Opening
         requires least { 8 + foot_len format ≤ size }
         requires most { size < most format }
         ensures opening { IsOpening result }
@@ -181,7 +182,7 @@ impl Opening {
         row: RowRef<'_>,
         over: &LockIndex,
         files: &mut F,
-    ) -> Result<ReadBlock, Refusal>
+    ) -> Result<GatheredBlock, Refusal>
         requires { self.now.end ≤ self.now.size }
         ensures parsed { IfOk result (λ read. IsParsed (entries_of read.block) read.block) }
         ensures columns { IfOk result (λ read. AreColumnsOf read.columns (entries_of read.block)) }
@@ -232,33 +233,35 @@ impl Opening {
         is_below(&self.last, first.key)
     }
 
-    /// Adds a block. Answers `NoMemory` if there is no memory.
-    fn add(&mut self, row: RowRef<'_>, read: ReadBlock) -> Result<(), Refusal>
+    /// Adds the next block. Answers `NoMemory` if there is no memory.
+    pub(crate) fn add(&mut self, next: GatheredBlock) -> Result<(), Refusal>
         requires opening { IsOpening self.old }
-        requires next { IsNext self.old row (entries_of read.block) }
-        requires parsed { IsParsed (entries_of read.block) read.block }
-        requires columns { AreColumnsOf read.columns (entries_of read.block) }
-        requires fits { Fits (entries_of read.block) }
-        requires length { length (block_bytes (entries_of read.block)) ≡ row.length }
-        requires within { self.old.end + row.length ≤ self.old.size }
+        requires followed { IsFollowed (blocks_of self.old.rows.items) (entries_of next.block) }
+        requires rising { IsRising
+            (entries_in (blocks_of self.old.rows.items) ++ entries_of next.block) }
+        requires parsed { IsParsed (entries_of next.block) next.block }
+        requires columns { AreColumnsOf next.columns (entries_of next.block) }
+        requires fits { Fits (entries_of next.block) }
+        requires within { self.old.end + length next.block.bytes.items ≤ self.old.size }
         ensures opening { OnOk result (IsOpening self.new) }
         ensures name { self.new.name ≡ self.old.name }
         ensures format { self.new.format ≡ self.old.format }
         ensures size { self.new.size ≡ self.old.size }
         ensures rows { OnOk result (blocks_of self.new.rows.items
-            ≡ blocks_of self.old.rows.items ++ entries_of read.block ∷ []) }
+            ≡ blocks_of self.old.rows.items ++ entries_of next.block ∷ []) }
         ensures refusal { IfErr result (λ refusal. refusal ≡ Refusal.NoMemory) }
     {
-        let ReadBlock { block, columns } = read;
-        let first = Vec::from_slice(self.alloc, row.first)?;
+        let GatheredBlock { block, columns } = next;
+        let length = block.bytes.len();
+        let first = Vec::from_slice(self.alloc, block.first_text())?;
         let head = head_of(self.alloc, &block)?;
         let last = Vec::from_slice(self.alloc, block.last_text())?;
         let bounds = columns.bounds;
         self.columns.join(columns)?;
         let was = Snapshot::of(&block);
         self.rows.push(BlockRow {
-            offset: row.offset,
-            length: row.length as u32,
+            offset: self.end,
+            length: length as u32,
             first,
             bounds,
             was,
@@ -266,7 +269,7 @@ impl Opening {
         self.heads.push(head)?;
         self.last = last;
         self.count += block.len() as u64;
-        self.end += row.length;
+        self.end += length as u64;
         Ok(())
     }
 
@@ -299,7 +302,7 @@ impl Opening {
         if !self.accepts(row, &read.block) {
             return Err(Refusal::Damaged);
         }
-        self.add(row, read)?;
+        self.add(read)?;
         Ok(rest)
     }
 

@@ -65,6 +65,7 @@ impl SortedFile {
     ghost use Rattle.sorted_file.specs.Newest.{IsFirstIn, IsNewestStamp};
     ghost use Rattle.sorted_file.specs.Numbers.{number_of};
     ghost use Rattle.sorted_file.specs.Bounds.{column_bounds, HasNoValue, IsWithin};
+    ghost use Rattle.sorted_file.specs.Check.{IsOpening, IsWhole};
     ghost use Rattle.sorted_file.specs.File.{HasBlockNow, HasFile, IsCursorOf, IsFoundNow, IsOpen, IsReadFrom, IsReadNow, IsSameFile, IsSearchedNow, KeepsWhatItRead, listed, name_of, MayHaveIn};
 
     /// Opens a file that caches 8 blocks at most. Answers `Damaged` if it isn't there or is the file of no entry list,
@@ -121,13 +122,31 @@ impl SortedFile {
         ensures same { F.contents files.new ≡ F.contents files.old }
         ensures reason { HasReason (F.faults files.old) (F.faults files.new) result }
     {
+        let opening = read_file(alloc, name, over, files)?;
+        SortedFile::of_opening(alloc, name, most_blocks, opening)
+    }
+
+    /// The open file of this name whose blocks are those of an opening. Answers `NoMemory` if there is no memory.
+    pub(crate) fn of_opening(
+        alloc: Global,
+        name: u64,
+        most_blocks: NonZeroUsize,
+        opening: Opening,
+    ) -> Result<SortedFile, Refusal>
+        requires { IsOpening opening }
+        ensures opened { IfOk result (λ file. (m : Contents) → IsWhole m name opening
+            → IsOpen m file) }
+        ensures named { IfOk result (λ file. name_of file ≡ name) }
+        ensures sized { IfOk result (λ file. file.cache.cap ≡ non_zero_usize_get most_blocks) }
+        ensures refusal { IfErr result (λ refusal. refusal ≡ Refusal.NoMemory) }
+    {
         let Opening {
             rows,
             heads,
             count,
             columns,
             ..
-        } = read_file(alloc, name, over, files)?;
+        } = opening;
         let Columns {
             bounds,
             numbers,

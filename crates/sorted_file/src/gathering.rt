@@ -1,8 +1,8 @@
-//! What an opening gathers of the entries of blocks as it checks them.
+//! What an open file keeps of the entries of blocks, gathered as these are read or written.
 
-ghost use Rattle.std.specs.Prelude.{◌≡◌, ◌≢◌, ◌<◌, ◌^◌, ◌⊎◌, ◌++◌, ◌∷◌, [], ℕ, List, Option, Contains, length, IfOk, IfErr, IfSome, IfNone, OnOk};
+ghost use Rattle.std.specs.Prelude.{◌≡◌, ◌≢◌, ◌<◌, ◌+◌, ◌^◌, ◌⊎◌, ◌++◌, ◌∷◌, [], ℕ, List, Option, Contains, length, IfOk, IfErr, IfSome, IfNone, OnOk};
 ghost use Rattle.sorted_file.specs.Numbers.{number_of, IsAmong, IsLockKept, IsLockKeyNumbered, IsLockStamped};
-ghost use Rattle.cell_key.specs.Entries.{Entry, IsEntryList, lent_entry};
+ghost use Rattle.cell_key.specs.Entries.{Entry, IsEntryList, entry_len, lent_entry};
 ghost use Rattle.cell_key.specs.Keys.{text};
 ghost use Rattle.cell_key.specs.LentKeys.{IsLentKey};
 ghost use Rattle.cell_key.specs.declared.keys.CellKey.{CellKey as KeyOf};
@@ -12,6 +12,7 @@ ghost use Rattle.sorted_file.specs.Grammar.{block_bytes};
 
 use crate::block::{Block, next_entry, room_for_starts};
 use crate::bounds::ColumnBounds;
+use crate::format::{BLOCK_LIMIT, push_entry};
 use crate::lock_index::LockIndex;
 use crate::lock_stamps::LockStamp;
 use crate::lock_values::LockValue;
@@ -195,11 +196,59 @@ fn gather(
     Ok(Some((starts, columns)))
 }
 
-/// A block that was read, and its columns.
+/// A block, and its columns.
 #[derive(Drop)]
-pub(crate) struct ReadBlock {
+pub(crate) struct GatheredBlock {
     pub(crate) block: Block,
     pub(crate) columns: Columns,
+}
+
+impl GatheredBlock {
+    ghost use Rattle.sorted_file.specs.Columns.{AreColumnsOf};
+    ghost use Rattle.sorted_file.specs.Block.{IsParsed, entries_of};
+    ghost use Rattle.sorted_file.specs.Grammar.{Fits};
+
+    /// A block of no entries, with room for those of most blocks. Answers `NoMemory` if there is no memory.
+    pub(crate) fn with_room(alloc: Global) -> Result<GatheredBlock, Refusal>
+        ensures none { IfOk result (λ made. entries_of made.block ≡ []) }
+        ensures parsed { IfOk result (λ made. IsParsed [] made.block) }
+        ensures columns { IfOk result (λ made. AreColumnsOf made.columns []) }
+        ensures refusal { IfErr result (λ refusal. refusal ≡ Refusal.NoMemory) }
+    {
+        let bytes = Vec::with_capacity(alloc, BLOCK_LIMIT as usize)?;
+        let starts = room_for_starts(alloc, BLOCK_LIMIT as usize)?;
+        let block = Block { bytes, starts };
+        let columns = Columns::new(alloc);
+        Ok(GatheredBlock { block, columns })
+    }
+
+    /// Adds an entry at this key behind the others, of a file that is newer than those whose locks the index has. Answers
+    /// `NoMemory` if there is no memory.
+    pub(crate) fn push(
+        &mut self,
+        entry: EntryRef<'_>,
+        key: KeyRef<'_>,
+        over: &LockIndex,
+    ) -> Result<(), Refusal>
+        requires key { IsLentKey key }
+        requires text { key.text.now ≡ entry.key.now }
+        requires parsed { IsParsed (entries_of self.old.block) self.old.block }
+        requires list { IsEntryList (entries_of self.old.block ++ lent_entry entry ∷ []) }
+        requires fits { Fits (entries_of self.old.block ++ lent_entry entry ∷ []) }
+        ensures entries { OnOk result (entries_of self.new.block
+            ≡ entries_of self.old.block ++ lent_entry entry.entry ∷ []) }
+        ensures parsed { OnOk result (IsParsed (entries_of self.new.block) self.new.block) }
+        ensures length { OnOk result (length self.new.block.bytes.items
+            ≡ length self.old.block.bytes.items + entry_len (lent_entry entry.entry)) }
+        ensures columns { OnOk result (AreColumnsOf self.old.columns (entries_of self.old.block)
+            → AreColumnsOf self.new.columns (entries_of self.new.block)) }
+        ensures refusal { IfErr result (λ refusal. refusal ≡ Refusal.NoMemory) }
+    {
+        let start = self.block.bytes.len() as u32;
+        push_entry(&mut self.block.bytes, entry)?;
+        self.block.starts.push(start)?;
+        self.columns.add(entry, key, over)
+    }
 }
 
 /// The block that the bytes are, and its columns; `None` if they are no block. Answers `NoMemory` if there is no memory.
@@ -207,7 +256,7 @@ pub(crate) fn read_block(
     alloc: Global,
     bytes: Vec<u8>,
     over: &LockIndex,
-) -> Result<Option<ReadBlock>, Refusal>
+) -> Result<Option<GatheredBlock>, Refusal>
     requires { length bytes.items < 2 ^ 32 }
     ensures found { IfOk result (λ found.
         IfSome found (λ read. IsBlock (entries_of read.block) bytes.items)) }
@@ -226,5 +275,5 @@ pub(crate) fn read_block(
     if !block.fits() {
         return Ok(None);
     }
-    Ok(Some(ReadBlock { block, columns }))
+    Ok(Some(GatheredBlock { block, columns }))
 }

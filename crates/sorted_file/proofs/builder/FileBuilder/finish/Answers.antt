@@ -1,23 +1,18 @@
-use Rattle.std.proofs.Common.{◌≡◌, ◌≤◌, ◌<◌, ◌^◌, sym, subst, arith}
-use Rattle.sorted_file.specs.Grammar.{IsFile}
-use Rattle.sorted_file.specs.declared.format.Format.TheVariants.{Two}
-use Rattle.sorted_file.specs.Builder.{state_of, image_from, image_len}
-use Rattle.sorted_file.proofs.Growth.{is_file, fits_not}
-use Rattle.sorted_file.proofs.Results.{if_ok, if_both}
+use Rattle.std.proofs.Common.{ℕ, sym, ap, subst, ◌∙◌}
+use Rattle.sorted_file.specs.Block.{entries_of}
+use Rattle.sorted_file.specs.Grammar.{FitsIn}
+use Rattle.sorted_file.specs.Index.{blocks_of, entries_in}
+use Rattle.sorted_file.specs.declared.check.Opening.{Opening}
+use Rattle.sorted_file.proofs.Growth.{flat-last}
+use Rattle.sorted_file.proofs.Results.{if_ok}
 use Rattle.sorted_file.proofs.builder.FileBuilder.finish.Goals as goal
 
-pub returns-clause-file : goal.returns-clause-file
-returns-clause-file c =
-    let s = state_of c.close_last.new.self in
-    if_ok c.into_image.result (λ image. (image.items ≡ image_from s) × (image_len s ≤ s.limit)) _
-    (λ image h es b. let l = c.in_ok-close_last.ensures.limit in let k = c.requires.limited in let w = h.1 in
-    let small : image_len s < 2 ^ 64 = omega (arith, l, k, w) in
-    subst (IsFile Two es) (sym h.0) (is_file s es (c.in_ok-close_last.ensures.closed es b) small))
-    (if_both c.into_image.result _ _ c.into_image.ensures.file c.into_image.ensures.within)
+pub returns-clause-entries : goal.returns-clause-entries
+returns-clause-entries c =
+    let closed = ap entries_in c.in_ok-close_block.ensures.blocks ∙ flat-last (blocks_of c.args.self.opening.rows.items) (entries_of c.args.self.current.block) in
+    if_ok c.into_image-2.result _ _ (λ made same. ap (λ (o : Opening). entries_in (blocks_of o.rows.items)) same ∙ closed) c.into_image-2.ensures.opening
 
 pub returns-clause-large : goal.returns-clause-large
-returns-clause-large c = λ err es b fits.
-    let s = state_of c.close_last.new.self in
-    let l = c.in_ok-close_last.ensures.limit in
-    let w = c.into_image.ensures.large err in
-    fits_not s es c.args.self.limit (c.in_ok-close_last.ensures.closed es b) (omega (arith, l, w)) fits
+returns-clause-large c = λ err fits.
+    let closed = ap entries_in c.in_ok-close_block.ensures.blocks ∙ flat-last (blocks_of c.args.self.opening.rows.items) (entries_of c.args.self.current.block) in
+    c.into_image-2.ensures.large err (subst (λ (n : ℕ). FitsIn n (entries_in (blocks_of c.close_block.new.self.opening.rows.items))) (sym c.in_ok-close_block.ensures.size) (subst (FitsIn c.args.self.opening.size) (sym closed) fits))

@@ -1,8 +1,8 @@
-use Rattle.std.proofs.Common.{◌≡◌, ◌++◌, ◌∷◌, [], ℕ, List, length, map, Option, option_map, sym, ap, subst, ◌∙◌, arith, length-append}
+use Rattle.std.proofs.Common.{◌≡◌, ◌++◌, ◌∷◌, [], ℕ, List, length, map, Option, option_map, refl, sym, ap, subst, ◌∙◌, arith, length-append}
 use Rattle.std.specs.Global.{Vec}
 use Rattle.std.specs.List.{AllByRecursion}
 use Rattle.cell_key.specs.Entries.{Entry}
-use Rattle.sorted_file.specs.Index.{entries_in, blocks_of, row_head, texts_of, IsBoundedRow, IsFirstText}
+use Rattle.sorted_file.specs.Index.{entries_in, block_of, blocks_of, row_head, texts_of, IsBoundedRow, IsFirstText}
 use Rattle.sorted_file.specs.Block.{first_value, entries_of, IsLastText}
 use Rattle.sorted_file.specs.Bounds.{IsBounded}
 use Rattle.sorted_file.specs.Columns.{AreColumnsOf}
@@ -11,21 +11,14 @@ use Rattle.sorted_file.proofs.Joining.{all_joined, last_fits, map_joined}
 use Rattle.sorted_file.proofs.NextBlocks.{is_added}
 use Rattle.sorted_file.proofs.Spelling.{body-whole}
 use Rattle.sorted_file.proofs.WholeFiles.{few_entries}
-use Rattle.sorted_file.proofs.Widths.{block_small}
 use Rattle.sorted_file.proofs.check.Opening.add.Goals as goal
-
-pub overflow_cast-row : goal.overflow_cast-row
-overflow_cast-row c =
-    let small = block_small (entries_of c.args.read.block) c.requires.parsed.list.each c.requires.fits in
-    let size = c.requires.length in
-    omega (arith, small, size)
 
 pub overflow_add-self : goal.overflow_add-self
 overflow_add-self c =
     let o = c.requires.opening in
-    let few = few_entries (entries_of c.args.read.block) in
-    let many = c.len.ensures (entries_of c.args.read.block) c.requires.parsed in
-    let size = c.requires.length in
+    let few = few_entries (entries_of c.args.next.block) in
+    let many = c.len.ensures (entries_of c.args.next.block) c.requires.parsed in
+    let size = ap length c.requires.parsed.bytes in
     let within = c.requires.within in
     let small = o.small in
     let counted = o.counted in
@@ -37,14 +30,13 @@ overflow_add-self c =
 pub returns-clause-opening : goal.returns-clause-opening
 returns-clause-opening c =
     let o = c.requires.opening in
-    let next = c.requires.next in
-    let block = c.args.read.block in
+    let block = c.args.next.block in
     let es = entries_of block in
     let all = entries_in (blocks_of c.args.self.now.rows.items) in
     let was = ap entries_of c.of-was.ensures in
-    let added = is_added c.args.self.now.rows.items c.push.new.self.items _ es c.args.self.now.end o.rows_are o.grammar o.list o.reached next.followed
-    next.rising c.requires.parsed.list c.requires.fits c.in_ok-push.ensures.items was next.offset (sym c.requires.length)
-    (subst (λ (b : List ℕ). IsFirstText b es) (sym c.in_ok-first.ensures.items) next.first) in
+    let added = is_added c.args.self.now.rows.items c.push.new.self.items _ es c.args.self.now.end o.rows_are o.grammar o.list o.reached c.requires.followed
+    c.requires.rising c.requires.parsed.list c.requires.fits c.in_ok-push.ensures.items was refl (c.len-length.ensures ∙ block.bytes.ok.0 ∙ ap length c.requires.parsed.bytes)
+    (subst (λ (b : List ℕ). IsFirstText b es) (sym c.in_ok-first.ensures.items) (c.first_text.ensures es c.requires.parsed)) in
     let head : option_map (λ (v : Vec ℕ). v.items) c.in_ok-head.head ≡ option_map (λ (e : Entry). e.0) (first_value (entries_of c.of-was.result.value)) =
     c.in_ok-head.ensures.head es c.requires.parsed ∙ ap (λ (l : List Entry). option_map (λ (e : Entry). e.0) (first_value l)) (sym was) in
     let columns = c.in_ok-join.ensures.joined all es o.columns c.requires.columns in
@@ -59,12 +51,16 @@ returns-clause-opening c =
           ∙ ap (λ (l : List (Option (List ℕ))). l ++ option_map (λ (v : Vec ℕ). v.items) c.in_ok-head.head ∷ []) o.heads ∙ ap (λ (e : Option (List ℕ)). map row_head c.args.self.now.rows.items ++ e ∷ []) head
           ∙ sym (map_joined row_head c.args.self.now.rows.items _) ∙ ap (λ (l : List BlockRow). map row_head l) (sym c.in_ok-push.ensures.items);
       bounded = subst (λ (l : List BlockRow). AllByRecursion IsBoundedRow l) (sym c.in_ok-push.ensures.items)
-          (all_joined IsBoundedRow c.args.self.now.rows.items (_ ∷ []) o.bounded (subst (λ (l : List Entry). AllByRecursion (IsBounded c.args.read.columns.bounds) l) (sym was) c.requires.columns.bounded, tt));
+          (all_joined IsBoundedRow c.args.self.now.rows.items (_ ∷ []) o.bounded (subst (λ (l : List Entry). AllByRecursion (IsBounded c.args.next.columns.bounds) l) (sym was) c.requires.columns.bounded, tt));
       columns = subst (AreColumnsOf c.join.new.self) (sym added.whole) columns;
       counted = omega (arith, many, counted, total);
       last = subst (λ (l : List Entry). IsLastText l c.in_ok-last.last.items) (sym added.whole)
           (last_fits all es c.in_ok-last.last.items c.requires.fits (subst (IsLastText es) (sym c.in_ok-last.ensures.items) (c.last_text.ensures es c.requires.parsed)));
       reached = added.reached;
-      within = c.requires.within;
+      within = let within = c.requires.within in omega (arith, within, c.len-length.ensures, block.bytes.ok.0);
       small = o.small;
     }
+
+pub returns-clause-rows : goal.returns-clause-rows
+returns-clause-rows c =
+    ap blocks_of c.in_ok-push.ensures.items ∙ map_joined block_of c.args.self.now.rows.items _ ∙ ap (λ (b : List Entry). blocks_of c.args.self.now.rows.items ++ b ∷ []) (ap entries_of c.of-was.ensures)

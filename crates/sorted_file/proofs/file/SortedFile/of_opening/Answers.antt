@@ -1,0 +1,30 @@
+use Rattle.std.proofs.Common.{List, ℕ, Option, ap, ◌∙◌}
+use Rattle.std.specs.Global.{Vec}
+use Rattle.sorted_file.specs.Index.{skips}
+use Rattle.sorted_file.proofs.Keeping.{none_kept}
+use Rattle.sorted_file.proofs.Locked.{keyed_on, locked_on}
+use Rattle.sorted_file.proofs.Numbered.{numbered_on}
+use Rattle.sorted_file.proofs.file.SortedFile.of_opening.Goals as goal
+
+pub returns-clause-opened : goal.returns-clause-opened
+returns-clause-opened c = λ m w.
+    let o = c.requires in
+    record {
+      list = o.list;
+      bounds = o.columns.bounded;
+      bounded = o.bounded;
+      numbered = numbered_on _ _ c.in_ok-numbers.ensures.keeps _ o.columns.numbered;
+      locked = locked_on _ _ c.new-locks.ensures.keeps _ o.columns.locked;
+      keyed = keyed_on _ _ c.in_ok-lock_keys.ensures.keeps _ o.columns.keyed;
+      locks_kept = o.columns.locks_kept;
+      heads = o.heads;
+      skips = c.in_ok-skips.ensures.skips ∙ ap (λ (l : List (Option (Vec ℕ))). skips l) c.deref.ensures.value;
+      counted = o.counted;
+      format = _;
+      image = w.image;
+      there = w.there;
+      form = w.form;
+      rows = o.rows_are;
+      blocks = w.blocks;
+      cached = none_kept _ _ c.in_ok-cache.ensures.none;
+    }
