@@ -1,14 +1,18 @@
 -- What a merge without erasures passes over, its sources pass over.
-use Rattle.std.proofs.Common.{◌≡◌, ℕ, inl, inr, Bool, true, false, cond, List, [], ◌∷◌, ◌++◌, refl, sym, ap, subst, ◌∙◌}
+use Rattle.std.proofs.Common.{◌≡◌, ◌⊎◌, ℕ, inl, inr, Bool, true, false, cond, List, [], ◌∷◌, ◌++◌, refl, sym, ap, subst, ◌∙◌}
 use Rattle.std.proofs.lemmas.List.Elements.{filter-append}
 use Rattle.std.specs.Prelude.{Option, Some, None, IfSome, IsSomeAnd}
-use Rattle.cell_key.specs.Entries.{Entry}
-use Rattle.sorted_file.specs.Passing.{BreaksAfter, IsFileOf, PassesOver, PassesTooMuch, passes_none, passes_one}
+use Rattle.cell_key.specs.Entries.{Entry, IsEntryList}
+use Rattle.sorted_file.specs.Passing.{BreaksAfter, IsFileOf, PassesNoList, PassesOver, PassesTooMuch, passes_none, passes_one}
 use Rattle.sorted_file.specs.Grammar.{FitsIn, IsFile}
 use Rattle.sorted_file.specs.declared.format.Format.TheVariants.{Two}
 use Rattle.compaction.specs.Merging.{lent_at, BreaksAmong, IsAtLeast, IsMoved, MergeSteps}
-use Rattle.compaction.specs.Passing.{IsFileOfMerge, IsMergeOf, MergeBreaks, MergesTooMuch, merges_none, merges_one}
+use Rattle.compaction.specs.Passing.{IsFileOfMerge, IsMergeOf, MergeBreaks, MergesNoList, MergesTooMuch, merges_none, merges_one}
 use Rattle.compaction.specs.Writing.{is_written, only_written, BreaksOn, StepsOn, breaks_here, breaks_past, steps_once, steps_past}
+
+pub either : {A B C D : Type 0} → A ⊎ B → (A → C) → (B → D) → C ⊎ D
+either (inl a) f g = inl (f a)
+either (inr b) f g = inr (g b)
 
 -- ---- without erasures
 
@@ -124,6 +128,12 @@ module _ {S M : Type 0} (steps : S → S → Type 0) (lent : S → Option Entry)
         let p = values_passed keep MS ML source keeps h.passes k in
         let m = merge_passed p.1.passes (inl none) in
         record { entries = p.1.all; at = ML (source h.last); last = sources (source h.last); merge = from_none _ _ m.0; large = subst (λ (es : List Entry). ¬ FitsIn limit es) (sym p.1.same) h.large }
+
+    pub merges_no_list : PassesNoList (λ a b. (keeps b ≡ keeps a) × StepsOn (keeps a) MS ML (source a) (source b)) (λ a. ML (source a)) v → MergesNoList steps lent keep xs
+    merges_no_list h =
+        let p = values_passed keep MS ML source keeps h.passes k in
+        let m = merge_passed p.1.passes (inl none) in
+        record { entries = p.1.all; at = ML (source h.last); last = sources (source h.last); merge = from_none _ _ m.0; none = subst (λ (es : List Entry). ¬ IsEntryList es) (sym p.1.same) h.none }
 
     pub file_of_merge : (image : List ℕ) → IsFileOf (λ a b. (keeps b ≡ keeps a) × StepsOn (keeps a) MS ML (source a) (source b)) (λ a. ML (source a)) v image → IsFileOfMerge steps lent keep xs image
     file_of_merge image h =

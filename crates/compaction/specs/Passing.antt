@@ -1,7 +1,7 @@
 -- What a merge passes over, whatever its sources stand for.
 use Rattle.std.specs.Prelude.{◌≡◌, ℕ, List, [], ◌∷◌, Bool, Option, Some, None, Contains, map}
 use Rattle.std.specs.List.{AllByRecursion, AllZip}
-use Rattle.cell_key.specs.Entries.{Entry}
+use Rattle.cell_key.specs.Entries.{Entry, IsEntryList}
 use Rattle.sorted_file.specs.Grammar.{FitsIn, IsFile}
 use Rattle.sorted_file.specs.declared.format.Format.TheVariants.{Two}
 use Rattle.compaction.specs.Least.{IsLeast}
@@ -27,6 +27,14 @@ module _ {S : Type 0} (steps : S → S → Type 0) (lent : S → Option Entry) w
       pub last : List S
       pub merge : IsMergeOf None sources entries at last
       pub large : ¬ FitsIn limit (only_written keep_erasures entries)
+
+    -- what is written of entries that a merge of sources passes over is no entry list: a source isn't in order
+    pub record MergesNoList (sources : List S) : Type 0 where
+      pub entries : List Entry
+      pub at : Option Entry
+      pub last : List S
+      pub merge : IsMergeOf None sources entries at last
+      pub none : ¬ IsEntryList (only_written keep_erasures entries)
 
     -- the bytes are the file of what is written of all that a merge of sources passes over
     pub record IsFileOfMerge (sources : List S) (image : List ℕ) : Type 0 where

@@ -1,33 +1,35 @@
 //! Writing several sources as one file.
 
-ghost use Rattle.std.specs.Prelude.{◌≡◌, ◌≤◌, ℕ, List, length, map, IfErr, OnOk, OnErr, IsErrOf};
+ghost use Rattle.std.specs.Prelude.{◌≡◌, ◌≤◌, ◌⊎◌, ℕ, List, length, map, IfErr, IfOk, IfSome, OnOk, OnErr, IsErrOf};
 ghost use Rattle.std.specs.List.{AllByRecursion};
 ghost use Rattle.file_store.specs.Store.{KeepsOthers, with_file};
+ghost use Rattle.sorted_file.specs.File.{IsOpen, name_of};
 ghost use Rattle.sorted_file.specs.Grammar.{IsFile, FitsIn};
 ghost use Rattle.sorted_file.specs.Limits.{IsFileLimit};
 ghost use Rattle.sorted_file.specs.Source.{ComesToEnd, IsWriteRefusal};
 ghost use Rattle.sorted_file.specs.declared.format.Format.TheVariants.{Two};
 ghost use Rattle.cell_key.specs.Faults.{HasReason};
 ghost use Rattle.compaction.specs.Merging.{AreAtStart};
-ghost use Rattle.compaction.specs.Passing.{IsFileOfMerge, MergeBreaks, MergesTooMuch};
+ghost use Rattle.compaction.specs.Passing.{IsFileOfMerge, MergeBreaks, MergesNoList, MergesTooMuch};
 ghost use Rattle.compaction.specs.Writing.{written};
 
 use crate::merge::Merge;
 use crate::values::Values;
 use cell_key::Refusal;
 use file_store::Files;
-use sorted_file::{Source, write_file};
+use sorted_file::{LockIndex, SortedFile, Source, write_file};
 use std::alloc::Global;
 
 /// Writes what sources, the newest first, mean together as a file, which replaces a file of this name
 /// (Bigtable, tablet serving: minor and merging compactions keep erasures, and a major compaction, which
-/// rewrites everything there is, need not). None of the sources has come to an entry yet. Without
-/// `keep_erasures` values alone are written. No sources give the file of no entries.
+/// rewrites everything there is, need not), and returns it open, as `write_file` does: nothing of it is read. None of
+/// the sources has come to an entry yet. Without `keep_erasures` values alone are written. No sources give the file of
+/// no entries. The file is newer than those whose locks the index has.
 ///
 /// # Errors
 ///
-/// `FileTooLarge` if the file would have more than `file_limit` bytes, `Damaged` if a source is damaged,
-/// and `Device` and `NoMemory`. Until the whole file is in memory no file is changed. After an `Err` of
+/// `FileTooLarge` if the file would have more than `file_limit` bytes, `Damaged` if a source is damaged or what would be
+/// written is no entry list, and `Device` and `NoMemory`. Until the whole file is in memory no file is changed. After an `Err` of
 /// the write itself the bytes under this name are open. All other files stay as they are.
 pub fn merge_into<F: Files, S: Source<F> + Drop>(
     alloc: Global,
@@ -35,9 +37,13 @@ pub fn merge_into<F: Files, S: Source<F> + Drop>(
     keep_erasures: bool,
     name: u64,
     file_limit: u64,
+    over: &LockIndex,
     files: &mut F,
-) -> Result<(), Refusal>
+) -> Result<SortedFile, Refusal>
     requires limit { IsFileLimit file_limit }
+    ensures opened { IfOk result (λ file. IfSome (F.contents files.new) (λ m. IsOpen m file)) }
+    ensures named { IfOk result (λ file. name_of file ≡ name) }
+    ensures sized { IfOk result (λ file. file.cache.cap ≡ 8) }
     ensures written { OnOk result ((image : List ℕ)
         × ((F.contents files.new ≡ with_file name image (F.contents files.old))
         × (length image ≤ file_limit)
@@ -57,7 +63,8 @@ pub fn merge_into<F: Files, S: Source<F> + Drop>(
     ensures too_much { IsErrOf result Refusal.FileTooLarge → MergesTooMuch
         (S.steps (F.contents files.old)) S.lent keep_erasures file_limit sources.items }
     ensures broken { IsErrOf result Refusal.Damaged → MergeBreaks (S.steps (F.contents files.old))
-        S.lent (S.breaks (F.contents files.old)) sources.items }
+        S.lent (S.breaks (F.contents files.old)) sources.items
+        ⊎ MergesNoList (S.steps (F.contents files.old)) S.lent keep_erasures sources.items }
     ensures large_same { IsErrOf result Refusal.FileTooLarge
         → F.contents files.new ≡ F.contents files.old }
     ensures damaged_same { IsErrOf result Refusal.Damaged
@@ -68,5 +75,5 @@ pub fn merge_into<F: Files, S: Source<F> + Drop>(
 {
     let merge = Merge::new::<F>(sources);
     let mut values = Values::new(merge, keep_erasures);
-    write_file(alloc, &mut values, name, file_limit, files)
+    write_file(alloc, &mut values, name, file_limit, over, files)
 }

@@ -7,7 +7,7 @@ use Rattle.compaction.specs.Merging.{lent_at, MergeHolds, MergeSteps, merge_rema
 use Rattle.compaction.specs.Writing.{only_written}
 use Rattle.compaction.proofs.Ending.{values_end}
 use Rattle.compaction.proofs.Falls.{on_ok}
-use Rattle.compaction.proofs.Passed.{file_of_merge, merge_breaks, merges_too_much}
+use Rattle.compaction.proofs.Passed.{either, file_of_merge, merge_breaks, merges_no_list, merges_too_much}
 use Rattle.compaction.proofs.writing.merge_into.Goals as goal
 
 pub returns-clause-written : goal.returns-clause-written
@@ -47,7 +47,9 @@ returns-clause-broken g c = λ err.
     let m = g.F.Files.contents c.args.files.now in
     let all = ap (λ s. s.sources.items) c.new-values.ensures.source ∙ ap (λ xs. xs.items) c.new-merge.ensures.sources in
     let none = ap (λ s. lent_at g.S.Source.lent s.sources.items s.at) c.new-values.ensures.source ∙ c.new-merge.ensures.lent in
-    merge_breaks (g.S.Source.steps m) g.S.Source.lent (λ s. s.sources.items) (λ s. s.at) (λ v. v.source) (λ v. v.keep_erasures) c.args.keep_erasures c.new-values.result c.args.sources.items c.new-values.ensures.keep all none (g.S.Source.breaks m) (c.write_file.ensures.broken err)
+    either (c.write_file.ensures.broken err)
+    (merge_breaks (g.S.Source.steps m) g.S.Source.lent (λ s. s.sources.items) (λ s. s.at) (λ v. v.source) (λ v. v.keep_erasures) c.args.keep_erasures c.new-values.result c.args.sources.items c.new-values.ensures.keep all none (g.S.Source.breaks m))
+    (merges_no_list (g.S.Source.steps m) g.S.Source.lent (λ s. s.sources.items) (λ s. s.at) (λ v. v.source) (λ v. v.keep_erasures) c.args.keep_erasures c.new-values.result c.args.sources.items c.new-values.ensures.keep all none)
 
 pub returns-clause-whole : goal.returns-clause-whole
 returns-clause-whole g c =
