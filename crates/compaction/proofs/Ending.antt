@@ -1,11 +1,12 @@
 -- A merge that comes to its end has sources that do.
-use Rattle.std.proofs.Common.{◌≡◌, ℕ, ◌⊎◌, inl, inr, true, false, List, [], ◌∷◌, map, refl, sym, ap, subst, ◌∙◌}
+use Rattle.std.proofs.Common.{◌≡◌, ℕ, inl, inr, true, false, List, [], ◌∷◌, map, refl, sym, ap, subst, ◌∙◌}
 use Rattle.std.specs.Prelude.{Option, Some, None, Bool, IfSome, IsSome, IsSomeAnd, is_some}
 use Rattle.std.specs.List.{AllByRecursion, AllZip}
 use Rattle.cell_key.specs.Entries.{Entry}
 use Rattle.sorted_file.specs.Source.{ComesToEnd, ends, goes_on}
-use Rattle.compaction.specs.Least.{IsLeast}
-use Rattle.compaction.specs.Merging.{lent_at, GoesPast, IsAtLeast, MayStep, Moves, MovesPast, MergeSteps}
+use Rattle.compaction.specs.Order.{IsReady}
+use Rattle.compaction.specs.MergeLaw.{none_at}
+use Rattle.compaction.specs.Merging.{first_lent, goes_past, stays_there, GoesPast, MovesPast, MergeSteps}
 use Rattle.compaction.specs.Writing.{is_written, is_written_lent, StepsOn, steps_once, steps_past}
 
 some_is : (o : Option Entry) (e : Entry) → o ≡ Some e → IsSome o
@@ -34,26 +35,26 @@ module _ {S : Type 0} (steps : S → S → Type 0) (lent : S → Option Entry) w
   Ends None s = ComesToEnd steps lent s
   Ends (Some e) s = IsSome (lent s) → ComesToEnd steps lent s
 
-  last_one : (at : Option Entry) (s t : S) → Moves steps at s t → lent t ≡ None → Ends at s
+  last_one : (at : Option Entry) (s t : S) → MovesPast steps lent at s t → lent t ≡ None → Ends at s
   last_one None s t step none = ends step none
-  last_one (Some e) s t (inl step) none = λ _. ends step none
-  last_one (Some e) s t (inr same) none = λ some. absurd (not_both (lent s) some (ap lent (sym same) ∙ none))
+  last_one (Some e) s t (goes_past tied step) none = λ _. ends step none
+  last_one (Some e) s t (stays_there apart same) none = λ some. absurd (not_both (lent s) some (ap lent (sym same) ∙ none))
 
   on_to : (s t : S) (o : Option Entry) → lent t ≡ o → steps s t → (IsSome (lent t) → ComesToEnd steps lent t) → ComesToEnd steps lent s
   on_to s t None none step h = ends step none
   on_to s t (Some f) is step h = let some = some_is (lent t) f is in goes_on step some (h some)
 
-  next_one : (at : Option Entry) (s t : S) → Moves steps at s t → (IsSome (lent t) → ComesToEnd steps lent t) → Ends at s
+  next_one : (at : Option Entry) (s t : S) → MovesPast steps lent at s t → (IsSome (lent t) → ComesToEnd steps lent t) → Ends at s
   next_one None s t step h = on_to s t (lent t) refl step h
-  next_one (Some e) s t (inl step) h = λ _. on_to s t (lent t) refl step h
-  next_one (Some e) s t (inr same) h = λ some. subst (ComesToEnd steps lent) same (h (subst (λ (u : S). IsSome (lent u)) (sym same) some))
+  next_one (Some e) s t (goes_past tied step) h = λ _. on_to s t (lent t) refl step h
+  next_one (Some e) s t (stays_there apart same) h = λ some. subst (ComesToEnd steps lent) same (h (subst (λ (u : S). IsSome (lent u)) (sym same) some))
 
-  last_all : (at : Option Entry) (xs ys : List S) → AllZip (Moves steps at) xs ys → AllByRecursion (λ s. lent s ≡ None) ys → AllByRecursion (Ends at) xs
+  last_all : (at : Option Entry) (xs ys : List S) → AllZip (MovesPast steps lent at) xs ys → AllByRecursion (λ s. lent s ≡ None) ys → AllByRecursion (Ends at) xs
   last_all at [] ys moves none = tt
   last_all at (x ∷ xs) [] moves none = absurd moves
   last_all at (x ∷ xs) (y ∷ ys) moves none = (last_one at x y moves.0 none.0, last_all at xs ys moves.1 none.1)
 
-  next_all : (at : Option Entry) (xs ys : List S) → AllZip (Moves steps at) xs ys → AllByRecursion (λ t. IsSome (lent t) → ComesToEnd steps lent t) ys → AllByRecursion (Ends at) xs
+  next_all : (at : Option Entry) (xs ys : List S) → AllZip (MovesPast steps lent at) xs ys → AllByRecursion (λ t. IsSome (lent t) → ComesToEnd steps lent t) ys → AllByRecursion (Ends at) xs
   next_all at [] ys moves h = tt
   next_all at (x ∷ xs) [] moves h = absurd moves
   next_all at (x ∷ xs) (y ∷ ys) moves h = (next_one at x y moves.0 h.0, next_all at xs ys moves.1 h.1)
@@ -62,15 +63,22 @@ module _ {S : Type 0} (steps : S → S → Type 0) (lent : S → Option Entry) w
   at_entry None ys some h = absurd (not_both None some refl)
   at_entry (Some e) ys some h = h
 
-  -- what a merge M has: its sources, and the place that it is at
-  module _ {M : Type 0} (sources : M → List S) (at : M → ℕ) where
-    all_end : (m : M) → ComesToEnd (λ a b. MergeSteps steps lent (sources a) (at a) (sources b) (at b)) (λ a. lent_at lent (sources a) (at a)) m → AllByRecursion (Ends (lent_at lent (sources m) (at m))) (sources m)
-    all_end m (ends {t = b} step none) = last_all (lent_at lent (sources m) (at m)) (sources m) (sources b) step.each (step.ended none)
-    all_end m (goes_on {t = b} step some h) = next_all (lent_at lent (sources m) (at m)) (sources m) (sources b) step.each (at_entry (lent_at lent (sources b) (at b)) (sources b) some (all_end b h))
+  -- what a merge M has: its sources, and the order of their places
+  module _ {M : Type 0} (sources : M → List S) (order : M → List ℕ) where
+    abbrev pub OrderedSteps : M → M → Type 0
+    OrderedSteps a b = IsReady (map lent (sources a)) (order a) → MergeSteps steps lent (sources a) (order a) (sources b) (order b)
 
-    -- a merge at no entry
-    pub merge_ends : (m : M) → lent_at lent (sources m) (at m) ≡ None → ComesToEnd (λ a b. MergeSteps steps lent (sources a) (at a) (sources b) (at b)) (λ a. lent_at lent (sources a) (at a)) m → AllByRecursion (ComesToEnd steps lent) (sources m)
-    merge_ends m none h = subst (λ (o : Option Entry). AllByRecursion (Ends o) (sources m)) none (all_end m h)
+    all_end : (m : M) → ComesToEnd OrderedSteps (λ a. first_lent lent (sources a) (order a)) m → IsReady (map lent (sources m)) (order m) → AllByRecursion (Ends (first_lent lent (sources m) (order m))) (sources m)
+    all_end m (ends {t = b} step none) ready =
+        let s = step ready in
+        last_all (first_lent lent (sources m) (order m)) (sources m) (sources b) s.past (none_at lent (λ _. []) (λ _. Unit {0}) (sources b) (order b) s.ordered none)
+    all_end m (goes_on {t = b} step some h) ready =
+        let s = step ready in
+        next_all (first_lent lent (sources m) (order m)) (sources m) (sources b) s.past (at_entry (first_lent lent (sources b) (order b)) (sources b) some (all_end b h (inr s.ordered)))
+
+    -- a merge that nothing is in order of
+    pub merge_ends : (m : M) → order m ≡ [] → ComesToEnd OrderedSteps (λ a. first_lent lent (sources a) (order a)) m → AllByRecursion (ComesToEnd steps lent) (sources m)
+    merge_ends m none h = subst (λ (order : List ℕ). AllByRecursion (Ends (first_lent lent (sources m) order)) (sources m)) none (all_end m h (inl none))
 
   -- a source without its erasures
   some_and : (o : Option Entry) (P : Entry → Type 0) → IsSomeAnd o P → IsSome o
@@ -94,22 +102,10 @@ module _ {S : Type 0} (steps : S → S → Type 0) (lent : S → Option Entry) w
   values_end source keeps v (goes_on {t = w} step some h) = past_on (keeps v) (source v) (source w) step.1 some (values_end source keeps w h)
 
   -- what a merge's sources do, by the entry that it is at
-  pub moves_some : (o : Option Entry) (xs ys : List S) → true ≡ is_some o → AllZip (MayStep steps) xs ys → AllZip (Moves steps o) xs ys
-  moves_some None xs ys e h = cc
-  moves_some (Some e) xs ys p h = h
-
-  pub moves_none : (o : Option Entry) (xs ys : List S) → false ≡ is_some o → AllZip steps xs ys → AllZip (Moves steps o) xs ys
-  moves_none None xs ys e h = h
-  moves_none (Some e) xs ys p h = cc
-
-  pub past_some : (xs ys : List S) (at : ℕ) → true ≡ is_some (lent_at lent xs at) → (IsLeast (map lent xs) at → AllZip (GoesPast steps lent (lent_at lent xs at)) xs ys) → IsAtLeast lent xs at → AllZip (MovesPast steps lent (lent_at lent xs at)) xs ys
-  past_some xs ys at e h l = go (lent_at lent xs at) refl e l h
-    where
-      go : (o : Option Entry) → lent_at lent xs at ≡ o → true ≡ is_some o → (o ≡ None) ⊎ IsLeast (map lent xs) at → (IsLeast (map lent xs) at → AllZip (GoesPast steps lent o) xs ys) → AllZip (MovesPast steps lent o) xs ys
-      go None is e l h = cc
-      go (Some e) is p (inl none) h = cc
-      go (Some e) is p (inr least) h = h least
-
   pub past_none : (o : Option Entry) (xs ys : List S) → false ≡ is_some o → AllZip steps xs ys → AllZip (MovesPast steps lent o) xs ys
   past_none None xs ys e h = h
   past_none (Some e) xs ys p h = cc
+
+  pub past_some : (o : Option Entry) (xs ys : List S) → true ≡ is_some o → AllZip (GoesPast steps lent o) xs ys → AllZip (MovesPast steps lent o) xs ys
+  past_some None xs ys e h = cc
+  past_some (Some e) xs ys p h = h

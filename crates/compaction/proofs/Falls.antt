@@ -1,22 +1,11 @@
 -- What the number of a merge says of the entry that it is at.
-use Rattle.std.proofs.Common.{◌≡◌, ℕ, zero, suc, ◌+◌, ◌≤◌, Bool, true, false, cond, List, [], ◌∷◌, map, length, refl, sym, ap, subst, ◌∙◌, arith, take, drop, ◌++◌}
-use Rattle.std.specs.Prelude.{Option, Some, None, IsSome, IsSomeAnd, is_some, sum_by, nat_lt, Result, Ok, Err, OnOk}
+use Rattle.std.proofs.Common.{◌≡◌, ℕ, zero, suc, ◌+◌, ◌≤◌, Bool, true, false, cond, List, [], ◌∷◌, length, refl, sym, ap, subst, arith, take, drop, ◌++◌}
+use Rattle.std.specs.Prelude.{Option, Some, None, IsSome, is_some, sum_by, Result, Ok, Err, OnOk}
 use Rattle.std.specs.List.{AllByRecursion, AllZip}
 use Rattle.std.proofs.lemmas.Grind.{common_steps}
-use Rattle.std.proofs.lemmas.Bool.{lt-ltb}
-use Rattle.std.proofs.lemmas.Bool.Decides.{nat_tests}
 use Rattle.std.proofs.lemmas.List.Sums.{sum_by-append}
 use Rattle.cell_key.specs.Entries.{Entry}
-use Rattle.compaction.specs.Least.{IsLeast}
-use Rattle.compaction.specs.Merging.{lent_at, one, MergeHolds, StepsTo}
-use Rattle.compaction.specs.LeastLaw.{none_lent}
-
-ltb_suc : (a b : ℕ) → nat_lt (suc a) (suc b) ≡ nat_lt a b
-ltb_suc a b = grind (arith, nat_tests)
-
-some_there : (o : Option Entry) (P : Entry → Type 0) → IsSomeAnd o P → true ≡ is_some o
-some_there None P h = absurd h
-some_there (Some e) P h = refl
+use Rattle.compaction.specs.Merging.{first_lent, lent_at, one, HaveStarted, MergeHolds, StepsTo}
 
 module _ {S : Type 0} (lent : S → Option Entry) where
   -- where a source is at an entry, one is counted
@@ -27,15 +16,6 @@ module _ {S : Type 0} (lent : S → Option Entry) where
       omega (arith, here, sum_by-append (λ s. one (lent s)) (x ∷ []) xs)
   one_lent (x ∷ xs) (suc k) h = omega (arith, one_lent xs k h, sum_by-append (λ s. one (lent s)) (x ∷ []) xs)
 
-  pub least_within : (xs : List S) (at : ℕ) → IsLeast (map lent xs) at → nat_lt at (length xs) ≡ is_some (lent_at lent xs at)
-  least_within [] at l = grind (arith, common_steps)
-  least_within (x ∷ xs) zero l = lt-ltb 0 (suc (length xs)) (omega arith) ∙ some_there (lent x) _ l
-  least_within (x ∷ xs) (suc at) l = ltb_suc at (length xs) ∙ least_within xs at l.1
-
-  pub unmapped : (xs : List S) → AllByRecursion (λ o. o ≡ None) (map lent xs) → AllByRecursion (λ s. lent s ≡ None) xs
-  unmapped [] h = tt
-  unmapped (x ∷ xs) h = (h.0, unmapped xs h.1)
-
 pub is_none : (o : Option Entry) → is_some o ≡ false → o ≡ None
 is_none None h = refl
 is_none (Some e) h = cc
@@ -45,11 +25,11 @@ module _ {S : Type 0} (lent : S → Option Entry) (remaining : S → List Entry)
   with_none [] h n = tt
   with_none (x ∷ xs) h n = ((h.0, n.0), with_none xs h.1 n.1)
 
-  -- where the merge is at no entry, no source is
-  pub all_none : (olds news : List S) (at : ℕ) → false ≡ is_some (lent_at lent olds at) → MergeHolds lent remaining holds olds at → (AllByRecursion (λ s. holds s × (lent s ≡ None)) olds → AllZip (StepsTo lent remaining holds None) olds news) → AllZip (StepsTo lent remaining holds (lent_at lent olds at)) olds news
-  all_none olds news at n h steps =
-      let none : lent_at lent olds at ≡ None = is_none _ (sym n) in
-      subst (λ o. AllZip (StepsTo lent remaining holds o) olds news) (sym none) (steps (with_none olds h.each (unmapped lent olds (none_lent (map lent olds) at h.least none))))
+  -- where a merge is at no entry, each source goes on from there
+  pub all_none : (olds news : List S) (order : List ℕ) → false ≡ is_some (first_lent lent olds order) → MergeHolds lent remaining holds olds order → (AllByRecursion (λ s. holds s × (lent s ≡ None)) olds → AllZip (StepsTo lent remaining holds None) olds news) → AllZip (StepsTo lent remaining holds (first_lent lent olds order)) olds news
+  all_none olds news order n h steps =
+      let none : first_lent lent olds order ≡ None = is_none _ (sym n) in
+      subst (λ o. AllZip (StepsTo lent remaining holds o) olds news) (sym none) (steps (with_none olds h.each (subst (λ o. HaveStarted lent remaining o olds) none h.started)))
 
 pub back_whole : {S : Type 0} (new items : List S) (n : ℕ) → length new ≡ length items → n ≡ length items → take n (new ++ drop (length new) items) ≡ new
 back_whole new items n e f = grind (arith, common_steps)
@@ -67,5 +47,6 @@ if_is true new old h f = f refl
 if_is false new old h f = omega arith
 
 -- the number falls where the merge came to an entry
-pub merge_falls : {S : Type 0} (lent : S → Option Entry) (news : List S) (at n new old : ℕ) → IsLeast (map lent news) at → n ≡ length news → new ≤ old → ((k : ℕ) → IsSome (lent_at lent news k) → new + 1 ≤ old) → new + cond (nat_lt at n) 1 0 ≤ old
-merge_falls lent news at n new old l e h f = if_is (nat_lt at n) new old h (λ t. f at (sym (ap (nat_lt at) e ∙ least_within lent news at l) ∙ t))
+pub merge_falls : {S : Type 0} (lent : S → Option Entry) (news : List S) (order : List ℕ) (new old : ℕ) → new ≤ old → ((k : ℕ) → IsSome (lent_at lent news k) → new + 1 ≤ old) → new + cond (is_some (first_lent lent news order)) 1 0 ≤ old
+merge_falls lent news [] new old h f = omega (arith, h)
+merge_falls lent news (place ∷ order) new old h f = if_is (is_some (lent_at lent news place)) new old h (f place)

@@ -1,8 +1,9 @@
-pub mod Best
 pub mod EndedSources
 pub mod Ending
 pub mod Falls
 pub mod Fresh
+pub mod Moves
+pub mod Orders
 pub mod Passed
 pub mod Ranges
 pub mod Tied

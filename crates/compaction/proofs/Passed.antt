@@ -1,12 +1,15 @@
 -- What a merge without erasures passes over, its sources pass over.
-use Rattle.std.proofs.Common.{◌≡◌, ◌⊎◌, ℕ, inl, inr, Bool, true, false, cond, List, [], ◌∷◌, ◌++◌, refl, sym, ap, subst, ◌∙◌}
+use Rattle.std.proofs.Common.{◌≡◌, ◌⊎◌, ℕ, inl, inr, Bool, true, false, cond, List, [], ◌∷◌, ◌++◌, map, refl, sym, ap, subst, ◌∙◌}
 use Rattle.std.proofs.lemmas.List.Elements.{filter-append}
 use Rattle.std.specs.Prelude.{Option, Some, None, IfSome, IsSomeAnd}
 use Rattle.cell_key.specs.Entries.{Entry, IsEntryList}
 use Rattle.sorted_file.specs.Passing.{BreaksAfter, IsFileOf, PassesNoList, PassesOver, PassesTooMuch, passes_none, passes_one}
 use Rattle.sorted_file.specs.Grammar.{FitsIn, IsFile}
 use Rattle.sorted_file.specs.declared.format.Format.TheVariants.{Two}
-use Rattle.compaction.specs.Merging.{lent_at, BreaksAmong, IsAtLeast, IsMoved, MergeSteps}
+use Rattle.compaction.specs.Order.{IsReady}
+use Rattle.compaction.specs.OrderLaw.{ordered_least}
+use Rattle.compaction.specs.MergeLaw.{none_at}
+use Rattle.compaction.specs.Merging.{first_lent, BreaksAmong, IsMoved, MergeSteps}
 use Rattle.compaction.specs.Passing.{IsFileOfMerge, IsMergeOf, MergeBreaks, MergesNoList, MergesTooMuch, merges_none, merges_one}
 use Rattle.compaction.specs.Writing.{is_written, only_written, BreaksOn, StepsOn, breaks_here, breaks_past, steps_once, steps_past}
 
@@ -104,35 +107,42 @@ module _ {M : Type 0} (keep : Bool) (steps : M → M → Type 0) (lent : M → O
 
 -- ---- a merge
 
-module _ {S M : Type 0} (steps : S → S → Type 0) (lent : S → Option Entry) (sources : M → List S) (at : M → ℕ) where
-  merge_passed : {m n : M} {es : List Entry} → PassesOver (λ a b. MergeSteps steps lent (sources a) (at a) (sources b) (at b)) (λ a. lent_at lent (sources a) (at a)) m es n → IsAtLeast lent (sources m) (at m)
-      → IsMergeOf steps lent (lent_at lent (sources m) (at m)) (sources m) es (lent_at lent (sources n) (at n)) (sources n) × IsAtLeast lent (sources n) (at n)
+module _ {S M : Type 0} (steps : S → S → Type 0) (lent : S → Option Entry) (sources : M → List S) (order : M → List ℕ) where
+  abbrev Ready : M → Type 0
+  Ready m = IsReady (map lent (sources m)) (order m)
+
+  abbrev MS : M → M → Type 0
+  MS a b = Ready a → MergeSteps steps lent (sources a) (order a) (sources b) (order b)
+
+  abbrev ML : M → Option Entry
+  ML a = first_lent lent (sources a) (order a)
+
+  merge_passed : {m n : M} {es : List Entry} → PassesOver MS ML m es n → Ready m → IsMergeOf steps lent (ML m) (sources m) es (ML n) (sources n) × Ready n
   merge_passed passes_none h = (merges_none, h)
-  merge_passed {m} {n} (passes_one {t = b} {es = es} step is more) h =
-      let rest = merge_passed more (inr step.least) in
-      (merges_one (at b) (step.past h) step.least is (subst (λ (o : Option Entry). IsMergeOf steps lent o (sources b) es (lent_at lent (sources n) (at n)) (sources n)) is rest.0), rest.1)
+  merge_passed {m} {n} (passes_one {t = b} {e = e} {es = es} step is more) h =
+      let s = step h in
+      let first = ordered_least (map lent (sources b)) (order b) e s.ordered is in
+      let rest = merge_passed more (inr s.ordered) in
+      (merges_one first.place s.past first.least first.is (subst (λ (o : Option Entry). IsMergeOf steps lent o (sources b) es (ML n) (sources n)) is rest.0), rest.1)
 
-  module _ {V : Type 0} (source : V → M) (keeps : V → Bool) (keep : Bool) (v : V) (xs : List S) (k : keeps v ≡ keep) (all : sources (source v) ≡ xs) (none : lent_at lent (sources (source v)) (at (source v)) ≡ None) where
-    abbrev MS : M → M → Type 0
-    MS a b = MergeSteps steps lent (sources a) (at a) (sources b) (at b)
-
-    abbrev ML : M → Option Entry
-    ML a = lent_at lent (sources a) (at a)
+  module _ {V : Type 0} (source : V → M) (keeps : V → Bool) (keep : Bool) (v : V) (xs : List S) (k : keeps v ≡ keep) (all : sources (source v) ≡ xs) (fresh : order (source v) ≡ []) where
+    ready : Ready (source v)
+    ready = inl fresh
 
     -- from no entry on
     from_none : (n : M) (es : List Entry) → IsMergeOf steps lent (ML (source v)) (sources (source v)) es (ML n) (sources n) → IsMergeOf steps lent None xs es (ML n) (sources n)
-    from_none n es h = subst (λ (l : List S). IsMergeOf steps lent None l es (ML n) (sources n)) all (subst (λ (o : Option Entry). IsMergeOf steps lent o (sources (source v)) es (ML n) (sources n)) none h)
+    from_none n es h = subst (λ (l : List S). IsMergeOf steps lent None l es (ML n) (sources n)) all (subst (λ (o : Option Entry). IsMergeOf steps lent o (sources (source v)) es (ML n) (sources n)) (ap (first_lent lent (sources (source v))) fresh) h)
 
     pub merges_too_much : (limit : ℕ) → PassesTooMuch (λ a b. (keeps b ≡ keeps a) × StepsOn (keeps a) MS ML (source a) (source b)) (λ a. ML (source a)) limit v → MergesTooMuch steps lent keep limit xs
     merges_too_much limit h =
         let p = values_passed keep MS ML source keeps h.passes k in
-        let m = merge_passed p.1.passes (inl none) in
+        let m = merge_passed p.1.passes ready in
         record { entries = p.1.all; at = ML (source h.last); last = sources (source h.last); merge = from_none _ _ m.0; large = subst (λ (es : List Entry). ¬ FitsIn limit es) (sym p.1.same) h.large }
 
     pub merges_no_list : PassesNoList (λ a b. (keeps b ≡ keeps a) × StepsOn (keeps a) MS ML (source a) (source b)) (λ a. ML (source a)) v → MergesNoList steps lent keep xs
     merges_no_list h =
         let p = values_passed keep MS ML source keeps h.passes k in
-        let m = merge_passed p.1.passes (inl none) in
+        let m = merge_passed p.1.passes ready in
         record { entries = p.1.all; at = ML (source h.last); last = sources (source h.last); merge = from_none _ _ m.0; none = subst (λ (es : List Entry). ¬ IsEntryList es) (sym p.1.same) h.none }
 
     pub file_of_merge : (image : List ℕ) → IsFileOf (λ a b. (keeps b ≡ keeps a) × StepsOn (keeps a) MS ML (source a) (source b)) (λ a. ML (source a)) v image → IsFileOfMerge steps lent keep xs image
@@ -140,24 +150,24 @@ module _ {S M : Type 0} (steps : S → S → Type 0) (lent : S → Option Entry)
         let p = values_passed keep MS ML source keeps h.all.passes k in
         let a = of_keep keep MS ML source keeps h.all.last h.all.end p.0 h.all.step in
         let q = left_more keep MS ML (source v) (source h.all.last) a.1.mid h.entries p.1 a.1.left in
-        let m = merge_passed q.passes (inl none) in
+        let m = merge_passed q.passes ready in
         record {
           entries = q.all;
           at = ML a.1.mid;
           last = sources a.1.mid;
           merge = from_none _ _ m.0;
           ended = sources (source h.all.end);
-          moves = a.1.step.past m.1;
-          none = a.1.step.ended h.all.none;
+          moves = (a.1.step m.1).past;
+          none = none_at lent (λ _. []) (λ _. Unit {0}) (sources (source h.all.end)) (order (source h.all.end)) (a.1.step m.1).ordered h.all.none;
           form = subst (λ (es : List Entry). IsFile Two es image) (sym q.same) h.form;
         }
 
     pub merge_breaks : (breaks : S → Type 0)
-        → BreaksAfter (λ a b. (keeps b ≡ keeps a) × StepsOn (keeps a) MS ML (source a) (source b)) (λ a. ML (source a)) (λ a. BreaksOn (keeps a) MS ML (λ m. BreaksAmong breaks (IsMoved lent (ML m)) (sources m)) (source a)) v → MergeBreaks steps lent breaks xs
+        → BreaksAfter (λ a b. (keeps b ≡ keeps a) × StepsOn (keeps a) MS ML (source a) (source b)) (λ a. ML (source a)) (λ a. BreaksOn (keeps a) MS ML (λ m. Ready m → BreaksAmong breaks (IsMoved lent (ML m)) (sources m)) (source a)) v → MergeBreaks steps lent breaks xs
     merge_breaks breaks h =
-        let Off : M → Type 0 = λ m. BreaksAmong breaks (IsMoved lent (ML m)) (sources m) in
+        let Off : M → Type 0 = λ m. Ready m → BreaksAmong breaks (IsMoved lent (ML m)) (sources m) in
         let p = values_passed keep MS ML source keeps h.passes k in
         let b = broken keep MS ML Off (source h.last) (subst (λ (c : Bool). BreaksOn c MS ML Off (source h.last)) p.0 h.here) in
         let q = left_more keep MS ML (source v) (source h.last) b.mid h.entries p.1 b.left in
-        let m = merge_passed q.passes (inl none) in
-        record { entries = q.all; at = ML b.mid; last = sources b.mid; merge = from_none _ _ m.0; source = b.here.source; among = b.here.among; moved = b.here.moves; here = b.here.here }
+        let m = merge_passed q.passes ready in
+        record { entries = q.all; at = ML b.mid; last = sources b.mid; merge = from_none _ _ m.0; source = (b.here m.1).source; among = (b.here m.1).among; moved = (b.here m.1).moves; here = (b.here m.1).here }

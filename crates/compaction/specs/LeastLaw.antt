@@ -41,15 +41,6 @@ not_below (Some f ∷ os) (suc at) e l is =
     let above : IsAbove (Some e) (Some f) = subst (λ o. IsAbove o (Some f)) is l.0 in
     (lower _ above, not_below os at e l.1 is)
 
--- if there is no least one, there is none
-pub none_lent : (os : List (Option Entry)) (at : ℕ) → IsLeast os at → entry_at os at ≡ None
-    → AllByRecursion (λ o. o ≡ None) os
-none_lent [] at l is = tt
-none_lent (None ∷ os) zero l is = absurd l
-none_lent (Some f ∷ os) zero l is = cc
-none_lent (None ∷ os) (suc at) l is = (refl, none_lent os at l.1 is)
-none_lent (Some f ∷ os) (suc at) l is = absurd (subst (λ o. IsAbove o (Some f)) is l.0)
-
 module _ {S : Type 0} (lent : S → Option Entry) (remaining : S → List Entry) where
   waits_above : (s : S) (e : Entry) (o : Option Entry) → lent s ≡ o
       → HasStarted lent remaining s → IsRising (waiting lent remaining s) → IsAbove (Some e) o
@@ -125,8 +116,7 @@ module _ {S : Type 0} (lent : S → Option Entry) (remaining : S → List Entry)
       (found sources at e l is h r)
       ∙ ap (λ lists. e ∷ merged lists) (past_all e.0 sources)
 
-  pub whole_none : (sources : List S) (at : ℕ) → IsLeast (map lent sources) at
-      → lent_at lent sources at ≡ None → AllByRecursion (HasStarted lent remaining) sources
+  pub whole_none : (sources : List S) → AllByRecursion (λ o. o ≡ None) (map lent sources)
+      → AllByRecursion (HasStarted lent remaining) sources
       → merged (map (waiting lent remaining) sources) ≡ []
-  whole_none sources at l is h =
-      merged_none _ (none_waiting sources (none_lent (map lent sources) at l is) h)
+  whole_none sources none h = merged_none _ (none_waiting sources none h)

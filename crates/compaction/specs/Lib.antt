@@ -1,6 +1,8 @@
 pub mod Inputs
 pub mod Ends
 pub mod Least
+pub mod Order
+pub mod OrderLaw
 pub mod ListLaws
 pub mod Merging
 pub mod PastLaw

@@ -1,13 +1,14 @@
 -- Proofs that a ghost member cites; nothing is promised here.
 -- One step of a merge, by the steps of its sources.
-use Rattle.std.proofs.Common.{◌≡◌, ℕ, true, false, cond, List, [], ◌∷◌, map, refl, sym, ap, subst, ◌∙◌}
-use Rattle.std.specs.Prelude.{Option, Some, None, OnSome}
+use Rattle.std.proofs.Common.{◌≡◌, ℕ, inr, true, false, cond, List, [], ◌∷◌, map, refl, sym, ap, subst, ◌∙◌}
+use Rattle.std.specs.Prelude.{Option, Some, None}
 use Rattle.std.specs.List.{AllByRecursion, AllZip}
 use Rattle.cell_key.specs.Entries.{Entry, IsEntryList, IsRising, merged, Takes}
 use Rattle.sorted_file.specs.Source.{pending}
-use Rattle.compaction.specs.Least.{IsLeast}
+use Rattle.compaction.specs.Order.{IsOrdered, IsReady}
+use Rattle.compaction.specs.OrderLaw.{ordered_least, ordered_none, ready_least}
 use Rattle.compaction.specs.Ties.{ties}
-use Rattle.compaction.specs.Merging.{past, past_lent, lent_at, waiting, HasStarted, merge_remaining, MergeHolds, StepsTo}
+use Rattle.compaction.specs.Merging.{past, past_lent, first_lent, waiting, HasStarted, HaveStarted, merge_remaining, MergeHolds, StepsTo}
 use Rattle.compaction.specs.LeastLaw.{whole_some, whole_none}
 use Rattle.cell_key.proofs.EntryLists.{merged_list}
 
@@ -93,41 +94,57 @@ module _ {S : Type 0} (lent : S → Option Entry) (remaining : S → List Entry)
   rising_each r [] h = tt
   rising_each r (s ∷ sources) h = (r s h.0, rising_each r sources h.1)
 
-  on_some : (o : Option Entry) (P : Type 0) → P → OnSome o P
-  on_some None P p = tt
-  on_some (Some e) P p = p
+  unmapped : (sources : List S) → AllByRecursion (λ o. o ≡ None) (map lent sources)
+      → AllByRecursion (λ s. lent s ≡ None) sources
+  unmapped [] n = tt
+  unmapped (s ∷ sources) n = (n.0, unmapped sources n.1)
 
-  lends : (sources : List S) (at : ℕ) (o : Option Entry) → lent_at lent sources at ≡ o
-      → IsLeast (map lent sources) at → AllByRecursion (HasStarted lent remaining) sources
+  -- where a merge whose places are in order is at no entry, no source is
+  pub none_at : (sources : List S) (order : List ℕ) → IsOrdered (map lent sources) order
+      → first_lent lent sources order ≡ None → AllByRecursion (λ s. lent s ≡ None) sources
+  none_at sources order l is = unmapped sources (ordered_none (map lent sources) order l is)
+
+  have_started : (sources : List S) (order : List ℕ) (o : Option Entry)
+      → first_lent lent sources order ≡ o → IsOrdered (map lent sources) order
+      → AllByRecursion (HasStarted lent remaining) sources → HaveStarted lent remaining o sources
+  have_started sources order None is l h = none_at sources order l is
+  have_started sources order (Some e) is l h = h
+
+  lends : (sources : List S) (order : List ℕ) (o : Option Entry)
+      → first_lent lent sources order ≡ o → IsOrdered (map lent sources) order
+      → AllByRecursion (HasStarted lent remaining) sources
       → AllByRecursion (λ s. IsRising (waiting lent remaining s)) sources
       → Takes o (merged (map (waiting lent remaining) sources))
       (merged (map (λ s. past_lent o (waiting lent remaining s)) sources))
-  lends sources at None is l h r =
+  lends sources order None is l h r =
       let none : merged (map (waiting lent remaining) sources)
-      ≡ [] = whole_none lent remaining sources at l is h in (none, none)
-  lends sources at (Some e) is l h r = whole_some lent remaining sources at e l is h r
+      ≡ [] = whole_none lent remaining sources (ordered_none (map lent sources) order l is) h in
+      (none, none)
+  lends sources order (Some e) is l h r =
+      let first = ordered_least (map lent sources) order e l is in
+      whole_some lent remaining sources first.place e first.least first.is h r
 
   -- The sources went past the entry, and the merge went to the least that they are at.
   pub merge_takes : ((s : S) → holds s → IsRising (waiting lent remaining s))
-      → (olds news : List S) (old new : ℕ)
-      → AllZip (StepsTo lent remaining holds (lent_at lent olds old)) olds news
-      → IsLeast (map lent news) new
-      → Takes (lent_at lent news new)
+      → (olds news : List S) (old new : List ℕ)
+      → AllZip (StepsTo lent remaining holds (first_lent lent olds old)) olds news
+      → IsOrdered (map lent news) new
+      → Takes (first_lent lent news new)
       (merge_remaining lent remaining olds old) (merge_remaining lent remaining news new)
   merge_takes r olds news old new z l =
-      subst (λ all. Takes (lent_at lent news new) (merged all)
+      subst (λ all. Takes (first_lent lent news new) (merged all)
       (merge_remaining lent remaining news new))
-      (sym (zip_lists (lent_at lent olds old) olds news z))
-      (lends news new (lent_at lent news new) refl l (zip_started _ olds news z)
+      (sym (zip_lists (first_lent lent olds old) olds news z))
+      (lends news new (first_lent lent news new) refl l (zip_started _ olds news z)
       (rising_each r news (zip_still _ olds news z)))
 
-  pub merge_holds : (olds news : List S) (at : Option Entry) (new : ℕ)
-      → AllZip (StepsTo lent remaining holds at) olds news → IsLeast (map lent news) new
+  pub merge_holds : (olds news : List S) (at : Option Entry) (new : List ℕ)
+      → AllZip (StepsTo lent remaining holds at) olds news → IsOrdered (map lent news) new
       → MergeHolds lent remaining holds news new
   merge_holds olds news at new z l = record {
     each = zip_still at olds news z;
-    least = l;
-    started = on_some (lent_at lent news new) _ (zip_started at olds news z);
+    ready = inr l;
+    started = have_started news new (first_lent lent news new) refl l (zip_started at olds news z);
   }
 
   each_list : ((s : S) → holds s → IsEntryList (waiting lent remaining s))
@@ -136,21 +153,24 @@ module _ {S : Type 0} (lent : S → Option Entry) (remaining : S → List Entry)
   each_list list [] h = tt
   each_list list (s ∷ sources) h = (list s h.0, each_list list sources h.1)
 
-  list_at : (sources : List S) (at : ℕ) (o : Option Entry) → lent_at lent sources at ≡ o
-      → IsLeast (map lent sources) at
-      → OnSome o (AllByRecursion (HasStarted lent remaining) sources)
+  list_at : (sources : List S) (order : List ℕ) (o : Option Entry)
+      → first_lent lent sources order ≡ o → IsReady (map lent sources) order
+      → HaveStarted lent remaining o sources
       → AllByRecursion (λ s. IsRising (waiting lent remaining s)) sources
       → IsEntryList (merged (map (waiting lent remaining) sources))
       → IsEntryList (pending o (merged (map (λ s. past_lent o (waiting lent remaining s)) sources)))
-  list_at sources at None is l h r list = list
-  list_at sources at (Some e) is l h r list =
-      subst IsEntryList (whole_some lent remaining sources at e l is h r) list
+  list_at sources order None is l h r list = list
+  list_at sources order (Some e) is l h r list =
+      let first = ready_least (map lent sources) order e l is in
+      subst IsEntryList (whole_some lent remaining sources first.place e first.least first.is h r)
+      list
 
   -- what a merge has is an entry list
   pub merge_list : ((s : S) → holds s → IsEntryList (waiting lent remaining s))
-      → (sources : List S) (at : ℕ) → MergeHolds lent remaining holds sources at
-      → IsEntryList (pending (lent_at lent sources at) (merge_remaining lent remaining sources at))
-  merge_list list sources at h =
-      list_at sources at (lent_at lent sources at) refl h.least h.started
+      → (sources : List S) (order : List ℕ) → MergeHolds lent remaining holds sources order
+      → IsEntryList
+      (pending (first_lent lent sources order) (merge_remaining lent remaining sources order))
+  merge_list list sources order h =
+      list_at sources order (first_lent lent sources order) refl h.ready h.started
       (rising_each (λ s k. (list s k).rising) sources h.each)
       (merged_list (map (waiting lent remaining) sources) (each_list list sources h.each))

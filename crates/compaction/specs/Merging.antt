@@ -1,11 +1,12 @@
 -- What a merge stands for, by what its sources stand for.
-use Rattle.std.specs.Prelude.{◌≡◌, ℕ, ◌+◌, ◌*◌, ◌⊎◌, List, [], ◌∷◌, true, false, Contains, Option, Some, None, OnSome, is_some, map, if◌then◌else◌}
+use Rattle.std.specs.Prelude.{◌≡◌, ◌<◌, ℕ, ◌+◌, ◌*◌, List, [], ◌∷◌, true, false, Contains, Option, Some, None, is_some, length, map, slice_index_or, if◌then◌else◌}
 use Rattle.std.specs.List.{AllByRecursion, AllZip}
 use Rattle.std.specs.Ordering.{is_eq}
 use Rattle.cell_key.specs.Keys.{byte_cmp}
-use Rattle.cell_key.specs.Entries.{Entry, merged}
+use Rattle.cell_key.specs.Entries.{Entry, Takes, merged}
 use Rattle.sorted_file.specs.Source.{pending}
-use Rattle.compaction.specs.Least.{IsLeast, entry_at}
+use Rattle.compaction.specs.Least.{entry_at}
+use Rattle.compaction.specs.Order.{IsOrdered, IsReady, first_entry}
 use Rattle.compaction.specs.Ties.{ties}
 
 -- what is left of entries without a first one of this key
@@ -28,6 +29,10 @@ cost left lent = 2 * left + one lent
 abbrev pub lent_at : {S : Type 0} → (S → Option Entry) → List S → ℕ → Option Entry
 lent_at lent sources at = entry_at (map lent sources) at
 
+-- the entry that the source at the first place of an order is at
+abbrev pub first_lent : {S : Type 0} → (S → Option Entry) → List S → List ℕ → Option Entry
+first_lent lent sources order = first_entry (map lent sources) order
+
 module _ {S : Type 0} (lent : S → Option Entry) (remaining : S → List Entry) where
   -- all that a source has, with the entry that it is at
   abbrev pub waiting : S → List Entry
@@ -38,15 +43,20 @@ module _ {S : Type 0} (lent : S → Option Entry) (remaining : S → List Entry)
   HasStarted s = lent s ≡ None → remaining s ≡ []
 
   -- the entries of the sources, without those of the key that the merge is at
-  abbrev pub merge_remaining : List S → ℕ → List Entry
-  merge_remaining sources at =
-      merged (map (λ s. past_lent (lent_at lent sources at) (waiting s)) sources)
+  abbrev pub merge_remaining : List S → List ℕ → List Entry
+  merge_remaining sources order =
+      merged (map (λ s. past_lent (first_lent lent sources order) (waiting s)) sources)
 
-  -- each source stands for its list, and the merge is at the least entry, if it is at one
-  pub record MergeHolds (holds : S → Type 0) (sources : List S) (at : ℕ) : Type 0 where
+  -- of a merge at no entry no source is at one, and of one at an entry all sources have started
+  abbrev pub HaveStarted : Option Entry → List S → Type 0
+  HaveStarted None sources = AllByRecursion (λ s. lent s ≡ None) sources
+  HaveStarted (Some e) sources = AllByRecursion HasStarted sources
+
+  -- each source stands for its list, and their places are in order
+  pub record MergeHolds (holds : S → Type 0) (sources : List S) (order : List ℕ) : Type 0 where
     pub each : AllByRecursion holds sources
-    pub least : IsLeast (map lent sources) at
-    pub started : OnSome (lent_at lent sources at) (AllByRecursion HasStarted sources)
+    pub ready : IsReady (map lent sources) order
+    pub started : HaveStarted (first_lent lent sources order) sources
 
   -- a source went past the entry that the merge was at, if it was at it too
   pub record StepsTo (holds : S → Type 0) (at : Option Entry) (old new : S) : Type 0 where
@@ -57,14 +67,6 @@ module _ {S : Type 0} (lent : S → Option Entry) (remaining : S → List Entry)
 -- each source stands for its list over the files, and has come to none of its entries yet
 abbrev pub AreAtStart : {S : Type 0} → (S → Option Entry) → (S → Type 0) → List S → Type 0
 AreAtStart lent holds sources = AllByRecursion (λ s. holds s × (lent s ≡ None)) sources
-
--- Of a merge at no entry each source goes on by one step; of one at an entry each does so or stays.
-abbrev pub MayStep : {S : Type 0} → (S → S → Type 0) → S → S → Type 0
-MayStep steps s t = steps s t ⊎ (t ≡ s)
-
-abbrev pub Moves : {S : Type 0} → (S → S → Type 0) → Option Entry → S → S → Type 0
-Moves steps None s t = steps s t
-Moves steps (Some e) s t = MayStep steps s t
 
 -- a source at the key of an entry goes on by one step, and any other stays
 pub data GoesPast {S : Type 0} (steps : S → S → Type 0) (lent : S → Option Entry)
@@ -82,19 +84,35 @@ abbrev pub MovesPast : {S : Type 0} → (S → S → Type 0) → (S → Option E
 MovesPast steps lent None s t = steps s t
 MovesPast steps lent (Some e) s t = GoesPast steps lent (Some e) s t
 
--- a merge is at no entry, or at the least that its sources are at
-abbrev pub IsAtLeast : {S : Type 0} → (S → Option Entry) → List S → ℕ → Type 0
-IsAtLeast lent sources at = (lent_at lent sources at ≡ None) ⊎ IsLeast (map lent sources) at
-
--- Each source of a merge moves, and if the merge is at no entry then, no source is. From the least
--- entry on it is just those at its key that go on, and the merge comes to the least entry again.
+-- Each source of a merge at no entry goes on, and of one at an entry just those at its key. Then the
+-- places are in order.
 pub record MergeSteps {S : Type 0} (steps : S → S → Type 0) (lent : S → Option Entry)
-    (sources : List S) (at : ℕ) (later : List S) (next : ℕ) : Type 0 where
-  pub each : AllZip (Moves steps (lent_at lent sources at)) sources later
-  pub ended : lent_at lent later next ≡ None → AllByRecursion (λ s. lent s ≡ None) later
-  pub past : IsAtLeast lent sources at
-      → AllZip (MovesPast steps lent (lent_at lent sources at)) sources later
-  pub least : IsLeast (map lent later) next
+    (sources : List S) (order : List ℕ) (later : List S) (next : List ℕ) : Type 0 where
+  pub past : AllZip (MovesPast steps lent (first_lent lent sources order)) sources later
+  pub ordered : IsOrdered (map lent later) next
+
+-- what one advance makes of a source
+pub record Advances {S : Type 0} (steps : S → S → Type 0) (lent : S → Option Entry)
+    (remaining : S → List Entry) (holds : S → Type 0) (s t : S) : Type 0 where
+  pub step : steps s t
+  pub still : holds s → holds t
+  pub takes : holds s → Takes (lent t) (remaining s) (remaining t)
+
+-- each source at these places moved, and the others stayed
+pub record HasMoved {S : Type 0} (moves : S → S → Type 0) (places : List ℕ)
+    (sources later : List S) : Type 0 where
+  pub moved : (place : ℕ) (d : S) → Contains places place → place < length sources
+      → moves (slice_index_or sources place d) (slice_index_or later place d)
+  pub stayed : (place : ℕ) (d : S) → ¬ Contains places place
+      → slice_index_or later place d ≡ slice_index_or sources place d
+
+-- a source at one of these places breaks off
+pub record BreaksAt {S : Type 0} (breaks : S → Type 0) (places : List ℕ) (sources : List S)
+    : Type 0 where
+  pub place : ℕ
+  pub among : Contains places place
+  pub within : place < length sources
+  pub here : (d : S) → breaks (slice_index_or sources place d)
 
 -- a source that is to go on breaks off
 pub record BreaksAmong {S : Type 0} (breaks moved : S → Type 0) (sources : List S) : Type 0 where

@@ -1,6 +1,6 @@
 -- Comparisons of lent entries by their keys.
-use Rattle.std.specs.Prelude.{Bool, true, false, Option, Some, None}
-use Rattle.std.specs.Ordering.{is_le, is_eq}
+use Rattle.std.specs.Prelude.{Bool, false, Option, Some, None}
+use Rattle.std.specs.Ordering.{is_eq}
 use Rattle.cell_key.specs.Keys.{byte_cmp}
 use Rattle.cell_key.specs.Entries.{Entry}
 
@@ -9,9 +9,3 @@ abbrev pub ties : Option Entry → Option Entry → Bool
 ties None b = false
 ties (Some x) None = false
 ties (Some x) (Some y) = is_eq (byte_cmp x.0 y.0)
-
--- whether the first is an entry, and the second is none that comes before it
-abbrev pub comes_first : Option Entry → Option Entry → Bool
-comes_first None b = false
-comes_first (Some x) None = true
-comes_first (Some x) (Some y) = is_le (byte_cmp x.0 y.0)

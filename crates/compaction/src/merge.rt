@@ -1,65 +1,183 @@
 //! Several sources as one.
 
-ghost use Rattle.std.specs.Prelude.{ℕ, ◌≡◌, ◌≤◌, ◌+◌, None, length, map, is_some, sum_by, IsTrue, IsSome, OnOk, IfErr, IsErrOf, Option, option_and_then, option_copied, true};
+ghost use Rattle.std.specs.Prelude.{ℕ, ◌≡◌, ◌≤◌, ◌<◌, ◌+◌, ◌⊎◌, T, None, [], length, map, is_some, option_map, sum_by, take, drop, slice_index_or, Contains, IsSome, IfOk, OnOk, IfErr, IsErrOf, Option, true, false};
 ghost use Rattle.std.specs.List.{AllByRecursion, AllZip};
+ghost use Rattle.std.specs.List.Sorted.{IsPermutation};
+ghost use Rattle.std.specs.Ordering.{is_le};
 ghost use Rattle.file_store.specs.Store.{Contents};
-ghost use Rattle.cell_key.specs.Entries.{merged};
+ghost use Rattle.cell_key.specs.Entries.{lent_entry, merged};
 ghost use Rattle.sorted_file.specs.Source.{ComesToEnd, IsReadRefusal};
 ghost use Rattle.cell_key.specs.Faults.{HasReason};
-ghost use Rattle.compaction.specs.Least.{IsLeast};
-ghost use Rattle.compaction.specs.Merging.{AreAtStart, BreaksAmong, GoesPast, IsAtLeast, IsMoved, MayStep, MovesPast, lent_at, Moves, StepsTo, MergeHolds, HasStarted, cost, one};
-ghost use Rattle.compaction.specs.Ties.{comes_first, ties};
+ghost use Rattle.compaction.specs.Order.{InOrder, IsDistinct, IsOrdered, IsReady, place_cmp};
+ghost use Rattle.compaction.specs.Merging.{Advances, AreAtStart, BreaksAmong, BreaksAt, GoesPast, HasMoved, IsMoved, MovesPast, lent_at, first_lent, StepsTo, MergeHolds, cost, one};
+ghost use Rattle.compaction.specs.Ties.{ties};
 
 use cell_key::{EntryRef, Refusal, compare_texts};
 use file_store::Files;
 use sorted_file::Source;
+use std::cmp::Ordering;
 
 /// Sources, the newest first, as one (Bigtable, tablet serving: the merged view): a key has the entry of the
-/// first source that names it. Entries are lent as the sources lend them, and it takes no memory of its own.
+/// first source that names it. Entries are lent as the sources lend them. Besides the sources there is room for
+/// the number of each, and no advance takes more.
 #[derive(Drop)]
 pub struct Merge<S> {
     sources: Vec<S>,
-    /// The place of the source whose entry is lent, or the length if none is.
-    at: usize,
+    /// The places of the sources, by the entries that they are at, and of one key the newer source first. A source
+    /// at no entry comes last. Before the first advance nothing is in order.
+    order: Vec<usize>,
 }
 
-/// Whether both are at entries of one key.
-fn is_tied<F: Files, S: Source<F>>(a: &S, b: &S) -> bool
-    ensures { result ≡ ties (S.lent a.now) (S.lent b.now) }
+/// The entry that the source at a place is at.
+fn entry_of<F: Files, S: Source<F>>(sources: &[S], place: usize) -> Option<EntryRef<'_>>
+    ensures { option_map lent_entry result ≡ lent_at S.lent sources.now place }
 {
-    match (a.current(), b.current()) {
+    sources.get(place)?.current()
+}
+
+/// The order of two places, by the entries that their sources are at, and of one key the newer source first. A source
+/// at no entry comes last.
+fn compare_places<F: Files, S: Source<F>>(sources: &[S], a: usize, b: usize) -> Ordering
+    ensures { result ≡ place_cmp (map S.lent sources.now) a b }
+{
+    match (entry_of::<F, S>(sources, a), entry_of::<F, S>(sources, b)) {
+        (Some(x), Some(y)) => compare_texts(x.key, y.key).then(a.cmp(&b)),
+        (Some(_), None) => Ordering::Less,
+        (None, Some(_)) => Ordering::Greater,
+        (None, None) => a.cmp(&b),
+    }
+}
+
+/// Whether the sources at both places are at entries of one key.
+fn is_tied<F: Files, S: Source<F>>(sources: &[S], a: usize, b: usize) -> bool
+    ensures { result ≡ ties (lent_at S.lent sources.now a) (lent_at S.lent sources.now b) }
+{
+    match (entry_of::<F, S>(sources, a), entry_of::<F, S>(sources, b)) {
         (Some(x), Some(y)) => compare_texts(x.key, y.key).is_eq(),
         _ => false,
     }
 }
 
-/// Whether the first is at an entry, and the second is at none that comes before it.
-fn is_first<F: Files, S: Source<F>>(a: &S, b: Option<&S>) -> bool
-    ensures { result ≡ comes_first (S.lent a.now) (option_and_then S.lent (option_copied b.entry)) }
+/// How many of the later places, which are in order, come before this one.
+fn count_before<F: Files, S: Source<F>>(sources: &[S], place: usize, later: &[usize]) -> usize
+    ensures bound { result ≤ length later.now }
+    ensures before { InOrder (map S.lent sources.now) later.now → AllByRecursion
+        (λ other. T (is_le (place_cmp (map S.lent sources.now) other place)))
+        (take result later.now) }
+    ensures behind { InOrder (map S.lent sources.now) later.now → AllByRecursion
+        (λ other. T (is_le (place_cmp (map S.lent sources.now) place other)))
+        (drop result later.now) }
 {
-    let Some(x) = a.current() else {
-        return false;
-    };
-    match b {
-        Some(b) => match b.current() {
-            Some(y) => compare_texts(x.key, y.key).is_le(),
-            None => true,
-        },
-        None => true,
+    if later.is_empty() || compare_places::<F, S>(sources, place, later[0]).is_le() {
+        return 0;
+    }
+    later.partition_point(|other| compare_places::<F, S>(sources, *other, place).is_lt())
+}
+
+/// Puts the first place where it belongs among the others, which are in order.
+fn put_first<F: Files, S: Source<F>>(sources: &[S], order: &mut [usize])
+    ensures same { IsPermutation order.old order.new }
+    ensures rises { InOrder (map S.lent sources.now) (drop 1 order.old)
+        → InOrder (map S.lent sources.now) order.new }
+{
+    if order.is_empty() {
+        return;
+    }
+    let passed = count_before::<F, S>(sources, order[0], &order[1..]);
+    order[..passed + 1].rotate_left(1);
+}
+
+/// Puts as many places at the front as this where they belong among the others, which are in order.
+fn put_in_order<F: Files, S: Source<F>>(sources: &[S], order: &mut [usize], moved: usize)
+    requires { moved ≤ length order.old }
+    ensures same { IsPermutation order.old order.new }
+    ensures rises { InOrder (map S.lent sources.now) (drop moved order.old)
+        → InOrder (map S.lent sources.now) order.new }
+{
+    for i in (0..moved).rev() {
+        put_first::<F, S>(sources, &mut order[i..]);
     }
 }
 
-/// The place of the first of the least entries, or the length if no source is at one.
-fn least<F: Files, S: Source<F>>(sources: &[S]) -> usize
-    ensures { IsLeast (map S.lent sources.now) result }
+/// How many places at the front are at entries of the key of the first.
+fn count_tied<F: Files, S: Source<F>>(sources: &[S], order: &[usize]) -> usize
+    requires { IsSome (first_lent S.lent sources.now order.now) }
+    ensures bound { result ≤ length order.now }
+    ensures some { 1 ≤ result }
+    ensures tied { AllByRecursion (λ place. ties (first_lent S.lent sources.now order.now)
+        (lent_at S.lent sources.now place) ≡ true) (take result order.now) }
+    ensures last { (d : ℕ) → result < length order.now
+        → ties (first_lent S.lent sources.now order.now)
+        (lent_at S.lent sources.now (slice_index_or order.now result d)) ≡ false }
 {
-    let mut best = sources.len();
-    for i in (0..sources.len()).rev() {
-        if is_first(&sources[i], sources.get(best)) {
-            best = i;
+    for i in 1..order.len() {
+        if !is_tied::<F, S>(sources, order[0], order[i]) {
+            return i;
         }
     }
-    best
+    order.len()
+}
+
+/// Advances each of the sources at these places, once if no place is named twice.
+fn advance_each<F: Files, S: Source<F>>(
+    sources: &mut [S],
+    places: &[usize],
+    files: &mut F,
+) -> Result<(), Refusal>
+    ensures files { F.contents files.new ≡ F.contents files.old }
+    ensures reason { HasReason (F.faults files.old) (F.faults files.new) result }
+    ensures refusal { IfErr result IsReadRefusal }
+    ensures cost { OnOk result (sum_by (λ s. cost (S.left s) (S.lent s)) sources.new
+        ≤ sum_by (λ s. cost (S.left s) (S.lent s)) sources.old) }
+    ensures lower { OnOk result (IsSome (first_lent S.lent sources.old places.now)
+        → sum_by (λ s. cost (S.left s) (S.lent s)) sources.new + 1
+        ≤ sum_by (λ s. cost (S.left s) (S.lent s)) sources.old) }
+    ensures moves { OnOk result (IsDistinct places.now → HasMoved
+        (Advances (S.steps (F.contents files.old)) S.lent (S.remaining (F.contents files.old))
+        (S.holds (F.contents files.old))) places.now sources.old sources.new) }
+    ensures damaged { IsErrOf result Refusal.Damaged → IsDistinct places.now
+        → ¬ AllByRecursion (S.holds (F.contents files.old)) sources.old }
+    ensures broken { IsErrOf result Refusal.Damaged → IsDistinct places.now
+        → BreaksAt (S.breaks (F.contents files.old)) places.now sources.old }
+{
+    for place in places.iter() {
+        if *place < sources.len() {
+            let _ = sources[*place].advance(files)?;
+        }
+    }
+    Ok(())
+}
+
+/// Advances each source that is at an entry of the key of the first, and puts the places in order again.
+fn step_tied<F: Files, S: Source<F>>(
+    sources: &mut [S],
+    order: &mut [usize],
+    files: &mut F,
+) -> Result<(), Refusal>
+    requires { IsSome (first_lent S.lent sources.old order.old) }
+    ensures files { F.contents files.new ≡ F.contents files.old }
+    ensures reason { HasReason (F.faults files.old) (F.faults files.new) result }
+    ensures refusal { IfErr result IsReadRefusal }
+    ensures cost { OnOk result (sum_by (λ s. cost (S.left s) (S.lent s)) sources.new + 1
+        ≤ sum_by (λ s. cost (S.left s) (S.lent s)) sources.old) }
+    ensures past { OnOk result (IsOrdered (map S.lent sources.old) order.old → AllZip (GoesPast
+        (Advances (S.steps (F.contents files.old)) S.lent (S.remaining (F.contents files.old))
+        (S.holds (F.contents files.old))) S.lent (first_lent S.lent sources.old order.old))
+        sources.old sources.new) }
+    ensures ordered { OnOk result (IsOrdered (map S.lent sources.old) order.old
+        → IsOrdered (map S.lent sources.new) order.new) }
+    ensures damaged { IsErrOf result Refusal.Damaged
+        → IsOrdered (map S.lent sources.old) order.old
+        → ¬ AllByRecursion (S.holds (F.contents files.old)) sources.old }
+    ensures broken { IsErrOf result Refusal.Damaged
+        → IsOrdered (map S.lent sources.old) order.old
+        → BreaksAmong (S.breaks (F.contents files.old))
+        (IsMoved S.lent (first_lent S.lent sources.old order.old)) sources.old }
+{
+    let tied = count_tied::<F, S>(sources, order);
+    advance_each(sources, &order[..tied], files)?;
+    put_in_order::<F, S>(sources, order, tied);
+    Ok(())
 }
 
 /// Advances each source. None of them is at an entry.
@@ -86,83 +204,66 @@ fn step_all<F: Files, S: Source<F>>(sources: &mut [S], files: &mut F) -> Result<
     Ok(())
 }
 
-/// Advances each of the sources that is at the entry of this key.
-fn step_after<F: Files, S: Source<F>>(
-    least: &S,
+/// Makes this the list of as many places. Answers `NoMemory` if there is no memory.
+fn list_places(order: &mut Vec<usize>, count: usize) -> Result<(), Refusal>
+    ensures length { OnOk result (length order.new.items ≡ count) }
+    ensures whole { OnOk result
+        ((place : ℕ) → place < count → Contains order.new.items place) }
+    ensures distinct { OnOk result (IsDistinct order.new.items) }
+    ensures refusal { IfErr result (λ refusal. refusal ≡ Refusal.NoMemory) }
+{
+    order.clear();
+    for place in 0..count {
+        order.push(place)?;
+    }
+    Ok(())
+}
+
+/// Advances each source, none of which is at an entry, and puts their places in order.
+fn step_first<F: Files, S: Source<F>>(
     sources: &mut [S],
+    order: &mut Vec<usize>,
     files: &mut F,
 ) -> Result<(), Refusal>
     ensures files { F.contents files.new ≡ F.contents files.old }
     ensures reason { HasReason (F.faults files.old) (F.faults files.new) result }
     ensures refusal { IfErr result IsReadRefusal }
     ensures cost { OnOk result (sum_by (λ s. cost (S.left s) (S.lent s)) sources.new
-        ≤ sum_by (λ s. cost (S.left s) (S.lent s)) sources.old) }
-    ensures moves { OnOk result (AllZip (GoesPast (S.steps (F.contents files.old))
-        S.lent (S.lent least.now)) sources.old sources.new) }
-    ensures steps { OnOk result (AllByRecursion (λ s. S.holds (F.contents files.old) s
-        × HasStarted S.lent (S.remaining (F.contents files.old)) s) sources.old
-        → AllZip (StepsTo S.lent (S.remaining (F.contents files.old))
-        (S.holds (F.contents files.old)) (S.lent least.now)) sources.old sources.new) }
-    ensures damaged { IsErrOf result Refusal.Damaged
-        → ¬ AllByRecursion (S.holds (F.contents files.old)) sources.old }
-    ensures broken { IsErrOf result Refusal.Damaged
-        → BreaksAmong (S.breaks (F.contents files.old))
-        (λ s. ties (S.lent least.now) (S.lent s) ≡ true) sources.old }
-{
-    for source in sources.iter_mut() {
-        if is_tied(least, source) {
-            let _ = source.advance(files)?;
-        }
-    }
-    Ok(())
-}
-
-/// Advances each source that is at an entry of the key at this place, which is the least.
-fn step_tied<F: Files, S: Source<F>>(
-    sources: &mut [S],
-    at: usize,
-    files: &mut F,
-) -> Result<(), Refusal>
-    requires { IsSome (lent_at S.lent sources.old at) }
-    ensures files { F.contents files.new ≡ F.contents files.old }
-    ensures reason { HasReason (F.faults files.old) (F.faults files.new) result }
-    ensures refusal { IfErr result IsReadRefusal }
-    ensures cost { OnOk result (sum_by (λ s. cost (S.left s) (S.lent s)) sources.new + 1
+        + sum_by (λ s. one (S.lent s)) sources.new
         ≤ sum_by (λ s. cost (S.left s) (S.lent s)) sources.old) }
     ensures moves { OnOk result
-        (AllZip (MayStep (S.steps (F.contents files.old))) sources.old sources.new) }
-    ensures past { OnOk result (IsLeast (map S.lent sources.old) at
-        → AllZip (GoesPast (S.steps (F.contents files.old)) S.lent
-        (lent_at S.lent sources.old at)) sources.old sources.new) }
-    ensures steps { OnOk result (MergeHolds S.lent (S.remaining (F.contents files.old))
-        (S.holds (F.contents files.old)) sources.old at
+        (AllZip (S.steps (F.contents files.old)) sources.old sources.new) }
+    ensures steps { OnOk result (AreAtStart S.lent (S.holds (F.contents files.old)) sources.old
         → AllZip (StepsTo S.lent (S.remaining (F.contents files.old))
-        (S.holds (F.contents files.old)) (lent_at S.lent sources.old at)) sources.old sources.new) }
+        (S.holds (F.contents files.old)) None) sources.old sources.new) }
+    ensures ordered { OnOk result (IsOrdered (map S.lent sources.new) order.new.items) }
     ensures damaged { IsErrOf result Refusal.Damaged
         → ¬ AllByRecursion (S.holds (F.contents files.old)) sources.old }
     ensures broken { IsErrOf result Refusal.Damaged
-        → BreaksAmong (S.breaks (F.contents files.old))
-        (IsMoved S.lent (lent_at S.lent sources.old at)) sources.old }
+        → BreaksAmong (S.breaks (F.contents files.old)) (IsMoved S.lent None) sources.old }
 {
-    let (_before, rest) = sources.split_at_mut(at);
-    let (least, after) = rest.split_first_mut().unwrap();
-    step_after(least, after, files)?;
-    let _ = least.advance(files)?;
+    step_all(sources, files)?;
+    list_places(order, sources.len())?;
+    put_in_order::<F, S>(sources, order, sources.len());
     Ok(())
 }
 
-/// Whether the source at a place is at an entry.
-fn is_at_entry<F: Files, S: Source<F>>(sources: &[S], at: usize) -> bool
-    ensures { result ≡ is_some (lent_at S.lent sources.now at) }
+/// Whether the source at the first place is at an entry.
+fn is_at_entry<F: Files, S: Source<F>>(sources: &[S], order: &[usize]) -> bool
+    ensures { result ≡ is_some (first_lent S.lent sources.now order.now) }
 {
-    match sources.get(at) {
-        Some(source) => source.current().is_some(),
+    match order.first() {
+        Some(place) => entry_of::<F, S>(sources, *place).is_some(),
         None => false,
     }
 }
 
-/// Takes each source past the entry of the one at this place, or to its first entry.
-fn step<F: Files, S: Source<F>>(sources: &mut [S], at: usize, files: &mut F) -> Result<(), Refusal>
+/// Takes each source past the entry of the one at the first place, or to its first entry.
+fn step<F: Files, S: Source<F>>(
+    sources: &mut [S],
+    order: &mut Vec<usize>,
+    files: &mut F,
+) -> Result<(), Refusal>
     ensures files { F.contents files.new ≡ F.contents files.old }
     ensures reason { HasReason (F.faults files.old) (F.faults files.new) result }
     ensures refusal { IfErr result IsReadRefusal }
@@ -171,80 +272,92 @@ fn step<F: Files, S: Source<F>>(sources: &mut [S], at: usize, files: &mut F) -> 
     ensures lower { OnOk result ((k : ℕ) → IsSome (lent_at S.lent sources.new k)
         → sum_by (λ s. cost (S.left s) (S.lent s)) sources.new + 1
         ≤ sum_by (λ s. cost (S.left s) (S.lent s)) sources.old) }
-    ensures moves { OnOk result (AllZip (Moves (S.steps (F.contents files.old))
-        (lent_at S.lent sources.old at)) sources.old sources.new) }
-    ensures past { OnOk result (IsAtLeast S.lent sources.old at
+    ensures past { OnOk result (IsReady (map S.lent sources.old) order.old.items
         → AllZip (MovesPast (S.steps (F.contents files.old)) S.lent
-        (lent_at S.lent sources.old at)) sources.old sources.new) }
+        (first_lent S.lent sources.old order.old.items)) sources.old sources.new) }
+    ensures ordered { OnOk result (IsReady (map S.lent sources.old) order.old.items
+        → IsOrdered (map S.lent sources.new) order.new.items) }
     ensures steps { OnOk result (MergeHolds S.lent (S.remaining (F.contents files.old))
-        (S.holds (F.contents files.old)) sources.old at
+        (S.holds (F.contents files.old)) sources.old order.old.items
         → AllZip (StepsTo S.lent (S.remaining (F.contents files.old))
-        (S.holds (F.contents files.old)) (lent_at S.lent sources.old at)) sources.old sources.new) }
+        (S.holds (F.contents files.old)) (first_lent S.lent sources.old order.old.items))
+        sources.old sources.new) }
     ensures damaged { IsErrOf result Refusal.Damaged
+        → IsReady (map S.lent sources.old) order.old.items
         → ¬ AllByRecursion (S.holds (F.contents files.old)) sources.old }
     ensures broken { IsErrOf result Refusal.Damaged
+        → IsReady (map S.lent sources.old) order.old.items
         → BreaksAmong (S.breaks (F.contents files.old))
-        (IsMoved S.lent (lent_at S.lent sources.old at)) sources.old }
+        (IsMoved S.lent (first_lent S.lent sources.old order.old.items)) sources.old }
 {
-    if is_at_entry(sources, at) {
-        step_tied(sources, at, files)
+    if is_at_entry::<F, S>(sources, order) {
+        step_tied(sources, order, files)
     } else {
-        step_all(sources, files)
+        step_first(sources, order, files)
     }
 }
 
 impl<S> Merge<S> {
     /// The merge of sources, the newest first, none of which has come to an entry yet.
-    pub fn new<F: Files>(sources: Vec<S>) -> Merge<S>
+    ///
+    /// # Errors
+    ///
+    /// `NoMemory` if there is no memory for the places of the sources.
+    pub fn new<F: Files>(sources: Vec<S>) -> Result<Merge<S>, Refusal>
     where
-        S: Source<F>,
-        ensures lent { ⟦<Merge<S> as Source<F>>⟧.lent result ≡ None }
-        ensures remaining { (disk : Option Contents)
+        S: Source<F> + Drop,
+        ensures lent { IfOk result (λ merge. ⟦<Merge<S> as Source<F>>⟧.lent merge ≡ None) }
+        ensures remaining { IfOk result (λ merge. (disk : Option Contents)
             → AreAtStart S.lent (S.holds disk) sources.items
-            → ⟦<Merge<S> as Source<F>>⟧.remaining disk result
-            ≡ merged (map (S.remaining disk) sources.items) }
-        ensures holds { (disk : Option Contents) → AreAtStart S.lent (S.holds disk) sources.items
-            → ⟦<Merge<S> as Source<F>>⟧.holds disk result }
-        ensures comes { (disk : Option Contents)
-            → ComesToEnd (⟦<Merge<S> as Source<F>>⟧.steps disk) ⟦<Merge<S> as Source<F>>⟧.lent result
-            → AllByRecursion (ComesToEnd (S.steps disk) S.lent) sources.items }
-        ensures sources { result.sources ≡ sources }
+            → ⟦<Merge<S> as Source<F>>⟧.remaining disk merge
+            ≡ merged (map (S.remaining disk) sources.items)) }
+        ensures holds { IfOk result (λ merge. (disk : Option Contents)
+            → AreAtStart S.lent (S.holds disk) sources.items
+            → ⟦<Merge<S> as Source<F>>⟧.holds disk merge) }
+        ensures comes { IfOk result (λ merge. (disk : Option Contents)
+            → ComesToEnd (⟦<Merge<S> as Source<F>>⟧.steps disk) ⟦<Merge<S> as Source<F>>⟧.lent merge
+            → AllByRecursion (ComesToEnd (S.steps disk) S.lent) sources.items) }
+        ensures sources { IfOk result (λ merge. merge.sources ≡ sources) }
+        ensures order { IfOk result (λ merge. merge.order.items ≡ []) }
+        ensures refusal { IfErr result (λ refusal. refusal ≡ Refusal.NoMemory) }
     {
-        let at = sources.len();
-        Merge { sources, at }
+        let order = Vec::with_capacity(*sources.allocator(), sources.len())?;
+        Ok(Merge { sources, order })
     }
 }
 
 impl<F: Files, S: Source<F>> Source<F> for Merge<S> {
-    ghost use Rattle.std.specs.Prelude.{sum_by};
-    ghost use Rattle.compaction.specs.Merging.{lent_at, merge_remaining, BreaksAmong, IsMoved, MergeHolds, MergeSteps, cost};
+    ghost use Rattle.std.specs.Prelude.{map, sum_by};
+    ghost use Rattle.compaction.specs.Order.{IsReady};
+    ghost use Rattle.compaction.specs.Merging.{first_lent, merge_remaining, BreaksAmong, IsMoved, MergeHolds, MergeSteps, cost};
     ghost use Rattle.compaction.specs.MergeLaw.{merge_list};
 
     ghost holds = { λ disk s.
-        MergeHolds S.lent (S.remaining disk) (S.holds disk) s.sources.items s.at };
+        MergeHolds S.lent (S.remaining disk) (S.holds disk) s.sources.items s.order.items };
 
-    ghost remaining = { λ disk s. merge_remaining S.lent (S.remaining disk) s.sources.items s.at };
+    ghost remaining = { λ disk s.
+        merge_remaining S.lent (S.remaining disk) s.sources.items s.order.items };
 
-    ghost lent = { λ s. lent_at S.lent s.sources.items s.at };
+    ghost lent = { λ s. first_lent S.lent s.sources.items s.order.items };
 
-    ghost steps = { λ disk s t.
-        MergeSteps (S.steps disk) S.lent s.sources.items s.at t.sources.items t.at };
+    ghost steps = { λ disk s t. IsReady (map S.lent s.sources.items) s.order.items → MergeSteps
+        (S.steps disk) S.lent s.sources.items s.order.items t.sources.items t.order.items };
 
-    ghost breaks = { λ disk s. BreaksAmong
-        (S.breaks disk) (IsMoved S.lent (lent_at S.lent s.sources.items s.at)) s.sources.items };
+    ghost breaks = { λ disk s. IsReady (map S.lent s.sources.items) s.order.items
+        → BreaksAmong (S.breaks disk)
+        (IsMoved S.lent (first_lent S.lent s.sources.items s.order.items)) s.sources.items };
 
     ghost left = { λ s. sum_by (λ x. cost (S.left x) (S.lent x)) s.sources.items };
 
     fn advance(&mut self, files: &mut F) -> Result<bool, Refusal> {
-        step(&mut self.sources, self.at, files)?;
-        self.at = least(&self.sources);
-        Ok(self.at < self.sources.len())
+        step(&mut self.sources, &mut self.order, files)?;
+        Ok(is_at_entry::<F, S>(&self.sources, &self.order))
     }
 
     fn current(&self) -> Option<EntryRef<'_>> {
-        self.sources.get(self.at)?.current()
+        entry_of::<F, S>(&self.sources, *self.order.first()?)
     }
 
-    ghost list = { λ disk s h.
-        merge_list S.lent (S.remaining disk) (S.holds disk) (S.list disk) s.sources.items s.at h };
+    ghost list = { λ disk s h. merge_list
+        S.lent (S.remaining disk) (S.holds disk) (S.list disk) s.sources.items s.order.items h };
 }

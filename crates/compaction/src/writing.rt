@@ -73,7 +73,7 @@ pub fn merge_into<F: Files, S: Source<F> + Drop>(
     ensures refusal { IfErr result IsWriteRefusal }
     ensures reason { HasReason (F.faults files.old) (F.faults files.new) result }
 {
-    let merge = Merge::new::<F>(sources);
+    let merge = Merge::new::<F>(sources)?;
     let mut values = Values::new(merge, keep_erasures);
     write_file(alloc, &mut values, name, file_limit, over, files)
 }

@@ -148,7 +148,7 @@ pub(crate) fn merged_places<F: Files>(
     ensures reason { HasReason (F.faults store.old) (F.faults store.new) result }
 {
     let sources = sources::<F>(alloc, Some(memtable), files, from, end)?;
-    let mut merge = Merge::new::<F>(sources);
+    let mut merge = Merge::new::<F>(sources)?;
     next_places(alloc, &mut merge, most, store)
 }
 
@@ -235,7 +235,7 @@ pub(crate) fn merged_versions<F: Files>(
     ensures reason { HasReason (F.faults store.old) (F.faults store.new) result }
 {
     let inputs = sources::<F>(alloc, Some(memtable), files, from, end)?;
-    let mut merge = Merge::new::<F>(inputs);
+    let mut merge = Merge::new::<F>(inputs)?;
     next_versions(alloc, &mut merge, limits, hi, store)
 }
 
