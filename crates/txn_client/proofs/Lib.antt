@@ -1,6 +1,7 @@
 pub mod Advance
 pub mod Exact
 pub mod GatheredItems
+pub mod OrderedCells
 pub mod Passed
 pub mod ShownReads
 pub mod ReadCells

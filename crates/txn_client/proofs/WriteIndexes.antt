@@ -1,29 +1,19 @@
 -- The index of a cell's write, and a Set there or at the end.
-use Rattle.std.proofs.Common.{◌≡◌, ◌≢◌, ℕ, zero, suc, ◌+◌, ◌<◌, ◌≤◌, List, [], ◌∷◌, ◌++◌, length, map, Some, None, inl, inr, refl, sym, ap, subst, ◌∙◌, arith}
+use Rattle.std.proofs.Common.{◌≡◌, ◌≢◌, ℕ, zero, suc, ◌+◌, List, [], ◌∷◌, ◌++◌, map, Some, None, inl, inr, refl, sym, ap, subst, ◌∙◌, arith}
 use Rattle.std.specs.Prelude.{slice_get, slice_set}
 use Rattle.std.specs.Option.{option_map}
 use Rattle.std.proofs.lemmas.Bool.{cases_eq}
-use Rattle.std.proofs.lemmas.Option.{none-some, same_Some, slice_get-map, slice_get_within}
+use Rattle.std.proofs.lemmas.Option.{none-some, same_Some, slice_get-map}
 use Rattle.si_model.specs.declared.replies.Cell.{Cell}
 use Rattle.si_model.specs.Machine.{Change, Names, Sets, appends, replaces, passes}
-use Rattle.txn_client.specs.Writes.{write_of, IsIndexOf}
+use Rattle.txn_client.specs.Writes.{write_of, IsIndexOf, NoneBefore}
 use Rattle.txn_client.specs.declared.writes.Write.{Write}
 
--- no write below the index is to the cell
-abbrev pub NoneBelow : List Write → Cell → ℕ → Type 0
-NoneBelow ws x n = (k : ℕ) (w : Write) → k < n → slice_get ws k ≡ Some w → w.cell ≢ x
-
-pub none_yet : (ws : List Write) (x : Cell) (n : ℕ) (u : Write) → slice_get ws n ≡ Some u → u.cell ≢ x → NoneBelow ws x n → NoneBelow ws x (n + 1)
+pub none_yet : (ws : List Write) (x : Cell) (n : ℕ) (u : Write) → slice_get ws n ≡ Some u → u.cell ≢ x → NoneBefore ws x n → NoneBefore ws x (n + 1)
 none_yet ws x n u at ne before k w h e = elim (cases_eq k n) [
   | inl is ↦ λ f. ne (ap (λ (w : Write). w.cell) (same_Some u w (sym at ∙ (ap (slice_get ws) (sym is) ∙ e))) ∙ f)
   | inr not ↦ before k w (omega arith) e
 ]
-
-pub found_there : (ws ws' : List Write) (x : Cell) (n : ℕ) (u : Write) → ws ≡ ws' → slice_get ws n ≡ Some u → u.cell ≡ x → NoneBelow ws x n → IsIndexOf ws' x (Some n)
-found_there ws ws' x n u same at is before = subst (λ (l : List Write). IsIndexOf l x (Some n)) same ((u, at, is), before)
-
-pub found_nowhere : (ws ws' : List Write) (x : Cell) (n : ℕ) → ws ≡ ws' → length ws ≤ n → NoneBelow ws x n → IsIndexOf ws' x None
-found_nowhere ws ws' x n same all before = subst (λ (l : List Write). IsIndexOf l x None) same (λ k w e. before k w (let low = slice_get_within ws k w e in omega arith) e)
 
 pub sets_last : (ws : List Write) (w : Write) → IsIndexOf ws w.cell None → Sets w.cell w.value (map write_of ws) (map write_of (ws ++ w ∷ []))
 sets_last [] w none = appends

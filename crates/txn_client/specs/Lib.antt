@@ -1,3 +1,4 @@
+pub mod CellOrder
 pub mod Gathering
 pub mod Ranges
 pub mod Reads

@@ -7,9 +7,12 @@ use Rattle.txn_client.specs.declared.writes.Write.{Write}
 abbrev pub write_of : Write → Cell × Change
 write_of w = (w.cell, w.value)
 
+-- no write before the index is to the cell
+abbrev pub NoneBefore : List Write → Cell → ℕ → Type 0
+NoneBefore ws x n = (k : ℕ) (w : Write) → k < n → slice_get ws k ≡ Some w → w.cell ≢ x
+
 -- the index is that of the first write to the cell, or no write is to it
 abbrev pub IsIndexOf : List Write → Cell → Option ℕ → Type 0
 IsIndexOf ws x None = (k : ℕ) (w : Write) → slice_get ws k ≡ Some w → w.cell ≢ x
 IsIndexOf ws x (Some index) =
-    ((w : Write) × (slice_get ws index ≡ Some w) × (w.cell ≡ x))
-    × ((k : ℕ) (w : Write) → k < index → slice_get ws k ≡ Some w → w.cell ≢ x)
+    ((w : Write) × (slice_get ws index ≡ Some w) × (w.cell ≡ x)) × NoneBefore ws x index

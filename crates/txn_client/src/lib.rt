@@ -1,6 +1,7 @@
 //! Sessions over rows of cells, each of whose calls is a step of the snapshot machine.
 #![tactic(auto)]
 
+mod cell_order;
 mod cells;
 mod laws;
 mod newest_read;

@@ -1,10 +1,12 @@
 //! What a session writes.
 
-ghost use Rattle.std.specs.Prelude.{◌≡◌, ◌↔◌, ◌⊎◌, ◌≤◌, ◌<◌, ℕ, [], map, length, slice_get, Some, IsTrue, IfOk, IfErr, OnOk, OnErr, IsErrOf, IfSome, IfNone, OnSome};
+ghost use Rattle.std.specs.Prelude.{◌≡◌, ◌↔◌, ◌⊎◌, ◌≤◌, ◌<◌, ℕ, [], map, length, slice_get, Some, None, IsTrue, IfOk, IfErr, OnOk, OnErr, IsErrOf, IfSome, IfNone, OnSome};
 ghost use Rattle.si_model.specs.Machine.{Names, Sets};
 ghost use Rattle.si_model.specs.ShowsCells.{kind_of_change};
-ghost use Rattle.txn_client.specs.Writes.{IsIndexOf, write_of};
+ghost use Rattle.txn_client.specs.CellOrder.{IsOrder, IsPlaceFor};
+ghost use Rattle.txn_client.specs.Writes.{IsIndexOf, NoneBefore, write_of};
 
+use crate::cell_order::{self, FEW};
 use crate::value::Value;
 use cell_key::{Refusal, WriteKind};
 use si_model::Cell;
@@ -34,17 +36,21 @@ impl Write {
 #[derive(Drop)]
 pub(crate) struct Writes {
     entries: Vec<Write>,
+    /// The indices of all but the first few entries in the order of their cells.
+    order: Vec<u16>,
 }
 
 impl Model for Writes {
     ghost use Rattle.std.specs.Prelude.{List, length, ◌≤◌};
+    ghost use Rattle.txn_client.specs.CellOrder.{IsOrder};
     ghost use Rattle.txn_client.specs.declared.writes.Write.{Write};
 
     ghost Value = { List Write };
 
     ghost view = { λ writes. writes.entries.items };
 
-    ghost invariant = { λ writes. length writes.entries.items ≤ 256 };
+    ghost invariant = { λ writes. (length writes.entries.items ≤ 256)
+        × IsOrder writes.entries.items writes.order.items };
 }
 
 /// Whether two cells are the same. Of those that aren't, most differ in how long the row is or in its last byte.
@@ -60,6 +66,35 @@ fn is_same(cell: &Cell, other: &Cell) -> bool
     cell == other
 }
 
+/// The index of the cell's write, if it is one of the first few.
+fn index_among_few(writes: &[Write], cell: &Cell) -> Option<usize>
+    ensures found { IfSome result (λ index. IsIndexOf writes.now cell.now (Some index)) }
+    ensures none { IfNone result (NoneBefore writes.now cell.now 8) }
+{
+    for (index, write) in writes.iter().enumerate() {
+        if index >= FEW {
+            return None;
+        }
+        if is_same(&write.cell, cell) {
+            return Some(index);
+        }
+    }
+    None
+}
+
+/// The index of the cell's write, or the place where that of a new one goes in the order.
+fn find(writes: &[Write], order: &[u16], cell: &Cell) -> Result<usize, usize>
+    requires { IsOrder writes.now order.now }
+    ensures found { IfOk result (λ index. IsIndexOf writes.now cell.now (Some index)) }
+    ensures none { OnErr result (IsIndexOf writes.now cell.now None) }
+    ensures place { IfErr result (IsPlaceFor writes.now order.now cell.now) }
+{
+    match index_among_few(writes, cell) {
+        Some(index) => Ok(index),
+        None => cell_order::search(writes, order, cell),
+    }
+}
+
 impl Writes {
     /// The most writes of a session.
     const MOST: usize = 256;
@@ -70,6 +105,7 @@ impl Writes {
     {
         Writes {
             entries: Vec::new(alloc),
+            order: Vec::new(alloc),
         }
     }
 
@@ -91,18 +127,6 @@ impl Writes {
         self.entries.get(usize::from(index))
     }
 
-    /// The index of the cell's write.
-    fn index_of(&self, cell: &Cell) -> Option<usize>
-        ensures { IsIndexOf self.now cell.now result }
-    {
-        for (index, write) in self.entries.iter().enumerate() {
-            if is_same(&write.cell, cell) {
-                return Some(index);
-            }
-        }
-        None
-    }
-
     /// A cell that is there keeps its place and takes the new value or deletion; another one comes last.
     pub(crate) fn set(&mut self, write: Write) -> Result<(), Refusal>
         ensures ok { OnOk result (Sets
@@ -115,15 +139,15 @@ impl Writes {
         ensures refusal { IfErr result (λ refusal. (refusal ≡ Refusal.TooManyWrites)
             ⊎ (refusal ≡ Refusal.NoMemory)) }
     {
-        match self.index_of(&write.cell) {
-            Some(index) => {
+        match find(&self.entries, &self.order, &write.cell) {
+            Ok(index) => {
                 self.entries[index] = write;
             }
-            None => {
+            Err(place) => {
                 if self.entries.len() >= Writes::MOST {
                     return Err(Refusal::TooManyWrites);
                 }
-                self.entries.push(write)?;
+                cell_order::push(&mut self.entries, &mut self.order, write, place)?;
             }
         }
         Ok(())
