@@ -1,8 +1,13 @@
 use Rattle.std.proofs.Common.{◌≡◌, ◌++◌, ◌∷◌, [], ℕ, List, length, ap, ◌∙◌, arith}
 use Rattle.std.specs.List.{insert}
 use Rattle.std.specs.Vec.{vec_len}
-use Rattle.txn_client.proofs.OrderedCells.{pushed}
+use Rattle.txn_client.proofs.OrderedCells.{pushed, pushed_first}
 use Rattle.txn_client.proofs.cell_order.push.Goals as goal
+
+pub returns-then-count-lt-FEW-clause-order : goal.returns-then-count-lt-FEW-clause-order
+returns-then-count-lt-FEW-clause-order c =
+    let long : vec_len c.args.writes.now ≡ length c.args.writes.now.items = c.args.writes.now.ok.0 in
+    rw c.in_ok-push.ensures.items (pushed_first c.args.writes.now.items c.args.order.now.items c.args.write (omega arith) c.requires.order)
 
 pub returns-clause-order : goal.returns-clause-order
 returns-clause-order c =
