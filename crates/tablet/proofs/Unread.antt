@@ -1,22 +1,18 @@
 -- What a compaction came to in its files, whatever they hold.
-use Rattle.std.proofs.Common.{◌≡◌, ◌⊎◌, inl, inr, ℕ, Bool, List, length, ap, subst}
+use Rattle.std.proofs.Common.{◌≡◌, ◌⊎◌, ℕ, Bool, List, length, ap, subst}
 use Rattle.std.specs.Prelude.{Option, Some, None, IfSome}
-use Rattle.std.specs.FinMap.{insert}
 use Rattle.cell_key.specs.Entries.{Entry}
-use Rattle.file_store.specs.Store.{Contents, with_file}
-use Rattle.sorted_file.specs.File.{HasFile, WrittenIsThere}
-use Rattle.sorted_file.specs.declared.format.Format.TheVariants.{Two}
+use Rattle.file_store.specs.Store.{Contents}
 use Rattle.sorted_file.specs.declared.file.SortedFile.{SortedFile}
-use Rattle.compaction.specs.Passing.{IsFileOfMerge, MergeBreaks, MergesTooMuch}
+use Rattle.compaction.specs.Passing.{MergeBreaks, MergesNoList, MergesTooMuch}
 use Rattle.compaction.specs.declared.input.Input.{Input}
 use Rattle.compaction.specs.declared.bounded.Bounded.{Bounded}
-use Rattle.tablet.specs.Compactions.{files_read, keeps_erasures, memory_read, AreRead, IsUnreadable, MergesNoList, ReadsTooMuch}
+use Rattle.tablet.specs.Compactions.{files_read, keeps_erasures, memory_read, AreRead, IsUnreadable, ReadsTooMuch}
 use Rattle.tablet.specs.Ranges.{lower_fence, upper_fence}
 use Rattle.tablet.specs.Sources.{lent_by, AreSourcesOf, Breaks, Steps}
 use Rattle.tablet.specs.Views.{files_of, memory_of, range_of, IsUnchanged}
 use Rattle.tablet.specs.declared.tablet.Tablet.{Tablet}
 use Rattle.tablet.specs.declared.compactions.Compaction.{Compaction}
-use Rattle.tablet.proofs.WrittenFiles.{get_own}
 
 -- ---- sources
 
@@ -52,22 +48,12 @@ pub each_unreadable : (compaction : Compaction) (disk : Option Contents) (t u : 
 each_unreadable compaction None t u same h = tt
 each_unreadable compaction (Some m) t u same h = still_unreadable compaction (Some m) t u same h
 
--- ---- what was written and couldn't be opened
+-- ---- files that tell something
 
-module _ {S : Type 0} (steps : Option Contents → S → S → Type 0) (lent : S → Option Entry) (breaks : Option Contents → S → Type 0) (keep : Bool) (ss : List S) where
-  pub broken_told : (disk : Option Contents) → MergeBreaks (steps disk) lent (breaks disk) ss → IfSome disk (λ m. MergeBreaks (steps (Some m)) lent (breaks (Some m)) ss ⊎ MergesNoList (steps (Some m)) lent keep ss)
-  broken_told None h = tt
-  broken_told (Some m) h = inl h
-
-  pub no_list : WrittenIsThere → (old mid : Option Contents) (name : ℕ) → (image : List ℕ) × (mid ≡ with_file name image old) × IsFileOfMerge (steps old) lent keep ss image
-      → IfSome mid (λ n. ¬ (HasFile n name)) → IfSome old (λ m. MergeBreaks (steps (Some m)) lent (breaks (Some m)) ss ⊎ MergesNoList (steps (Some m)) lent keep ss)
-  no_list law None mid name w missing = tt
-  no_list law (Some m) mid name w missing =
-      inr (record {
-        image = w.0;
-        whole = w.2;
-        none = λ list. subst (λ (o : Option Contents). IfSome o (λ n. ¬ (HasFile n name))) w.1 missing (law (insert m name w.0) name Two _ w.0 list w.2.form (get_own m name w.0));
-      })
+-- what is so of what the files hold, if they say it
+pub told_some : (disk : Option Contents) (P : Option Contents → Type 0) → P disk → IfSome disk (λ m. P (Some m))
+told_some None P h = tt
+told_some (Some m) P h = h
 
 pub told_map : (disk : Option Contents) (P Q : Contents → Type 0) → ((m : Contents) → P m → Q m) → IfSome disk P → IfSome disk Q
 told_map None P Q f h = tt

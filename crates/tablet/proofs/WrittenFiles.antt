@@ -1,4 +1,4 @@
--- A file that is written and opened again.
+-- A file that was written, and is open.
 use Rattle.std.proofs.Common.{◌≡◌, ℕ, ◌≤◌, Bool, true, false, cond, List, [], ◌∷◌, map, take, length, refl, sym, ap, subst, ◌∙◌}
 use Rattle.std.proofs.Common.{zero, suc}
 use Rattle.std.specs.Prelude.{◌≢◌, Option, Some, None, Result, Ok, Err, OnOk, IfOk, IfSome, IsSomeAnd, IsNone}
@@ -11,12 +11,10 @@ use Rattle.cell_key.specs.declared.refusals.Refusal.{Refusal}
 use Rattle.file_store.specs.Store.{Contents, KeepsOthers, with_file}
 use Rattle.sorted_file.specs.Grammar.{FitsIn, IsFile}
 use Rattle.sorted_file.specs.declared.format.Format.TheVariants.{Two}
-use Rattle.sorted_file.specs.File.{HasFile, IsOpen, WrittenIsListed, WrittenIsThere, listed, name_of}
-use Rattle.sorted_file.specs.Source.{pending}
+use Rattle.sorted_file.specs.File.{IsOpen, IsSameFile, WrittenIsListed, listed, name_of}
 use Rattle.sorted_file.specs.declared.file.SortedFile.{SortedFile}
-use Rattle.compaction.specs.Merging.{AreAtStart}
 use Rattle.cell_key.proofs.TextPlaces.{equal}
-use Rattle.compaction.specs.Writing.{WritesEntryLists, written}
+use Rattle.compaction.specs.Writing.{written}
 use Rattle.tablet.specs.Compactions.{IsNewFile, ReadsOpen, compacted, inputs_of, keeps_erasures}
 use Rattle.tablet.specs.Ranges.{lower_fence, seen, upper_fence}
 use Rattle.tablet.specs.Sources.{IsOpenIn, entries_between, listed_in}
@@ -34,7 +32,7 @@ other_tie : (a b : ℕ) → a ≢ b → (t : Bool) → eq_by_cmp nat_cmp a b ≡
 other_tie a b n false e = refl
 other_tie a b n true e = absurd (n (nat_cmp-IsAntisymmetric a b (equal (nat_cmp a b) e)))
 
-pub get_own : (m : Contents) (name : ℕ) (image : List ℕ) → get (insert m name image) name ≡ Some image
+get_own : (m : Contents) (name : ℕ) (image : List ℕ) → get (insert m name image) name ≡ Some image
 get_own m name image = get-insert nat_cmp_total m name image name ∙ ap (λ b. cond b (Some image) (get m name)) (own_tie name)
 
 get_other : (m : Contents) (name : ℕ) (image : List ℕ) (other : ℕ) → other ≢ name → get (insert m name image) other ≡ get m other
@@ -55,34 +53,19 @@ opens_it law m name image es file form named read = record {
   lists = law (insert m name image) file Two es image read form (ap (get (insert m name image)) named ∙ get_own m name image);
 }
 
-pub opened_as_written : WrittenIsListed → (r : Result SortedFile Refusal) (old mid new : Option Contents) (name limit : ℕ) (at_start : Option Contents → Type 0) (es : Option Contents → List Entry) → IsWritten old mid name limit at_start es → new ≡ mid
-    → IfOk r (λ file. IfSome mid (λ n. IsOpen n file)) → IfOk r (λ file. name_of file ≡ name)
-    → IfOk r (λ file. IfSome old (λ m. at_start (Some m) → IsSomeAnd new (λ n. IsNewFile n file (es (Some m)))))
-opened_as_written law (Err x) old mid new name limit at_start es w same read named = tt
-opened_as_written law (Ok file) None mid new name limit at_start es w same read named = tt
-opened_as_written law (Ok file) (Some m) mid new name limit at_start es w same read named =
-    λ start. subst (λ (o : Option Contents). IsSomeAnd o (λ n. IsNewFile n file (es (Some m)))) (sym (same ∙ w.1.0))
-    (opens_it law m name w.0 (es (Some m)) file (w.1.2 start) named (subst (λ (o : Option Contents). IfSome o (λ n. IsOpen n file)) w.1.0 read))
+-- a file that was written and is open stands for what was written, also when its cache has changed
+pub made_as_written : WrittenIsListed → (old new : Option Contents) (name limit : ℕ) (at_start : Option Contents → Type 0) (es : Option Contents → List Entry) (file now : SortedFile) → IsWritten old new name limit at_start es
+    → IfSome new (λ n. IsOpen n file) → name_of file ≡ name → ((disk : Option Contents) → IsSameFile disk file now)
+    → IfSome old (λ m. at_start (Some m) → IsSomeAnd new (λ n. IsNewFile n now (es (Some m))))
+made_as_written law None new name limit at_start es file now w opened named same = tt
+made_as_written law (Some m) new name limit at_start es file now w opened named same =
+    λ start. subst (λ (o : Option Contents). IsSomeAnd o (λ n. IsNewFile n now (es (Some m)))) (sym w.1.0)
+    (opens_it law m name w.0 (es (Some m)) now (w.1.2 start) ((same None).name ∙ named)
+    ((same (Some (insert m name w.0))).still (subst (λ (o : Option Contents). IfSome o (λ n. IsOpen n file)) w.1.0 opened)))
 
 -- what was written keeps to the limit
 pub within_limit : (old mid : Option Contents) (name limit : ℕ) (at_start : Option Contents → Type 0) (es : Option Contents → List Entry) → IsWritten old mid name limit at_start es → at_start old → FitsIn limit (es old)
 within_limit old mid name limit at_start es w = λ start. record { image = w.0; form = w.1.2 start; within = w.1.1 }
-
--- what was written is there
-pub not_missing : WrittenIsThere → (old mid : Option Contents) (name limit : ℕ) (at_start : Option Contents → Type 0) (es : Option Contents → List Entry) → ((told : Option Contents) → at_start told → IsEntryList (es told)) → IsWritten old mid name limit at_start es
-    → IfSome mid (λ n. ¬ (HasFile n name)) → IfSome old (λ m. ¬ (at_start (Some m)))
-not_missing law None mid name limit at_start es list w missing = tt
-not_missing law (Some m) mid name limit at_start es list w missing =
-    λ start. subst (λ (o : Option Contents). IfSome o (λ n. ¬ (HasFile n name))) w.1.0 missing
-    (law (insert m name w.0) name Two (es (Some m)) w.0 (list (Some m) start) (w.1.2 start) (get_own m name w.0))
-
--- sources at their start stand for entry lists
-start_lists : {S : Type 0} (lent : S → Option Entry) (holds : S → Type 0) (remaining : S → List Entry) → ((s : S) → holds s → IsEntryList (pending (lent s) (remaining s))) → (ss : List S) → AreAtStart lent holds ss → AllByRecursion IsEntryList (map remaining ss)
-start_lists lent holds remaining law [] h = tt
-start_lists lent holds remaining law (s ∷ ss) h = (subst (λ (o : Option Entry). IsEntryList (pending o (remaining s))) h.0.1 (law s h.0.0), start_lists lent holds remaining law ss h.1)
-
-pub start_written : WritesEntryLists → (keep : Bool) → {S : Type 0} (lent : S → Option Entry) (holds : S → Type 0) (remaining : S → List Entry) → ((s : S) → holds s → IsEntryList (pending (lent s) (remaining s))) → (ss : List S) → AreAtStart lent holds ss → IsEntryList (written keep (map remaining ss))
-start_written writes keep lent holds remaining law ss h = writes keep (map remaining ss) (start_lists lent holds remaining law ss h)
 
 -- ---- what a compaction writes
 

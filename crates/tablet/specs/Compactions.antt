@@ -1,7 +1,7 @@
 -- What a compaction writes, and the file that it makes.
 use Rattle.std.specs.Prelude.{◌≡◌, ◌≢◌, ◌⊎◌, ◌≤◌, ◌<◌, ◌+◌, ◌^◌, ℕ, IfSome, IsSomeAnd, Bool, true, false, nat_lt, Option, Some, None, List, [], ◌∷◌, map, take, drop, length}
 use Rattle.std.specs.List.{AllByRecursion}
-use Rattle.cell_key.specs.Entries.{Entry, IsEntryList}
+use Rattle.cell_key.specs.Entries.{Entry}
 use Rattle.cell_key.specs.declared.refusals.Refusal.{Refusal}
 use Rattle.cell_key.specs.declared.refusals.Refusal.TheVariants as refused
 use Rattle.file_store.specs.Store.{Contents}
@@ -9,8 +9,8 @@ use Rattle.sorted_file.specs.Grammar.{FitsIn}
 use Rattle.sorted_file.specs.File.{IsOpen, listed}
 use Rattle.sorted_file.specs.Source.{IsWriteRefusal}
 use Rattle.sorted_file.specs.declared.file.SortedFile.{SortedFile}
-use Rattle.compaction.specs.Passing.{IsFileOfMerge, MergeBreaks, MergesTooMuch}
-use Rattle.compaction.specs.Writing.{only_written, written}
+use Rattle.compaction.specs.Passing.{MergeBreaks, MergesNoList, MergesTooMuch}
+use Rattle.compaction.specs.Writing.{written}
 use Rattle.compaction.specs.declared.bounded.Bounded.{Bounded}
 use Rattle.compaction.specs.declared.input.Input.{Input}
 use Rattle.tablet.specs.Ranges.{lower_fence, seen, upper_fence}
@@ -76,14 +76,6 @@ pub record ReadsTooMuch (compaction : Compaction) (limit : ℕ) (disk : Option C
   pub of : AreRead compaction t sources
   pub large : MergesTooMuch (Steps disk) lent_by (keeps_erasures compaction (length (files_of t)))
       limit sources
-
--- What is written of all that a merge of sources passes over is no entry list: a file isn't in
--- order.
-pub record MergesNoList {S : Type 0} (steps : S → S → Type 0) (lent : S → Option Entry)
-    (keep_erasures : Bool) (sources : List S) : Type 0 where
-  pub image : List ℕ
-  pub whole : IsFileOfMerge steps lent keep_erasures sources image
-  pub none : ¬ IsEntryList (only_written keep_erasures whole.entries)
 
 -- Over these files what a compaction reads breaks off somewhere, or it isn't in order.
 pub record IsUnreadable (compaction : Compaction) (disk : Option Contents) (t : Tablet)

@@ -1,7 +1,7 @@
 //! Compactions (Bigtable, tablet serving): what stands in several places is written as one file. Room in the tablet's
-//! list of files is made before the file is written, unless it comes in the place of another, and the file is opened
-//! before the tablet changes: once it is open no memory is taken, and nothing is refused. The calls of laws of lower
-//! crates, as `stays_open()`, do nothing: what is ensured here rests on them.
+//! list of files is made before the file is written, unless it comes in the place of another, and the file is open once
+//! it is written, before the tablet changes: from then on no memory is taken, and nothing is refused. The calls of laws
+//! of lower crates, as `stays_open()`, do nothing: what is ensured here rests on them.
 
 ghost use Rattle.std.specs.Prelude.{◌≡◌, ◌≢◌, ◌≤◌, ◌<◌, ◌+◌, ◌^◌, ◌↔◌, ◌⊎◌, [], Option, Some, length, map, take, false, nat_lt, option_map, IfOk, IfErr, OnOk, OnErr, IfSome, IsNone, IsOk, IsSomeAnd, IsErrOf};
 ghost use Rattle.std.specs.Option.{option_copied};
@@ -13,21 +13,21 @@ ghost use Rattle.sorted_file.specs.Limits.{IsFileLimit};
 ghost use Rattle.sorted_file.specs.File.{listed, name_of};
 ghost use Rattle.cell_key.specs.Faults.{HasReason};
 ghost use Rattle.compaction.specs.Merging.{AreAtStart};
-ghost use Rattle.compaction.specs.Passing.{MergeBreaks, MergesTooMuch};
+ghost use Rattle.compaction.specs.Passing.{MergeBreaks, MergesNoList, MergesTooMuch};
 ghost use Rattle.compaction.specs.Writing.{written};
 ghost use Rattle.tablet.specs.Ranges.{seen};
 ghost use Rattle.tablet.specs.Sources.{IsOpenIn, listed_in, lists_over};
 ghost use Rattle.tablet.specs.Views.{range_of, memory_of, files_of, names_of, IsUnchanged, Keeps, UsesName};
 ghost use Rattle.tablet.specs.declared.compactions.Compaction.TheVariants.{Minor, Merge, Major};
-ghost use Rattle.tablet.specs.Compactions.{compacted, compacted_of, inputs_of, keeps_erasures, memory_read, Compacts, Flushes, HasAsMany, files_read, IsCompactionRefusal, IsMergeRefusal, IsMinorRefusal, IsNewFile, IsUnreadable, MergesNoList, ReadsOpen, ReadsThrough, ReadsTooMuch, Replaces, TakesName};
+ghost use Rattle.tablet.specs.Compactions.{compacted, compacted_of, inputs_of, keeps_erasures, memory_read, Compacts, Flushes, HasAsMany, files_read, IsCompactionRefusal, IsMergeRefusal, IsMinorRefusal, IsNewFile, IsUnreadable, ReadsOpen, ReadsThrough, ReadsTooMuch, Replaces, TakesName};
 
 use crate::sources::{fences, sources};
 use crate::tablet::Tablet;
 use cell_key::Refusal;
-use compaction::{keeps_one_list, merge_into, names_first, writes_entry_lists};
+use compaction::{keeps_one_list, merge_into, names_first};
 use file_store::Files;
 use memtable::Memtable;
-use sorted_file::{LockIndex, SortedFile, Source, stays_open, written_is_listed, written_is_there};
+use sorted_file::{LockIndex, SortedFile, Source, stays_open, written_is_listed};
 use std::alloc::Global;
 use std::num::NonZeroUsize;
 
@@ -62,8 +62,8 @@ fn take_name(next_name: &mut u64) -> Result<u64, Refusal>
     Ok(name)
 }
 
-/// Writes what sources mean together as a file of the next name, and opens it to cache this many blocks at most, over the
-/// index of the locks of older files.
+/// Writes what sources mean together as a file of the next name, which is open at once and caches this many blocks at
+/// most, over the index of the locks of older files.
 fn write_new<F: Files, S: Source<F> + Drop>(
     alloc: Global,
     sources: Vec<S>,
@@ -105,12 +105,11 @@ fn write_new<F: Files, S: Source<F> + Drop>(
     ensures refusal { IfErr result IsCompactionRefusal }
     ensures reason { HasReason (F.faults files.old) (F.faults files.new) result }
 {
-    writes_entry_lists();
-    written_is_there();
     written_is_listed();
     let name = take_name(next_name)?;
-    merge_into(alloc, sources, keep_erasures, name, file_limit, files)?;
-    SortedFile::open_over(alloc, name, most_blocks, over, files)
+    let mut file = merge_into(alloc, sources, keep_erasures, name, file_limit, over, files)?;
+    file.resize_cache(most_blocks);
+    Ok(file)
 }
 
 impl Tablet {
@@ -156,7 +155,7 @@ impl Tablet {
         }
     }
 
-    /// Writes what a compaction writes as a file of the next name, and opens it. Keys of the range alone are
+    /// Writes what a compaction writes as a file of the next name, which is open at once. Keys of the range alone are
     /// written.
     fn write<F: Files>(
         &self,

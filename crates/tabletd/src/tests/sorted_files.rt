@@ -90,8 +90,9 @@ fn is_written_as(alloc: Global, bytes: &[u8], again: &[u8]) -> Result<bool, Refu
     let mut files = MemFiles::new(alloc);
     let file = opened(alloc, &mut files, bytes)?;
     let mut cursor = file.cursor(b"");
-    write_file(alloc, &mut cursor, 2, FILE_LIMIT, &mut files)?;
-    match read_whole(alloc, &mut files, 2) {
+    let none = LockIndex::new(alloc);
+    let copy = write_file(alloc, &mut cursor, 2, FILE_LIMIT, &none, &mut files)?;
+    match read_whole(alloc, &mut files, copy.name()) {
         Ok(Some(written)) => Ok(written.as_slice() == again),
         _ => Ok(false),
     }

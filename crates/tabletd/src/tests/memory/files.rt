@@ -7,7 +7,7 @@ use cell_key::{EntryRef, Refusal, Row, Stamp};
 use compaction::{Input, merge_into};
 use file_store::{FileFault, Files, MemFiles, read_whole};
 use memtable::Memtable;
-use sorted_file::{SortedFile, refusal_of, write_file};
+use sorted_file::{LockIndex, SortedFile, refusal_of, write_file};
 use std::alloc::Global;
 
 /// The refusal of a call of files.
@@ -162,13 +162,25 @@ pub fn merge(
     if let Some(file) = file {
         sources.push(Input::File(file.cursor(b"")))?;
     }
-    merge_into(alloc, sources, keep_erasures, name, FILE_LIMIT, files)
+    let none = LockIndex::new(alloc);
+    let _file = merge_into(
+        alloc,
+        sources,
+        keep_erasures,
+        name,
+        FILE_LIMIT,
+        &none,
+        files,
+    )?;
+    Ok(())
 }
 
 /// Writes a sorted file again as the file 2.
 fn write_again(alloc: Global, file: &SortedFile, files: &mut MemFiles) -> Result<(), Refusal> {
     let mut cursor = file.cursor(b"");
-    write_file(alloc, &mut cursor, 2, FILE_LIMIT, files)
+    let none = LockIndex::new(alloc);
+    let _file = write_file(alloc, &mut cursor, 2, FILE_LIMIT, &none, files)?;
+    Ok(())
 }
 
 pub const SORTED: Table = (b"\x95--x2x1", &SORTED_CALLS);

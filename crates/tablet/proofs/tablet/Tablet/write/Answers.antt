@@ -4,8 +4,8 @@ use Rattle.std.specs.Option.{option_copied}
 use Rattle.cell_key.specs.Entries.{Entry}
 use Rattle.sorted_file.specs.Grammar.{FitsIn}
 use Rattle.sorted_file.specs.File.{listed}
-use Rattle.tablet.specs.Compactions.{IsCompactionRefusal, MergesNoList, ReadsOpen, compacted, files_read, memory_read}
-use Rattle.compaction.specs.Passing.{MergeBreaks, MergesTooMuch}
+use Rattle.tablet.specs.Compactions.{IsCompactionRefusal, ReadsOpen, compacted, files_read, memory_read}
+use Rattle.compaction.specs.Passing.{MergeBreaks, MergesNoList, MergesTooMuch}
 use Rattle.tablet.specs.Ranges.{lower_fence, upper_fence}
 use Rattle.tablet.specs.Sources.{lent_by, listed_in, lists_over, Breaks, Steps}
 use Rattle.tablet.proofs.Unread.{sources_same, told_map}
