@@ -12,10 +12,10 @@ returns-clause-found g c =
     let m = g.F.Files.contents c.args.store.now in
     told_found m c.args.files.now (λ found lists. AreNext (IsNextIn (part c.args.from.now (option_copied c.args.end) (c.args.memtable.now ∷ lists))) None c.args.most found.items) c.next_places.result
     (ok_map c.next_places.result c.next_places.ensures.found
-    (λ found h opened. subst (λ (es : List Entry). AreNext (IsNextIn es) None c.args.most found.items) (c.new-merge.ensures.remaining m (c.in_ok-sources.ensures.start m opened) ∙ ap merged (c.in_ok-sources.ensures.lists m opened))
-    (h (c.new-merge.ensures.holds m (c.in_ok-sources.ensures.start m opened)))))
+    (λ found h opened. subst (λ (es : List Entry). AreNext (IsNextIn es) None c.args.most found.items) (c.in_ok-merge.ensures.remaining m (c.in_ok-sources.ensures.start m opened) ∙ ap merged (c.in_ok-sources.ensures.lists m opened))
+    (h (c.in_ok-merge.ensures.holds m (c.in_ok-sources.ensures.start m opened)))))
 
 pub returns-clause-damaged : goal.returns-clause-damaged
 returns-clause-damaged g c =
     let m = g.F.Files.contents c.args.store.now in
-    λ e. told_closed m c.args.files.now (λ opened. c.next_places.ensures.damaged e (c.new-merge.ensures.holds m (c.in_ok-sources.ensures.start m opened)))
+    λ e. told_closed m c.args.files.now (λ opened. c.next_places.ensures.damaged e (c.in_ok-merge.ensures.holds m (c.in_ok-sources.ensures.start m opened)))

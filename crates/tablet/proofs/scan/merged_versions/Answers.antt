@@ -11,10 +11,10 @@ returns-clause-found g c =
     let m = g.F.Files.contents c.args.store.now in
     told_found m c.args.files.now (λ batch lists. AreVersionsIn (part c.args.from.now (option_copied c.args.end) (c.args.memtable.now ∷ lists)) c.args.hi batch.cells.items batch.is_last) c.next_versions.result
     (ok_map c.next_versions.result c.next_versions.ensures.found
-    (λ batch h opened. subst (λ (es : List Entry). AreVersionsIn es c.args.hi batch.cells.items batch.is_last) (c.new-merge.ensures.remaining m (c.in_ok-inputs.ensures.start m opened) ∙ ap merged (c.in_ok-inputs.ensures.lists m opened))
-    (h (c.new-merge.ensures.holds m (c.in_ok-inputs.ensures.start m opened)))))
+    (λ batch h opened. subst (λ (es : List Entry). AreVersionsIn es c.args.hi batch.cells.items batch.is_last) (c.in_ok-merge.ensures.remaining m (c.in_ok-inputs.ensures.start m opened) ∙ ap merged (c.in_ok-inputs.ensures.lists m opened))
+    (h (c.in_ok-merge.ensures.holds m (c.in_ok-inputs.ensures.start m opened)))))
 
 pub returns-clause-damaged : goal.returns-clause-damaged
 returns-clause-damaged g c =
     let m = g.F.Files.contents c.args.store.now in
-    λ e. told_closed m c.args.files.now (λ opened. c.next_versions.ensures.damaged e (c.new-merge.ensures.holds m (c.in_ok-inputs.ensures.start m opened)))
+    λ e. told_closed m c.args.files.now (λ opened. c.next_versions.ensures.damaged e (c.in_ok-merge.ensures.holds m (c.in_ok-inputs.ensures.start m opened)))
