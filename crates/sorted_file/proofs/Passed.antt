@@ -1,7 +1,6 @@
 -- What a source has passed over, and what remains of its list.
 use Rattle.std.proofs.Common.{◌≡◌, false, List, [], ◌∷◌, ◌++◌, refl, sym, ap, subst, ◌∙◌, append_assoc}
 use Rattle.std.specs.Prelude.{Option, Some, None, is_some, IsSome}
-use Rattle.std.proofs.lemmas.List.{append-nil}
 use Rattle.cell_key.specs.Entries.{Entry, IsEntry, IsEntryList, Takes}
 use Rattle.file_store.specs.Store.{Contents}
 use Rattle.sorted_file.specs.Passing.{EndsAfter, PassesOver, passes_none, passes_one}
@@ -26,10 +25,6 @@ module _ {S : Type 0} (steps : Option Contents → S → S → Type 0) (lent : S
   pub passed_one : (was disk : Option Contents) (s t u : S) (es : List Entry) (e : Entry) → was ≡ disk → steps was t u → lent u ≡ Some e → PassesOver (steps disk) lent s es t → PassesOver (steps disk) lent s (es ++ e ∷ []) u
   passed_one was disk s t u es e same step is h = passes_on disk h (over_same was disk t u same step) is
 
-  -- all of them
-  pub passed_all : (was disk : Option Contents) (s t u : S) (es : List Entry) → was ≡ disk → steps was t u → is_some (lent u) ≡ false → PassesOver (steps disk) lent s es t → EndsAfter (steps disk) lent es s
-  passed_all was disk s t u es same step none h = record { last = t; passes = h; end = u; step = over_same was disk t u same step; none = none_of (lent u) none }
-
   come_to : (disk : Option Contents) {s t : S} {es : List Entry} → PassesOver (steps disk) lent s es t → ComesToEnd (steps disk) lent t → ComesToEnd (steps disk) lent s
   come_to disk passes_none h = h
   come_to disk (passes_one step is more) h = goes_on step (subst (λ (o : Option Entry). IsSome o) (sym is) refl) (come_to disk more h)
@@ -49,9 +44,6 @@ takes_none (Some e) old new is t = cc
 -- the next one was taken, or none was left
 pub taken : (done old new all : List Entry) (e : Entry) → old ≡ e ∷ new → done ++ old ≡ all → (done ++ e ∷ []) ++ new ≡ all
 taken done old new all e is parts = append_assoc done (e ∷ []) new ∙ ap (λ (l : List Entry). done ++ l) (sym is) ∙ parts
-
-pub all_taken : (done old all : List Entry) → old ≡ [] → done ++ old ≡ all → done ≡ all
-all_taken done old all none parts = sym (append-nil done) ∙ ap (λ (l : List Entry). done ++ l) (sym none) ∙ parts
 
 -- what was taken of an entry list is one
 pub taken_list : (lent : Option Entry) (all done more : List Entry) → IsEntryList (pending lent all) → done ++ more ≡ all → IsEntryList done

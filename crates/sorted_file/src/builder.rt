@@ -128,8 +128,9 @@ impl FileBuilder {
     /// Whether the file with an entry more keeps to its limit, without an index and a foot.
     fn allows(&self, entry: EntryRef<'_>) -> bool
         requires { IsReady self.now }
-        ensures allows { result ≡ true → self.now.opening.end + length self.now.current.block.bytes.items
-            + entry_len (lent_entry entry.entry) ≤ self.now.opening.size }
+        ensures allows { result ≡ true → self.now.opening.end
+            + length self.now.current.block.bytes.items + entry_len (lent_entry entry.entry)
+            ≤ self.now.opening.size }
         ensures large { result ≡ false → (es : List Entry)
             → ¬ FitsIn self.now.opening.size (built self.now ++ lent_entry entry.entry ∷ es) }
     {

@@ -5,7 +5,6 @@ use Rattle.cell_key.specs.declared.keys.CellKey.{CellKey}
 use Rattle.cell_key.specs.declared.keys.Qualifier.{Qualifier}
 use Rattle.cell_key.specs.declared.lent_keys.KeyRef.{KeyRef}
 use Rattle.sorted_file.specs.Bounds.{column_bounds, IsWithin}
-use Rattle.sorted_file.specs.declared.bounds.Bounds.{Bounds}
 use Rattle.sorted_file.specs.declared.bounds.ColumnBounds.{ColumnBounds}
 use Rattle.sorted_file.proofs.Bounded.{by_kind}
 use Rattle.sorted_file.proofs.ColumnsOf.{lent_is}
