@@ -1,5 +1,5 @@
 -- The index of a cell's write, and a Set there or at the end.
-use Rattle.std.proofs.Common.{◌≡◌, ◌≢◌, ℕ, zero, suc, ◌+◌, List, [], ◌∷◌, ◌++◌, map, Some, None, inl, inr, refl, sym, ap, subst, ◌∙◌, arith}
+use Rattle.std.proofs.Common.{◌≡◌, ◌≢◌, ℕ, zero, suc, ◌+◌, List, [], ◌∷◌, ◌++◌, length, map, Some, None, inl, inr, refl, sym, ap, subst, ◌∙◌, arith}
 use Rattle.std.specs.Prelude.{slice_get, slice_set}
 use Rattle.std.specs.Option.{option_map}
 use Rattle.std.proofs.lemmas.Bool.{cases_eq}
@@ -14,6 +14,11 @@ none_yet ws x n u at ne before k w h e = elim (cases_eq k n) [
   | inl is ↦ λ f. ne (ap (λ (w : Write). w.cell) (same_Some u w (sym at ∙ (ap (slice_get ws) (sym is) ∙ e))) ∙ f)
   | inr not ↦ before k w (omega arith) e
 ]
+
+-- no write is to a cell if there are none
+pub none_there : (ws : List Write) → length ws ≡ 0 → (x : Cell) → IsIndexOf ws x None
+none_there [] none x = λ k w e. absurd (none-some w e)
+none_there (u ∷ ws) none x = absurd (omega (arith, none))
 
 pub sets_last : (ws : List Write) (w : Write) → IsIndexOf ws w.cell None → Sets w.cell w.value (map write_of ws) (map write_of (ws ++ w ∷ []))
 sets_last [] w none = appends

@@ -139,6 +139,10 @@ impl Writes {
         ensures refusal { IfErr result (λ refusal. (refusal ≡ Refusal.TooManyWrites)
             ⊎ (refusal ≡ Refusal.NoMemory)) }
     {
+        if self.entries.is_empty() {
+            self.entries.push(write)?;
+            return Ok(());
+        }
         match find(&self.entries, &self.order, &write.cell) {
             Ok(index) => {
                 self.entries[index] = write;
