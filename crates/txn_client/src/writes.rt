@@ -1,6 +1,6 @@
 //! What a session writes.
 
-ghost use Rattle.std.specs.Prelude.{◌≡◌, ◌↔◌, ◌⊎◌, ◌≤◌, ◌<◌, ℕ, [], map, length, slice_get, Some, None, IsTrue, IfOk, IfErr, OnOk, OnErr, IsErrOf, IfSome, IfNone, OnSome};
+ghost use Rattle.std.specs.Prelude.{◌≡◌, ◌≢◌, ◌↔◌, ◌⊎◌, ◌≤◌, ◌<◌, ℕ, [], map, length, slice_get, Some, None, IsTrue, false, IfOk, IfErr, OnOk, OnErr, IsErrOf, IfSome, IfNone, OnSome};
 ghost use Rattle.si_model.specs.Machine.{Names, Sets};
 ghost use Rattle.si_model.specs.ShowsCells.{kind_of_change};
 ghost use Rattle.txn_client.specs.CellOrder.{IsOrder, IsPlaceFor};
@@ -53,17 +53,25 @@ impl Model for Writes {
         × IsOrder writes.entries.items writes.order.items };
 }
 
-/// Whether two cells are the same. Of those that aren't, most differ in how long the row is or in its last byte.
+/// Whether two names, neither of which is empty, may be the same. Of those that aren't, most differ in how long they are or
+/// in their last byte.
+#[inline(always)]
+fn may_be_same(name: &[u8], other: &[u8]) -> bool
+    requires first { 1 ≤ length name.now }
+    requires second { 1 ≤ length other.now }
+    ensures { result ≡ false → name.now ≢ other.now }
+{
+    name.len() == other.len() && name[name.len() - 1] == other[other.len() - 1]
+}
+
+/// Whether two cells are the same.
 #[inline(always)]
 fn is_same(cell: &Cell, other: &Cell) -> bool
     ensures { IsTrue result ↔ (cell.now ≡ other.now) }
 {
-    let row = cell.row.as_bytes();
-    let other_row = other.row.as_bytes();
-    if row.len() != other_row.len() || row[row.len() - 1] != other_row[row.len() - 1] {
-        return false;
-    }
-    cell == other
+    may_be_same(cell.row.as_bytes(), other.row.as_bytes())
+        && may_be_same(cell.family.as_bytes(), other.family.as_bytes())
+        && cell == other
 }
 
 /// The index of the cell's write, if it is one of the first few.
