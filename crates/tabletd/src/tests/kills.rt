@@ -364,19 +364,19 @@ fn calls_of(alloc: Global, upkeep: Upkeep) -> Result<Vec<Result<u64, u64>>, Refu
 /// The numbers of calls.
 type Calls = [Result<u64, u64>; 7];
 
-const ASKED_CALLS: Calls = [Ok(105), Ok(103), Ok(111), Ok(111), Ok(111), Ok(29), Ok(29)];
+const ASKED_CALLS: Calls = [Ok(75), Ok(73), Ok(81), Ok(81), Ok(81), Ok(29), Ok(29)];
 
 const CHECKPOINT_CALLS: Calls = [
-    Ok(569),
-    Ok(569),
-    Ok(569),
-    Ok(569),
-    Ok(569),
+    Ok(474),
+    Ok(474),
+    Ok(474),
+    Ok(474),
+    Ok(474),
     Ok(101),
     Ok(101),
 ];
 
-const OWN_CALLS: Calls = [Ok(355), Ok(354), Ok(359), Ok(359), Ok(359), Ok(17), Ok(17)];
+const OWN_CALLS: Calls = [Ok(185), Ok(184), Ok(189), Ok(189), Ok(189), Ok(17), Ok(17)];
 
 #[test]
 fn a_server_is_killed(rt: HostRuntime) -> Result<(), Fail> {
