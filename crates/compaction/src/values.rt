@@ -1,6 +1,6 @@
 //! A source without its erasures.
 
-ghost use Rattle.std.specs.Prelude.{◌≡◌};
+ghost use Rattle.std.specs.Prelude.{◌≡◌, is_some, true};
 ghost use Rattle.compaction.specs.Writing.{is_written_lent};
 
 use cell_key::{EntryRef, Refusal};
@@ -25,14 +25,18 @@ impl<S> Values<S> {
         }
     }
 
-    /// Whether the source is at an entry that is written.
+    /// Whether the entry that the source is at is written.
     fn is_at_written<F: Files>(&self) -> bool
     where
         S: Source<F>,
+        requires { is_some (S.lent self.now.source) ≡ true }
         ensures { result ≡ is_written_lent self.now.keep_erasures (S.lent self.now.source) }
     {
+        if self.keep_erasures {
+            return true;
+        }
         match self.source.current() {
-            Some(entry) => self.keep_erasures || entry.value.is_some(),
+            Some(entry) => entry.value.is_some(),
             None => false,
         }
     }
