@@ -20,6 +20,9 @@ use crate::numbers::{column_number, push_number, text_number};
 use cell_key::{CellKey, EntryRef, KeyRef, Qualifier, Refusal};
 use std::alloc::Global;
 
+/// How many numbers of a kind most blocks have at most.
+const MOST_NUMBERS: usize = 64;
+
 /// What a file keeps of the columns of entries.
 #[derive(Drop)]
 pub(crate) struct Columns {
@@ -52,6 +55,21 @@ impl Columns {
             lock_values: Vec::new(alloc),
             named_locks: Vec::new(alloc),
         }
+    }
+
+    /// Those of no entries, with room for those of most blocks. Answers `NoMemory` if there is no memory.
+    fn with_room(alloc: Global) -> Result<Columns, Refusal>
+        ensures none { IfOk result (λ columns. AreColumnsOf columns []) }
+        ensures refusal { IfErr result (λ refusal. refusal ≡ Refusal.NoMemory) }
+    {
+        Ok(Columns {
+            bounds: ColumnBounds::NONE,
+            numbers: Vec::with_capacity(alloc, MOST_NUMBERS)?,
+            locks: Vec::new(alloc),
+            lock_keys: Vec::with_capacity(alloc, MOST_NUMBERS)?,
+            lock_values: Vec::new(alloc),
+            named_locks: Vec::new(alloc),
+        })
     }
 
     /// Adds those of an entry at this key, of a file that is newer than those whose locks the index has. Answers `NoMemory`
@@ -181,7 +199,7 @@ fn gather(
     ensures refusal { IfErr result (λ refusal. refusal ≡ Refusal.NoMemory) }
 {
     let mut starts = room_for_starts(alloc, bytes.len())?;
-    let mut columns = Columns::new(alloc);
+    let mut columns = Columns::with_room(alloc)?;
     let mut last = None;
     let mut rest = bytes;
     'entries: while !rest.is_empty() {
@@ -218,7 +236,7 @@ impl GatheredBlock {
         let bytes = Vec::with_capacity(alloc, BLOCK_LIMIT as usize)?;
         let starts = room_for_starts(alloc, BLOCK_LIMIT as usize)?;
         let block = Block { bytes, starts };
-        let columns = Columns::new(alloc);
+        let columns = Columns::with_room(alloc)?;
         Ok(GatheredBlock { block, columns })
     }
 

@@ -10,7 +10,7 @@ unfolding done_as nothing_read
 entries-init c = record {
   done = done_as c.args.bytes.now c.args.bytes.now [] [] [] c.in_ok-starts.starts.items (nothing_read c.args.bytes.now) refl (sym c.in_ok-starts.ensures.none);
   key = tt;
-  columns = c.new-columns.ensures;
+  columns = c.in_ok-columns.ensures.none;
 }
 
 pub returns-in_default-clause-none : goal.returns-in_default-clause-none
