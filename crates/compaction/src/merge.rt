@@ -52,10 +52,13 @@ fn compare_places<F: Files, S: Source<F>>(sources: &[S], a: usize, b: usize) -> 
 fn is_tied<F: Files, S: Source<F>>(sources: &[S], a: usize, b: usize) -> bool
     ensures { result ≡ ties (lent_at S.lent sources.now a) (lent_at S.lent sources.now b) }
 {
-    match (entry_of::<F, S>(sources, a), entry_of::<F, S>(sources, b)) {
-        (Some(x), Some(y)) => compare_texts(x.key, y.key).is_eq(),
-        _ => false,
-    }
+    let Some(y) = entry_of::<F, S>(sources, b) else {
+        return false;
+    };
+    let Some(x) = entry_of::<F, S>(sources, a) else {
+        return false;
+    };
+    compare_texts(x.key, y.key).is_eq()
 }
 
 /// How many of the later places, which are in order, come before this one.
