@@ -6,15 +6,12 @@ use Rattle.cell_key.specs.Entries.{Entry}
 use Rattle.sorted_file.specs.Source.{ComesToEnd, ends, goes_on}
 use Rattle.compaction.specs.Order.{IsReady}
 use Rattle.compaction.specs.MergeLaw.{none_at}
+use Rattle.compaction.specs.OrderLaw.{not_both}
 use Rattle.compaction.specs.Merging.{first_lent, goes_past, stays_there, GoesPast, MovesPast, MergeSteps}
 use Rattle.compaction.specs.Writing.{is_written, is_written_lent, StepsOn, steps_once, steps_past}
 
 some_is : (o : Option Entry) (e : Entry) → o ≡ Some e → IsSome o
 some_is o e is = subst (λ (o : Option Entry). IsSome o) (sym is) refl
-
-not_both : (o : Option Entry) → IsSome o → o ≡ None → ⊥
-not_both None some none = cc
-not_both (Some e) some none = cc
 
 -- whether an entry that a source is at is written
 pub written_if : (now keep : Bool) (o : Option Entry) → now ≡ keep → true ≡ is_written_lent now o → IfSome o (λ e. is_written keep e ≡ true)

@@ -1,5 +1,5 @@
 -- What the number of a merge says of the entry that it is at.
-use Rattle.std.proofs.Common.{◌≡◌, ℕ, zero, suc, ◌+◌, ◌≤◌, Bool, true, false, cond, List, [], ◌∷◌, length, refl, sym, ap, subst, arith, take, drop, ◌++◌}
+use Rattle.std.proofs.Common.{◌≡◌, ℕ, zero, suc, ◌+◌, ◌≤◌, false, cond, List, [], ◌∷◌, length, refl, sym, ap, subst, arith, take, drop, ◌++◌}
 use Rattle.std.specs.Prelude.{Option, Some, None, IsSome, is_some, sum_by, Result, Ok, Err, OnOk}
 use Rattle.std.specs.List.{AllByRecursion, AllZip}
 use Rattle.std.proofs.lemmas.Grind.{common_steps}
@@ -38,15 +38,10 @@ pub on_ok : {A E : Type 0} (r : Result A E) (P Q : Type 0) → OnOk r P → (P �
 on_ok (Ok a) P Q p f = f p
 on_ok (Err e) P Q p f = tt
 
+pub on_both : {A E : Type 0} (r : Result A E) (P Q R : Type 0) → OnOk r P → OnOk r Q → (P → Q → R) → OnOk r R
+on_both (Ok a) P Q R p q f = f p q
+on_both (Err e) P Q R p q f = tt
+
 -- a sum that falls by one where a source is at an entry
 pub falls_at : {S : Type 0} (lent : S → Option Entry) (news : List S) (new old : ℕ) → new + sum_by (λ s. one (lent s)) news ≤ old → (k : ℕ) → IsSome (lent_at lent news k) → new + 1 ≤ old
 falls_at lent news new old h k some = omega (arith, one_lent lent news k some)
-
-if_is : (b : Bool) (new old : ℕ) → new ≤ old → (b ≡ true → new + 1 ≤ old) → new + cond b 1 0 ≤ old
-if_is true new old h f = f refl
-if_is false new old h f = omega arith
-
--- the number falls where the merge came to an entry
-pub merge_falls : {S : Type 0} (lent : S → Option Entry) (news : List S) (order : List ℕ) (new old : ℕ) → new ≤ old → ((k : ℕ) → IsSome (lent_at lent news k) → new + 1 ≤ old) → new + cond (is_some (first_lent lent news order)) 1 0 ≤ old
-merge_falls lent news [] new old h f = omega (arith, h)
-merge_falls lent news (place ∷ order) new old h f = if_is (is_some (lent_at lent news place)) new old h (f place)

@@ -1,8 +1,10 @@
+pub mod EndedPlaces
 pub mod EndedSources
 pub mod Ending
 pub mod Falls
 pub mod Fresh
 pub mod Moves
+pub mod OnlyPlace
 pub mod Orders
 pub mod Passed
 pub mod Ranges

@@ -4,7 +4,7 @@ use Rattle.std.proofs.lemmas.Grind.{common_steps}
 use Rattle.std.proofs.lemmas.List.{drop-drop}
 use borrow.Rule.Slice.PartMut.{put_mid}
 use Rattle.std.proofs.lemmas.Cmp.{upto, nat_cmp_total, on_total, then_total}
-use Rattle.std.specs.Prelude.{Option, Some, None, Contains}
+use Rattle.std.specs.Prelude.{Option, Some, None, IsSome, Contains}
 use Rattle.std.specs.Cmp.{IsTotalOrder}
 use Rattle.std.specs.List.{AllByRecursion, swap}
 use Rattle.std.specs.List.Sorted.{IsPartitionedBy, IsPermutation}
@@ -18,7 +18,7 @@ use Rattle.std.specs.declared.cmp.Ordering.TheVariants.{Less, Equal, Greater}
 use Rattle.cell_key.specs.Entries.{Entry}
 use Rattle.cell_key.proofs.EntryLists.{total}
 use Rattle.compaction.specs.Least.{entry_at}
-use Rattle.compaction.specs.Order.{InOrder, IsDistinct, IsOrdered, lent_cmp, place_cmp}
+use Rattle.compaction.specs.Order.{AreSorted, InOrder, IsDistinct, lent_cmp, place_cmp}
 use Rattle.compaction.specs.OrderLaw.{at_index}
 
 -- ---- the order of places is total
@@ -270,10 +270,10 @@ swap_distinct l a b la lb h i j d below within same =
 pub still_distinct : (xs ys : List ℕ) → IsPermutation xs ys → IsDistinct xs → IsDistinct ys
 still_distinct xs ys p h = IsPermutation-keeps xs IsDistinct h swap_distinct ys p
 
--- places in order again are those of all sources
-pub ordered_again : (lents : List (Option Entry)) (old new : List ℕ) → ((place : ℕ) → place < length lents → Contains old place) → IsDistinct old → IsPermutation old new → InOrder lents new → IsOrdered lents new
-ordered_again lents old new whole distinct same rises = record {
-  whole = λ place l. Contains-permutation old new place same (whole place l);
+-- the same places in order are sorted
+pub sorted_again : (lents : List (Option Entry)) (old new : List ℕ) → ((place : ℕ) → IsSome (entry_at lents place) → Contains old place) → IsDistinct old → IsPermutation old new → InOrder lents new → AreSorted lents new
+sorted_again lents old new whole distinct same rises = record {
+  whole = λ place some. Contains-permutation old new place same (whole place some);
   distinct = still_distinct old new same distinct;
   rises = rises;
 }

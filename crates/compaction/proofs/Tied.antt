@@ -14,7 +14,7 @@ use Rattle.cell_key.proofs.EntryLists.{ties_itself, total}
 use Rattle.cell_key.proofs.TextPlaces.{one_text}
 use Rattle.compaction.specs.Least.{entry_at}
 use Rattle.compaction.specs.Order.{InOrder, IsDistinct, IsOrdered, IsReady, first_entry, lent_cmp, place_cmp}
-use Rattle.compaction.specs.OrderLaw.{at_index}
+use Rattle.compaction.specs.OrderLaw.{at_index, not_both}
 use Rattle.compaction.specs.Ties.{ties}
 use Rattle.compaction.specs.Merging.{Advances, BreaksAmong, BreaksAt, GoesPast, HasMoved, HasStarted, HaveStarted, IsMoved, StepsTo, first_lent, lent_at, goes_past, stays_there}
 use Rattle.compaction.specs.MergeLaw.{step_tie, step_same}
@@ -24,6 +24,11 @@ use Rattle.compaction.specs.MergeLaw.{step_tie, step_same}
 tie_self : (o : Option Entry) → IsSome o → ties o o ≡ true
 tie_self None h = cc
 tie_self (Some e) h = ties_itself e.0
+
+pub tie_some : (a b : Option Entry) → ties a b ≡ true → IsSome b
+tie_some None b t = cc
+tie_some (Some e) None t = cc
+tie_some (Some e) (Some f) t = refl
 
 module _ (lents : List (Option Entry)) where
   abbrev AreTied : Option Entry → List ℕ → Type 0
@@ -182,7 +187,7 @@ tied_moved {S} moves lent xs ys order n same some o one tied last h = zip_from (
   where
     by : (i : ℕ) (d : S) → i < length xs → (b : Bool) → ties (first_lent lent xs order) (lent_at lent xs i) ≡ b → GoesPast moves lent (first_lent lent xs order) (get_or xs i d) (get_or ys i d)
     by i d l true t =
-        let in' = tied_front (map lent xs) order n some o.rises one last i (o.whole i (omega (arith, l, length_lents lent xs))) t in
+        let in' = tied_front (map lent xs) order n some o.sorted.rises one last i (o.sorted.whole i (tie_some (first_lent lent xs order) (lent_at lent xs i) t)) t in
         goes_past (ap (ties (first_lent lent xs order)) (sym (lent_get lent xs i d l)) ∙ t) (h.moved i d in' l)
     by i d l false t = stays_there (ap (ties (first_lent lent xs order)) (sym (lent_get lent xs i d l)) ∙ t) (h.stayed i d (λ in'. clash (sym t ∙ front_tied (λ place. ties (first_lent lent xs order) (lent_at lent xs place) ≡ true) (take n order) i tied in')))
       where
@@ -290,10 +295,26 @@ rises_drop lents (p ∷ order) (suc n) r = rises_drop lents order n r.1
 
 -- the places behind those that moved are in order still
 pub rest_rises : {S : Type 0} (moves : S → S → Type 0) (lent : S → Option Entry) (xs ys : List S) (order : List ℕ) (n : ℕ) → length ys ≡ length xs → IsOrdered (map lent xs) order → HasMoved moves (take n order) xs ys → InOrder (map lent ys) (drop n order)
-rest_rises moves lent xs ys order n size o h = rises_same (map lent xs) (map lent ys) (drop n order) (behind_same moves lent xs ys order n size o.distinct h) (rises_drop (map lent xs) order n o.rises)
+rest_rises moves lent xs ys order n size o h = rises_same (map lent xs) (map lent ys) (drop n order) (behind_same moves lent xs ys order n size o.sorted.distinct h) (rises_drop (map lent xs) order n o.sorted.rises)
 
-pub still_whole : {S : Type 0} (lent : S → Option Entry) (xs ys : List S) (order : List ℕ) → length ys ≡ length xs → IsOrdered (map lent xs) order → (place : ℕ) → place < length (map lent ys) → Contains order place
-still_whole lent xs ys order size o place l = o.whole place (omega (arith, l, size, length_lents lent xs, length_lents lent ys))
+pub some_within : {S : Type 0} (lent : S → Option Entry) (xs : List S) (place : ℕ) → IsSome (lent_at lent xs place) → place < length xs
+some_within lent [] place some = cc
+some_within lent (x ∷ xs) zero some = omega arith
+some_within lent (x ∷ xs) (suc place) some = omega (arith, some_within lent xs place some)
+
+in_whole : (order : List ℕ) (n place : ℕ) → Contains (take n order) place → Contains order place
+in_whole order n place (k, within, is) = (k, grind (arith, common_steps, within), grind (arith, common_steps, within, is))
+
+-- a source at an entry had one before, or it didn't move
+pub still_whole : {S : Type 0} (moves : S → S → Type 0) (lent : S → Option Entry) (xs ys : List S) (order : List ℕ) (n : ℕ) → length ys ≡ length xs → IsOrdered (map lent xs) order → HasMoved moves (take n order) xs ys → (place : ℕ) → IsSome (lent_at lent ys place) → Contains order place
+still_whole moves lent xs ys order n size o h place some = by (lent_at lent xs place) refl
+  where
+    by : (e : Option Entry) → lent_at lent xs place ≡ e → Contains order place
+    by (Some e) was = o.sorted.whole place (subst (λ q. IsSome q) (sym was) refl)
+    by None was = absurd (not_both (lent_at lent ys place) some (same_lent lent xs ys place size (λ d. h.stayed place d out) ∙ was))
+      where
+        out : ¬ Contains (take n order) place
+        out in' = not_both (lent_at lent xs place) (front_tied (λ p. IsSome (lent_at lent xs p)) order place o.each (in_whole order n place in')) was
 
 -- ---- before the first entry and at one
 

@@ -1,5 +1,5 @@
 -- The order of the places of sources, by the entries that the sources are at.
-use Rattle.std.specs.Prelude.{◌≡◌, ◌≢◌, ◌<◌, ◌⊎◌, ℕ, List, [], ◌∷◌, Option, Some, None, T, Contains, length, slice_index_or}
+use Rattle.std.specs.Prelude.{◌≡◌, ◌≢◌, ◌<◌, ◌⊎◌, ℕ, List, [], ◌∷◌, Option, Some, None, IsSome, T, Contains, length, slice_index_or}
 use Rattle.std.specs.List.{AllByRecursion}
 use Rattle.std.specs.Ordering.{is_le, nat_cmp, on, then_cmp}
 use Rattle.std.specs.declared.cmp.Ordering.{Ordering}
@@ -30,11 +30,16 @@ abbrev pub IsDistinct : List ℕ → Type 0
 IsDistinct places =
     (i j d : ℕ) → i < j → j < length places → slice_index_or places i d ≢ slice_index_or places j d
 
--- the places of all sources, each once, in order
-pub record IsOrdered (lents : List (Option Entry)) (order : List ℕ) : Type 0 where
-  pub whole : (place : ℕ) → place < length lents → Contains order place
+-- the places of the sources that are at entries, each once, in order, and perhaps others
+pub record AreSorted (lents : List (Option Entry)) (order : List ℕ) : Type 0 where
+  pub whole : (place : ℕ) → IsSome (entry_at lents place) → Contains order place
   pub distinct : IsDistinct order
   pub rises : InOrder lents order
+
+-- just the places of the sources that are at entries, each once, in order
+pub record IsOrdered (lents : List (Option Entry)) (order : List ℕ) : Type 0 where
+  pub sorted : AreSorted lents order
+  pub each : AllByRecursion (λ place. IsSome (entry_at lents place)) order
 
 -- before the first advance nothing is in order
 abbrev pub IsReady : List (Option Entry) → List ℕ → Type 0

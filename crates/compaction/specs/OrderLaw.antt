@@ -1,7 +1,7 @@
 -- Proofs that a ghost member cites; nothing is promised here.
 -- The first place of an order is that of the least entry.
-use Rattle.std.proofs.Common.{◌≡◌, ◌≢◌, ◌<◌, ◌⊎◌, inl, inr, ℕ, zero, suc, T, List, [], ◌∷◌, length, get_or, refl, sym, ap, subst, ◌∙◌, arith}
-use Rattle.std.specs.Prelude.{Option, Some, None, IsSomeAnd, Contains}
+use Rattle.std.proofs.Common.{◌≡◌, ◌≢◌, ◌<◌, inl, inr, ℕ, zero, suc, T, List, [], ◌∷◌, length, get_or, refl, sym, ap, subst, ◌∙◌, arith}
+use Rattle.std.specs.Prelude.{Option, Some, None, IsSome, IsSomeAnd, Contains}
 use Rattle.std.specs.List.{AllByRecursion}
 use Rattle.std.specs.Ordering.{is_le, nat_cmp, ordering_then}
 use Rattle.std.specs.declared.cmp.Ordering.{Ordering}
@@ -39,17 +39,17 @@ at_index P [] k d h l = absurd (omega (arith, l))
 at_index P (x ∷ xs) zero d h l = h.0
 at_index P (x ∷ xs) (suc k) d h l = at_index P xs k d h.1 (omega (arith, l))
 
--- another place of an order doesn't come before the first
+-- another place of an entry doesn't come before the first
 pub after_first : (lents : List (Option Entry)) (place : ℕ) (order : List ℕ)
-    → IsOrdered lents (place ∷ order) → (i : ℕ) → i < length lents → i ≢ place
+    → IsOrdered lents (place ∷ order) → (i : ℕ) → IsSome (entry_at lents i) → i ≢ place
     → T (is_le (place_cmp lents place i))
-after_first lents place order h i l other = found (h.whole i l)
+after_first lents place order h i some other = found (h.sorted.whole i some)
   where
     found : Contains (place ∷ order) i → T (is_le (place_cmp lents place i))
     found (zero, within, is) = absurd (other (sym is))
     found (suc k, within, is) =
         subst (λ j. T (is_le (place_cmp lents place j))) is
-        (at_index (λ j. T (is_le (place_cmp lents place j))) order k i h.rises.0
+        (at_index (λ j. T (is_le (place_cmp lents place j))) order k i h.sorted.rises.0
         (omega (arith, within)))
 
 above_of : (e : Entry) (o : Option Entry) (place i : ℕ) → i < place
@@ -90,21 +90,25 @@ ordered_least lents (place ∷ order) e h is = record {
   place = place;
   is = is;
   least = least_at lents place e is
-      (λ i l. above_of e (entry_at lents i) place i l
-      (subst (λ o. T (is_le (ordering_then (lent_cmp o (entry_at lents i)) (nat_cmp place i)))) is
-      (after_first lents place order h i (inside lents place i e is l) (λ same. omega (arith, same, l)))))
-      (λ i l m. not_below_of e (entry_at lents i) place i
-      (subst (λ o. T (is_le (ordering_then (lent_cmp o (entry_at lents i)) (nat_cmp place i)))) is
-      (after_first lents place order h i m (λ same. omega (arith, same, l)))));
+      (λ i l. above i l (entry_at lents i) refl) (λ i l m. not_below i l (entry_at lents i) refl);
 }
   where
-    inside : (os : List (Option Entry)) (place i : ℕ) (e : Entry) → entry_at os place ≡ Some e
-        → i < place → i < length os
-    inside [] place i e is l = cc
-    inside (o ∷ os) zero i e is l = absurd (omega (arith, l))
-    inside (o ∷ os) (suc place) zero e is l = omega arith
-    inside (o ∷ os) (suc place) (suc i) e is l =
-        let more = inside os place i e is (omega (arith, l)) in omega (arith, more)
+    behind : (i : ℕ) (f : Entry) → entry_at lents i ≡ Some f → i ≢ place
+        → T (is_le (ordering_then (lent_cmp (Some e) (Some f)) (nat_cmp place i)))
+    behind i f some other =
+        subst (λ o. T (is_le (ordering_then (lent_cmp (Some e) o) (nat_cmp place i)))) some
+        (subst (λ o. T (is_le (ordering_then (lent_cmp o (entry_at lents i)) (nat_cmp place i)))) is
+        (after_first lents place order h i (subst (λ o. IsSome o) (sym some) refl) other))
+
+    above : (i : ℕ) → i < place → (o : Option Entry) → entry_at lents i ≡ o → IsAbove (Some e) o
+    above i l None none = tt
+    above i l (Some f) some =
+        above_of e (Some f) place i l (behind i f some (λ same. omega (arith, same, l)))
+
+    not_below : (i : ℕ) → place < i → (o : Option Entry) → entry_at lents i ≡ o → IsNotBelow e o
+    not_below i l None none = tt
+    not_below i l (Some f) some =
+        not_below_of e (Some f) place i (behind i f some (λ same. omega (arith, same, l)))
 
 pub ready_least : (lents : List (Option Entry)) (order : List ℕ) (e : Entry)
     → IsReady lents order → first_entry lents order ≡ Some e → LeastPlace lents e
@@ -115,35 +119,21 @@ ready_least lents order e (inl none) is =
     no_entry q = cc
 ready_least lents order e (inr h) is = ordered_least lents order e h is
 
-none_of : (o : Option Entry) (r : Ordering) → T (is_le (ordering_then (lent_cmp None o) r))
-    → o ≡ None
-none_of None r h = refl
-none_of (Some f) r h = absurd h
+no_place : (o : Option Entry) (i : ℕ) → (IsSome o → Contains {X = ℕ} [] i) → o ≡ None
+no_place None i h = refl
+no_place (Some e) i h = absurd (nowhere (h refl))
+  where
+    nowhere : Contains {X = ℕ} [] i → ⊥
+    nowhere w = omega (arith, w.1)
+
+pub not_both : (o : Option Entry) → IsSome o → o ≡ None → ⊥
+not_both None some none = cc
+not_both (Some e) some none = cc
 
 -- where none is lent at the first place, none is lent
 pub ordered_none : (lents : List (Option Entry)) (order : List ℕ) → IsOrdered lents order
     → first_entry lents order ≡ None → AllByRecursion (λ o. o ≡ None) lents
-ordered_none [] [] h is = tt
-ordered_none (o ∷ os) [] h is = absurd (nowhere (h.whole 0 (omega arith)))
-  where
-    nowhere : Contains {X = ℕ} [] 0 → ⊥
-    nowhere w = omega (arith, w.1)
+ordered_none lents [] h is =
+    each_of lents (λ o. o ≡ None) (λ i l. no_place (entry_at lents i) i (h.sorted.whole i))
 ordered_none lents (place ∷ order) h is =
-    each_of lents (λ o. o ≡ None) (λ i l. at i l (same_or i place))
-  where
-    same_or : (i place : ℕ) → (i ≡ place) ⊎ (i ≢ place)
-    same_or zero zero = inl refl
-    same_or zero (suc place) = inr (λ is. omega (arith, is))
-    same_or (suc i) zero = inr (λ is. omega (arith, is))
-    same_or (suc i) (suc place) = next (same_or i place)
-      where
-        next : (i ≡ place) ⊎ (i ≢ place) → (suc i ≡ suc place) ⊎ (suc i ≢ suc place)
-        next (inl same) = inl (ap suc same)
-        next (inr other) = inr (λ is. other (omega (arith, is)))
-
-    at : (i : ℕ) → i < length lents → (i ≡ place) ⊎ (i ≢ place) → entry_at lents i ≡ None
-    at i l (inl same) = ap (entry_at lents) same ∙ is
-    at i l (inr other) =
-        none_of (entry_at lents i) (nat_cmp place i)
-        (subst (λ o. T (is_le (ordering_then (lent_cmp o (entry_at lents i)) (nat_cmp place i)))) is
-        (after_first lents place order h i l other))
+    absurd (not_both (entry_at lents place) h.each.0 is)

@@ -1,6 +1,6 @@
 //! Several sources as one.
 
-ghost use Rattle.std.specs.Prelude.{ℕ, ◌≡◌, ◌≤◌, ◌<◌, ◌+◌, ◌⊎◌, T, None, [], length, map, is_some, option_map, sum_by, take, drop, slice_index_or, Contains, IsSome, IfOk, OnOk, IfErr, IsErrOf, Option, true, false};
+ghost use Rattle.std.specs.Prelude.{ℕ, ◌≡◌, ◌≤◌, ◌<◌, ◌+◌, ◌-◌, ◌⊎◌, T, None, [], ◌∷◌, length, map, is_some, option_map, sum_by, take, drop, slice_index_or, Contains, IsSome, IfOk, OnOk, IfErr, IsErrOf, Option, true, false, if◌then◌else◌};
 ghost use Rattle.std.specs.List.{AllByRecursion, AllZip};
 ghost use Rattle.std.specs.List.Sorted.{IsPermutation};
 ghost use Rattle.std.specs.Ordering.{is_le};
@@ -8,7 +8,7 @@ ghost use Rattle.file_store.specs.Store.{Contents};
 ghost use Rattle.cell_key.specs.Entries.{lent_entry, merged};
 ghost use Rattle.sorted_file.specs.Source.{ComesToEnd, IsReadRefusal};
 ghost use Rattle.cell_key.specs.Faults.{HasReason};
-ghost use Rattle.compaction.specs.Order.{InOrder, IsDistinct, IsOrdered, IsReady, place_cmp};
+ghost use Rattle.compaction.specs.Order.{AreSorted, InOrder, IsDistinct, IsOrdered, IsReady, place_cmp};
 ghost use Rattle.compaction.specs.Merging.{Advances, AreAtStart, BreaksAmong, BreaksAt, GoesPast, HasMoved, IsMoved, MovesPast, lent_at, first_lent, StepsTo, MergeHolds, cost, one};
 ghost use Rattle.compaction.specs.Ties.{ties};
 
@@ -23,8 +23,8 @@ use std::cmp::Ordering;
 #[derive(Drop)]
 pub struct Merge<S> {
     sources: Vec<S>,
-    /// The places of the sources, by the entries that they are at, and of one key the newer source first. A source
-    /// at no entry comes last. Before the first advance nothing is in order.
+    /// The places of the sources that are at entries, by these entries, and of one key the newer source first: none
+    /// before the first advance.
     order: Vec<usize>,
 }
 
@@ -151,6 +151,93 @@ fn advance_each<F: Files, S: Source<F>>(
     Ok(())
 }
 
+/// How many of these places are left without those at the end whose sources are at no entry.
+fn count_at_entries<F: Files, S: Source<F>>(sources: &[S], order: &[usize]) -> usize
+    ensures bound { result ≤ length order.now }
+    ensures ended { AllByRecursion (λ place. lent_at S.lent sources.now place ≡ None)
+        (drop result order.now) }
+    ensures last { (d : ℕ) → 0 < result
+        → IsSome (lent_at S.lent sources.now (slice_index_or order.now (result - 1) d)) }
+{
+    for i in (0..order.len()).rev() {
+        if entry_of::<F, S>(sources, order[i]).is_some() {
+            return i + 1;
+        }
+    }
+    0
+}
+
+/// Leaves out the places at the end whose sources are at no entry.
+fn leave_out_ended<F: Files, S: Source<F>>(sources: &[S], order: &mut Vec<usize>)
+    ensures { AreSorted (map S.lent sources.now) order.old.items
+        → IsOrdered (map S.lent sources.now) order.new.items }
+{
+    let count = count_at_entries::<F, S>(sources, order);
+    order.truncate(count);
+}
+
+/// Advances the source at a place, and says whether it came to an entry.
+fn advance_at<F: Files, S: Source<F>>(
+    sources: &mut [S],
+    place: usize,
+    files: &mut F,
+) -> Result<bool, Refusal>
+    ensures files { F.contents files.new ≡ F.contents files.old }
+    ensures reason { HasReason (F.faults files.old) (F.faults files.new) result }
+    ensures refusal { IfErr result IsReadRefusal }
+    ensures more { IfOk result (λ more. more ≡ is_some (lent_at S.lent sources.new place)) }
+    ensures lower { IfOk result (λ more.
+        sum_by (λ s. cost (S.left s) (S.lent s)) sources.new + (if more then 1 else 0)
+        ≤ sum_by (λ s. cost (S.left s) (S.lent s)) sources.old) }
+    ensures moves { OnOk result (HasMoved
+        (Advances (S.steps (F.contents files.old)) S.lent (S.remaining (F.contents files.old))
+        (S.holds (F.contents files.old))) (place ∷ []) sources.old sources.new) }
+    ensures damaged { IsErrOf result Refusal.Damaged
+        → ¬ AllByRecursion (S.holds (F.contents files.old)) sources.old }
+    ensures broken { IsErrOf result Refusal.Damaged
+        → BreaksAt (S.breaks (F.contents files.old)) (place ∷ []) sources.old }
+{
+    if place < sources.len() {
+        return sources[place].advance(files);
+    }
+    Ok(false)
+}
+
+/// Advances the only source that is at an entry, and leaves its place out if it has no other. Whether it has one.
+fn step_only<F: Files, S: Source<F>>(
+    sources: &mut [S],
+    order: &mut Vec<usize>,
+    files: &mut F,
+) -> Result<bool, Refusal>
+    requires { length order.old.items ≡ 1 }
+    ensures files { F.contents files.new ≡ F.contents files.old }
+    ensures reason { HasReason (F.faults files.old) (F.faults files.new) result }
+    ensures refusal { IfErr result IsReadRefusal }
+    ensures more { IfOk result (λ more.
+        more ≡ is_some (first_lent S.lent sources.new order.new.items)) }
+    ensures lower { IfOk result (λ more.
+        sum_by (λ s. cost (S.left s) (S.lent s)) sources.new + (if more then 1 else 0)
+        ≤ sum_by (λ s. cost (S.left s) (S.lent s)) sources.old) }
+    ensures past { OnOk result (IsOrdered (map S.lent sources.old) order.old.items
+        → AllZip (GoesPast (Advances (S.steps (F.contents files.old)) S.lent
+        (S.remaining (F.contents files.old)) (S.holds (F.contents files.old))) S.lent
+        (first_lent S.lent sources.old order.old.items)) sources.old sources.new) }
+    ensures ordered { OnOk result (IsOrdered (map S.lent sources.old) order.old.items
+        → IsOrdered (map S.lent sources.new) order.new.items) }
+    ensures damaged { IsErrOf result Refusal.Damaged
+        → ¬ AllByRecursion (S.holds (F.contents files.old)) sources.old }
+    ensures broken { IsErrOf result Refusal.Damaged
+        → IsOrdered (map S.lent sources.old) order.old.items
+        → BreaksAmong (S.breaks (F.contents files.old))
+        (IsMoved S.lent (first_lent S.lent sources.old order.old.items)) sources.old }
+{
+    let more = advance_at(sources, order[0], files)?;
+    if !more {
+        order.clear();
+    }
+    Ok(more)
+}
+
 /// Advances each source that is at an entry of the key of the first, and puts the places in order again.
 fn step_tied<F: Files, S: Source<F>>(
     sources: &mut [S],
@@ -163,12 +250,12 @@ fn step_tied<F: Files, S: Source<F>>(
     ensures refusal { IfErr result IsReadRefusal }
     ensures cost { OnOk result (sum_by (λ s. cost (S.left s) (S.lent s)) sources.new + 1
         ≤ sum_by (λ s. cost (S.left s) (S.lent s)) sources.old) }
-    ensures past { OnOk result (IsOrdered (map S.lent sources.old) order.old → AllZip (GoesPast
-        (Advances (S.steps (F.contents files.old)) S.lent (S.remaining (F.contents files.old))
-        (S.holds (F.contents files.old))) S.lent (first_lent S.lent sources.old order.old))
-        sources.old sources.new) }
-    ensures ordered { OnOk result (IsOrdered (map S.lent sources.old) order.old
-        → IsOrdered (map S.lent sources.new) order.new) }
+    ensures past { OnOk result (IsOrdered (map S.lent sources.old) order.old
+        → AllZip (GoesPast (Advances (S.steps (F.contents files.old)) S.lent
+        (S.remaining (F.contents files.old)) (S.holds (F.contents files.old))) S.lent
+        (first_lent S.lent sources.old order.old)) sources.old sources.new) }
+    ensures sorted { OnOk result (IsOrdered (map S.lent sources.old) order.old
+        → AreSorted (map S.lent sources.new) order.new) }
     ensures damaged { IsErrOf result Refusal.Damaged
         → IsOrdered (map S.lent sources.old) order.old
         → ¬ AllByRecursion (S.holds (F.contents files.old)) sources.old }
@@ -239,7 +326,7 @@ fn step_first<F: Files, S: Source<F>>(
     ensures steps { OnOk result (AreAtStart S.lent (S.holds (F.contents files.old)) sources.old
         → AllZip (StepsTo S.lent (S.remaining (F.contents files.old))
         (S.holds (F.contents files.old)) None) sources.old sources.new) }
-    ensures ordered { OnOk result (IsOrdered (map S.lent sources.new) order.new.items) }
+    ensures sorted { OnOk result (AreSorted (map S.lent sources.new) order.new.items) }
     ensures damaged { IsErrOf result Refusal.Damaged
         → ¬ AllByRecursion (S.holds (F.contents files.old)) sources.old }
     ensures broken { IsErrOf result Refusal.Damaged
@@ -262,7 +349,7 @@ fn is_at_entry<F: Files, S: Source<F>>(sources: &[S], order: &[usize]) -> bool
 }
 
 /// Takes each source past the entry of the one at the first place, or to its first entry.
-fn step<F: Files, S: Source<F>>(
+fn step_several<F: Files, S: Source<F>>(
     sources: &mut [S],
     order: &mut Vec<usize>,
     files: &mut F,
@@ -274,6 +361,45 @@ fn step<F: Files, S: Source<F>>(
         ≤ sum_by (λ s. cost (S.left s) (S.lent s)) sources.old) }
     ensures lower { OnOk result ((k : ℕ) → IsSome (lent_at S.lent sources.new k)
         → sum_by (λ s. cost (S.left s) (S.lent s)) sources.new + 1
+        ≤ sum_by (λ s. cost (S.left s) (S.lent s)) sources.old) }
+    ensures past { OnOk result (IsReady (map S.lent sources.old) order.old.items
+        → AllZip (MovesPast (S.steps (F.contents files.old)) S.lent
+        (first_lent S.lent sources.old order.old.items)) sources.old sources.new) }
+    ensures sorted { OnOk result (IsReady (map S.lent sources.old) order.old.items
+        → AreSorted (map S.lent sources.new) order.new.items) }
+    ensures steps { OnOk result (MergeHolds S.lent (S.remaining (F.contents files.old))
+        (S.holds (F.contents files.old)) sources.old order.old.items
+        → AllZip (StepsTo S.lent (S.remaining (F.contents files.old))
+        (S.holds (F.contents files.old)) (first_lent S.lent sources.old order.old.items))
+        sources.old sources.new) }
+    ensures damaged { IsErrOf result Refusal.Damaged
+        → IsReady (map S.lent sources.old) order.old.items
+        → ¬ AllByRecursion (S.holds (F.contents files.old)) sources.old }
+    ensures broken { IsErrOf result Refusal.Damaged
+        → IsReady (map S.lent sources.old) order.old.items
+        → BreaksAmong (S.breaks (F.contents files.old))
+        (IsMoved S.lent (first_lent S.lent sources.old order.old.items)) sources.old }
+{
+    if is_at_entry::<F, S>(sources, order) {
+        step_tied(sources, order, files)
+    } else {
+        step_first(sources, order, files)
+    }
+}
+
+/// Takes each source past the entry of the one at the first place, or to its first entry. Whether one is at an entry.
+fn step<F: Files, S: Source<F>>(
+    sources: &mut [S],
+    order: &mut Vec<usize>,
+    files: &mut F,
+) -> Result<bool, Refusal>
+    ensures files { F.contents files.new ≡ F.contents files.old }
+    ensures reason { HasReason (F.faults files.old) (F.faults files.new) result }
+    ensures refusal { IfErr result IsReadRefusal }
+    ensures more { IfOk result (λ more.
+        more ≡ is_some (first_lent S.lent sources.new order.new.items)) }
+    ensures lower { IfOk result (λ more.
+        sum_by (λ s. cost (S.left s) (S.lent s)) sources.new + (if more then 1 else 0)
         ≤ sum_by (λ s. cost (S.left s) (S.lent s)) sources.old) }
     ensures past { OnOk result (IsReady (map S.lent sources.old) order.old.items
         → AllZip (MovesPast (S.steps (F.contents files.old)) S.lent
@@ -293,11 +419,12 @@ fn step<F: Files, S: Source<F>>(
         → BreaksAmong (S.breaks (F.contents files.old))
         (IsMoved S.lent (first_lent S.lent sources.old order.old.items)) sources.old }
 {
-    if is_at_entry::<F, S>(sources, order) {
-        step_tied(sources, order, files)
-    } else {
-        step_first(sources, order, files)
+    if order.len() == 1 {
+        return step_only(sources, order, files);
     }
+    step_several(sources, order, files)?;
+    leave_out_ended::<F, S>(sources, order);
+    Ok(is_at_entry::<F, S>(sources, order))
 }
 
 impl<S> Merge<S> {
@@ -353,8 +480,7 @@ impl<F: Files, S: Source<F>> Source<F> for Merge<S> {
     ghost left = { λ s. sum_by (λ x. cost (S.left x) (S.lent x)) s.sources.items };
 
     fn advance(&mut self, files: &mut F) -> Result<bool, Refusal> {
-        step(&mut self.sources, &mut self.order, files)?;
-        Ok(is_at_entry::<F, S>(&self.sources, &self.order))
+        step(&mut self.sources, &mut self.order, files)
     }
 
     fn current(&self) -> Option<EntryRef<'_>> {
