@@ -1,6 +1,6 @@
 //! Several sources as one.
 
-ghost use Rattle.std.specs.Prelude.{ℕ, ◌≡◌, ◌≤◌, ◌<◌, ◌+◌, ◌-◌, ◌⊎◌, T, None, [], ◌∷◌, length, map, is_some, option_map, sum_by, take, drop, slice_index_or, Contains, IsSome, IfOk, OnOk, IfErr, IsErrOf, Option, true, false, if◌then◌else◌};
+ghost use Rattle.std.specs.Prelude.{ℕ, ◌≡◌, ◌≤◌, ◌<◌, ◌+◌, ◌-◌, ◌⊎◌, T, None, Some, [], ◌∷◌, length, map, is_some, option_map, sum_by, take, drop, slice_index_or, Contains, IsSome, IfOk, OnOk, IfErr, IsErrOf, Option, true, false, if◌then◌else◌};
 ghost use Rattle.std.specs.List.{AllByRecursion, AllZip};
 ghost use Rattle.std.specs.List.Sorted.{IsPermutation};
 ghost use Rattle.std.specs.Ordering.{is_le};
@@ -48,17 +48,14 @@ fn compare_places<F: Files, S: Source<F>>(sources: &[S], a: usize, b: usize) -> 
     }
 }
 
-/// Whether the sources at both places are at entries of one key.
-fn is_tied<F: Files, S: Source<F>>(sources: &[S], a: usize, b: usize) -> bool
-    ensures { result ≡ ties (lent_at S.lent sources.now a) (lent_at S.lent sources.now b) }
+/// Whether the source at a place is at an entry of the key of this one.
+fn is_tied<F: Files, S: Source<F>>(entry: EntryRef<'_>, sources: &[S], place: usize) -> bool
+    ensures { result ≡ ties (Some (lent_entry entry.entry)) (lent_at S.lent sources.now place) }
 {
-    let Some(y) = entry_of::<F, S>(sources, b) else {
-        return false;
-    };
-    let Some(x) = entry_of::<F, S>(sources, a) else {
-        return false;
-    };
-    compare_texts(x.key, y.key).is_eq()
+    match entry_of::<F, S>(sources, place) {
+        Some(other) => compare_texts(entry.key, other.key).is_eq(),
+        None => false,
+    }
 }
 
 /// How many of the later places, which are in order, come before this one.
@@ -113,8 +110,11 @@ fn count_tied<F: Files, S: Source<F>>(sources: &[S], order: &[usize]) -> usize
         → ties (first_lent S.lent sources.now order.now)
         (lent_at S.lent sources.now (slice_index_or order.now result d)) ≡ false }
 {
+    let Some(first) = entry_of::<F, S>(sources, order[0]) else {
+        return 1;
+    };
     for i in 1..order.len() {
-        if !is_tied::<F, S>(sources, order[0], order[i]) {
+        if !is_tied::<F, S>(first, sources, order[i]) {
             return i;
         }
     }
