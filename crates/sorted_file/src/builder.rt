@@ -163,14 +163,13 @@ impl FileBuilder {
             return Err(Refusal::FileTooLarge);
         }
         self.make_room(entry)?;
-        let text = self.current.block.next_text(entry.key);
-        self.current.push(entry, key, over)?;
         self.last = Some(LastKey {
-            text,
+            text: self.current.block.next_text(entry.key),
             place_len: key.place_len,
             qualifier: key.qualifier,
             stamp: key.stamp,
         });
+        self.current.push(entry, key, over)?;
         Ok(())
     }
 

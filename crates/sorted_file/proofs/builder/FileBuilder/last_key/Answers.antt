@@ -1,4 +1,4 @@
-use Rattle.std.proofs.Common.{◌≡◌, [], List, ℕ, refl, sym, ap, subst, ◌∙◌}
+use Rattle.std.proofs.Common.{[], List, ℕ, refl, sym, ap, subst, ◌∙◌}
 use Rattle.sorted_file.specs.Block.{bytes_at, entries_of, IsLastText}
 use Rattle.sorted_file.specs.Builder.{KeepsLast}
 use Rattle.sorted_file.specs.Index.{blocks_of, entries_in}

@@ -31,7 +31,7 @@ returns-clause-ready c =
     let allowed = c.allows.ensures.allows c.if-not-allows.false in
     let size = c.in_ok-make_room.ensures.size in
     let longer = c.in_ok-push.ensures.length in
-    let last : LastKey = record { text = c.next_text-text.result; place_len = c.in-Some.key.place_len; qualifier = c.in-Some.key.qualifier; stamp = c.in-Some.key.stamp } in
+    let last : LastKey = record { text = c.next_text.result; place_len = c.in-Some.key.place_len; qualifier = c.in-Some.key.qualifier; stamp = c.in-Some.key.stamp } in
     record {
       sound = record {
         opening = s.opening;
@@ -44,5 +44,5 @@ returns-clause-ready c =
       };
       fits = inr (subst Fits (sym more) room.fits);
       followed = subst (IsFollowed blocks) (sym more) room.followed;
-      last = keeps_last es _ e mid.current.block _ c.in-Some.key last s.parsed c.in_ok-push.ensures.parsed more c.in-Some.ensures.key c.in-Some.ensures.text c.next_text-text.ensures.offset c.next_text-text.ensures.length refl refl refl;
+      last = keeps_last es _ e mid.current.block _ c.in-Some.key last s.parsed c.in_ok-push.ensures.parsed more c.in-Some.ensures.key c.in-Some.ensures.text c.next_text.ensures.offset c.next_text.ensures.length refl refl refl;
     }
