@@ -1,6 +1,8 @@
 -- A file that is built, entry by entry.
-use Rattle.std.proofs.Common.{◌≡◌, ◌≢◌, ◌+◌, ◌≤◌, ◌<◌, ℕ, List, [], ◌∷◌, ◌++◌, length, Some, refl, sym, ap, subst, ◌∙◌, arith, length-append, append_assoc}
+use Rattle.std.proofs.Common.{◌≡◌, ◌≢◌, ◌+◌, ◌≤◌, ◌<◌, ℕ, List, [], ◌∷◌, ◌++◌, length, drop, Some, refl, sym, ap, subst, ◌∙◌, arith, length-append, append_assoc}
+use Rattle.std.proofs.Math.Seq.{drop-append_seam}
 use Rattle.std.specs.Prelude.{flat_map}
+use Rattle.file_store.specs.Store.{part}
 use Rattle.std.specs.declared.cmp.Ordering.TheVariants.{Less}
 use Rattle.std.proofs.lemmas.List.{append-nil}
 use Rattle.std.proofs.lemmas.List.Concat.{flat_map-append}
@@ -8,18 +10,22 @@ use Rattle.cell_key.specs.Entries.{Entry, IsEntry, IsEntryList, spelled}
 use Rattle.cell_key.specs.Keys.{byte_cmp}
 use Rattle.cell_key.specs.LentKeys.{IsLentKey}
 use Rattle.cell_key.specs.declared.lent_keys.KeyRef.{KeyRef}
-use Rattle.sorted_file.specs.Block.{entries_of, IsLastText}
-use Rattle.sorted_file.specs.Builder.{built, IsSound, LastSays}
+use Rattle.sorted_file.specs.Block.{bytes_at, entries_of, IsLastText, IsParsed}
+use Rattle.sorted_file.specs.Builder.{built, IsSound, KeepsLast}
 use Rattle.sorted_file.specs.Check.{IsFollowed}
 use Rattle.sorted_file.specs.Grammar.{block_bytes, body, head, Fits, FitsIn}
 use Rattle.sorted_file.specs.Index.{blocks_of, entries_in}
+use Rattle.sorted_file.specs.declared.block.Block.{Block}
+use Rattle.sorted_file.specs.declared.block.Extent.{Extent}
 use Rattle.sorted_file.specs.declared.builder.FileBuilder.{FileBuilder}
 use Rattle.sorted_file.specs.declared.builder.LastKey.{LastKey}
 use Rattle.sorted_file.specs.declared.format.Format.TheVariants.{Two}
+use Rattle.sorted_file.proofs.GrowingBlocks.{block_bytes-last}
 use Rattle.sorted_file.proofs.Growth.{body-last, flat-last}
 use Rattle.sorted_file.proofs.Joining.{all_back, all_joined, followed_last, last_behind, rising_back}
 use Rattle.sorted_file.proofs.Spelling.{body-whole, is_cut}
-use Rattle.sorted_file.proofs.Starts.{rising_on, seam, some_text}
+use Rattle.sorted_file.proofs.Seams.{text_part}
+use Rattle.sorted_file.proofs.Starts.{last_on, rising_on, seam, some_text}
 
 -- ---- its entries
 
@@ -67,28 +73,34 @@ goes_not es e last is none list =
     let one = (all_back IsEntry es (e ∷ []) list.each).0 in
     none one (seam es e [] last (some_text e one) list.rising is)
 
-one_last : (es : List Entry) (e : Entry) (name : List ℕ) → IsLastText (es ++ e ∷ []) name → name ≡ e.0
-one_last [] e name h = h
-one_last (d ∷ []) e name h = h
-one_last (d ∷ f ∷ es) e name h = one_last (f ∷ es) e name h
-
 some_more : (es : List Entry) (e : Entry) → es ++ e ∷ [] ≢ []
 some_more [] e n = cc
 some_more (d ∷ es) e n = cc
 
--- the key of the last entry says so
-pub last_says : (es : List Entry) (e : Entry) (key : KeyRef) (last : LastKey) → IsLentKey key → key.text.now ≡ e.0 → last.place_len ≡ key.place_len → last.qualifier ≡ key.qualifier → last.stamp ≡ key.stamp → LastSays (es ++ e ∷ []) (Some last)
-last_says es e key last lent named place qualifier stamp = λ name is. (
-  some_more es e,
-  record {
-    key = lent.key;
-    stored = lent.stored;
-    is = one_last es e name is ∙ sym named ∙ lent.is;
-    place = place ∙ lent.place;
-    qualifier = qualifier ∙ lent.qualifier;
-    stamp = stamp ∙ lent.stamp;
-  },
-)
+-- the text of the last entry of a block stands behind the bytes of the others and its length
+text_behind : (es : List Entry) (e : Entry) (old new : Block) (at : Extent) → IsParsed es old → IsParsed (es ++ e ∷ []) new → at.offset ≡ length old.bytes.items + 4 → at.length ≡ length e.0 → bytes_at new.bytes.items at ≡ e.0
+text_behind es e old new at before after offset size =
+    let n = length old.bytes.items in
+    let bytes : new.bytes.items ≡ old.bytes.items ++ spelled e = after.bytes ∙ block_bytes-last es e ∙ ap (λ (l : List ℕ). l ++ spelled e) (sym before.bytes) in
+    let behind : drop n new.bytes.items ≡ spelled e ++ [] = ap (drop n) bytes ∙ drop-append_seam old.bytes.items (spelled e) ∙ sym (append-nil (spelled e)) in
+    ap (λ (k : ℕ). part new.bytes.items k at.length) offset ∙ ap (part new.bytes.items (n + 4)) size
+    ∙ text_part new.bytes.items e.0 [] n (omega (arith, ap length bytes, length-append old.bytes.items (spelled e))) e.1 behind
+
+-- the key of the last entry is kept
+pub keeps_last : (es fs : List Entry) (e : Entry) (old new : Block) (key : KeyRef) (last : LastKey) → IsParsed es old → IsParsed fs new → fs ≡ es ++ e ∷ [] → IsLentKey key → key.text.now ≡ e.0
+    → last.text.offset ≡ length old.bytes.items + 4 → last.text.length ≡ length e.0 → last.place_len ≡ key.place_len → last.qualifier ≡ key.qualifier → last.stamp ≡ key.stamp → KeepsLast fs new.bytes.items (Some last)
+keeps_last es fs e old new key last before after more lent named offset size place qualifier stamp =
+    let here = text_behind es e old new last.text before (subst (λ (l : List Entry). IsParsed l new) more after) offset size in
+    subst (λ (l : List Entry). KeepsLast l new.bytes.items (Some last)) (sym more) (record {
+      some = some_more es e;
+      named = subst (IsLastText (es ++ e ∷ [])) (sym here) (last_on es e);
+      key = lent.key;
+      stored = lent.stored;
+      is = here ∙ sym named ∙ lent.is;
+      place = place ∙ lent.place;
+      qualifier = qualifier ∙ lent.qualifier;
+      stamp = stamp ∙ lent.stamp;
+    })
 
 -- the open block goes on where all entries do
 pub next_list : (es fs all : List Entry) (e : Entry) → es ++ fs ≡ all → IsEntryList (all ++ e ∷ []) → IsEntryList (fs ++ e ∷ [])

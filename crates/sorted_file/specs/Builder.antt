@@ -4,7 +4,7 @@ use Rattle.cell_key.specs.Keys.{text, IsStored}
 use Rattle.cell_key.specs.Texts.{place_text}
 use Rattle.cell_key.specs.Entries.{Entry, IsRising, field}
 use Rattle.cell_key.specs.declared.keys.CellKey.{CellKey}
-use Rattle.sorted_file.specs.Block.{IsLastText, IsParsed, entries_of}
+use Rattle.sorted_file.specs.Block.{IsLastText, IsParsed, bytes_at, entries_of}
 use Rattle.sorted_file.specs.Check.{IsFollowed, IsOpening}
 use Rattle.sorted_file.specs.Columns.{AreColumnsOf}
 use Rattle.sorted_file.specs.Grammar.{Fits, body, head, number_bytes}
@@ -30,26 +30,29 @@ pub record IsSound (b : FileBuilder) : Type 0 where
   pub rising : IsRising (built b)
   pub within : b.opening.end + length b.current.block.bytes.items ≤ b.opening.size
 
--- this text is that of a key, and says so behind its row and family
-pub record Says (name : List ℕ) (last : LastKey) : Type 0 where
+-- this is the last key of entries with these bytes: where its text stands, and what that says behind
+-- its row and family
+pub record IsLastKey (es : List Entry) (bytes : List ℕ) (last : LastKey) : Type 0 where
+  pub some : es ≢ []
+  pub named : IsLastText es (bytes_at bytes last.text)
   pub key : CellKey
   pub stored : IsStored key
-  pub is : name ≡ text key
+  pub is : bytes_at bytes last.text ≡ text key
   pub place : last.place_len ≡ length (place_text key.row key.family)
   pub qualifier : last.qualifier ≡ key.qualifier
   pub stamp : last.stamp ≡ key.stamp
 
--- so says the last text of entries, if there is one
-abbrev pub LastSays : List Entry → Option LastKey → Type 0
-LastSays es None = es ≡ []
-LastSays es (Some last) = (name : List ℕ) → IsLastText es name → (es ≢ []) × Says name last
+-- the same, if there is one
+abbrev pub KeepsLast : List Entry → List ℕ → Option LastKey → Type 0
+KeepsLast es bytes None = es ≡ []
+KeepsLast es bytes (Some last) = IsLastKey es bytes last
 
 -- the open block can be the next one, if it has entries, and its last key is kept
 pub record IsReady (b : FileBuilder) : Type 0 where
   pub sound : IsSound b
   pub fits : (entries_of b.current.block ≡ []) ⊎ Fits (entries_of b.current.block)
   pub followed : IsFollowed (blocks_of b.opening.rows.items) (entries_of b.current.block)
-  pub last : LastSays (entries_of b.current.block) b.last
+  pub last : KeepsLast (entries_of b.current.block) b.current.block.bytes.items b.last
 
 -- with this entry the open block can be the next one
 pub record HasRoom (b : FileBuilder) (e : Entry) : Type 0 where

@@ -1,7 +1,7 @@
 //! Blocks in memory: their bytes, and what is found there.
 
 ghost use Rattle.std.specs.Option.{option_copied};
-ghost use Rattle.std.specs.Prelude.{◌≡◌, ◌↔◌, IsTrue, ◌≢◌, ◌<◌, ◌^◌, List, length, IfOk, IfErr, IfSome, IfNone, true, false, drop, slice_get, option_map, IsSomeAnd, ◌≤◌, ◌⊎◌, IsErrOf, map, ◌++◌, ◌∷◌, [], ℕ};
+ghost use Rattle.std.specs.Prelude.{◌≡◌, ◌↔◌, IsTrue, ◌≢◌, ◌<◌, ◌+◌, ◌^◌, List, length, IfOk, IfErr, IfSome, IfNone, true, false, drop, slice_get, option_map, IsSomeAnd, ◌≤◌, ◌⊎◌, IsErrOf, map, ◌++◌, ◌∷◌, [], ℕ};
 ghost use Rattle.std.specs.declared.cmp.Ordering.TheVariants.{Less, Greater};
 ghost use Rattle.cell_key.specs.Entries.{IsEntry, lent_entry, Entry, IsEntryList, entries_from, entry_of_key, IsRising, spelled};
 ghost use Rattle.cell_key.specs.Keys.{byte_cmp};
@@ -171,6 +171,17 @@ impl Block {
             return true;
         }
         self.bytes.len() as u128 + spelled_len(entry) <= BLOCK_LIMIT
+    }
+
+    /// Where this text of an entry will stand, if the entry is added next.
+    pub(crate) fn next_text(&self, text: &[u8]) -> Extent
+        ensures offset { result.offset ≡ length self.now.bytes.items + 4 }
+        ensures length { result.length ≡ length text.now }
+    {
+        Extent {
+            offset: self.bytes.len() + LENGTH,
+            length: text.len(),
+        }
     }
 
     /// Whether the first entry has this text.
@@ -369,15 +380,15 @@ pub(crate) fn bytes_from<'a>(bytes: &'a [u8], text: &[u8]) -> Option<&'a [u8]>
 }
 
 /// A part of some bytes: its offset and its length.
-#[derive(Clone, Copy)]
+#[derive(Clone, Copy, Drop)]
 pub(crate) struct Extent {
-    offset: usize,
-    length: usize,
+    pub(crate) offset: usize,
+    pub(crate) length: usize,
 }
 
 impl Extent {
     /// What of the part there is.
-    fn lend(self, bytes: &[u8]) -> &[u8]
+    pub(crate) fn lend(self, bytes: &[u8]) -> &[u8]
         ensures { result.now ≡ bytes_at bytes.now self }
     {
         let (_, behind) = bytes.split_at(self.offset.min(bytes.len()));

@@ -186,6 +186,7 @@ impl ColumnBounds {
     }
 
     /// Widens the bounds to a value at this key.
+    #[inline(always)]
     pub(crate) fn widen(&mut self, key: KeyRef<'_>)
         requires { IsLentKey key }
         ensures has { (value : Option (List ℕ)) → IsBounded self.new (key.entry.text.now, value) }

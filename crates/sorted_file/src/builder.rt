@@ -11,7 +11,7 @@ ghost use Rattle.sorted_file.specs.Grammar.{Fits, FitsIn};
 ghost use Rattle.sorted_file.specs.Index.{blocks_of, entries_in};
 ghost use Rattle.sorted_file.specs.declared.format.Format.TheVariants.{Two};
 
-use crate::block::{BlockRow, key_behind};
+use crate::block::{BlockRow, Extent, key_behind};
 use crate::check::Opening;
 use crate::format::{Format, push_field, push_foot, push_number, spelled_len};
 use crate::gathering::GatheredBlock;
@@ -20,9 +20,11 @@ use cell_key::{EntryRef, KeyRef, Qualifier, Refusal, Stamp};
 use std::alloc::Global;
 use std::mem;
 
-/// What the text of the last key says behind its row and family.
+/// Where the text of the last key stands, and what it says behind its row and family.
 #[derive(Clone, Copy, Drop)]
 pub(crate) struct LastKey {
+    /// The part of the open block.
+    pub(crate) text: Extent,
     /// How many bytes of the text name the row and the family.
     pub(crate) place_len: usize,
     pub(crate) qualifier: Qualifier,
@@ -69,7 +71,7 @@ impl FileBuilder {
     {
         match self.last {
             Some(last) => Some(KeyRef {
-                text: self.current.block.last_text(),
+                text: last.text.lend(&self.current.block.bytes),
                 place_len: last.place_len,
                 qualifier: last.qualifier,
                 stamp: last.stamp,
@@ -161,12 +163,13 @@ impl FileBuilder {
             return Err(Refusal::FileTooLarge);
         }
         self.make_room(entry)?;
-        self.current.push(entry, key, over)?;
         self.last = Some(LastKey {
+            text: self.current.block.next_text(entry.key),
             place_len: key.place_len,
             qualifier: key.qualifier,
             stamp: key.stamp,
         });
+        self.current.push(entry, key, over)?;
         Ok(())
     }
 

@@ -165,6 +165,7 @@ fn push_named(
 }
 
 /// Adds a key, if it is a lock's, which has a value. Answers `NoMemory` if there is no memory.
+#[inline(always)]
 fn push_lock_value(values: &mut Vec<LockValue>, key: KeyRef<'_>, number: u64) -> Result<(), Refusal>
     requires key { IsLentKey key }
     requires number { number ≡ number_of key.text.now }

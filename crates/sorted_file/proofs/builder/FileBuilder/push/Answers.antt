@@ -1,13 +1,13 @@
-use Rattle.std.proofs.Common.{List, Some, refl, sym, ap, inr, length, subst, arith}
+use Rattle.std.proofs.Common.{List, refl, sym, ap, inr, length, subst, arith}
 use Rattle.std.specs.Prelude.{flat_map}
 use Rattle.cell_key.specs.Entries.{Entry, IsRising, lent_entry, spelled}
 use Rattle.sorted_file.specs.Block.{entries_of}
-use Rattle.sorted_file.specs.Builder.{built, LastSays}
+use Rattle.sorted_file.specs.Builder.{built}
 use Rattle.sorted_file.specs.Check.{IsFollowed}
 use Rattle.sorted_file.specs.Grammar.{Fits}
 use Rattle.sorted_file.specs.Index.{blocks_of, entries_in}
 use Rattle.sorted_file.specs.declared.builder.LastKey.{LastKey}
-use Rattle.sorted_file.proofs.BuiltFiles.{last_says, next_built, next_list, reached}
+use Rattle.sorted_file.proofs.BuiltFiles.{keeps_last, next_built, next_list, reached}
 use Rattle.sorted_file.proofs.builder.FileBuilder.push.Goals as goal
 
 pub push-requires-clause-list : goal.push-requires-clause-list
@@ -31,7 +31,7 @@ returns-clause-ready c =
     let allowed = c.allows.ensures.allows c.if-not-allows.false in
     let size = c.in_ok-make_room.ensures.size in
     let longer = c.in_ok-push.ensures.length in
-    let last : LastKey = record { place_len = c.in-Some.key.place_len; qualifier = c.in-Some.key.qualifier; stamp = c.in-Some.key.stamp } in
+    let last : LastKey = record { text = c.next_text.result; place_len = c.in-Some.key.place_len; qualifier = c.in-Some.key.qualifier; stamp = c.in-Some.key.stamp } in
     record {
       sound = record {
         opening = s.opening;
@@ -44,5 +44,5 @@ returns-clause-ready c =
       };
       fits = inr (subst Fits (sym more) room.fits);
       followed = subst (IsFollowed blocks) (sym more) room.followed;
-      last = subst (λ (l : List Entry). LastSays l (Some last)) (sym more) (last_says es e c.in-Some.key last c.in-Some.ensures.key c.in-Some.ensures.text refl refl refl);
+      last = keeps_last es _ e mid.current.block _ c.in-Some.key last s.parsed c.in_ok-push.ensures.parsed more c.in-Some.ensures.key c.in-Some.ensures.text c.next_text.ensures.offset c.next_text.ensures.length refl refl refl;
     }
