@@ -12,6 +12,7 @@ pub mod LeftOut
 pub mod Lookups
 pub mod MadeTablets
 pub mod Newer
+pub mod NewestVersions
 pub mod NextCells
 pub mod NextLists
 pub mod NextPlaces

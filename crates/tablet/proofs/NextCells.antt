@@ -70,7 +70,7 @@ less_by_place a b e = two_less (byte_cmp a.row b.row) (byte_cmp a.family b.famil
 last_key : (place : Place) → IsStoredPlace place → IsKey (version place.0 place.1 Write 0)
 last_key place is = record { row = is.row; family = is.family; stamp = omega arith }
 
-same_text : (x : List ℕ) → byte_cmp x x ≡ Equal
+pub same_text : (x : List ℕ) → byte_cmp x x ≡ Equal
 same_text x = go (byte_cmp x x) (total.antisymm x x)
   where
     go : (o : Ordering) → o ≡ ordering_reverse o → o ≡ Equal

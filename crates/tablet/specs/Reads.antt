@@ -1,11 +1,11 @@
 -- What a read finds.
-use Rattle.std.specs.Prelude.{◌≡◌, ℕ, ◌≤◌, ◌<◌, length, Bool, List, [], ◌∷◌, Option, Some, None, is_some, if◌then◌else◌, map}
+use Rattle.std.specs.Prelude.{◌≡◌, ℕ, ◌≤◌, ◌<◌, ◌-◌, length, Bool, List, [], ◌∷◌, Option, Some, None, is_some, if◌then◌else◌, map}
 use Rattle.std.specs.List.{AllByRecursion}
 use Rattle.std.specs.Ordering.{is_le}
 use Rattle.cell_key.specs.Names.{IsRow, IsFamily}
 use Rattle.cell_key.specs.Keys.{byte_cmp, text, IsStored}
 use Rattle.cell_key.specs.Cells.{Cells, IsNewest, version}
-use Rattle.cell_key.specs.Entries.{Entry, entries_from, first_naming, value_of}
+use Rattle.cell_key.specs.Entries.{Entry, entries_from, first_naming, key_of_text, value_of}
 use Rattle.cell_key.specs.Places.{Place, place_of}
 use Rattle.cell_key.specs.declared.keys.CellKey.{CellKey}
 use Rattle.cell_key.specs.declared.keys.Qualifier.{Qualifier}
@@ -67,6 +67,20 @@ abbrev pub HasNoLater : CellKey → ℕ → Option ℕ → List (List Entry) →
 HasNoLater key lo found lists =
     (s : ℕ) → IsAfterStamp s lo found → s ≤ key.stamp → IsStored (at_stamp key s)
     → value_of (first_naming lists (text (at_stamp key s))) ≡ None
+
+-- The versions of a column with stamps up to hi, the newest first: so many, or fewer if no more are left.
+-- The key of each stamp is given by at.
+abbrev pub AreNewest : Cells → (ℕ → CellKey) → ℕ → ℕ → List (ℕ × List ℕ) → Type 0
+AreNewest cells at hi most [] = 1 ≤ most → IsNewest cells at 0 hi None
+AreNewest cells at hi most (found ∷ rest) =
+    (1 ≤ most) × IsNewest cells at 0 hi (Some found) × (1 ≤ found.0)
+    × AreNewest cells at (found.0 - 1) (most - 1) rest
+
+-- the values of entries, each with the stamp of its key
+abbrev pub stamped_values : List Entry → List (ℕ × List ℕ)
+stamped_values [] = []
+stamped_values ((name, None) ∷ es) = stamped_values es
+stamped_values ((name, Some value) ∷ es) = ((key_of_text name).stamp, value) ∷ stamped_values es
 
 -- the later of two texts
 abbrev pub later : List ℕ → List ℕ → List ℕ

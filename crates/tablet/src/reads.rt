@@ -1,4 +1,4 @@
-//! What a tablet answers: the newest version of a column, and the next cells, alone or with their newest versions.
+//! What a tablet answers: the newest versions of a column, and the next cells, alone or with their newest versions.
 
 ghost use Rattle.std.specs.Prelude.{◌≡◌, ℕ, ◌≤◌, ◌<◌, ◌^◌, length, [], false, IsTrue, option_map, map, IfOk, IfErr, IfSome, IsErrOf};
 ghost use Rattle.cell_key.specs.Cells.{IsNewest, version};
@@ -11,13 +11,14 @@ ghost use Rattle.sorted_file.specs.File.{listed};
 ghost use Rattle.sorted_file.specs.Newest.{at_stamp};
 ghost use Rattle.sorted_file.specs.Source.{IsReadRefusal};
 ghost use Rattle.std.specs.Bool.{OnFalse};
+ghost use Rattle.std.specs.List.{AllByRecursion};
 ghost use Rattle.tablet.specs.Batches.{AreNextVersions, IsFull};
 ghost use Rattle.tablet.specs.Ranges.{has_row};
-ghost use Rattle.tablet.specs.Reads.{HasNoLater, HasVersion, HaveNoValue, IsLater};
+ghost use Rattle.tablet.specs.Reads.{AreNewest, HasNoLater, HasVersion, HaveNoValue, IsLater};
 
 use crate::batches::{BatchLimits, VersionBatch};
 use crate::lookup::lookup;
-use crate::scan::{later, merged_places, merged_versions, past_place};
+use crate::scan::{later, merged_places, merged_values, merged_versions, past_place, version_text};
 use crate::sources::fences;
 use crate::tablet::Tablet;
 use cell_key::{CellKey, Family, MOST_STAMP, Qualifier, Refusal, Row, Stamp};
@@ -245,6 +246,49 @@ impl Tablet {
         }
         let found = self.newest_in_files(row, family, qualifier, from, to, files)?;
         Ok(found.is_some())
+    }
+
+    /// The versions of a cell's column with stamps at or below `hi` (Bigtable, timestamps), the newest first: `most` of
+    /// them, or fewer if no more are left. The memtable and the files are read once, up to the last of so many.
+    ///
+    /// # Errors
+    ///
+    /// `Damaged` only if a file is no longer what was opened, `Device` and `NoMemory`.
+    pub fn versions<F: Files>(
+        &self,
+        row: &Row,
+        family: &Family,
+        qualifier: Qualifier,
+        hi: Stamp,
+        most: usize,
+        files: &mut F,
+    ) -> Result<Vec<(Stamp, Vec<u8>)>, Refusal>
+        ensures found { IfOk result (λ found.
+            IfSome (F.contents files.old) (λ m. Holds m self.now
+            → IsTrue (has_row (range_of self.now) row.now)
+            → AreNewest (cells_at m self.now) (version row.now family.now qualifier) hi most
+            (map stamped found.items))) }
+        ensures few { IfOk result (λ found. length found.items ≤ most) }
+        ensures limits { IfOk result (λ found.
+            AllByRecursion (λ version. IsVersion version.0 version.1.items) found.items) }
+        ensures damaged { IsErrOf result Refusal.Damaged
+            → IfSome (F.contents files.old) (λ m. ¬ Holds m self.now) }
+        ensures refusal { IfErr result IsReadRefusal }
+        ensures same { F.contents files.new ≡ F.contents files.old }
+        ensures reason { HasReason (F.faults files.old) (F.faults files.new) result }
+    {
+        let newest = hi.min(MOST_STAMP);
+        let from = version_text(self.alloc, row, family, qualifier, newest)?;
+        let end = version_text(self.alloc, row, family, qualifier, 0)?;
+        merged_values(
+            self.alloc,
+            &self.memtable,
+            self.files.as_slice(),
+            &from,
+            Some(&end),
+            most,
+            files,
+        )
     }
 
     /// The first cell of the tablet that has any version, after the cell of `after`, which may lie outside

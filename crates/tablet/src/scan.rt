@@ -1,7 +1,7 @@
-//! The merged scan: the places of the values that a memtable and files show together from a text on, and the cells there
-//! with their newest versions (Bigtable, tablet serving).
+//! The merged scan: the places of the values that a memtable and files show together from a text on, the cells there with
+//! their newest versions, and the newest versions of one column (Bigtable, tablet serving).
 
-ghost use Rattle.std.specs.Prelude.{◌≡◌, ◌≤◌, ◌⊎◌, ◌++◌, List, false, length, [], ◌∷◌, None, Some, option_map, map, IfOk, OnOk, IfErr, IfSome, IsErrOf};
+ghost use Rattle.std.specs.Prelude.{◌≡◌, ◌≤◌, ◌⊎◌, ◌++◌, List, false, length, [], ◌∷◌, None, Some, option_map, map, take, IfOk, OnOk, IfErr, IfSome, IsErrOf};
 ghost use Rattle.std.specs.Bool.{OnFalse, OnTrue};
 ghost use Rattle.std.specs.Option.{option_copied, option_to_list};
 ghost use Rattle.std.specs.List.{AllByRecursion};
@@ -11,15 +11,17 @@ ghost use Rattle.cell_key.specs.Faults.{HasReason};
 ghost use Rattle.cell_key.specs.Keys.{text};
 ghost use Rattle.cell_key.specs.Names.{IsRow, IsFamily};
 ghost use Rattle.cell_key.specs.Places.{AreNext, place_named};
+ghost use Rattle.cell_key.specs.Versions.{IsVersion, stamped};
 ghost use Rattle.sorted_file.specs.File.{IsOpen, listed};
 ghost use Rattle.sorted_file.specs.Source.{IsReadRefusal};
 ghost use Rattle.tablet.specs.Batches.{IsFull};
 ghost use Rattle.tablet.specs.Gathering.{AreVersionsIn, Gathers, IsWithin, KeepsLimits};
-ghost use Rattle.tablet.specs.Reads.{first_value, later, past_place, HasLeft, IsNextIn, IsPlaceOrNone, NamesPlace};
+ghost use Rattle.tablet.specs.Reads.{first_value, later, past_place, stamped_values, HasLeft, IsNextIn, IsPlaceOrNone, NamesPlace};
 ghost use Rattle.tablet.specs.Sources.{part};
 
 use crate::batches::{BatchLimits, VersionBatch};
 use crate::gathering::Gathering;
+use crate::lookup::copy_value;
 use crate::sources::sources;
 use cell_key::{CellKey, EntryRef, Family, Qualifier, Refusal, Row, Stamp, last_place};
 use compaction::Merge;
@@ -239,8 +241,108 @@ pub(crate) fn merged_versions<F: Files>(
     next_versions(alloc, &mut merge, limits, hi, store)
 }
 
+/// The version that an entry has, if it is no erasure. Answers `Damaged` if such an entry isn't within the limits of
+/// entries, and `NoMemory` if there is no memory for a copy.
+fn version_in(alloc: Global, entry: EntryRef<'_>) -> Result<Option<(Stamp, Vec<u8>)>, Refusal>
+    ensures found { IfOk result (λ found. option_to_list (option_map stamped found)
+        ≡ stamped_values (lent_entry entry.entry ∷ [])) }
+    ensures limits { IfOk result (λ found.
+        IfSome found (λ version. IsVersion version.0 version.1.items)) }
+    ensures damaged { IsErrOf result Refusal.Damaged → ¬ IsEntry (lent_entry entry.entry) }
+    ensures refusal { IfErr result (λ refusal.
+        (refusal ≡ Refusal.NoMemory) ⊎ (refusal ≡ Refusal.Damaged)) }
+{
+    let Some(value) = copy_value(alloc, entry.value)? else {
+        return Ok(None);
+    };
+    match CellKey::decode(alloc, entry.key)? {
+        Some(key) => Ok(Some((key.stamp, value))),
+        None => Err(Refusal::Damaged),
+    }
+}
+
+/// The version that a source is at, if it is at a value.
+fn version_at<F: Files, S: Source<F>>(
+    alloc: Global,
+    source: &S,
+) -> Result<Option<(Stamp, Vec<u8>)>, Refusal>
+    ensures found { IfOk result (λ found. option_to_list (option_map stamped found)
+        ≡ stamped_values (option_to_list (S.lent source.now))) }
+    ensures limits { IfOk result (λ found.
+        IfSome found (λ version. IsVersion version.0 version.1.items)) }
+    ensures damaged { IsErrOf result Refusal.Damaged → ¬ IfSome (S.lent source.now) IsEntry }
+    ensures refusal { IfErr result (λ refusal.
+        (refusal ≡ Refusal.NoMemory) ⊎ (refusal ≡ Refusal.Damaged)) }
+{
+    match source.current() {
+        Some(entry) => version_in(alloc, entry),
+        None => Ok(None),
+    }
+}
+
+/// The first versions that a source comes to: `most` of them, or fewer if no more are left. Reads up to the last of so
+/// many and not further.
+fn first_versions<F: Files, S: Source<F>>(
+    alloc: Global,
+    source: &mut S,
+    most: usize,
+    store: &mut F,
+) -> Result<Vec<(Stamp, Vec<u8>)>, Refusal>
+    ensures found { IfOk result (λ found. S.holds (F.contents store.old) source.old
+        → map stamped found.items
+        ≡ take most (stamped_values (S.remaining (F.contents store.old) source.old))) }
+    ensures few { IfOk result (λ found. length found.items ≤ most) }
+    ensures limits { IfOk result (λ found.
+        AllByRecursion (λ version. IsVersion version.0 version.1.items) found.items) }
+    ensures damaged { IsErrOf result Refusal.Damaged → ¬ S.holds (F.contents store.old) source.old }
+    ensures refusal { IfErr result IsReadRefusal }
+    ensures same { F.contents store.new ≡ F.contents store.old }
+    ensures reason { HasReason (F.faults store.old) (F.faults store.new) result }
+{
+    let mut found = Vec::new(alloc);
+    'wanted: while found.len() < most {
+        if !source.advance(store)? {
+            return Ok(found);
+        }
+        if let Some(version) = version_at::<F, S>(alloc, source)? {
+            found.push(version)?;
+        }
+    }
+    Ok(found)
+}
+
+/// The first versions that a memtable and files have together, the newest first, from the text `from` on and below `end`, if
+/// there is one: `most` of them, or fewer if no more are left. One pass over that range, which ends at the last of so
+/// many.
+pub(crate) fn merged_values<F: Files>(
+    alloc: Global,
+    memtable: &Memtable,
+    files: &[SortedFile],
+    from: &[u8],
+    end: Option<&[u8]>,
+    most: usize,
+    store: &mut F,
+) -> Result<Vec<(Stamp, Vec<u8>)>, Refusal>
+    ensures found { IfOk result (λ found.
+        IfSome (F.contents store.old) (λ m. AllByRecursion (IsOpen m) files.now
+        → map stamped found.items ≡ take most (stamped_values
+        (part from.now (option_copied end.entry) (memtable.now ∷ map (listed m) files.now))))) }
+    ensures few { IfOk result (λ found. length found.items ≤ most) }
+    ensures limits { IfOk result (λ found.
+        AllByRecursion (λ version. IsVersion version.0 version.1.items) found.items) }
+    ensures damaged { IsErrOf result Refusal.Damaged
+        → IfSome (F.contents store.old) (λ m. ¬ AllByRecursion (IsOpen m) files.now) }
+    ensures refusal { IfErr result IsReadRefusal }
+    ensures same { F.contents store.new ≡ F.contents store.old }
+    ensures reason { HasReason (F.faults store.old) (F.faults store.new) result }
+{
+    let inputs = sources::<F>(alloc, Some(memtable), files, from, end)?;
+    let mut merge = Merge::new::<F>(inputs)?;
+    first_versions(alloc, &mut merge, most, store)
+}
+
 /// The text of the key of a version. Answers `NoMemory` if there is no memory.
-fn version_text(
+pub(crate) fn version_text(
     alloc: Global,
     row: &Row,
     family: &Family,
