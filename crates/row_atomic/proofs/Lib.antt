@@ -26,6 +26,7 @@ pub mod ManyNexts
 pub mod ManyVersions
 pub mod Memtables
 pub mod MovedTablets
+pub mod NewestLists
 pub mod NextLists
 pub mod Nexts
 pub mod Numbers

@@ -15,12 +15,12 @@ use Rattle.metadata_table.specs.Places.{PlaceView}
 use Rattle.metadata_table.specs.Table.{IsTable, IsHolder}
 use Rattle.sorted_file.specs.File.{name_of}
 use Rattle.tablet.specs.Ranges.{has_row, seen}
-use Rattle.tablet.specs.Reads.{HasVersion}
+use Rattle.tablet.specs.Reads.{AreNewest, HasVersion}
 use Rattle.tablet.specs.Views.{Holds, IsBelow, IsSameTablet, cells_at, lists_of, range_of, files_of, names_of, memory_of}
 use Rattle.tablet.specs.declared.tablet.Tablet.{Tablet}
 use Rattle.row_atomic.specs.Clusters.{tablet_numbered, cells_in, joined, edits_in, InOrder, ArePlaced, IsMatched, Overfills}
 use Rattle.row_atomic.proofs.Owners.{OwnsRow, index_of, holder_owns}
-use Rattle.row_atomic.proofs.Shares.{each_at, each_set, at_told, newest_of_row, applied}
+use Rattle.row_atomic.proofs.Shares.{each_at, each_set, at_told, newest_list_of_row, newest_of_row, applied}
 use Rattle.row_atomic.proofs.PlacedTablets.{is_placed, placed_set}
 use Rattle.row_atomic.proofs.Parts.{IsNumbered, at_parts}
 
@@ -95,6 +95,16 @@ newest_answer o ts seen row family qualifier lo hi i t (Err e) owns held h = tt
 newest_answer None ts seen row family qualifier lo hi i t (Ok found) owns held h = absurd held
 newest_answer (Some m) ts seen row family qualifier lo hi i t (Ok found) owns held h =
     newest_of_row m ts row family qualifier lo hi (seen found) i t owns (h held owns.has)
+
+-- the newest versions of the row's tablet are those of the cells
+pub versions_answer : (o : Option Contents) (ts : List Tablet) {A : Type 0} (seen : A → List (ℕ × List ℕ)) (row family : List ℕ) (qualifier : Qualifier) (hi most : ℕ) (i : ℕ) (t : Tablet) (r : Result A Refusal) → OwnsRow ts row i t
+    → IsSomeAnd o (λ m. Holds m t)
+    → IfOk r (λ found. IfSome o (λ m. Holds m t → IsTrue (has_row (range_of t) row) → AreNewest (cells_at m t) (version row family qualifier) hi most (seen found)))
+    → IfOk r (λ found. AreNewest (cells_in o ts) (version row family qualifier) hi most (seen found))
+versions_answer o ts seen row family qualifier hi most i t (Err e) owns held h = tt
+versions_answer None ts seen row family qualifier hi most i t (Ok found) owns held h = absurd held
+versions_answer (Some m) ts seen row family qualifier hi most i t (Ok found) owns held h =
+    newest_list_of_row m ts row family qualifier hi most (seen found) i t owns (h held owns.has)
 
 -- a version that the row's tablet has is one of the cells
 pub has_answer : (o : Option Contents) (ts : List Tablet) (row family : List ℕ) (qualifier : Qualifier) (lo hi : ℕ) (i : ℕ) (t : Tablet) (r : Result Bool Refusal) → OwnsRow ts row i t → IsSomeAnd o (λ m. Holds m t)

@@ -1,5 +1,5 @@
 -- The cells of a cluster at a row are those of its one tablet, and what follows for calls that change one tablet.
-use Rattle.std.proofs.Common.{◌≡◌, ◌≢◌, ℕ, zero, suc, false, List, [], ◌∷◌, map, set, Option, Some, None, IfSome, slice_get, refl, sym, ap, ◌∙◌, subst}
+use Rattle.std.proofs.Common.{◌≡◌, ◌≢◌, ◌-◌, ℕ, zero, suc, false, List, [], ◌∷◌, map, set, Option, Some, None, IfSome, slice_get, refl, sym, ap, ◌∙◌, subst}
 use Rattle.std.proofs.lemmas.Option.{same_Some}
 use Rattle.std.specs.FinMap.{get, same_map}
 use Rattle.std.specs.List.{AllByRecursion}
@@ -13,6 +13,7 @@ use Rattle.cell_key.specs.declared.edits.Edit.{Edit}
 use Rattle.cell_key.proofs.KeyLaws.{exact_keys}
 use Rattle.file_store.specs.Store.{Contents}
 use Rattle.tablet.specs.Ranges.{has_row}
+use Rattle.tablet.specs.Reads.{AreNewest}
 use Rattle.tablet.specs.Views.{Holds, IsBelow, UsesName, Keeps, cells_at, range_of}
 use Rattle.tablet.specs.Laws.{OthersStay}
 use Rattle.tablet.specs.declared.tablet.Tablet.{Tablet}
@@ -81,6 +82,16 @@ cells_of_row m ts row i t owns q e = joined_at (cells_at m) q ts i t owns.there 
 pub newest_of_row : (m : Contents) (ts : List Tablet) (row family : List ℕ) (qualifier : Qualifier) (lo hi : ℕ) (found : Option (ℕ × List ℕ)) (i : ℕ) (t : Tablet) → OwnsRow ts row i t → IsNewest (cells_at m t) (version row family qualifier) lo hi found → IsNewest (cells_in (Some m) ts) (version row family qualifier) lo hi found
 newest_of_row m ts row family qualifier lo hi found i t owns newest =
     newest_there (cells_at m t) (cells_in (Some m) ts) (version row family qualifier) lo hi found (λ s. cells_of_row m ts row i t owns (version row family qualifier s) refl) newest
+
+-- And so are the newest versions.
+pub newest_list_of_row : (m : Contents) (ts : List Tablet) (row family : List ℕ) (qualifier : Qualifier) (hi most : ℕ) (vs : List (ℕ × List ℕ)) (i : ℕ) (t : Tablet) → OwnsRow ts row i t → AreNewest (cells_at m t) (version row family qualifier) hi most vs → AreNewest (cells_in (Some m) ts) (version row family qualifier) hi most vs
+newest_list_of_row m ts row family qualifier hi most [] i t owns newest = λ wanted. newest_of_row m ts row family qualifier 0 hi None i t owns (newest wanted)
+newest_list_of_row m ts row family qualifier hi most (v ∷ vs) i t owns (some, newest, one, rest) = (
+  some,
+  newest_of_row m ts row family qualifier 0 hi (Some v) i t owns newest,
+  one,
+  newest_list_of_row m ts row family qualifier (v.0 - 1) (most - 1) vs i t owns rest,
+)
 
 -- ---- one tablet is replaced
 

@@ -13,7 +13,7 @@ use std::marker::Model;
 use tablet::{BatchLimits, VersionBatch};
 
 /// Rows of cells in one ordered map in memory, which is never full and never damaged. A read looks
-/// at one entry of the map, and that of the next cells at one for each of them. Edits first make room for each of their keys, and an erased key leaves
+/// at one entry of the map, and that of the next cells or versions at one for each of them. Edits first make room for each of their keys, and an erased key leaves
 /// the map.
 #[derive(Drop)]
 pub struct PlainRows {
@@ -67,6 +67,17 @@ impl Rows for PlainRows {
         hi: Stamp,
     ) -> Result<Option<(Stamp, Vec<u8>)>, Refusal> {
         Ok(slots::newest(&self.slots, row, family, qualifier, lo, hi)?)
+    }
+
+    fn versions(
+        &mut self,
+        row: &Row,
+        family: &Family,
+        qualifier: Qualifier,
+        hi: Stamp,
+        most: usize,
+    ) -> Result<Vec<(Stamp, Vec<u8>)>, Refusal> {
+        Ok(slots::versions(self.alloc, &self.slots, row, family, qualifier, hi, most)?)
     }
 
     fn has_version(

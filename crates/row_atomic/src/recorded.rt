@@ -146,6 +146,18 @@ impl<F: Files> Rows for Recorded<F> {
         self.cluster.newest(row, family, qualifier, lo, hi)
     }
 
+    fn versions(
+        &mut self,
+        row: &Row,
+        family: &Family,
+        qualifier: Qualifier,
+        hi: Stamp,
+        most: usize,
+    ) -> Result<Vec<(Stamp, Vec<u8>)>, Refusal> {
+        root_is_stored::<F>();
+        self.cluster.versions(row, family, qualifier, hi, most)
+    }
+
     fn has_version(
         &mut self,
         row: &Row,

@@ -1,14 +1,14 @@
 //! Rows of cells: what each kind of them can do, and what each call leaves.
 
-ghost use Rattle.std.specs.Prelude.{◌≡◌, ◌≤◌, ℕ, length, IfOk, OnOk, OnErr, IfErr, IsErrOf, IfSome, option_map};
+ghost use Rattle.std.specs.Prelude.{◌≡◌, ◌≤◌, ℕ, length, map, IfOk, OnOk, OnErr, IfErr, IsErrOf, IfSome, option_map};
 ghost use Rattle.std.specs.Bool.{OnFalse};
 ghost use Rattle.std.specs.List.{AllByRecursion};
 ghost use Rattle.cell_key.specs.Cells.{IsNewest, IsEditOf, version};
 ghost use Rattle.cell_key.specs.Faults.{HasReason};
 ghost use Rattle.cell_key.specs.Places.{AreNextCells, IsNextCell, place_named};
-ghost use Rattle.cell_key.specs.Versions.{IsVersionIn, stamped};
+ghost use Rattle.cell_key.specs.Versions.{IsVersion, IsVersionIn, stamped};
 ghost use Rattle.tablet.specs.Batches.{AreNextVersions, IsFull};
-ghost use Rattle.tablet.specs.Reads.{HasVersion};
+ghost use Rattle.tablet.specs.Reads.{AreNewest, HasVersion};
 ghost use Rattle.row_atomic.specs.Calls.{Applies, AreReadableFrom, OnlyReads, View};
 ghost use Rattle.row_atomic.specs.Refusals.{IsApplyRefusal, IsRefusalOfRead};
 
@@ -49,6 +49,30 @@ pub trait Rows {
         ensures reads { OnlyReads seen self.old self.new }
         ensures limits { IfOk result (λ found.
             IfSome (option_map stamped found) (IsVersionIn lo hi)) }
+        ensures refusal { IfErr result (IsRefusalOfRead (seen.readable self.old row.now)) }
+        ensures reason { HasReason (faults self.old) (faults self.new) result };
+
+    /// The versions of a cell's column with stamps at or below `hi`, the newest first, as `newest` would find them one
+    /// by one: `most` of them, or fewer if no more are left. They cost one pass over what lies before the last of them.
+    ///
+    /// # Errors
+    ///
+    /// `Device`, `NoMemory` or `Damaged`, as for every read.
+    fn versions(
+        &mut self,
+        row: &Row,
+        family: &Family,
+        qualifier: Qualifier,
+        hi: Stamp,
+        most: usize,
+    ) -> Result<Vec<(Stamp, Vec<u8>)>, Refusal>
+        ensures found { seen.readable self.old row.now → IfOk result (λ found. AreNewest
+            (seen.cells self.old) (version row.now family.now qualifier) hi most
+            (map stamped found.items)) }
+        ensures few { IfOk result (λ found. length found.items ≤ most) }
+        ensures reads { OnlyReads seen self.old self.new }
+        ensures limits { IfOk result (λ found.
+            AllByRecursion (λ version. IsVersion version.0 version.1.items) found.items) }
         ensures refusal { IfErr result (IsRefusalOfRead (seen.readable self.old row.now)) }
         ensures reason { HasReason (faults self.old) (faults self.new) result };
 

@@ -11,10 +11,10 @@ ghost use Rattle.cell_key.specs.Keys.{key_cmp};
 ghost use Rattle.cell_key.specs.Cells.{after_edit, after_edits, edited_key, IsNewest, version};
 ghost use Rattle.cell_key.specs.declared.keys.CellKey.{CellKey as Key};
 ghost use Rattle.cell_key.specs.Places.{AreNextCells, IsNextCell, place_named};
-ghost use Rattle.cell_key.specs.Versions.{stamped};
+ghost use Rattle.cell_key.specs.Versions.{stamped, HasLimits, IsVersion};
 ghost use Rattle.std.specs.Bool.{OnFalse};
 ghost use Rattle.tablet.specs.Batches.{place_in, AreNextVersions, HasNewest, IsFull};
-ghost use Rattle.tablet.specs.Reads.{HasVersion};
+ghost use Rattle.tablet.specs.Reads.{AreNewest, HasVersion};
 ghost use Rattle.row_atomic.specs.Slots.{slot_cells, slot_at, keyed, HasSlot, KeepsSlots, EmptiesNone, AreFilled, IsFullBut, IsFirstKey, past, HasEdited};
 
 use cell_key::{CellKey, Edit, Family, Qualifier, Row, Stamp, last_place};
@@ -58,6 +58,37 @@ pub(crate) fn newest(
         Some((key, value)) => Ok(Some((key.stamp, value.clone()?))),
         None => Ok(None),
     }
+}
+
+/// The versions of a cell's column with stamps at or below `hi`, the newest first: `most` of them, or fewer if no more are
+/// left.
+pub(crate) fn versions(
+    alloc: Global,
+    slots: &Slots,
+    row: &Row,
+    family: &Family,
+    qualifier: Qualifier,
+    hi: Stamp,
+    most: usize,
+) -> Result<Vec<(Stamp, Vec<u8>)>, AllocError>
+    requires full { AreFilled slots.now.entries }
+    requires limits { HasLimits (slot_cells slots.now.entries) }
+    ensures found { IfOk result (λ found. AreNewest (slot_cells slots.now.entries)
+        (version row.now family.now qualifier) hi most (map stamped found.items)) }
+    ensures few { IfOk result (λ found. length found.items ≤ most) }
+    ensures limits { IfOk result (λ found.
+        AllByRecursion (λ version. IsVersion version.0 version.1.items) found.items) }
+{
+    let mut found = Vec::new(alloc);
+    let mut last = hi;
+    'wanted: while found.len() < most {
+        let Some((stamp, value)) = newest(slots, row, family, qualifier, 0, last)? else {
+            return Ok(found);
+        };
+        found.push((stamp, value))?;
+        last = stamp - 1;
+    }
+    Ok(found)
 }
 
 /// Whether a cell's column has a version with a stamp in `lo..=hi`.

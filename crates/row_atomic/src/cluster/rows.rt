@@ -1,17 +1,18 @@
 //! A cluster as rows of cells.
 
-ghost use Rattle.std.specs.Prelude.{◌≡◌, ◌≤◌, ◌↔◌, ◌++◌, IfErr, IfOk, IfSome, IsErrOf, IsTrue, None, Some, length, option_map};
+ghost use Rattle.std.specs.Prelude.{◌≡◌, ◌≤◌, ◌↔◌, ◌++◌, IfErr, IfOk, IfSome, IsErrOf, IsTrue, None, Some, length, map, option_map};
 ghost use Rattle.cell_key.specs.Cells.{IsNewest, version};
 ghost use Rattle.cell_key.specs.Places.{AreNextCells, IsNextCell, place_named};
-ghost use Rattle.cell_key.specs.Versions.{IsVersionIn, stamped};
+ghost use Rattle.cell_key.specs.Versions.{IsVersion, IsVersionIn, stamped};
 ghost use Rattle.file_store.specs.Store.{Contents};
 ghost use Rattle.metadata_table.specs.Places.{view_of, views};
 ghost use Rattle.metadata_table.specs.Table.{IsTable};
 ghost use Rattle.sorted_file.specs.Source.{IsReadRefusal};
 ghost use Rattle.std.specs.Bool.{OnFalse};
+ghost use Rattle.std.specs.List.{AllByRecursion};
 ghost use Rattle.cell_key.specs.Faults.{HasReason};
 ghost use Rattle.tablet.specs.Batches.{AreNextVersions, IsFull};
-ghost use Rattle.tablet.specs.Reads.{HasVersion};
+ghost use Rattle.tablet.specs.Reads.{AreNewest, HasVersion};
 ghost use Rattle.row_atomic.specs.Calls.{AreReadableFrom, OnlyReads, seen_of};
 ghost use Rattle.row_atomic.specs.Changes.{IsOutOfOrder, MeetsDamage, OfHolder};
 ghost use Rattle.row_atomic.specs.Commands.{cells_shown};
@@ -166,6 +167,31 @@ impl<F: Files> Rows for Cluster<F> {
     {
         let index = index_of(&self.table, &mut self.place_cache, row);
         self.tablets[index].newest(row, family, qualifier, lo, hi, &mut self.files)
+    }
+
+    fn versions(
+        &mut self,
+        row: &Row,
+        family: &Family,
+        qualifier: Qualifier,
+        hi: Stamp,
+        most: usize,
+    ) -> Result<Vec<(Stamp, Vec<u8>)>, Refusal>
+        ensures found { IsReadable (F.contents self.old.files) self.old.places self.old.tablets
+            row.now → IfOk result (λ found. AreNewest (cells_shown F.contents self.old)
+            (version row.now family.now qualifier) hi most (map stamped found.items)) }
+        ensures few { IfOk result (λ found. length found.items ≤ most) }
+        ensures reads { OnlyReads (seen_of F.contents) self.old self.new }
+        ensures limits { IfOk result (λ found.
+            AllByRecursion (λ version. IsVersion version.0 version.1.items) found.items) }
+        ensures damaged { IsErrOf result Refusal.Damaged → OfHolder
+            (IsOutOfOrder (F.contents self.old.files)) row.now self.old.places self.old.tablets }
+        ensures refusal { IfErr result (IsRefusalOfRead (IsReadable
+            (F.contents self.old.files) self.old.places self.old.tablets row.now)) }
+        ensures reason { HasReason (F.faults self.old.files) (F.faults self.new.files) result }
+    {
+        let index = index_of(&self.table, &mut self.place_cache, row);
+        self.tablets[index].versions(row, family, qualifier, hi, most, &mut self.files)
     }
 
     fn has_version(
