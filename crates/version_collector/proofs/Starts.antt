@@ -3,7 +3,8 @@ use Rattle.std.proofs.Common.{◌≡◌, ◌≢◌, ℕ, suc, ◌+◌, ◌-◌, 
 use Rattle.std.proofs.lemmas.Bool.{cases_lt}
 use Rattle.std.proofs.lemmas.List.{map-append}
 use Rattle.std.proofs.lemmas.Option.{none-some, same_Some}
-use Rattle.std.specs.Prelude.{IfNone, IfSome, option_map}
+use Rattle.std.specs.Bool.{OnFalse}
+use Rattle.std.specs.Prelude.{Bool, true, false, IfNone, IfSome, is_some, option_map}
 use Rattle.std.specs.declared.vec.Vec.{Vec}
 use Rattle.cell_key.specs.Cells.{Cells, IsNewest}
 use Rattle.cell_key.specs.declared.keys.Qualifier.TheVariants.{Data, Write}
@@ -25,9 +26,10 @@ use Rattle.si_model.specs.declared.replies.Cell.{Cell}
 use Rattle.si_model.proofs.Bounds.{reached_bounds}
 use Rattle.si_model.proofs.CleanerFates.{names_nearest}
 use Rattle.si_model.proofs.Steps.{reached_sound}
+use Rattle.tablet.specs.Reads.{AreNewest}
 use Rattle.version_collector.specs.Versions.{AreFound, AreGreatest, AreNear, AreShown, AreUnnamed, HasOneRecord, IsAmong, IsLastDeletion, IsLastRecord, IsLatestBelow, IsLoneDeletion, IsNamedBy, IsUnnamed, NamesLast, NamesNext, NamesNone}
 use Rattle.version_collector.specs.declared.versions.NearStarts.{NearStarts}
-use Rattle.version_collector.proofs.Greatest.{AreAll, all_more, all_none, all_past, greatest_all, greatest_full, in_last}
+use Rattle.version_collector.proofs.Greatest.{AreAll, all_more, all_none, all_past, greatest_all, greatest_full, in_last, length-last}
 
 -- ---- what records name
 
@@ -157,6 +159,67 @@ old_all cells x floor below vs old few none = old_are cells x floor below vs old
 pub old_full : (cells : Cells) (x : Cell) (floor below : ℕ) (vs : List (ℕ × ℕ)) → AreOldFrom cells x floor below vs → length vs ≡ 128 → AreFound cells x floor vs
 old_full cells x floor below vs old full = old_are cells x floor below vs old
     (greatest_full 128 (λ c. IsThere cells x Write c × (c < old.w)) below (map (λ v. v.0) vs) old.stamps (length-map vs ∙ full))
+
+-- the newest of the versions that are left
+pub latest_left : (cells : Cells) (x : Cell) (q : Qualifier) (below most : ℕ) (v : ℕ × List ℕ) (vs : List (ℕ × List ℕ)) → 1 ≤ below → AreNewest cells (key_of x q) (below - 1) most (v ∷ vs) → IsLatestBelow cells x q below (Some v)
+latest_left cells x q below most v vs from (some, (low, high, there, above), one, rest) = (omega (arith, high), there, λ s up less. above s up (omega arith))
+
+-- old records were found, and these versions are left
+pub record HasOlder (cells : Cells) (x : Cell) (floor : ℕ) (vs : List (ℕ × ℕ)) (left : List (ℕ × List ℕ)) : Type 0 where
+  pub below : ℕ
+  pub from : 1 ≤ below
+  pub old : AreOldFrom cells x floor below vs
+  pub rest : AreNewest cells (key_of x Write) (below - 1) (128 - length vs) left
+
+pub older_begin : (cells : Cells) (x : Cell) (floor w : ℕ) (b : List ℕ) (left : List (ℕ × List ℕ)) → AreNewest cells (key_of x Write) floor 129 ((w, b) ∷ left) → HasOlder cells x floor [] left
+older_begin cells x floor w b left (some, newest, one, rest) = record { below = w; from = one; old = old_begin cells x floor w b newest; rest = rest }
+
+pub older_there : (cells : Cells) (x : Cell) (floor c : ℕ) (b : List ℕ) (vs : List (ℕ × ℕ)) (left : List (ℕ × List ℕ)) → HasOlder cells x floor vs ((c, b) ∷ left) → at cells x Write c ≡ Some b
+older_there cells x floor c b vs left h = (latest_left cells x Write h.below (128 - length vs) (c, b) left h.from h.rest).1
+
+pub older_more : (cells : Cells) → AreShown cells → (x : Cell) (floor c t : ℕ) (b : List ℕ) (vs : List (ℕ × ℕ)) (left : List (ℕ × List ℕ)) → HasOlder cells x floor vs ((c, b) ∷ left) → NamesStart b t → HasOlder cells x floor (vs ++ (c, t) ∷ []) left
+older_more cells shown x floor c t b vs left h names = record {
+  below = c;
+  from = h.rest.2;
+  old = old_more cells shown x floor h.below c t b vs h.old (latest_left cells x Write h.below (128 - length vs) (c, b) left h.from h.rest) names;
+  rest = subst (λ (n : ℕ). AreNewest cells (key_of x Write) (c - 1) n left) fewer h.rest.3;
+}
+  where
+    fewer : 128 - length vs - 1 ≡ 128 - length (vs ++ (c, t) ∷ [])
+    fewer = let longer = length-last vs (c, t) in omega (arith, longer)
+
+pub older_end : (cells : Cells) (x : Cell) (floor : ℕ) (vs : List (ℕ × ℕ)) → length vs ≤ 128 → HasOlder cells x floor vs [] → AreFound cells x floor vs
+older_end cells x floor vs few h = elim (cases_lt (length vs) 128) [
+  | inl less ↦ let none = h.rest (omega arith) in let from = h.from in old_all cells x floor h.below vs h.old few (λ s under. none s (omega arith) (omega arith))
+  | inr most ↦ old_full cells x floor h.below vs h.old (omega arith)
+]
+
+-- a cell has one record at most, unless one stands below the newest
+pub one_unless : {Z : Type 0} (cells : Cells) (x : Cell) (floor w : ℕ) (b : List ℕ) (next : Option (ℕ × Vec ℕ Z)) (has : Bool) → has ≡ is_some next → IsNewest cells (key_of x Write) 0 floor (Some (w, b))
+    → IsLatestBelow cells x Write w (option_map stamped next) → OnFalse has (HasOneRecord cells x floor)
+one_unless cells x floor w b None has is newest none = subst (λ (h : Bool). OnFalse h (HasOneRecord cells x floor)) (sym is) (old_all cells x floor w [] (old_begin cells x floor w b newest) (omega arith) none)
+one_unless cells x floor w b (Some v) has is newest some = subst (λ (h : Bool). OnFalse h (HasOneRecord cells x floor)) (sym is) tt
+
+pub not_so : {A : Type 0} (has : Bool) → has ≡ false → OnFalse has A → A
+not_so true is a = cc
+not_so false is a = a
+
+pub nothing_left : {A : Type 0} (xs : List A) → length xs ≡ 0 → xs ≡ []
+nothing_left [] none = refl
+nothing_left (x ∷ xs) none = absurd (omega (arith, none))
+
+-- the same of versions as they are read
+pub older_first : {Z : Type 0} (cells : Cells) (x : Cell) (floor : ℕ) (items older : List (ℕ × Vec ℕ Z)) (v : ℕ × Vec ℕ Z) → items ≡ v ∷ older → AreNewest cells (key_of x Write) floor 129 (map stamped items) → HasOlder cells x floor [] (map stamped older)
+older_first {Z} cells x floor items older v is newest = older_begin cells x floor v.0 v.1.items (map stamped older) (subst (λ (vs : List (ℕ × Vec ℕ Z)). AreNewest cells (key_of x Write) floor 129 (map stamped vs)) is newest)
+
+pub older_none : {Z : Type 0} (cells : Cells) (x : Cell) (floor : ℕ) (items : List (ℕ × Vec ℕ Z)) → items ≡ [] → AreNewest cells (key_of x Write) floor 129 (map stamped items) → AreFound cells x floor []
+older_none {Z} cells x floor items is newest = found_none cells x floor (subst (λ (vs : List (ℕ × Vec ℕ Z)). AreNewest cells (key_of x Write) floor 129 (map stamped vs)) is newest (omega arith))
+
+pub older_next : {Z : Type 0} (cells : Cells) (x : Cell) (floor : ℕ) (vs : List (ℕ × ℕ)) (left after : List (ℕ × Vec ℕ Z)) (v : ℕ × Vec ℕ Z) → left ≡ v ∷ after → HasOlder cells x floor vs (map stamped left) → HasOlder cells x floor vs ((v.0, v.1.items) ∷ map stamped after)
+older_next {Z} cells x floor vs left after v is h = subst (λ (rs : List (ℕ × Vec ℕ Z)). HasOlder cells x floor vs (map stamped rs)) is h
+
+pub older_last : {Z : Type 0} (cells : Cells) (x : Cell) (floor : ℕ) (vs : List (ℕ × ℕ)) (left : List (ℕ × Vec ℕ Z)) → left ≡ [] → length vs ≤ 128 → HasOlder cells x floor vs (map stamped left) → AreFound cells x floor vs
+older_last {Z} cells x floor vs left is few h = older_end cells x floor vs few (subst (λ (rs : List (ℕ × Vec ℕ Z)). HasOlder cells x floor vs (map stamped rs)) is h)
 
 -- ---- data that no record names
 

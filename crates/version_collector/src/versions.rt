@@ -1,6 +1,7 @@
 //! What a second pass finds in a cell: records that are old, data that no record names, or the record of a deletion.
 
 ghost use Rattle.std.specs.Prelude.{◌≡◌, ◌↔◌, ◌⊎◌, ℕ, ◌<◌, ◌≤◌, ◌^◌, Some, length, IfErr, IfNone, IfOk, IfSome, IsTrue, option_map};
+ghost use Rattle.std.specs.Bool.{OnFalse};
 ghost use Rattle.cell_key.specs.Faults.{HasReason};
 ghost use Rattle.cell_key.specs.Moments.{IsMoment};
 ghost use Rattle.cell_key.specs.Versions.{stamped};
@@ -62,6 +63,23 @@ fn write_of(text: &[u8]) -> Result<(Moment, WriteKind), Refusal>
     }
 }
 
+/// Whether a cell has records older than the newest one at or below the floor. That is asked by two look-ups, which pass by
+/// the files that have none, since most cells have no old records.
+fn has_old_records<R: Rows>(rows: &mut R, cell: &Cell, floor: Stamp) -> Result<bool, Refusal>
+    ensures one { R.seen.readable rows.old cell.now.row → IfOk result (λ has.
+        OnFalse has (HasOneRecord (R.seen.cells rows.old) cell.now floor)) }
+    ensures reads { OnlyReads R.seen rows.old rows.new }
+    ensures refusal { IfErr result (IsRefusalOfRead (R.seen.readable rows.old cell.now.row)) }
+    ensures reason { HasReason (R.faults rows.old) (R.faults rows.new) result }
+{
+    let last = rows.newest(&cell.row, &cell.family, Qualifier::Write, 0, floor)?;
+    let Some((last, _)) = last else {
+        return Ok(false);
+    };
+    let next = latest_below(rows, cell, Qualifier::Write, last)?;
+    Ok(next.is_some())
+}
+
 /// The newest 128 records older than the newest one at or below the floor, newest first, each as its
 /// stamp and the start that it names; all of them, if they are fewer.
 ///
@@ -84,19 +102,25 @@ pub(crate) fn old_records<R: Rows>(
     ensures reason { HasReason (R.faults rows.old) (R.faults rows.new) result }
 {
     let mut found = Vec::with_capacity(alloc, MOST_RECORDS)?;
-    let last = rows.newest(&cell.row, &cell.family, Qualifier::Write, 0, floor)?;
-    let Some((last, _)) = last else {
+    if !has_old_records(rows, cell, floor)? {
+        return Ok(found);
+    }
+    let records = rows.versions(
+        &cell.row,
+        &cell.family,
+        Qualifier::Write,
+        floor,
+        MOST_RECORDS + 1,
+    )?;
+    let Some((_, older)) = records.split_first() else {
         return Ok(found);
     };
-    let mut below = last;
-    while found.len() < MOST_RECORDS {
-        let next = latest_below(rows, cell, Qualifier::Write, below)?;
-        let Some((commit, text)) = next else {
-            return Ok(found);
-        };
-        let (start, _) = write_of(&text)?;
-        found.push((Moment::new(commit), start))?;
-        below = commit;
+    let mut rest = older;
+    'records: while let Some((record, after)) = rest.split_first() {
+        let (commit, text) = record;
+        let (start, _) = write_of(text)?;
+        found.push((Moment::new(*commit), start))?;
+        rest = after;
     }
     Ok(found)
 }

@@ -1,85 +1,95 @@
-use Rattle.std.proofs.Common.{◌≡◌, ◌∙◌, ◌+◌, ℕ, List, [], ◌∷◌, ◌++◌, length, vec_len, sym, ap, subst, arith}
-use Rattle.cell_key.specs.Cells.{IsNewest}
-use Rattle.cell_key.specs.declared.keys.Qualifier.TheVariants.{Write}
-use Rattle.cell_key.specs.declared.refusals.Refusal.TheVariants.{Device}
+use Rattle.std.proofs.Common.{◌≡◌, ◌∙◌, ◌+◌, ℕ, List, [], ◌∷◌, ◌++◌, length, map, sym, ap, subst, arith}
+use Rattle.std.specs.Global.{Global}
+use Rattle.std.specs.List.{AllByRecursion}
+use Rattle.std.specs.declared.vec.Vec.{Vec}
+use Rattle.cell_key.specs.Cells.{Cells}
 use Rattle.cell_key.specs.Columns.{NamesStart}
-use Rattle.cell_key.proofs.Reasons.{not_refused}
-use Rattle.row_atomic.proofs.Calls.{reads_then}
-use Rattle.row_atomic.proofs.Halves.{at_none, at_some}
+use Rattle.cell_key.specs.Versions.{IsVersion, stamped}
+use Rattle.cell_key.specs.declared.keys.Qualifier.TheVariants.{Write}
 use Rattle.si_model.specs.ShowsCells.{key_of}
+use Rattle.tablet.specs.Reads.{AreNewest}
 use Rattle.version_collector.specs.Versions.{AreFound, AreShown}
 use Rattle.version_collector.proofs.Greatest.{length-last}
 use Rattle.version_collector.proofs.PassedRefusals.{refused_damaged}
-use Rattle.version_collector.proofs.Starts.{AreOldFrom, found_none, latest_none, latest_some, not_damaged, old_all, old_begin, old_full, old_more}
+use Rattle.version_collector.proofs.Starts.{HasOlder, not_damaged, not_so, nothing_left, older_first, older_last, older_more, older_next, older_none, older_there}
 use Rattle.version_collector.proofs.versions.old_records.Goals as goal
 
-pub returns-in_default-clause-found : goal.returns-in_default-clause-found
-returns-in_default-clause-found g c = λ held shown.
+-- the newest version is at hand, and is left out
+pub records-init : goal.records-init
+records-init g c =
     let cells = g.R.Rows.seen.cells c.args.rows.now in
     let x = c.args.cell.now in
-    subst (λ (vs : List (ℕ × ℕ)). AreFound cells x c.args.floor vs) (sym c.in_ok-found.ensures.items)
-    (found_none cells x c.args.floor (at_none (IsNewest cells (key_of x Write) 0 c.args.floor) c.in_ok-last.last c.in_default.is (c.in_ok-last.ensures.found held)))
-
-pub loop-rows-init : goal.loop-rows-init
-loop-rows-init g c =
-    let cells = g.R.Rows.seen.cells c.args.rows.now in
-    let x = c.args.cell.now in
+    let items : List (ℕ × Vec ℕ Global) = c.in_ok-records.records.items in
+    let older : List (ℕ × Vec ℕ Global) = c.in-Some.older.now in
+    let first : items ≡ c.in-Some.field-0-0.now ∷ older = sym c.deref.ensures.value ∙ c.in-Some.ensures.cases.0 in
     let none : length c.in_ok-found.found.items ≡ 0 = ap (λ (vs : List (ℕ × ℕ)). length vs) c.in_ok-found.ensures.items in
+    let longer : length items ≡ length older + 1 = ap (λ (vs : List (ℕ × Vec ℕ Global)). length vs) first ∙ omega arith in
+    let few = c.in_ok-records.ensures.few in
+    let reads = c.has_old_records.ensures.reads in
     record {
-      reads = c.in_ok-last.ensures.reads;
-      faults = c.in_ok-last.ensures.reason.told (not_refused _ Device);
-      len = c.in_ok-found.ensures.len ∙ sym none;
-      few = omega (arith, none);
-      old = λ held shown. subst (AreOldFrom cells x c.args.floor c.in-Some.last) (sym c.in_ok-found.ensures.items)
-          (old_begin cells x c.args.floor c.in-Some.last c.in-Some.field-0-1.items
-          (at_some (IsNewest cells (key_of x Write) 0 c.args.floor) c.in_ok-last.last (c.in-Some.last, c.in-Some.field-0-1) c.in-Some.is (c.in_ok-last.ensures.found held)));
+      few = omega (arith, none, longer, few);
+      limits = (subst (AllByRecursion (λ (version : ℕ × Vec ℕ Global). IsVersion version.0 version.1.items)) first c.in_ok-records.ensures.limits).1;
+      old = λ held shown. subst (λ (vs : List (ℕ × ℕ)). HasOlder cells x c.args.floor vs (map stamped older)) (sym c.in_ok-found.ensures.items)
+          (older_first cells x c.args.floor items older c.in-Some.field-0-0.now first (subst (λ (cs : Cells). AreNewest cs (key_of x Write) c.args.floor 129 (map stamped items)) reads.kept (c.in_ok-records.ensures.found (reads.readable c.args.cell.now.row held))));
     }
 
-pub returns-in_default-next-clause-found : goal.returns-in_default-next-clause-found
-returns-in_default-next-clause-found g c = λ held shown.
-    let before = c.loop-rows.invariant in
-    old_all (g.R.Rows.seen.cells c.args.rows.now) c.args.cell.now c.args.floor c.loop-rows.below c.loop-rows.found.items (before.old held shown) before.few
-    (latest_none before.reads held c.args.cell.now Write c.loop-rows.below c.in_ok-next.next c.in_default-next.is c.in_ok-next.ensures.found)
+pub records-preserved : goal.records-preserved
+records-preserved g c =
+    let cells = g.R.Rows.seen.cells c.args.rows.now in
+    let x = c.args.cell.now in
+    let before = c.records.invariant in
+    let found : List (ℕ × ℕ) = c.records.found.items in
+    let v : ℕ × Vec ℕ Global = c.in-Some-split_first.record.now in
+    let left : List (ℕ × Vec ℕ Global) = c.records.rest.now in
+    let after : List (ℕ × Vec ℕ Global) = c.in-Some-split_first.after.now in
+    let start = c.in_ok-start.start in
+    let rest : left ≡ v ∷ after = c.in-Some-split_first.ensures.cases.0 in
+    let items : c.push.new.self.items ≡ found ++ (v.0, start) ∷ [] = c.in_ok-push.ensures.items ∙ ap (λ (n : ℕ). found ++ (n, start) ∷ []) c.new.ensures in
+    let longer : length c.push.new.self.items ≡ length found + 1 = ap (λ (vs : List (ℕ × ℕ)). length vs) items ∙ length-last found (v.0, start) in
+    let shorter : length left ≡ length after + 1 = ap (λ (vs : List (ℕ × Vec ℕ Global)). length vs) rest ∙ omega arith in
+    let few = before.few in
+    let same : c.deref-in-Some-split_first.result.now ≡ v.1.items = c.deref-in-Some-split_first.ensures.value in
+    record {
+      few = omega (arith, longer, shorter, few);
+      limits = (subst (AllByRecursion (λ (version : ℕ × Vec ℕ Global). IsVersion version.0 version.1.items)) rest before.limits).1;
+      old = λ held shown. subst (λ (vs : List (ℕ × ℕ)). HasOlder cells x c.args.floor vs (map stamped after)) (sym items)
+          (older_more cells shown x c.args.floor v.0 start v.1.items found (map stamped after) (older_next cells x c.args.floor found left after v rest (before.old held shown))
+          (subst (λ (b : List ℕ). NamesStart b start) same (c.in_ok-start.field-0-1, c.in_ok-start.ensures.named)));
+    }
 
 pub returns-in_err-start-clause-refusal : goal.returns-in_err-start-clause-refusal
 returns-in_err-start-clause-refusal g c =
     let cells = g.R.Rows.seen.cells c.args.rows.now in
-    let before = c.loop-rows.invariant in
-    let same : c.deref.result.now ≡ c.in-Some-next.text.items = c.deref.ensures.value in
+    let x = c.args.cell.now in
+    let v : ℕ × Vec ℕ Global = c.in-Some-split_first.record.now in
+    let left : List (ℕ × Vec ℕ Global) = c.records.rest.now in
+    let after : List (ℕ × Vec ℕ Global) = c.in-Some-split_first.after.now in
+    let rest : left ≡ v ∷ after = c.in-Some-split_first.ensures.cases.0 in
+    let same : c.deref-in-Some-split_first.result.now ≡ v.1.items = c.deref-in-Some-split_first.ensures.value in
     refused_damaged (g.R.Rows.seen.readable c.args.rows.now c.args.cell.now.row × AreShown cells) c.from_residual-in_err-start.result c.in_err-start.field-0.0 c.from_residual-in_err-start.ensures.1 c.in_err-start.ensures.refusal
-    (λ was. not_damaged cells c.args.cell.now c.in-Some-next.commit c.in-Some-next.text.items
-    (latest_some before.reads was.0 c.args.cell.now Write c.loop-rows.below c.in_ok-next.next (c.in-Some-next.commit, c.in-Some-next.text) c.in-Some-next.is c.in_ok-next.ensures.found).1
+    (λ was. not_damaged cells x v.0 v.1.items
+    (older_there cells x c.args.floor v.0 v.1.items c.records.found.items (map stamped after) (older_next cells x c.args.floor c.records.found.items left after v rest (c.records.invariant.old was.0 was.1)))
     (λ t from to names. c.in_err-start.ensures.damaged t from to (subst (λ (b : List ℕ). NamesStart b t) (sym same) names)) was.1)
 
-pub loop-rows-preserved : goal.loop-rows-preserved
-loop-rows-preserved g c =
+-- one record at most stands at or below the floor
+pub returns-then-not-branch-clause-found : goal.returns-then-not-branch-clause-found
+returns-then-not-branch-clause-found g c = λ held shown.
     let cells = g.R.Rows.seen.cells c.args.rows.now in
     let x = c.args.cell.now in
-    let before = c.loop-rows.invariant in
-    let len : vec_len c.loop-rows.found ≡ length c.loop-rows.found.items = before.len in
-    let v : ℕ × ℕ = (c.in-Some-next.commit, c.in_ok-start.start) in
-    let items : c.push.new.self.items ≡ c.loop-rows.found.items ++ v ∷ [] = c.in_ok-push.ensures.items ∙ ap (λ (n : ℕ). c.loop-rows.found.items ++ (n, c.in_ok-start.start) ∷ []) c.new.ensures in
-    let longer : length c.push.new.self.items ≡ length c.loop-rows.found.items + 1 = ap (λ (vs : List (ℕ × ℕ)). length vs) items ∙ length-last c.loop-rows.found.items v in
-    let pushed : vec_len c.push.new.self ≡ vec_len c.loop-rows.found + 1 = c.in_ok-push.ensures.len in
-    let room = c.loop-rows-test.true in
-    let counted = c.len.ensures in
-    let same : c.deref.result.now ≡ c.in-Some-next.text.items = c.deref.ensures.value in
-    record {
-      reads = reads_then before.reads c.in_ok-next.ensures.reads;
-      faults = c.in_ok-next.ensures.reason.told (not_refused _ Device) ∙ before.faults;
-      len = omega (arith, len, longer, pushed);
-      few = omega (arith, len, longer, room, counted);
-      old = λ held shown. subst (AreOldFrom cells x c.args.floor c.in-Some-next.commit) (sym items)
-          (old_more cells shown x c.args.floor c.loop-rows.below c.in-Some-next.commit c.in_ok-start.start c.in-Some-next.text.items c.loop-rows.found.items (before.old held shown)
-          (latest_some before.reads held x Write c.loop-rows.below c.in_ok-next.next (c.in-Some-next.commit, c.in-Some-next.text) c.in-Some-next.is c.in_ok-next.ensures.found)
-          (subst (λ (b : List ℕ). NamesStart b c.in_ok-start.start) same (c.in_ok-start.field-0-1, c.in_ok-start.ensures.named)));
-    }
+    subst (λ (vs : List (ℕ × ℕ)). AreFound cells x c.args.floor vs) (sym c.in_ok-found.ensures.items)
+    (not_so c.in_ok-has_old_records.field-0 c.if-not-branch.true (c.in_ok-has_old_records.ensures.one held))
+
+-- no record stands at or below the floor
+pub returns-in_default-clause-found : goal.returns-in_default-clause-found
+returns-in_default-clause-found g c = λ held shown.
+    let cells = g.R.Rows.seen.cells c.args.rows.now in
+    let x = c.args.cell.now in
+    let reads = c.has_old_records.ensures.reads in
+    subst (λ (vs : List (ℕ × ℕ)). AreFound cells x c.args.floor vs) (sym c.in_ok-found.ensures.items)
+    (older_none cells x c.args.floor c.in_ok-records.records.items (sym c.deref.ensures.value ∙ nothing_left c.deref.result.now c.in_default.ensures.cases)
+    (subst (λ (cs : Cells). AreNewest cs (key_of x Write) c.args.floor 129 (map stamped c.in_ok-records.records.items)) reads.kept (c.in_ok-records.ensures.found (reads.readable c.args.cell.now.row held))))
 
 pub returns-clause-found : goal.returns-clause-found
 returns-clause-found g c = λ held shown.
-    let before = c.loop-rows.invariant in
-    let full = c.loop-rows-test.false in
-    let counted = c.len.ensures in
-    let few = before.few in
-    let len = before.len in
-    old_full (g.R.Rows.seen.cells c.args.rows.now) c.args.cell.now c.args.floor c.loop-rows.below c.loop-rows.found.items (before.old held shown) (omega (arith, full, counted, few, len))
+    let few = c.records.invariant.few in
+    older_last (g.R.Rows.seen.cells c.args.rows.now) c.args.cell.now c.args.floor c.records.found.items c.records.rest.now (nothing_left c.records.rest.now c.in_default-split_first.ensures.cases) (omega (arith, few)) (c.records.invariant.old held shown)

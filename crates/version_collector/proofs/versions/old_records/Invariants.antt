@@ -1,18 +1,17 @@
-use Rattle.std.proofs.Common.{◌≡◌, ◌≤◌, length, vec_len}
-use Rattle.row_atomic.specs.Calls.{OnlyReads}
+use Rattle.std.proofs.Common.{◌≤◌, ◌+◌, length, map}
+use Rattle.std.specs.List.{AllByRecursion}
+use Rattle.cell_key.specs.Versions.{IsVersion, stamped}
 use Rattle.version_collector.specs.Versions.{AreShown}
-use Rattle.version_collector.proofs.Starts.{AreOldFrom}
+use Rattle.version_collector.proofs.Starts.{HasOlder}
 use Rattle.version_collector.proofs.versions.old_records.Given as goal
 
--- what was found are all old records from below on
-abbrev pub invariant-loop-rows : goal.invariant-loop-rows
-invariant-loop-rows g l = record {
-  reads : OnlyReads g.R.Rows.seen l.fn.rows l.rows;
-  faults : g.R.Rows.faults l.rows ≡ g.R.Rows.faults l.fn.rows;
-  len : vec_len l.found ≡ length l.found.items;
-  few : length l.found.items ≤ 128;
-  old : g.R.Rows.seen.readable l.fn.rows l.cell.row → AreShown (g.R.Rows.seen.cells l.fn.rows) → AreOldFrom (g.R.Rows.seen.cells l.fn.rows) l.cell l.floor l.below l.found.items;
+-- what was found are old records, and those that are left come after them
+abbrev pub invariant-records : goal.invariant-records
+invariant-records g l = record {
+  few : length l.found.items + length l.rest ≤ 128;
+  limits : AllByRecursion (λ version. IsVersion version.0 version.1.items) l.rest;
+  old : g.R.Rows.seen.readable l.fn.rows l.cell.row → AreShown (g.R.Rows.seen.cells l.fn.rows) → HasOlder (g.R.Rows.seen.cells l.fn.rows) l.cell l.floor l.found.items (map stamped l.rest);
 }
 
-abbrev pub decreases-loop-rows : goal.decreases-loop-rows
-decreases-loop-rows g l = l.below
+abbrev pub decreases-records : goal.decreases-records
+decreases-records g l = length l.rest
