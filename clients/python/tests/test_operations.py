@@ -200,6 +200,16 @@ class Operations(StoreTest):
         self.assertEqual(self.store.get(start, JOE, BAL), Value(b"9"))
         self.assertEqual(self.store.collect(), 5)
 
+    def test_many_versions(self) -> None:
+        for n in range(200):
+            last = self.commit(BOB, b"%d" % n)
+            if n % 30 == 0:
+                self.store.minor(1)
+        self.assertEqual(self.store.collect(), last + 1)
+        for qualifier in (Qualifier.WRITE, Qualifier.DATA):
+            self.assertIsNone(self.store.raw(BOB, BAL, qualifier, 0, last - 2))
+        self.assertEqual(self.store.get(self.store.begin(), BOB, BAL), Value(b"199"))
+
     def test_old_reader_keeps_versions(self) -> None:
         self.commit(BOB, b"1")
         reader = self.store.begin()

@@ -1,15 +1,16 @@
 -- The records and the data of a cell, where a reached state is shown: what its records name, and what a search from above finds.
-use Rattle.std.proofs.Common.{◌≡◌, ◌≢◌, ℕ, suc, ◌+◌, ◌-◌, ◌<◌, ◌≤◌, ◌^◌, inl, inr, List, [], ◌∷◌, ◌++◌, length, map, Option, Some, None, Result, Ok, Err, IfErr, refl, sym, ap, subst, ◌∙◌, arith}
+use Rattle.std.proofs.Common.{◌≡◌, ◌≢◌, ℕ, suc, ◌+◌, ◌-◌, ◌<◌, ◌≤◌, ◌^◌, inl, inr, List, [], ◌∷◌, ◌++◌, length, map, Option, Some, None, Result, Ok, Err, IfErr, IfOk, refl, sym, ap, subst, ◌∙◌, arith}
 use Rattle.std.proofs.lemmas.Bool.{cases_lt}
 use Rattle.std.proofs.lemmas.List.{map-append}
 use Rattle.std.proofs.lemmas.Option.{none-some, same_Some}
 use Rattle.std.specs.Bool.{OnFalse}
-use Rattle.std.specs.Prelude.{Bool, true, false, IfNone, IfSome, is_some, option_map}
+use Rattle.std.specs.Prelude.{Bool, IfNone, IfSome, is_some, option_map}
 use Rattle.std.specs.declared.vec.Vec.{Vec}
 use Rattle.cell_key.specs.Cells.{Cells, IsNewest}
 use Rattle.cell_key.specs.declared.keys.Qualifier.TheVariants.{Data, Write}
 use Rattle.cell_key.specs.Moments.{IsMoment}
 use Rattle.cell_key.specs.Versions.{stamped}
+use Rattle.cell_key.specs.declared.keys.CellKey.{CellKey}
 use Rattle.cell_key.specs.declared.keys.Qualifier.{Qualifier}
 use Rattle.cell_key.specs.declared.refusals.Refusal.{Refusal}
 use Rattle.cell_key.specs.Columns.{IsRecordText, NamesStart, NamesWrite, record_text}
@@ -200,13 +201,21 @@ pub one_unless : {Z : Type 0} (cells : Cells) (x : Cell) (floor w : ℕ) (b : Li
 one_unless cells x floor w b None has is newest none = subst (λ (h : Bool). OnFalse h (HasOneRecord cells x floor)) (sym is) (old_all cells x floor w [] (old_begin cells x floor w b newest) (omega arith) none)
 one_unless cells x floor w b (Some v) has is newest some = subst (λ (h : Bool). OnFalse h (HasOneRecord cells x floor)) (sym is) tt
 
-pub not_so : {A : Type 0} (has : Bool) → has ≡ false → OnFalse has A → A
-not_so true is a = cc
-not_so false is a = a
-
 pub nothing_left : {A : Type 0} (xs : List A) → length xs ≡ 0 → xs ≡ []
 nothing_left [] none = refl
 nothing_left (x ∷ xs) none = absurd (omega (arith, none))
+
+-- where fewer are found than were asked for, no more are left
+pub all_newest : (cells : Cells) (at : ℕ → CellKey) (hi n most : ℕ) (vs : List (ℕ × List ℕ)) → AreNewest cells at hi n vs → length vs < n → n ≤ most → AreNewest cells at hi most vs
+all_newest cells at hi n most [] h few fits = λ _. h (omega (arith, few))
+all_newest cells at hi n most (v ∷ vs) h few fits = (omega (arith, few, fits), h.1, h.2, all_newest cells at (v.0 - 1) (n - 1) (most - 1) vs h.3 (omega (arith, few)) (omega (arith, fits)))
+
+-- what is found after reads that changed nothing
+pub newest_then : {R : Type 0} {Z : Type 0} {seen : View R} {a b : R} (x : Cell) (floor most : ℕ) → OnlyReads seen a b → seen.readable a x.row
+    → (r : Result (Vec (ℕ × Vec ℕ Z) Z) Refusal) → (seen.readable b x.row → IfOk r (λ found. AreNewest (seen.cells b) (key_of x Write) floor most (map stamped found.items)))
+    → IfOk r (λ found. AreNewest (seen.cells a) (key_of x Write) floor most (map stamped found.items))
+newest_then {seen = seen} x floor most reads held (Ok found) h = subst (λ (cs : Cells). AreNewest cs (key_of x Write) floor most (map stamped found.items)) reads.kept (h (reads.readable x.row held))
+newest_then x floor most reads held (Err e) h = tt
 
 -- the same of versions as they are read
 pub older_first : {Z : Type 0} (cells : Cells) (x : Cell) (floor : ℕ) (items older : List (ℕ × Vec ℕ Z)) (v : ℕ × Vec ℕ Z) → items ≡ v ∷ older → AreNewest cells (key_of x Write) floor 129 (map stamped items) → HasOlder cells x floor [] (map stamped older)

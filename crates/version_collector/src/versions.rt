@@ -1,14 +1,17 @@
 //! What a second pass finds in a cell: records that are old, data that no record names, or the record of a deletion.
 
-ghost use Rattle.std.specs.Prelude.{◌≡◌, ◌↔◌, ◌⊎◌, ℕ, ◌<◌, ◌≤◌, ◌^◌, Some, length, IfErr, IfNone, IfOk, IfSome, IsTrue, option_map};
-ghost use Rattle.std.specs.Bool.{OnFalse};
+ghost use Rattle.std.specs.Prelude.{◌≡◌, ◌↔◌, ◌⊎◌, ℕ, ◌<◌, ◌≤◌, ◌^◌, Some, length, map, IfErr, IfNone, IfOk, IfSome, IsTrue, option_map};
+ghost use Rattle.std.specs.List.{AllByRecursion};
 ghost use Rattle.cell_key.specs.Faults.{HasReason};
 ghost use Rattle.cell_key.specs.Moments.{IsMoment};
-ghost use Rattle.cell_key.specs.Versions.{stamped};
+ghost use Rattle.cell_key.specs.Versions.{IsVersion, stamped};
 ghost use Rattle.cell_key.specs.Columns.{NamesStart, NamesWrite};
 ghost use Rattle.cell_key.specs.declared.columns.WriteKind.TheVariants as Kind;
+ghost use Rattle.cell_key.specs.declared.keys.Qualifier.TheVariants.{Write};
 ghost use Rattle.row_atomic.specs.Calls.{OnlyReads};
 ghost use Rattle.row_atomic.specs.Refusals.{IsRefusalOfRead};
+ghost use Rattle.si_model.specs.ShowsCells.{key_of};
+ghost use Rattle.tablet.specs.Reads.{AreNewest};
 ghost use Rattle.version_collector.specs.Versions.{AreFound, AreNear, AreShown, AreUnnamed, HasOneRecord, IsAmong, IsLastDeletion, IsLatestBelow, IsNamedBy, NamesNext, NamesNone};
 
 use cell_key::{MOST_STAMP, Moment, Qualifier, Record, Refusal, Stamp, WriteKind};
@@ -18,6 +21,9 @@ use std::alloc::Global;
 
 /// The most records that are erased at once, each with the data that it names.
 const MOST_RECORDS: usize = 128;
+
+/// How many records are looked up one by one.
+const FEW_RECORDS: usize = 32;
 
 /// The most data that is erased at once if no record names it.
 const MOST_DATA: usize = 256;
@@ -63,21 +69,59 @@ fn write_of(text: &[u8]) -> Result<(Moment, WriteKind), Refusal>
     }
 }
 
-/// Whether a cell has records older than the newest one at or below the floor. That is asked by two look-ups, which pass by
-/// the files that have none, since most cells have no old records.
-fn has_old_records<R: Rows>(rows: &mut R, cell: &Cell, floor: Stamp) -> Result<bool, Refusal>
-    ensures one { R.seen.readable rows.old cell.now.row → IfOk result (λ has.
-        OnFalse has (HasOneRecord (R.seen.cells rows.old) cell.now floor)) }
+/// The newest records of a cell at or below the floor, newest first: 32 of them, or fewer if no more are left. Each is
+/// looked up, and the blocks that have them may be in memory.
+fn look_up_records<R: Rows>(
+    alloc: Global,
+    rows: &mut R,
+    cell: &Cell,
+    floor: Stamp,
+) -> Result<Vec<(Stamp, Vec<u8>)>, Refusal>
+    ensures found { R.seen.readable rows.old cell.now.row → IfOk result (λ found. AreNewest
+        (R.seen.cells rows.old) (key_of cell.now Write) floor 32 (map stamped found.items)) }
+    ensures few { IfOk result (λ found. length found.items ≤ 32) }
+    ensures limits { IfOk result (λ found.
+        AllByRecursion (λ version. IsVersion version.0 version.1.items) found.items) }
     ensures reads { OnlyReads R.seen rows.old rows.new }
     ensures refusal { IfErr result (IsRefusalOfRead (R.seen.readable rows.old cell.now.row)) }
     ensures reason { HasReason (R.faults rows.old) (R.faults rows.new) result }
 {
-    let last = rows.newest(&cell.row, &cell.family, Qualifier::Write, 0, floor)?;
-    let Some((last, _)) = last else {
-        return Ok(false);
-    };
-    let next = latest_below(rows, cell, Qualifier::Write, last)?;
-    Ok(next.is_some())
+    let mut found = Vec::new(alloc);
+    let mut last = floor;
+    'records: while found.len() < FEW_RECORDS {
+        let next = rows.newest(&cell.row, &cell.family, Qualifier::Write, 0, last)?;
+        let Some((commit, text)) = next else {
+            return Ok(found);
+        };
+        found.push((commit, text))?;
+        last = commit - 1;
+    }
+    Ok(found)
+}
+
+/// The newest records of a cell at or below the floor, newest first: 129 of them, or fewer if no more are left. Few are
+/// looked up one by one. If they are many, all are read by one pass, which reads a block of each file whose range has the cell.
+fn newest_records<R: Rows>(
+    alloc: Global,
+    rows: &mut R,
+    cell: &Cell,
+    floor: Stamp,
+) -> Result<Vec<(Stamp, Vec<u8>)>, Refusal>
+    ensures found { R.seen.readable rows.old cell.now.row → IfOk result (λ found. AreNewest
+        (R.seen.cells rows.old) (key_of cell.now Write) floor 129 (map stamped found.items)) }
+    ensures few { IfOk result (λ found. length found.items ≤ 129) }
+    ensures limits { IfOk result (λ found.
+        AllByRecursion (λ version. IsVersion version.0 version.1.items) found.items) }
+    ensures reads { OnlyReads R.seen rows.old rows.new }
+    ensures refusal { IfErr result (IsRefusalOfRead (R.seen.readable rows.old cell.now.row)) }
+    ensures reason { HasReason (R.faults rows.old) (R.faults rows.new) result }
+{
+    let found = look_up_records(alloc, rows, cell, floor)?;
+    if found.len() < FEW_RECORDS {
+        return Ok(found);
+    }
+    let most = MOST_RECORDS + 1;
+    rows.versions(&cell.row, &cell.family, Qualifier::Write, floor, most)
 }
 
 /// The newest 128 records older than the newest one at or below the floor, newest first, each as its
@@ -102,16 +146,7 @@ pub(crate) fn old_records<R: Rows>(
     ensures reason { HasReason (R.faults rows.old) (R.faults rows.new) result }
 {
     let mut found = Vec::with_capacity(alloc, MOST_RECORDS)?;
-    if !has_old_records(rows, cell, floor)? {
-        return Ok(found);
-    }
-    let records = rows.versions(
-        &cell.row,
-        &cell.family,
-        Qualifier::Write,
-        floor,
-        MOST_RECORDS + 1,
-    )?;
+    let records = newest_records(alloc, rows, cell, floor)?;
     let Some((_, older)) = records.split_first() else {
         return Ok(found);
     };

@@ -2,16 +2,12 @@ use Rattle.std.proofs.Common.{◌≡◌, ◌∙◌, ◌+◌, ℕ, List, [], ◌�
 use Rattle.std.specs.Global.{Global}
 use Rattle.std.specs.List.{AllByRecursion}
 use Rattle.std.specs.declared.vec.Vec.{Vec}
-use Rattle.cell_key.specs.Cells.{Cells}
 use Rattle.cell_key.specs.Columns.{NamesStart}
 use Rattle.cell_key.specs.Versions.{IsVersion, stamped}
-use Rattle.cell_key.specs.declared.keys.Qualifier.TheVariants.{Write}
-use Rattle.si_model.specs.ShowsCells.{key_of}
-use Rattle.tablet.specs.Reads.{AreNewest}
 use Rattle.version_collector.specs.Versions.{AreFound, AreShown}
 use Rattle.version_collector.proofs.Greatest.{length-last}
 use Rattle.version_collector.proofs.PassedRefusals.{refused_damaged}
-use Rattle.version_collector.proofs.Starts.{HasOlder, not_damaged, not_so, nothing_left, older_first, older_last, older_more, older_next, older_none, older_there}
+use Rattle.version_collector.proofs.Starts.{HasOlder, not_damaged, nothing_left, older_first, older_last, older_more, older_next, older_none, older_there}
 use Rattle.version_collector.proofs.versions.old_records.Goals as goal
 
 -- the newest version is at hand, and is left out
@@ -25,12 +21,11 @@ records-init g c =
     let none : length c.in_ok-found.found.items ≡ 0 = ap (λ (vs : List (ℕ × ℕ)). length vs) c.in_ok-found.ensures.items in
     let longer : length items ≡ length older + 1 = ap (λ (vs : List (ℕ × Vec ℕ Global)). length vs) first ∙ omega arith in
     let few = c.in_ok-records.ensures.few in
-    let reads = c.has_old_records.ensures.reads in
     record {
       few = omega (arith, none, longer, few);
       limits = (subst (AllByRecursion (λ (version : ℕ × Vec ℕ Global). IsVersion version.0 version.1.items)) first c.in_ok-records.ensures.limits).1;
       old = λ held shown. subst (λ (vs : List (ℕ × ℕ)). HasOlder cells x c.args.floor vs (map stamped older)) (sym c.in_ok-found.ensures.items)
-          (older_first cells x c.args.floor items older c.in-Some.field-0-0.now first (subst (λ (cs : Cells). AreNewest cs (key_of x Write) c.args.floor 129 (map stamped items)) reads.kept (c.in_ok-records.ensures.found (reads.readable c.args.cell.now.row held))));
+          (older_first cells x c.args.floor items older c.in-Some.field-0-0.now first (c.in_ok-records.ensures.found held));
     }
 
 pub records-preserved : goal.records-preserved
@@ -71,23 +66,14 @@ returns-in_err-start-clause-refusal g c =
     (older_there cells x c.args.floor v.0 v.1.items c.records.found.items (map stamped after) (older_next cells x c.args.floor c.records.found.items left after v rest (c.records.invariant.old was.0 was.1)))
     (λ t from to names. c.in_err-start.ensures.damaged t from to (subst (λ (b : List ℕ). NamesStart b t) (sym same) names)) was.1)
 
--- one record at most stands at or below the floor
-pub returns-then-not-branch-clause-found : goal.returns-then-not-branch-clause-found
-returns-then-not-branch-clause-found g c = λ held shown.
-    let cells = g.R.Rows.seen.cells c.args.rows.now in
-    let x = c.args.cell.now in
-    subst (λ (vs : List (ℕ × ℕ)). AreFound cells x c.args.floor vs) (sym c.in_ok-found.ensures.items)
-    (not_so c.in_ok-has_old_records.field-0 c.if-not-branch.true (c.in_ok-has_old_records.ensures.one held))
-
 -- no record stands at or below the floor
 pub returns-in_default-clause-found : goal.returns-in_default-clause-found
 returns-in_default-clause-found g c = λ held shown.
     let cells = g.R.Rows.seen.cells c.args.rows.now in
     let x = c.args.cell.now in
-    let reads = c.has_old_records.ensures.reads in
     subst (λ (vs : List (ℕ × ℕ)). AreFound cells x c.args.floor vs) (sym c.in_ok-found.ensures.items)
     (older_none cells x c.args.floor c.in_ok-records.records.items (sym c.deref.ensures.value ∙ nothing_left c.deref.result.now c.in_default.ensures.cases)
-    (subst (λ (cs : Cells). AreNewest cs (key_of x Write) c.args.floor 129 (map stamped c.in_ok-records.records.items)) reads.kept (c.in_ok-records.ensures.found (reads.readable c.args.cell.now.row held))))
+    (c.in_ok-records.ensures.found held))
 
 pub returns-clause-found : goal.returns-clause-found
 returns-clause-found g c = λ held shown.
