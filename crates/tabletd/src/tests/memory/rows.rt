@@ -63,6 +63,17 @@ fn rows_with_data<R: Rows>(alloc: Global, rows: &mut R) -> Result<Vec<u8>, Refus
     Ok(found)
 }
 
+/// The first bytes of the data of the row `a`, the newest first.
+fn all_data<R: Rows>(alloc: Global, rows: &mut R) -> Result<Vec<u8>, Refusal> {
+    let row = Row::new(alloc, b"a")?;
+    let family = Family::new(alloc, b"bal")?;
+    let mut found = Vec::new(alloc);
+    for (_, value) in rows.versions(&row, &family, Qualifier::Data, 9, 9)? {
+        found.push(value.first().copied().unwrap_or(b' '))?;
+    }
+    Ok(found)
+}
+
 /// The calls of any rows, with `a` and `n`.
 fn rows_answer<R: Rows>(
     alloc: Global,
@@ -78,6 +89,7 @@ fn rows_answer<R: Rows>(
             Ok(wanted.is_empty())
         }
         3 => Ok(wanted == next_rows(alloc, rows, 9)?.as_slice()),
+        4 => Ok(wanted == all_data(alloc, rows)?.as_slice()),
         _ => Ok(wanted == rows_with_data(alloc, rows)?.as_slice()),
     }
 }
@@ -88,7 +100,7 @@ pub struct Plain {
     rows: PlainRows,
 }
 
-const PLAIN_CALLS: [Call; 5] = [
+const PLAIN_CALLS: [Call; 6] = [
     // newest
     (b"1", b"12"),
     // next_cell
@@ -97,6 +109,8 @@ const PLAIN_CALLS: [Call; 5] = [
     (b"", b"16"),
     // next_cells
     (b"an", b"12"),
+    // versions
+    (b"1", b"12"),
     // has_version
     (b"an", b"12"),
 ];
@@ -129,7 +143,7 @@ pub struct Clustered {
 }
 
 /// The refusals show whether there is a second tablet.
-const CLUSTER_CALLS: [Call; 12] = [
+const CLUSTER_CALLS: [Call; 13] = [
     // newest
     (b"5", b"54\x0E\x0B"),
     // next_cell
@@ -152,6 +166,8 @@ const CLUSTER_CALLS: [Call; 12] = [
     (b"a", b"54\x0E\x0B"),
     // next_cells
     (b"an", b"54\x0E\x0B"),
+    // versions
+    (b"531", b"54\x0E\x0B"),
     // has_version: of a value in a file, of one in the memtable and of none
     (b"an", b"54\x0E\x0B"),
 ];
@@ -227,6 +243,7 @@ impl Subject for Clustered {
             9 => return is_first(alloc, &mut self.cluster, wanted),
             10 => return rows_answer(alloc, &mut self.cluster, 3, wanted),
             11 => return rows_answer(alloc, &mut self.cluster, 4, wanted),
+            12 => return rows_answer(alloc, &mut self.cluster, 5, wanted),
             _ => return rows_answer(alloc, &mut self.cluster, number, wanted),
         }
         Ok(wanted.is_empty())

@@ -22,7 +22,7 @@ pub struct Served {
 /// What is read are the row of the first cell, the values of `a`, `b` and `c`, how many lists there are (files, and the
 /// memtable if it has entries) and how many names. So it is as before if a split or an unload that is refused has written
 /// the memtable.
-const CALLS: [Call; 13] = [
+const CALLS: [Call; 14] = [
     // newest
     (b"3", b"a345\x03\x01"),
     // next_cell from the start
@@ -49,6 +49,8 @@ const CALLS: [Call; 13] = [
     (b"abc", b"a345\x03\x01"),
     // has_version: of a value in a file, of one in the memtable and of none
     (b"ab", b"a345\x03\x01"),
+    // versions
+    (b"31", b"a345\x03\x01"),
 ];
 
 /// A row of one byte forty times, so that it and the texts of its keys take memory.
@@ -124,6 +126,17 @@ fn rows_with_data(
         if tablet.has_version(&row, &family, Qualifier::Data, 0, 9, files)? {
             found.push(byte)?;
         }
+    }
+    Ok(found)
+}
+
+/// The first bytes of the data of the row `a`, the newest first.
+fn all_data(alloc: Global, tablet: &Tablet, files: &mut MemFiles) -> Result<Vec<u8>, Refusal> {
+    let row = row_of(alloc, b'a')?;
+    let family = Family::new(alloc, b"bal")?;
+    let mut found = Vec::new(alloc);
+    for (_, value) in tablet.versions(&row, &family, Qualifier::Data, 9, 9, files)? {
+        found.push(value.first().copied().unwrap_or(b' '))?;
     }
     Ok(found)
 }
@@ -208,6 +221,7 @@ impl Subject for Served {
                 let found = rows_with_data(alloc, &mut self.tablet, files)?;
                 return Ok(wanted == found.as_slice());
             }
+            13 => return Ok(wanted == all_data(alloc, &self.tablet, files)?.as_slice()),
             10 => {
                 self.tablet.push_names(&mut self.names)?;
                 return Ok(wanted.is_empty());
