@@ -131,7 +131,7 @@ module _ (m : Contents) where
       ap (λ (range : RowRange). cells_of (merged (map (seen range) (lists_of m u)))) same.range
       ∙ ap (λ (lists : List (List Entry)). cells_of (merged (map (seen (range_of t)) lists))) (same.lists m)
 
-  -- where they were open they are, with the same cells
+  -- if they were open they are, with the same cells
   record AreOpen (ts us : List Tablet) : Type 0 where
     each : AllByRecursion (HoldsAt m) us
     cells : map (cells_at m) us ≡ map (cells_at m) ts

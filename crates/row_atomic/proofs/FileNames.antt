@@ -74,7 +74,7 @@ fewer zero names = omega arith
 fewer (suc count) [] = omega arith
 fewer (suc count) (name ∷ names) = let less = fewer count names in omega arith
 
--- where one is taken away, another one may come
+-- if one is taken away, another one may come
 few_from : (count : ℕ) (names : List ℕ) → 2 ≤ count → length names ≤ 64 → length (drop count names) < 64
 few_from zero names two few = absurd (omega arith)
 few_from (suc count) [] two few = omega arith

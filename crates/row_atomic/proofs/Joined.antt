@@ -66,7 +66,7 @@ none_some None e h = cc
 none_some (Some x) e h = cc
 
 module _ {A : Type 0} (f : A → Cells) (q : CellKey) where
-  -- where no map has the key, the joined one hasn't
+  -- if no map has the key, the joined one hasn't
   pub joined_nowhere : (ts : List A) → ((j : ℕ) (u : A) → slice_get ts j ≡ Some u → get (f u) q ≡ None) → get (joined (map f ts)) q ≡ None
   joined_nowhere [] h = get_joined_none q
   joined_nowhere (t ∷ ts) h =
@@ -74,7 +74,7 @@ module _ {A : Type 0} (f : A → Cells) (q : CellKey) where
       ∙ ap (λ (o : Option (List ℕ)). or_else o (get (joined (map f ts)) q)) (h zero t refl)
       ∙ joined_nowhere ts (λ j u e. h (suc j) u e)
 
-  -- where one map alone has the key, the joined one has what that has
+  -- if one map alone has the key, the joined one has what that has
   pub joined_at : (ts : List A) (i : ℕ) (t : A) → slice_get ts i ≡ Some t → ((j : ℕ) (u : A) → j ≢ i → slice_get ts j ≡ Some u → get (f u) q ≡ None) → get (joined (map f ts)) q ≡ get (f t) q
   joined_at [] i t e h = cc
   joined_at (s ∷ ts) zero t e h =

@@ -93,7 +93,7 @@ such : (P : Tablet → Type 0) (ts : List Tablet) (n : ℕ) (t : Tablet) → All
 such P ts zero t all is = cc
 such P ts (suc i) t all is = each_at P ts all i t is
 
--- where all memtables are empty, a journal has no room for edits that would overfill one
+-- if all memtables are empty, a journal has no room for edits that would overfill one
 pub empty_fits : {F : Type 0} (state : ClusterState F) (journal : JournalView) → AllByRecursion IsEmptied state.tablets → (row : List ℕ) (edits : List Edit) → Overfills state.places state.tablets row edits → ¬ HasRoomFor journal edits
 empty_fits state journal emptied row edits full room =
     let empty = such IsEmptied state.tablets full.place.tablet full.tablet emptied full.numbered in

@@ -52,7 +52,7 @@ module _ (row : List ℕ) (places : List PlaceView) (ts : List Tablet) (i : ℕ)
       others zero not_left not_holder = refl
       others (suc j) not_left not_holder = pushed_elsewhere (set ts i right) j left (not_last j not_left) ∙ set_elsewhere ts i j right (not_this j not_holder)
 
--- where the tablet of a row stays as it was, all do
+-- if the tablet of a row stays as it was, all do
 pub holder_stays : (row : List ℕ) (places : List PlaceView) (ts : List Tablet) → OfHolder IsEmptied row places ts → (p : PlaceView) → IsHolder row places p → Remakes IsUnchanged p.tablet ts ts
 holder_stays row places ts emptied p holder =
     let same = one_holder row places emptied.place p emptied.holder holder in
@@ -66,7 +66,7 @@ holder_stays row places ts emptied p holder =
       others = λ other differs. refl;
     }
 
--- where the tablet of a row alone was written anew, and is as it was
+-- if the tablet of a row alone was written anew, and is as it was
 pub holder_unchanged : (row : List ℕ) (places : List PlaceView) (ts : List Tablet) (i : ℕ) (t u : Tablet) (p : PlaceView) → IsHolder row places p → p.tablet ≡ i + 1 → slice_get ts i ≡ Some t → IsUnchanged t u
     → (q : PlaceView) → IsHolder row places q → Remakes IsUnchanged q.tablet ts (set ts i u)
 holder_unchanged row places ts i t u p holder number there same q holds =

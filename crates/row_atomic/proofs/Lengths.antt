@@ -73,7 +73,7 @@ of_places P (p ∷ ps) h = all_both P p.files (file_names ps) h.0 (of_places P p
 
 -- ---- what files tell
 
--- where no lengths are told, none is wrong
+-- if no lengths are told, none is wrong
 pub none_measured : (told : Option Contents) (names lengths : List ℕ) → lengths ≡ [] → IfSome told (λ m. AreMeasured m names lengths)
 none_measured None names lengths e = tt
 none_measured (Some m) names lengths e = subst (AreMeasured m names) (sym e) (go names)
@@ -82,7 +82,7 @@ none_measured (Some m) names lengths e = subst (AreMeasured m names) (sym e) (go
     go [] = tt
     go (n ∷ names) = tt
 
--- where every file is there, and other lengths than theirs are told, one is wrong
+-- if every file is there, and other lengths than theirs are told, one is wrong
 pub wrong_lengths : (told : Option Contents) (ps : List PlaceView) (lengths now : List ℕ) → AreCounted ps lengths → lengths ≢ [] → length now ≡ length (file_names ps) → now ≢ lengths
     → IfSome told (λ m. AllByRecursion (λ p. AllByRecursion (HasFile m) p.files) ps) → IfSome told (λ m. AreMeasured m (file_names ps) now) → IfSome told (λ m. ¬ AreMeasured m (file_names ps) lengths)
 wrong_lengths told ps lengths now (inl none) some count other there are = absurd (some none)

@@ -51,7 +51,7 @@ module _ (cells : Cells) where
     some.2,
   )
 
-  -- where fewer were found, they are all
+  -- if fewer were found, they are all
   pub all_found : (most : ℕ) (start : Option Place) (places : List Place) → AreNextCells cells start most places → length places < most → (place : Place) → IsAfter start place → HasCell cells place → Contains places place
   all_found most start [] some few place behind cell = absurd (some (omega (arith, few)) place behind cell)
   all_found most start (p ∷ places) some few place behind cell = go (λ far. all_found (most - 1) (Some p) places some.2 (omega (arith, few)) place far cell) (place_cmp place p) refl

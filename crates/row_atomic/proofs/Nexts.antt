@@ -102,7 +102,7 @@ module _ (m : Contents) (ts : List Tablet) where
       let found = joined_from (cells_at m) cell.key ts cell.some in
       record { index = found.0; tablet = found.1.0; there = found.1.1.0; cell = record { key = cell.key; at = cell.at; some = found.1.1.1 } }
 
-  -- where no tablet of a place has a cell there, the cluster hasn't
+  -- if no tablet of a place has a cell there, the cluster hasn't
   nowhere : (places : List PlaceView) (place : Place) → IsTable places → length ts ≡ length places → AllByRecursion (HasNone m ts place) places → ¬ (HasCell (cells_in (Some m) ts) place)
   nowhere places place table as_many none cell =
       let one = tablet_has place cell in

@@ -54,7 +54,7 @@ pub there_told : FilesAreThere → (told : Option Contents) (ts : List Tablet) (
 there_told law None ts ps loaded each = tt
 there_told law (Some m) ts ps loaded each = there_all law m ts None ps each loaded.placed
 
--- where what the root file tells was opened, nothing is damaged
+-- if what the root file tells was opened, nothing is damaged
 whole_of : OneRoot → OneMeasure → FilesAreThere → (m : Contents) (image : List ℕ) (root : RootView) (ts : List Tablet) → get m root_name ≡ Some image → (form : IsRoot root image) → AreMeasured m (file_names root.places) form.lengths → AreOpened m root.places ts → ¬ IsDamaged m
 whole_of one measure law m image root ts there form measured opened (no_root bytes e none) = none root (subst (λ (b : List ℕ). IsRoot root b) (same_Some image bytes (sym there ∙ e)) form)
 whole_of one measure law m image root ts there form measured opened (no_file bytes other e is lacks) =

@@ -209,7 +209,7 @@ module _ (law : StaysInRange) (m n : Contents) (places : List PlaceView) (ts : L
   of_right : (b : Bool) (q : CellKey) → has_row (range_of right) q.row ≡ b → get (cells_at n right) q ≡ cond b (get (cells_at m t) q) None
   of_right b q e = right_part q ∙ ap (λ (c : Bool). cond c (get (cells_at m t) q) None) e
 
-  -- where the right part has what the tablet had, and the left one nothing
+  -- if the right part has what the tablet had, and the left one nothing
   stays_right : (q : CellKey) → get (cells_at n right) q ≡ get (cells_at m t) q → get (cells_at n left) q ≡ None → get (cells_in (Some n) (set ts i right ++ left ∷ [])) q ≡ get (cells_in (Some m) ts) q
   stays_right q on_right on_left =
       joined_push (cells_at n) q (set ts i right) left
@@ -218,7 +218,7 @@ module _ (law : StaysInRange) (m n : Contents) (places : List PlaceView) (ts : L
       ∙ joined_set (cells_at n) q ts i t right there (on_right ∙ ap (λ (c : Cells). get c q) (sym (each_at (λ u. cells_at n u ≡ cells_at m u) ts others i t there)))
       ∙ was q
 
-  -- where the left part has it, and the tablet had the row
+  -- if the left part has it, and the tablet had the row
   stays_left : (q : CellKey) → has_row (range_of t) q.row ≡ true → get (cells_at n right) q ≡ None → get (cells_at n left) q ≡ get (cells_at m t) q → get (cells_in (Some n) (set ts i right ++ left ∷ [])) q ≡ get (cells_in (Some m) ts) q
   stays_left q has on_right on_left =
       joined_push (cells_at n) q (set ts i right) left

@@ -235,7 +235,7 @@ module _ (disk : Option Contents) (places : List PlaceView) (ts : List Tablet) (
   abbrev pub IsFrom : Type 0
   IsFrom = (row : List ℕ) → IsRowFrom after row → IsReadable disk places ts row
 
-  -- where the rows from a place on are readable, their tablets' files are open
+  -- if the rows from a place on are readable, their tablets' files are open
   pub open_from : IsFrom → (m : Contents) → disk ≡ Some m → AreOpenFrom m ts after places
   open_from readable m told = each_split (λ p. ¬ PrecedesCell p after → (t : Tablet) → tablet_numbered p.tablet ts ≡ Some t → Holds m t) places one
     where

@@ -15,7 +15,7 @@ use Rattle.metadata_table.specs.Places.{PlaceView}
 use Rattle.metadata_table.specs.Table.{IsTable, IsHolder}
 use Rattle.sorted_file.specs.File.{name_of}
 use Rattle.tablet.specs.Ranges.{has_row, seen}
-use Rattle.tablet.specs.Reads.{AreNewest, HasVersion}
+use Rattle.tablet.specs.Reads.{AreNewestFirst, HasVersion}
 use Rattle.tablet.specs.Views.{Holds, IsBelow, IsSameTablet, cells_at, lists_of, range_of, files_of, names_of, memory_of}
 use Rattle.tablet.specs.declared.tablet.Tablet.{Tablet}
 use Rattle.row_atomic.specs.Clusters.{tablet_numbered, cells_in, joined, edits_in, InOrder, ArePlaced, IsMatched, Overfills}
@@ -99,8 +99,8 @@ newest_answer (Some m) ts seen row family qualifier lo hi i t (Ok found) owns he
 -- the newest versions of the row's tablet are those of the cells
 pub versions_answer : (o : Option Contents) (ts : List Tablet) {A : Type 0} (seen : A → List (ℕ × List ℕ)) (row family : List ℕ) (qualifier : Qualifier) (hi most : ℕ) (i : ℕ) (t : Tablet) (r : Result A Refusal) → OwnsRow ts row i t
     → IsSomeAnd o (λ m. Holds m t)
-    → IfOk r (λ found. IfSome o (λ m. Holds m t → IsTrue (has_row (range_of t) row) → AreNewest (cells_at m t) (version row family qualifier) hi most (seen found)))
-    → IfOk r (λ found. AreNewest (cells_in o ts) (version row family qualifier) hi most (seen found))
+    → IfOk r (λ found. IfSome o (λ m. Holds m t → IsTrue (has_row (range_of t) row) → AreNewestFirst (cells_at m t) (version row family qualifier) hi most (seen found)))
+    → IfOk r (λ found. AreNewestFirst (cells_in o ts) (version row family qualifier) hi most (seen found))
 versions_answer o ts seen row family qualifier hi most i t (Err e) owns held h = tt
 versions_answer None ts seen row family qualifier hi most i t (Ok found) owns held h = absurd held
 versions_answer (Some m) ts seen row family qualifier hi most i t (Ok found) owns held h =

@@ -38,6 +38,6 @@ pub from_later : (after : Option Place) (place : Place) → IsAfter after place 
 from_later None place after row from = tt
 from_later (Some before) place after row from = not_below_both row place.0 before.0 from (not_below before place after)
 
--- where rows are readable from a place on, they are from a later one on
+-- if rows are readable from a place on, they are from a later one on
 pub readable_later : {R : Type 0} (seen : View R) (rows : R) (after : Option Place) (place : Place) → IsAfter after place → AreReadableFrom seen rows after → AreReadableFrom seen rows (Some place)
 readable_later seen rows after place later readable row from = readable row (from_later after place later row from)

@@ -99,6 +99,6 @@ module _ (m : Contents) (ts : List Tablet) (places : List Place) (after : Option
         found_next m ts (views (take i places)) (view_of p) (views (drop (suc i) places)) after found t
         (subst IsTable whole table) (subst (λ (ps : List PlaceView). length ts ≡ length ps) whole as_many) (subst (λ (ps : List PlaceView). ArePlaced ts None ps) whole placed) passed numbered next
 
-    -- where all were passed, there is none
+    -- if all were passed, there is none
     pub scan_ends : (i : ℕ) → length places ≤ i → AllByRecursion (NoneAfter m ts after) (views (take i places)) → IsNextCell (cells_in (Some m) ts) after None
     scan_ends i h passed = none_next m ts (views places) after table as_many (subst (λ (ps : List Place). AllByRecursion (NoneAfter m ts after) (views ps)) (take_all i places h) passed)

@@ -13,7 +13,7 @@ use Rattle.cell_key.specs.declared.edits.Edit.{Edit}
 use Rattle.cell_key.proofs.KeyLaws.{exact_keys}
 use Rattle.file_store.specs.Store.{Contents}
 use Rattle.tablet.specs.Ranges.{has_row}
-use Rattle.tablet.specs.Reads.{AreNewest}
+use Rattle.tablet.specs.Reads.{AreNewestFirst}
 use Rattle.tablet.specs.Views.{Holds, IsBelow, UsesName, Keeps, cells_at, range_of}
 use Rattle.tablet.specs.Laws.{OthersStay}
 use Rattle.tablet.specs.declared.tablet.Tablet.{Tablet}
@@ -84,7 +84,7 @@ newest_of_row m ts row family qualifier lo hi found i t owns newest =
     newest_there (cells_at m t) (cells_in (Some m) ts) (version row family qualifier) lo hi found (λ s. cells_of_row m ts row i t owns (version row family qualifier s) refl) newest
 
 -- And so are the newest versions.
-pub newest_list_of_row : (m : Contents) (ts : List Tablet) (row family : List ℕ) (qualifier : Qualifier) (hi most : ℕ) (vs : List (ℕ × List ℕ)) (i : ℕ) (t : Tablet) → OwnsRow ts row i t → AreNewest (cells_at m t) (version row family qualifier) hi most vs → AreNewest (cells_in (Some m) ts) (version row family qualifier) hi most vs
+pub newest_list_of_row : (m : Contents) (ts : List Tablet) (row family : List ℕ) (qualifier : Qualifier) (hi most : ℕ) (vs : List (ℕ × List ℕ)) (i : ℕ) (t : Tablet) → OwnsRow ts row i t → AreNewestFirst (cells_at m t) (version row family qualifier) hi most vs → AreNewestFirst (cells_in (Some m) ts) (version row family qualifier) hi most vs
 newest_list_of_row m ts row family qualifier hi most [] i t owns newest = λ wanted. newest_of_row m ts row family qualifier 0 hi None i t owns (newest wanted)
 newest_list_of_row m ts row family qualifier hi most (v ∷ vs) i t owns (some, newest, one, rest) = (
   some,

@@ -77,7 +77,7 @@ remove_absent cells k none = same_map key_cmp_total exact_keys (remove cells k) 
     go q true e = sym (ap (get cells) (same_at q k e) ∙ none)
     go q false e = refl
 
--- where there was no cell, a slot that is empty or goes changes none
+-- if there was no cell, a slot that is empty or goes changes none
 pub cells_same : {Z : Type 0} (old new : List (CellKey × Option (Vec ℕ Z))) (k : CellKey) (w : Option (Option (Vec ℕ Z))) → content w ≡ None → content (slot_at old k) ≡ None → ((q : CellKey) → slot_at new q ≡ cond (eq_by_cmp key_cmp k q) w (slot_at old q)) → slot_cells new ≡ slot_cells old
 cells_same old new k w none before h = cells_after_none old new k w none h ∙ remove_absent (slot_cells old) k (get_cells old k ∙ before)
 
@@ -146,7 +146,7 @@ by_place P [] all k d h = absurd (omega (arith, h))
 by_place P (x ∷ xs) all zero d h = all.0
 by_place P (x ∷ xs) all (suc k) d h = by_place P xs all.1 k d (omega (arith, h))
 
--- where the keys of edits have slots, the edits can be made
+-- if the keys of edits have slots, the edits can be made
 pub ready : {X : Type 0} (slots : List (CellKey × X)) (keys : List CellKey) (edits : List Edit) → keys ≡ map edited_key edits → All (HasSlot slots) keys → AllByRecursion (HasEdited slots) edits
 ready slots keys edits e all = edits_have_slots slots edits (subst (λ (ks : List CellKey). AllByRecursion (HasSlot slots) ks) e (in_turn (HasSlot slots) keys all))
 

@@ -12,6 +12,7 @@ use Rattle.tablet.specs.Laws.{OthersStay, StaysInRange}
 use Rattle.tablet.specs.declared.tablet.Tablet.{Tablet}
 use Rattle.row_atomic.specs.Clusters.{ArePlaced, InOrder, IsMatched, cells_in}
 use Rattle.row_atomic.specs.Changes.{IsEmptied, IsFlushed, Numbered, OfHolder, Remakes}
+use Rattle.tablet.proofs.SourceLists.{each_push}
 use Rattle.row_atomic.proofs.FileNames.{cut_files}
 use Rattle.row_atomic.proofs.ChangedTablets.{matched_next, numbered_at, stays}
 use Rattle.row_atomic.proofs.CutTablets.{cut_placed}
@@ -50,10 +51,6 @@ length_cut : (row : List ℕ) (n : ℕ) (ps ps' : List PlaceView) → Cuts row n
 length_cut row n ps ps' (Cuts.cuts_last none) = refl
 length_cut row n ps ps' (Cuts.cuts is less) = refl
 length_cut row n (p ∷ ps) (q ∷ ps') (Cuts.cuts_later before rest) = ap suc (length_cut row n ps ps' rest)
-
-each_push : {A : Type 0} (P : A → Type 0) (xs : List A) (x : A) → AllByRecursion P xs → P x → AllByRecursion P (xs ++ x ∷ [])
-each_push P [] x all h = (h, tt)
-each_push P (y ∷ xs) x all h = (all.0, each_push P xs x all.1 h)
 
 module _ (places : List PlaceView) (ts : List Tablet) (i : ℕ) (t left right : Tablet) (row : List ℕ) (p : PlaceView)
     (table : IsTable places) (there : slice_get ts i ≡ Some t) (holder : IsHolder row places p) (number : p.tablet ≡ i + 1)

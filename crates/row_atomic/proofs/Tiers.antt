@@ -32,7 +32,7 @@ by_parts : (most : ℕ) (ts : List Tablet) (n : ℕ) → has_files most (tablet_
 by_parts most ts zero = refl
 by_parts most ts (suc i) = by_index most ts i
 
--- whether a tablet has so many files
+-- whether a tablet has this number of files
 abbrev has_at : {F : Type 0} → ℕ → ClusterState F → ℕ → Bool
 has_at most state n = has_files most (tablet_numbered n state.tablets)
 

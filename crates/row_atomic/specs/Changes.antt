@@ -252,8 +252,8 @@ abbrev pub Passes : Option Contents → List Tablet → Option Place → List Pl
 Passes disk tablets after found p =
     PrecedesCell p after ⊎ Numbered (HasNoMore disk after found) p.tablet tablets
 
--- a scan for so many cells comes to a tablet that is out of order, after it passed all places before
--- and found fewer
+-- a scan for at most this number of cells comes to a tablet that is out of order, after it passed all
+-- places before and found fewer
 pub record MeetsDamage (disk : Option Contents) (after : Option Place) (most : ℕ)
     (places : List PlaceView) (tablets : List Tablet) : Type 0 where
   pub before : List PlaceView

@@ -66,7 +66,7 @@ spot_of p = (p.end, (p.tablet, p.server))
 
 -- What lies below the memtables: the bytes of the files, as far as they are known, the most bytes
 -- of a sorted file, the next file's name, and the places of the tablets with their files; and the
--- bytes of edits that a log has, where edits are written down.
+-- bytes of edits that a log has, if edits are written down.
 pub record Storage : Type 0 where
   pub disk : Option Contents
   pub file_limit : ℕ

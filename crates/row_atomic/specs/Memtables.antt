@@ -29,7 +29,7 @@ abbrev pub has_bytes : Option ℕ → ℕ → Bool
 has_bytes None bytes = false
 has_bytes (Some most) bytes = nat_le most bytes
 
--- whether a memtable of so many entries and bytes is full
+-- whether a memtable of this number of entries and of bytes is full
 abbrev pub reaches : FlushLimits → ℕ → ℕ → Bool
 reaches limits entries bytes = nat_le limits.entries entries || has_bytes limits.bytes bytes
 

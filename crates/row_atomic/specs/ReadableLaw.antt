@@ -1,5 +1,5 @@
 -- Proofs that a ghost member cites; nothing is promised here.
--- Where tablets are in order, each row is readable.
+-- If tablets are in order, each row is readable.
 use Rattle.std.proofs.Common.{◌≡◌, ℕ, zero, suc, List, [], ◌∷◌, Option, Some, slice_get, subst, sym}
 use Rattle.std.specs.Prelude.{IsSomeAnd}
 use Rattle.std.specs.List.{AllByRecursion}

@@ -36,7 +36,7 @@ pub record TracksListed {F : Type 0} (contents : F → Option Contents) (state :
   pub tracks : Tracks contents state edits
   pub lists : ListsAll tracks.root.places state.places
 
--- where a journal is, the edits that are written down in it are such
+-- if there is a journal, the edits that are written down in it are such
 abbrev pub IfWritten : (List Edit → Type 0) → Option JournalView → Type 0
 IfWritten Such None = ⊤
 IfWritten Such (Some journal) = HasWritten Such journal
@@ -71,7 +71,7 @@ bytes_written (Some journal) = length journal.logged + length journal.waiting
 
 -- ---- rows that are written down
 
--- where a journal is, it has no room for these edits
+-- if there is a journal, it has no room for these edits
 abbrev pub OverfillsJournal : Option JournalView → List Edit → Type 0
 OverfillsJournal None edits = ⊥
 OverfillsJournal (Some journal) edits = ¬ HasRoomFor journal edits
@@ -140,7 +140,7 @@ pub record KeepsFollowing {F : Type 0} (contents : F → Option Contents) (fault
   pub lists : (journal : Option JournalView) (state : ClusterState F)
       → FollowsListed contents state journal → Follows contents state journal
 
--- A store that was opened from a root shows what its files keep, with no edit. Where all memtables
+-- A store that was opened from a root shows what its files keep, with no edit. If all memtables
 -- are empty, they have nothing that isn't written down.
 pub record OpensFollowing {F : Type 0} (contents : F → Option Contents) : Type 0 where
   pub reopened : (root : RootView) (cells : Cells) (top floor : ℕ) (state : ClusterState F)

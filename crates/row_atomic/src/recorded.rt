@@ -10,8 +10,8 @@ use cell_key::{Edit, Family, Qualifier, Refusal, Row, Stamp, replays};
 use file_store::Files;
 use tablet::{BatchLimits, VersionBatch};
 
-/// A cluster, and where edits are recorded the journal in which each is written down, before an answer says that it was
-/// made. Where none are, an edit costs a test of that more than the cluster's, and nothing is kept.
+/// A cluster, and, if edits are recorded, the journal in which each is written down before an answer says that it was
+/// made. If none are, an edit costs a test of that more than the cluster's, and nothing is kept.
 ///
 /// While the journal is there, what is written down leads from what the files keep to what the cluster shows: that is
 /// part of what holds of these rows. All that a cluster does but `apply` leaves it so (`keeps_following`), and may be
@@ -58,7 +58,7 @@ impl<F: Files> Recorded<F> {
         self.journal.is_some()
     }
 
-    /// The bytes of the edits that wait for the log: a record of it. None wait where edits aren't recorded.
+    /// The bytes of the edits that wait for the log: a record of it. None wait if edits aren't recorded.
     pub fn waiting(&self) -> &[u8]
         ensures bytes { result.now ≡ waiting_of self.now.journal }
         ensures within { IfSome self.now.journal IsWithin }

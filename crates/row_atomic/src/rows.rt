@@ -8,7 +8,7 @@ ghost use Rattle.cell_key.specs.Faults.{HasReason};
 ghost use Rattle.cell_key.specs.Places.{AreNextCells, IsNextCell, place_named};
 ghost use Rattle.cell_key.specs.Versions.{IsVersion, IsVersionIn, stamped};
 ghost use Rattle.tablet.specs.Batches.{AreNextVersions, IsFull};
-ghost use Rattle.tablet.specs.Reads.{AreNewest, HasVersion};
+ghost use Rattle.tablet.specs.Reads.{AreNewestFirst, HasVersion};
 ghost use Rattle.row_atomic.specs.Calls.{Applies, AreReadableFrom, OnlyReads, View};
 ghost use Rattle.row_atomic.specs.Refusals.{IsApplyRefusal, IsRefusalOfRead};
 
@@ -66,7 +66,7 @@ pub trait Rows {
         hi: Stamp,
         most: usize,
     ) -> Result<Vec<(Stamp, Vec<u8>)>, Refusal>
-        ensures found { seen.readable self.old row.now → IfOk result (λ found. AreNewest
+        ensures found { seen.readable self.old row.now → IfOk result (λ found. AreNewestFirst
             (seen.cells self.old) (version row.now family.now qualifier) hi most
             (map stamped found.items)) }
         ensures few { IfOk result (λ found. length found.items ≤ most) }

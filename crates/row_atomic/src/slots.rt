@@ -14,7 +14,7 @@ ghost use Rattle.cell_key.specs.Places.{AreNextCells, IsNextCell, place_named};
 ghost use Rattle.cell_key.specs.Versions.{stamped, HasLimits, IsVersion};
 ghost use Rattle.std.specs.Bool.{OnFalse};
 ghost use Rattle.tablet.specs.Batches.{place_in, AreNextVersions, HasNewest, IsFull};
-ghost use Rattle.tablet.specs.Reads.{AreNewest, HasVersion};
+ghost use Rattle.tablet.specs.Reads.{AreNewestFirst, HasVersion};
 ghost use Rattle.row_atomic.specs.Slots.{slot_cells, slot_at, keyed, HasSlot, KeepsSlots, EmptiesNone, AreFilled, IsFullBut, IsFirstKey, past, HasEdited};
 
 use cell_key::{CellKey, Edit, Family, Qualifier, Row, Stamp, last_place};
@@ -73,7 +73,7 @@ pub(crate) fn versions(
 ) -> Result<Vec<(Stamp, Vec<u8>)>, AllocError>
     requires full { AreFilled slots.now.entries }
     requires limits { HasLimits (slot_cells slots.now.entries) }
-    ensures found { IfOk result (λ found. AreNewest (slot_cells slots.now.entries)
+    ensures found { IfOk result (λ found. AreNewestFirst (slot_cells slots.now.entries)
         (version row.now family.now qualifier) hi most (map stamped found.items)) }
     ensures few { IfOk result (λ found. length found.items ≤ most) }
     ensures limits { IfOk result (λ found.

@@ -15,7 +15,7 @@ no_value : (b : Bool) (o : Option (Option (List ℕ))) → value_of o ≡ None �
 no_value true o e = refl
 no_value false o e = e
 
--- where there is no value, no text has one
+-- if there is no value, no text has one
 pub first_none : (es : List Entry) → first_value es ≡ None → (name : List ℕ) → value_of (entry_of_key es name) ≡ None
 first_none [] e name = refl
 first_none ((n, None) ∷ es) e name = no_value (eq_by_cmp byte_cmp name n) (find byte_cmp name es) (first_none es e name)

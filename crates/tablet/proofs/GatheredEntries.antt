@@ -85,7 +85,7 @@ or_none : {A : Type 0} (x : Option A) → or_else x None ≡ x
 or_none None = refl
 or_none (Some a) = refl
 
--- where what follows doesn't name a key, it has the value that it had
+-- if what follows doesn't name a key, it has the value that it had
 pub get_front : (es more : List Entry) → IsEntryList (es ++ more) → (q : CellKey) → (IsStored q → value_of (or_else (entry_of_key es (text q)) (entry_of_key more (text q))) ≡ value_of (entry_of_key es (text q))) → get (cells_of (es ++ more)) q ≡ get (cells_of es) q
 get_front es more list q same = go (stored_or_none (es ++ more) list.each q) (stored_or_none es (list_front es more list).each q)
   where

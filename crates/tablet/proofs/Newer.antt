@@ -1,11 +1,13 @@
 -- What files show below a stamp that is hidden.
-use Rattle.std.proofs.Common.{◌≡◌, ◌≤◌, ◌<◌, ◌+◌, ℕ, Bool, true, cond, List, [], ◌∷◌, ◌⊎◌, inl, inr, map, Option, Some, None, refl, sym, ap, subst, ◌∙◌, arith}
+use Rattle.std.proofs.Common.{◌≡◌, ◌≤◌, ◌<◌, ◌+◌, ℕ, suc, Bool, true, cond, List, [], ◌∷◌, ◌++◌, ◌⊎◌, length, Vec, inl, inr, map, Option, Some, None, refl, sym, ap, subst, ◌∙◌, arith}
 use Rattle.std.specs.Prelude.{IfSome, IsTrue, nat_lt, false}
 use Rattle.std.proofs.lemmas.Bool.Decides.{nat_tests}
+use Rattle.std.proofs.lemmas.List.{length-append}
 use Rattle.std.specs.FinMap.{get}
 use Rattle.cell_key.specs.Keys.{text, IsStored}
 use Rattle.cell_key.specs.Cells.{Cells, IsNewest, version}
 use Rattle.cell_key.specs.Entries.{Entry, cells_of, entry_of_key, first_naming, value_of}
+use Rattle.cell_key.specs.Versions.{stamped}
 use Rattle.cell_key.specs.declared.keys.CellKey.{CellKey}
 use Rattle.cell_key.specs.declared.keys.Qualifier.{Qualifier}
 use Rattle.cell_key.proofs.EntryLaws.{get-cells_of}
@@ -13,7 +15,7 @@ use Rattle.file_store.specs.Store.{Contents}
 use Rattle.sorted_file.specs.File.{listed}
 use Rattle.tablet.specs.Ranges.{has_row, seen}
 use Rattle.sorted_file.specs.Newest.{IsAfterStamp}
-use Rattle.tablet.specs.Reads.{HasNoLater}
+use Rattle.tablet.specs.Reads.{AreNewestFirst, HasNoLater}
 use Rattle.tablet.specs.Views.{range_of, memory_of, files_of, lists_of, cells_at, Holds, IsSameTablet}
 use Rattle.tablet.specs.declared.tablet.Tablet.{Tablet}
 use Rattle.tablet.specs.declared.ranges.RowRange.{RowRange}
@@ -114,3 +116,64 @@ module _ (o : Option Contents) (t : Tablet) (row family : List ℕ) (q : Qualifi
         let here = moved m told held has (Some v) h in
         let a = here.0 in let b = here.1 in
         (omega (arith, a, low), omega (arith, b, high), here.2, λ s c d. later held has memory s (omega (arith, a, b, c)) (omega (arith, a, low, c)) d)) after finds
+
+  -- what is the newest up to a stamp, after which there is none, is so in all of the range
+  module _ (now : Option Contents) (w : Tablet) (same : now ≡ o) (is : IsSameTablet o t w) (to : ℕ) (high : to ≤ hi) (above : NoneAbove to) where
+    side : (s : ℕ) → (to < s) ⊎ (s ≤ to)
+    side s = go (nat_lt to s) refl
+      where
+        go : (b : Bool) → nat_lt to s ≡ b → (to < s) ⊎ (s ≤ to)
+        go true e = inl (grind (arith, nat_tests, e))
+        go false e = inr (grind (arith, nat_tests, e))
+
+    wider : (cells : Cells) (found : Option (ℕ × List ℕ)) → ((s : ℕ) → to < s → s ≤ hi → get cells (at s) ≡ None) → IsNewest cells at lo to found → IsNewest cells at lo hi found
+    wider cells None none h = λ s a b. go s a b (side s)
+      where
+        go : (s : ℕ) → lo ≤ s → s ≤ hi → (to < s) ⊎ (s ≤ to) → get cells (at s) ≡ None
+        go s a b (inl gt) = none s gt b
+        go s a b (inr le) = h s a le
+    wider cells (Some v) none (low, upto, there, later) = (low, omega (arith, upto, high), there, λ s a b. go s a b (side s))
+      where
+        go : (s : ℕ) → v.0 < s → s ≤ hi → (to < s) ⊎ (s ≤ to) → get cells (at s) ≡ None
+        go s a b (inl gt) = none s gt b
+        go s a b (inr le) = later s a le
+
+    pub newest_below : (found : Option (ℕ × List ℕ)) → IfSome now (λ m. Holds m w → IsTrue (has_row (range_of w) row) → IsNewest (cells_at m w) at lo to found) → Tells (λ m. IsNewest (cells_at m t) at lo hi found)
+    newest_below found finds =
+        told_both o now same _ (λ m. Holds m w → IsTrue (has_row (range_of w) row) → IsNewest (cells_at m w) at lo to found) _
+        (λ m told a h held has memory. wider (cells_at m t) found (a held has memory)
+        (subst (λ (cells : Cells). IsNewest cells at lo to found) (same_cells o m t w told is held)
+        (h (still_at o m t w told is held).0 (subst (λ (r : RowRange). IsTrue (has_row r row)) (sym is.range) has)))) above finds
+
+-- the newest version alone, outside a range
+none_in : (cells : Cells) (at : ℕ → CellKey) (lo hi : ℕ) (v : ℕ × List ℕ) (left : List (ℕ × List ℕ)) → AreNewestFirst cells at hi 1 (v ∷ left) → (lo ≤ v.0 → v.0 ≤ hi → ⊥) → IsNewest cells at lo hi None
+none_in cells at lo hi v left (some, (low, upto, there, later), one, more) outside = λ s a b. later s (below s a (nat_lt v.0 s) refl) b
+  where
+    below : (s : ℕ) → lo ≤ s → (c : Bool) → nat_lt v.0 s ≡ c → v.0 < s
+    below s a true e = grind (arith, nat_tests, e)
+    below s a false e = let le : s ≤ v.0 = grind (arith, nat_tests, e) in absurd (outside (omega (arith, a, le)) upto)
+
+only_last : {A : Type 0} (before items : List A) (v : A) → items ≡ before ++ v ∷ [] → length items ≤ 1 → items ≡ v ∷ []
+only_last [] items v is few = is
+only_last (r ∷ before) items v is few = let longer = ap length is ∙ ap suc (length-append before (v ∷ [])) in absurd (omega (arith, few, longer))
+
+module _ {Z : Type 0} (o : Option Contents) (t : Tablet) (row family : List ℕ) (q : Qualifier) (lo hi : ℕ) (items : List (ℕ × Vec ℕ Z)) (found : IfSome o (λ m. Holds m t → IsTrue (has_row (range_of t) row) → AreNewestFirst (cells_at m t) (version row family q) hi 1 (map stamped items))) where
+  abbrev ShowsNone : Type 0
+  ShowsNone = IfSome o (λ m. Holds m t → IsTrue (has_row (range_of t) row) → IsNewest (cells_at m t) (version row family q) lo hi None)
+
+  each : (vs : List (ℕ × List ℕ)) → map stamped items ≡ vs → ((cells : Cells) → AreNewestFirst cells (version row family q) hi 1 vs → IsNewest cells (version row family q) lo hi None) → ShowsNone
+  each vs is so = go o found
+    where
+      go : (o : Option Contents) → IfSome o (λ m. Holds m t → IsTrue (has_row (range_of t) row) → AreNewestFirst (cells_at m t) (version row family q) hi 1 (map stamped items)) → IfSome o (λ m. Holds m t → IsTrue (has_row (range_of t) row) → IsNewest (cells_at m t) (version row family q) lo hi None)
+      go None h = tt
+      go (Some m) h = λ held has. so (cells_at m t) (subst (AreNewestFirst (cells_at m t) (version row family q) hi 1) is (h held has))
+
+  pub none_of_none : items ≡ [] → ShowsNone
+  none_of_none is = each [] (ap (map stamped) is) (λ cells h s a b. h (omega arith) s (omega arith) b)
+
+  pub none_of_one : (before : List (ℕ × Vec ℕ Z)) (v : ℕ × Vec ℕ Z) → items ≡ before ++ v ∷ [] → length items ≤ 1 → (lo ≤ v.0 → v.0 ≤ hi → ⊥) → ShowsNone
+  none_of_one before v is few outside = each (stamped v ∷ []) (ap (map stamped) (only_last before items v is few)) (λ cells h. none_in cells (version row family q) lo hi (stamped v) [] h outside)
+
+pub nothing_left : {A : Type 0} (items : List A) → length items ≡ 0 → items ≡ []
+nothing_left [] none = refl
+nothing_left (x ∷ items) none = absurd (omega (arith, none))

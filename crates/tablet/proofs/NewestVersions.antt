@@ -25,7 +25,7 @@ use Rattle.file_store.specs.Store.{Contents}
 use Rattle.sorted_file.specs.File.{IsOpen, listed}
 use Rattle.sorted_file.specs.declared.file.SortedFile.{SortedFile}
 use Rattle.tablet.specs.Ranges.{has_row}
-use Rattle.tablet.specs.Reads.{AreNewest, stamped_values}
+use Rattle.tablet.specs.Reads.{AreNewestFirst, stamped_values}
 use Rattle.tablet.specs.Sources.{part}
 use Rattle.tablet.specs.Views.{range_of, memory_of, files_of, lists_of, cells_at, Holds}
 use Rattle.tablet.specs.declared.ranges.RowRange.{RowRange}
@@ -206,8 +206,8 @@ module _ (row family : List ℕ) (qualifier : Qualifier) (is_row : IsRow row) (i
           ∙ ap value_of (find_below (text (at t)) es (below_less (text (at t)) name es order (first _ _ rising))),
     )
 
-    newest_values : get cells (at 0) ≡ None → (es : List Entry) → IsRising es → (hi most : ℕ) → hi < 2 ^ 63 → AllByRecursion (λ e. IsOfColumn hi e.0) es → Shows hi es → AreNewest cells at hi most (take most (stamped_values es))
-    newest_values none_first [] rising hi most high all shows = subst (AreNewest cells at hi most) (sym (take_none most)) (λ wanted. newest_none hi none_first shows)
+    newest_values : get cells (at 0) ≡ None → (es : List Entry) → IsRising es → (hi most : ℕ) → hi < 2 ^ 63 → AllByRecursion (λ e. IsOfColumn hi e.0) es → Shows hi es → AreNewestFirst cells at hi most (take most (stamped_values es))
+    newest_values none_first [] rising hi most high all shows = subst (AreNewestFirst cells at hi most) (sym (take_none most)) (λ wanted. newest_none hi none_first shows)
     newest_values none_first ((name, None) ∷ es) rising hi most high all shows = newest_values none_first es (second _ _ rising) hi most high all.1 (passes_erased name es hi rising shows)
     newest_values none_first ((name, Some value) ∷ es) rising hi zero high all shows = λ wanted. absurd (omega (arith, wanted))
     newest_values none_first ((name, Some value) ∷ es) rising hi (suc k) high all shows =
@@ -216,17 +216,17 @@ module _ (row family : List ℕ) (qualifier : Qualifier) (is_row : IsRow row) (i
         let from : 1 ≤ c.stamp = c.from in
         let same : c.stamp ≡ (key_of_text name).stamp = sym (ap (λ (n : List ℕ). (key_of_text n).stamp) c.named ∙ ap (λ (key : CellKey). key.stamp) (key_of_text-text (at c.stamp) (is_stored c.stamp from (omega arith)))) in
         let fewer : k ≡ suc k - 1 = omega arith in
-        subst (λ (s : ℕ). AreNewest cells at hi (suc k) ((s, value) ∷ take k (stamped_values es))) same (
+        subst (λ (s : ℕ). AreNewestFirst cells at hi (suc k) ((s, value) ∷ take k (stamped_values es))) same (
           omega arith,
           newest_some name value es c.stamp hi high from c.named most rising shows,
           from,
-          subst (λ (j : ℕ). AreNewest cells at (c.stamp - 1) j (take k (stamped_values es))) fewer
+          subst (λ (j : ℕ). AreNewestFirst cells at (c.stamp - 1) j (take k (stamped_values es))) fewer
               (newest_values none_first es (second _ _ rising) (c.stamp - 1) k (omega arith)
               (narrowed c.stamp hi (omega arith) high es (subst (λ (n : List ℕ). T (below_all byte_cmp n es)) c.named (first _ _ rising)) all.1)
               (passes_value name value es c.stamp hi (omega arith) from c.named most shows)),
         )
 
-    widened : (last hi most : ℕ) → last ≤ hi → ((s : ℕ) → s ≤ hi → (s ≤ last) ⊎ (get cells (at s) ≡ None)) → (vs : List (ℕ × List ℕ)) → AreNewest cells at last most vs → AreNewest cells at hi most vs
+    widened : (last hi most : ℕ) → last ≤ hi → ((s : ℕ) → s ≤ hi → (s ≤ last) ⊎ (get cells (at s) ≡ None)) → (vs : List (ℕ × List ℕ)) → AreNewestFirst cells at last most vs → AreNewestFirst cells at hi most vs
     widened last hi most below either [] found = λ wanted s low up. go s (found wanted) (either s up)
       where
         go : (s : ℕ) → IsNewest cells at 0 last None → (s ≤ last) ⊎ (get cells (at s) ≡ None) → get cells (at s) ≡ None
@@ -293,7 +293,7 @@ module _ (row family : List ℕ) (qualifier : Qualifier) (is_row : IsRow row) (i
         go (inl stored) = absurd (let from : 1 ≤ 0 = stored.from in omega arith)
         go (inr e) = e
 
-    pub newest_shown : (hi most : ℕ) → last ≤ hi → ((s : ℕ) → s < 2 ^ 63 → s ≤ hi → s ≤ last) → AreNewest shown_cells at hi most (take most (stamped_values entries))
+    pub newest_shown : (hi most : ℕ) → last ≤ hi → ((s : ℕ) → s < 2 ^ 63 → s ≤ hi → s ≤ last) → AreNewestFirst shown_cells at hi most (take most (stamped_values entries))
     newest_shown hi most below down = widened shown_cells last hi most below (λ s up. go s up (stored_or_hidden range lists each (at s))) (take most (stamped_values entries))
         (newest_values shown_cells none_first entries list.rising last most high columns shows)
       where
@@ -306,17 +306,17 @@ module _ (row family : List ℕ) (qualifier : Qualifier) (is_row : IsRow row) (i
   pub newest_found : (t : Tablet) (fs : List SortedFile) → fs ≡ files_of t → (last hi most : ℕ) → last < 2 ^ 63 → last ≤ hi → ((s : ℕ) → s < 2 ^ 63 → s ≤ hi → s ≤ last)
       → (x : List ℕ) (y : Option (List ℕ)) → x ≡ text (at last) → y ≡ Some (text (at 0)) → (vs : List (ℕ × List ℕ)) → (o : Option Contents)
       → IfSome o (λ m. AllByRecursion (IsOpen m) fs → vs ≡ take most (stamped_values (part x y (memory_of t ∷ map (listed m) fs))))
-      → IfSome o (λ m. Holds m t → IsTrue (has_row (range_of t) row) → AreNewest (cells_at m t) (version row family qualifier) hi most vs)
+      → IfSome o (λ m. Holds m t → IsTrue (has_row (range_of t) row) → AreNewestFirst (cells_at m t) (version row family qualifier) hi most vs)
   newest_found t fs files last hi most high below down x y starts ends vs None h = tt
   newest_found t fs files last hi most high below down x y starts ends vs (Some m) h =
       λ held has.
-      subst (AreNewest (cells_at m t) at hi most)
+      subst (AreNewestFirst (cells_at m t) at hi most)
       (sym (h (subst (λ (gs : List SortedFile). AllByRecursion (IsOpen m) gs) (sym files) held.files) ∙ (λ i. take most (stamped_values (part (starts i) (ends i) (memory_of t ∷ map (listed m) (files i)))))))
       (newest_shown (range_of t) (lists_of m t) (held_lists m t held) has last high hi most below down)
 
 -- ---- what a search finds
 
--- so many were found
+-- as many were found as were asked for
 pub found_full : (vs all : List (ℕ × List ℕ)) (left : List Entry) (most : ℕ) → vs ++ stamped_values left ≡ all → length vs ≡ most → vs ≡ take most all
 found_full vs all left most e full =
     sym (ap (take most) (sym e) ∙ take-append-le most vs (stamped_values left) (omega arith) ∙ take_whole vs most (omega arith))

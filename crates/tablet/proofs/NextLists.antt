@@ -15,7 +15,7 @@ module _ (IsNext : Option Place → Option Place → Type 0) where
   pub next_one : (after : Option Place) (place : Place) → IsNext after (Some place) → AreNext IsNext after 1 (place ∷ [])
   next_one after place next = (omega arith, next, λ some. absurd (omega (arith, some)))
 
-  -- they are so many if more were wanted only where none is next
+  -- they are as many as were wanted, or none is next
   pub next_all : (n most : ℕ) (after : Option Place) (places : List Place) → length places ≡ n → n ≤ most → AreNext IsNext after n places → (1 ≤ most - n → IsNext (last_or after places) None) → AreNext IsNext after most places
   next_all n most after [] len few some ends = λ wanted. ends (omega arith)
   next_all n most after (place ∷ places) len few some ends = (

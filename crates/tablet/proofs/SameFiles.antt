@@ -53,7 +53,7 @@ module _ (o : Option Contents) where
   same_lists m (x ∷ xs) (y ∷ ys) all = ap (λ es. es ∷ map (listed m) ys) (all.0.lists m) ∙ ap (λ lists. listed m x ∷ lists) (same_lists m xs ys all.1)
 
 module _ (m : Contents) where
-  -- where they were open they are, and stand for the same lists
+  -- if they were open they are, and stand for the same lists
   pub record AreStill (xs ys : List SortedFile) : Type 0 where
     pub each : AllByRecursion (IsOpen m) ys
     pub lists : map (listed m) ys ≡ map (listed m) xs
@@ -96,7 +96,7 @@ module _ (o now : Option Contents) (same : now ≡ o) (xs ys : List SortedFile) 
           (first, ap (λ (es : List Entry). or_else (entry_of_key es name) (first_naming (map (listed m) xs) name)) (sym (all.0.lists m)))
       at (x ∷ xs) (y ∷ ys) (suc i) below all each = at xs ys i (omega (arith, below)) all.1 each.1
 
-  -- where it isn't open, not all are
+  -- if it isn't open, not all are
   pub not_open : IfSome now (λ m. ¬ IsOpen m (get_or ys i d)) → IfSome o (λ m. ¬ AllByRecursion (IsOpen m) xs)
   not_open closed = told_both o now same (λ m. ⊤) (λ m. ¬ IsOpen m (get_or ys i d)) _ (λ m is _ not each. not (still_at m [] is each).0) (told_any o) closed
 
@@ -153,7 +153,7 @@ module _ (o now : Option Contents) (same : now ≡ o) (xs ys : List SortedFile) 
     within_still None (Some n) old new low = (let a = new.0 in omega (arith, a, low), new.1)
     within_still (Some f) (Some n) old new low = (let a = new.0 in let b = old.0 in omega (arith, a, b, low), new.1)
 
--- where all files were asked, none shows a later value
+-- if all files were asked, none shows a later value
 pub no_later : (o : Option Contents) (xs : List SortedFile) (i : ℕ) (key : CellKey) (lo : ℕ) (stamp : Option ℕ) → length xs ≤ i
     → IfSome o (λ m. AllByRecursion (IsOpen m) xs → (s : ℕ) → IsAfterStamp s lo stamp → s ≤ key.stamp → IsStored (at_stamp key s)
     → value_of (first_naming (map (listed m) (drop i xs)) (text (at_stamp key s))) ≡ None → value_of (first_naming (map (listed m) xs) (text (at_stamp key s))) ≡ None)

@@ -26,9 +26,10 @@ pub record AreGathered (from : List ℕ) (end : Option (List ℕ)) (memtable : O
   pub each : AreSourcesOf from end memtable (take i files) sources
   pub lists : (told : Option Contents) → AllByRecursion (IsOpenIn told) files → map (remaining_of told) sources ≡ map (entries_between from end) (lists_over told memtable (take i files))
 
-each-push : {A : Type 0} (P : A → Type 0) (xs : List A) (x : A) → AllByRecursion P xs → P x → AllByRecursion P (xs ++ x ∷ [])
-each-push P [] x all p = (p, tt)
-each-push P (y ∷ xs) x all p = (all.0, each-push P xs x all.1 p)
+-- a property of each item holds of each after one more is pushed
+pub each_push : {A : Type 0} (P : A → Type 0) (xs : List A) (x : A) → AllByRecursion P xs → P x → AllByRecursion P (xs ++ x ∷ [])
+each_push P [] x all p = (p, tt)
+each_push P (y ∷ xs) x all p = (all.0, each_push P xs x all.1 p)
 
 map-push : {A B : Type 0} (f : A → B) (xs : List A) (x : A) → map f (xs ++ x ∷ []) ≡ map f xs ++ f x ∷ []
 map-push f [] x = refl
@@ -85,10 +86,10 @@ module _ (from : List ℕ) (end : Option (List ℕ)) (memtable : Option (List En
   one_gathered i xs ys file s g l is start list of pushed = record {
     of = subst (λ (zs : List (Bounded Input)). AllByRecursion (HasSource from end zs) (take (i + 1) files)) (sym pushed)
         (subst (AllByRecursion (HasSource from end (xs ++ s ∷ []))) (sym (one_more files i file l is))
-        (each-push (HasSource from end (xs ++ s ∷ [])) (take i files) file (still_there from end xs s (take i files) g.of) (record { source = s; among = Contains-push xs s; of = of })));
+        (each_push (HasSource from end (xs ++ s ∷ [])) (take i files) file (still_there from end xs s (take i files) g.of) (record { source = s; among = Contains-push xs s; of = of })));
     each = subst (λ (zs : List (Bounded Input)). AreSourcesOf from end memtable (take (i + 1) files) zs) (sym pushed)
         (subst (λ (fs : List SortedFile). AreSourcesOf from end memtable fs (xs ++ s ∷ [])) (sym (one_more files i file l is)) (sources_push from end memtable (take i files) xs file s g.each of));
-    start = λ m all. subst (λ (zs : List (Bounded Input)). AllByRecursion (IsAtStart m) zs) (sym pushed) (each-push (IsAtStart m) xs s (g.start m all) (start m (opened m all)));
+    start = λ m all. subst (λ (zs : List (Bounded Input)). AllByRecursion (IsAtStart m) zs) (sym pushed) (each_push (IsAtStart m) xs s (g.start m all) (start m (opened m all)));
     lists =
         λ m all.
         ap (map (remaining_of m)) pushed

@@ -68,13 +68,13 @@ HasNoLater key lo found lists =
     (s : ℕ) → IsAfterStamp s lo found → s ≤ key.stamp → IsStored (at_stamp key s)
     → value_of (first_naming lists (text (at_stamp key s))) ≡ None
 
--- The versions of a column with stamps up to hi, the newest first: so many, or fewer if no more are left.
--- The key of each stamp is given by at.
-abbrev pub AreNewest : Cells → (ℕ → CellKey) → ℕ → ℕ → List (ℕ × List ℕ) → Type 0
-AreNewest cells at hi most [] = 1 ≤ most → IsNewest cells at 0 hi None
-AreNewest cells at hi most (found ∷ rest) =
+-- The versions of a column with stamps up to hi, the newest first: as many as most says, or all, if they are
+-- fewer. The key of each stamp is given by at.
+abbrev pub AreNewestFirst : Cells → (ℕ → CellKey) → ℕ → ℕ → List (ℕ × List ℕ) → Type 0
+AreNewestFirst cells at hi most [] = 1 ≤ most → IsNewest cells at 0 hi None
+AreNewestFirst cells at hi most (found ∷ rest) =
     (1 ≤ most) × IsNewest cells at 0 hi (Some found) × (1 ≤ found.0)
-    × AreNewest cells at (found.0 - 1) (most - 1) rest
+    × AreNewestFirst cells at (found.0 - 1) (most - 1) rest
 
 -- the values of entries, each with the stamp of its key
 abbrev pub stamped_values : List Entry → List (ℕ × List ℕ)

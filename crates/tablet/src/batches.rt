@@ -25,7 +25,7 @@ pub struct VersionBatch {
     pub is_last: bool,
 }
 
-/// When a batch is full: with so many cells, or with cells whose values have so many bytes.
+/// When a batch is full: with this number of cells, or with cells whose values have this number of bytes together.
 #[derive(Clone, Copy, Debug)]
 pub struct BatchLimits {
     pub cells: usize,

@@ -158,8 +158,8 @@ impl OpenFiles {
         }
     }
 
-    /// Makes room for a file more, of so many entries at most. Answers `NoMemory` if there is no memory. The files stay,
-    /// also after an `Err`.
+    /// Makes room for one more file, of at most this number of entries. Answers `NoMemory` if there is no memory. The files
+    /// stay, also after an `Err`.
     pub(crate) fn reserve(&mut self, entries: usize) -> Result<(), Refusal>
         ensures same { self.new ≡ self.old }
         ensures refusal { IfErr result (λ refusal. refusal ≡ Refusal.NoMemory) }

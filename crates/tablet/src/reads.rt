@@ -14,7 +14,7 @@ ghost use Rattle.std.specs.Bool.{OnFalse};
 ghost use Rattle.std.specs.List.{AllByRecursion};
 ghost use Rattle.tablet.specs.Batches.{AreNextVersions, IsFull};
 ghost use Rattle.tablet.specs.Ranges.{has_row};
-ghost use Rattle.tablet.specs.Reads.{AreNewest, HasNoLater, HasVersion, HaveNoValue, IsLater};
+ghost use Rattle.tablet.specs.Reads.{AreNewestFirst, HasNoLater, HasVersion, HaveNoValue, IsLater};
 
 use crate::batches::{BatchLimits, VersionBatch};
 use crate::lookup::lookup;
@@ -25,6 +25,9 @@ use cell_key::{CellKey, Family, MOST_STAMP, Qualifier, Refusal, Row, Stamp};
 use file_store::Files;
 use sorted_file::LookupKey;
 use std::alloc::Global;
+
+/// How many hidden versions a look-up passes by one at a time.
+const FEW_HIDDEN: usize = 8;
 
 /// A copy of a version that is lent, if there is one. Answers `NoMemory` if there is no memory.
 fn copy_version(
@@ -99,8 +102,9 @@ impl Tablet {
         }
     }
 
-    /// The version with the greatest stamp in `lo..=hi`, if the memtable has none there: by the newest stamps
-    /// of the files' values, unless one stamp is all of them. One that a newer erasure hides is passed by.
+    /// The version with the greatest stamp in `lo..=hi`, if the memtable has none there: by the newest stamps of the
+    /// files' values, unless one stamp is all of them. One that a newer erasure hides is passed by, and behind eight of
+    /// them the others are passed by together.
     fn newest_in_files<F: Files>(
         &mut self,
         row: &Row,
@@ -132,14 +136,49 @@ impl Tablet {
         if lo == hi {
             return self.version_at(&key, files);
         }
-        'hidden: while let Some(stamp) = self.newest_file_stamp(&key, lo, files)? {
+        let mut passed = 0;
+        'hidden: while passed < FEW_HIDDEN {
+            let Some(stamp) = self.newest_file_stamp(&key, lo, files)? else {
+                return Ok(None);
+            };
             key.set_stamp(stamp);
             if let Some(found) = self.version_at(&key, files)? {
                 return Ok(Some(found));
             }
             key.set_stamp(stamp - 1);
+            passed += 1;
         }
-        Ok(None)
+        let below = key.key().stamp;
+        self.newest_by_pass(row, family, qualifier, lo, below, files)
+    }
+
+    /// The version with the greatest stamp in `lo..=hi`, by one pass over the column from `hi` down.
+    fn newest_by_pass<F: Files>(
+        &self,
+        row: &Row,
+        family: &Family,
+        qualifier: Qualifier,
+        lo: Stamp,
+        hi: Stamp,
+        files: &mut F,
+    ) -> Result<Option<(Stamp, Vec<u8>)>, Refusal>
+        ensures found { IfOk result (λ found. IfSome (F.contents files.old) (λ m. Holds m self.now
+            → IsTrue (has_row (range_of self.now) row.now)
+            → IsNewest (cells_at m self.now) (version row.now family.now qualifier) lo hi
+            (option_map stamped found))) }
+        ensures limits { IfOk result (λ found.
+            IfSome (option_map stamped found) (IsVersionIn lo hi)) }
+        ensures damaged { IsErrOf result Refusal.Damaged
+            → IfSome (F.contents files.old) (λ m. ¬ Holds m self.now) }
+        ensures refusal { IfErr result IsReadRefusal }
+        ensures same { F.contents files.new ≡ F.contents files.old }
+        ensures reason { HasReason (F.faults files.old) (F.faults files.new) result }
+    {
+        let mut found = self.versions(row, family, qualifier, hi, 1, files)?;
+        match found.pop() {
+            Some((stamp, value)) if lo <= stamp && stamp <= hi => Ok(Some((stamp, value))),
+            _ => Ok(None),
+        }
     }
 
     /// The greatest stamp, from `lo` up to that of the key, at which the files may have a value of the key's column: later
@@ -169,7 +208,8 @@ impl Tablet {
     /// nothing. The memtable is searched first, and no file is asked if it decides: then only the value takes
     /// memory. No file is asked either if the filter of their keys says that none has such a version. Else each
     /// file is asked for the stamp of its newest value that is later than the memtable's, and the version there is
-    /// looked up, or as many more as newer erasures hide. The tablet stays what it was, also after an `Err`.
+    /// looked up. If newer erasures hide it, the next one is, and after eight of them the rest of the column is read by
+    /// one pass. The tablet stays what it was, also after an `Err`.
     ///
     /// # Errors
     ///
@@ -249,7 +289,7 @@ impl Tablet {
     }
 
     /// The versions of a cell's column with stamps at or below `hi` (Bigtable, timestamps), the newest first: `most` of
-    /// them, or fewer if no more are left. The memtable and the files are read once, up to the last of so many.
+    /// them, or all, if they are fewer. The memtable and the files are read once, up to the last one that is answered.
     ///
     /// # Errors
     ///
@@ -266,7 +306,7 @@ impl Tablet {
         ensures found { IfOk result (λ found.
             IfSome (F.contents files.old) (λ m. Holds m self.now
             → IsTrue (has_row (range_of self.now) row.now)
-            → AreNewest (cells_at m self.now) (version row.now family.now qualifier) hi most
+            → AreNewestFirst (cells_at m self.now) (version row.now family.now qualifier) hi most
             (map stamped found.items))) }
         ensures few { IfOk result (λ found. length found.items ≤ most) }
         ensures limits { IfOk result (λ found.
@@ -316,8 +356,8 @@ impl Tablet {
     }
 
     /// The first cells of the tablet that have any version, after the cell of `after`, which may lie outside
-    /// the tablet's range, or from its start: `most` of them, or fewer if no more are left. The memtable and the
-    /// files are read once, up to the last of so many.
+    /// the tablet's range, or from its start: `most` of them, or all, if they are fewer. The memtable and the
+    /// files are read once, up to the last one that is answered.
     ///
     /// # Errors
     ///

@@ -99,8 +99,8 @@ fn next_place<F: Files, S: Source<F>>(
     Ok(None)
 }
 
-/// The places of the values of a source, one after the other: `most` of them, or fewer if no more are left. Reads
-/// up to the last of so many and not further.
+/// The places of the values of a source, one after the other: `most` of them, or all, if they are fewer. Nothing is
+/// read behind the last one that is answered.
 fn next_places<F: Files, S: Source<F>>(
     alloc: Global,
     source: &mut S,
@@ -127,8 +127,8 @@ fn next_places<F: Files, S: Source<F>>(
 }
 
 /// The places of the values of a memtable and files together, the newest first, whose texts are `from` or come
-/// after it, and are below `end` if there is one: `most` of them, or fewer if no more are left. One pass over
-/// that range, which ends at the last of so many.
+/// after it, and are below `end` if there is one: `most` of them, or all, if they are fewer. One pass over
+/// that range, which ends at the last one that is answered.
 pub(crate) fn merged_places<F: Files>(
     alloc: Global,
     memtable: &Memtable,

@@ -42,7 +42,7 @@ impl<F: Files> Cluster<F> {
     }
 
     /// Lets each open file of each tablet cache this many blocks at most, from now on, and those too that will be opened.
-    /// Where a file has more, those go whose use is longest ago. All cells and places stay.
+    /// If a file has more, those go whose use is longest ago. All cells and places stay.
     pub fn resize_caches(&mut self, most_blocks: NonZeroUsize)
         ensures { IsOutcome
             F.contents F.faults Command.DropCaches Outcome.Done self.old self.new }

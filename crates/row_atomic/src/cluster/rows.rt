@@ -12,7 +12,7 @@ ghost use Rattle.std.specs.Bool.{OnFalse};
 ghost use Rattle.std.specs.List.{AllByRecursion};
 ghost use Rattle.cell_key.specs.Faults.{HasReason};
 ghost use Rattle.tablet.specs.Batches.{AreNextVersions, IsFull};
-ghost use Rattle.tablet.specs.Reads.{AreNewest, HasVersion};
+ghost use Rattle.tablet.specs.Reads.{AreNewestFirst, HasVersion};
 ghost use Rattle.row_atomic.specs.Calls.{AreReadableFrom, OnlyReads, seen_of};
 ghost use Rattle.row_atomic.specs.Changes.{IsOutOfOrder, MeetsDamage, OfHolder};
 ghost use Rattle.row_atomic.specs.Commands.{cells_shown};
@@ -178,7 +178,7 @@ impl<F: Files> Rows for Cluster<F> {
         most: usize,
     ) -> Result<Vec<(Stamp, Vec<u8>)>, Refusal>
         ensures found { IsReadable (F.contents self.old.files) self.old.places self.old.tablets
-            row.now → IfOk result (λ found. AreNewest (cells_shown F.contents self.old)
+            row.now → IfOk result (λ found. AreNewestFirst (cells_shown F.contents self.old)
             (version row.now family.now qualifier) hi most (map stamped found.items)) }
         ensures few { IfOk result (λ found. length found.items ≤ most) }
         ensures reads { OnlyReads (seen_of F.contents) self.old self.new }

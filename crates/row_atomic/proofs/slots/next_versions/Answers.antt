@@ -6,6 +6,7 @@ use Rattle.std.proofs.lemmas.List.{length-map, map-append}
 use Rattle.cell_key.specs.Places.{AreNext, AreNextCells, IsNextCell, Place, place_named}
 use Rattle.tablet.specs.Batches.{HasNewest, place_in, places_in}
 use Rattle.row_atomic.specs.Slots.{slot_cells}
+use Rattle.tablet.proofs.SourceLists.{each_push}
 use Rattle.row_atomic.proofs.ManyNexts.{next_ended}
 use Rattle.row_atomic.proofs.slots.next_versions.Goals as goal
 
@@ -17,10 +18,6 @@ take_all [] zero few = refl
 take_all [] (suc i) few = refl
 take_all (x ∷ xs) zero few = absurd (omega (arith, few))
 take_all (x ∷ xs) (suc i) few = ap (λ ys. x ∷ ys) (take_all xs i (omega (arith, few)))
-
-each-push : {A : Type 0} (P : A → Type 0) (xs : List A) (x : A) → AllByRecursion P xs → P x → AllByRecursion P (xs ++ x ∷ [])
-each-push P [] x all one = (one, tt)
-each-push P (y ∷ xs) x all one = (all.0, each-push P xs x all.1 one)
 
 so_many : (IsNext : Option Place → Option Place → Type 0) (n most : ℕ) (after : Option Place) (places : List Place) → length places ≡ n → AreNext IsNext after most places → AreNext IsNext after n places
 so_many IsNext n most after [] len next = λ wanted. absurd (omega (arith, wanted, len))
@@ -41,7 +38,7 @@ loop-place-preserved c =
           ∙ ap (λ (ps : List Place). ps ++ place_in one ∷ []) i.places
           ∙ ap (λ (p : Place). take at places ++ p ∷ []) c.in_ok-versions.ensures.place
           ∙ sym (one_more places at c.place-item.result c.loop-place-test.true c.place-item.is);
-      newest = subst (AllByRecursion (HasNewest (slot_cells c.args.slots.now.entries) c.args.hi)) (sym items) (each-push _ cells one i.newest c.in_ok-versions.ensures.newest);
+      newest = subst (AllByRecursion (HasNewest (slot_cells c.args.slots.now.entries) c.args.hi)) (sym items) (each_push _ cells one i.newest c.in_ok-versions.ensures.newest);
     }
 
 pub returns-clause-found : goal.returns-clause-found

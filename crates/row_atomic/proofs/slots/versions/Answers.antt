@@ -6,14 +6,11 @@ use Rattle.std.specs.declared.vec.Vec.{Vec}
 use Rattle.cell_key.specs.Cells.{IsNewest, version}
 use Rattle.cell_key.specs.Versions.{IsVersion, stamped}
 use Rattle.row_atomic.specs.Slots.{slot_cells}
+use Rattle.tablet.proofs.SourceLists.{each_push}
 use Rattle.row_atomic.proofs.Halves.{at_none, at_some}
 use Rattle.row_atomic.proofs.Limits.{answered}
 use Rattle.row_atomic.proofs.NewestLists.{AreFollowed, newest_end, newest_more}
 use Rattle.row_atomic.proofs.slots.versions.Goals as goal
-
-each-push : {A : Type 0} (P : A → Type 0) (xs : List A) (x : A) → AllByRecursion P xs → P x → AllByRecursion P (xs ++ x ∷ [])
-each-push P [] x all one = (one, tt)
-each-push P (y ∷ xs) x all one = (all.0, each-push P xs x all.1 one)
 
 pub wanted-init : goal.wanted-init
 wanted-init c =
@@ -41,7 +38,7 @@ wanted-preserved c =
     let fewer : c.args.most - length found - 1 ≡ c.args.most - length c.push.new.self.items = omega (arith, grown) in
     record {
       few = omega (arith, grown, c.wanted-test.true, c.len.ensures, c.wanted.found.ok.0);
-      limits = subst (AllByRecursion (λ version. IsVersion version.0 version.1.items)) (sym items) (each-push _ found (c.in-Some.stamp, c.in-Some.value) i.limits is.limits);
+      limits = subst (AllByRecursion (λ version. IsVersion version.0 version.1.items)) (sym items) (each_push _ found (c.in-Some.stamp, c.in-Some.value) i.limits is.limits);
       newest = subst (λ (n : ℕ). AreFollowed cells at c.args.hi c.args.most (c.in-Some.stamp - 1) n (map stamped c.push.new.self.items)) fewer
           (newest_more cells at c.args.hi c.args.most c.wanted.last (c.args.most - length found) c.in-Some.stamp c.in-Some.value.items (map stamped found) (map stamped c.push.new.self.items)
           i.newest (omega (arith, c.wanted-test.true, c.len.ensures, c.wanted.found.ok.0)) newest is.limits.from (ap (map stamped) items ∙ map-append stamped found ((c.in-Some.stamp, c.in-Some.value) ∷ [])));

@@ -12,7 +12,7 @@ use Rattle.tablet.specs.Views.{cells_at, files_of, range_of, Holds}
 use Rattle.tablet.specs.declared.tablet.Tablet.{Tablet}
 use Rattle.tablet.proofs.Lookups.{if_one, ok_map}
 use Rattle.cell_key.specs.declared.refusals.Refusal.TheVariants.{Device}
-use Rattle.tablet.proofs.Newer.{hidden, none_after, none_left, over_now, same_after_tablet, shows}
+use Rattle.tablet.proofs.Newer.{hidden, newest_below, none_after, none_left, over_now, same_after_tablet, shows}
 use Rattle.tablet.proofs.Passed.{not_err}
 use Rattle.tablet.proofs.tablet.Tablet.newest_in_files.Goals as goal
 
@@ -71,24 +71,24 @@ hidden-preserved g c =
     let within = rw c.in-Some.is at c.in_ok-stamp.ensures.within in
     let low : c.args.lo ≤ c.in-Some.stamp = within.0 in
     let high : c.in-Some.stamp ≤ c.args.hi = (let a = within.1 in let b = i.high in omega (arith, a, b)) in
-    let last = ap (λ (k : CellKey). k.stamp) c.set_stamp-in-Some.ensures in
-    let one : c.set_stamp-in-Some.new.self.stamp + 1 ≡ c.in-Some.stamp = (let a = c.requires.from in omega (arith, a, low, last)) in
+    let last = ap (λ (k : CellKey). k.stamp) c.set_stamp-in-hidden.ensures in
+    let one : c.set_stamp-in-hidden.new.self.stamp + 1 ≡ c.in-Some.stamp = (let a = c.requires.from in omega (arith, a, low, last)) in
     let after = none_after o t c.args.row.now c.args.family.now c.args.qualifier c.args.lo c.args.hi (g.F.Files.contents c.hidden.files) c.hidden.self i.same i.stays c.hidden.key.stamp (Some c.in-Some.stamp) i.told found in
     let mid = same_after_tablet o t c.hidden.self c.newest_file_stamp.new.self i.stays (over_now o (g.F.Files.contents c.hidden.files) c.hidden.self c.newest_file_stamp.new.self i.same c.newest_file_stamp.ensures.stays) in
     let same = c.newest_file_stamp.ensures.same ∙ i.same in
     record {
-      same = c.version_at-in-Some.ensures.same ∙ same;
+      same = c.version_at-in-hidden.ensures.same ∙ same;
       quiet = c.in_ok-found.ensures.reason.told (not_err _ Device) ∙ c.in_ok-stamp.ensures.reason.told (not_err _ Device) ∙ i.quiet;
       high = omega (arith, high, one);
-      stays = same_after_tablet o t c.newest_file_stamp.new.self c.version_at-in-Some.new.self mid (over_now o (g.F.Files.contents c.newest_file_stamp.new.files) c.newest_file_stamp.new.self c.version_at-in-Some.new.self same c.version_at-in-Some.ensures.stays);
+      stays = same_after_tablet o t c.newest_file_stamp.new.self c.version_at-in-hidden.new.self mid (over_now o (g.F.Files.contents c.newest_file_stamp.new.files) c.newest_file_stamp.new.self c.version_at-in-hidden.new.self same c.version_at-in-hidden.ensures.stays);
       told = hidden o t c.args.row.now c.args.family.now c.args.qualifier c.args.lo c.args.hi (g.F.Files.contents c.newest_file_stamp.new.files) c.newest_file_stamp.new.self same mid
-          c.in-Some.stamp low high after c.set_stamp-in-Some.new.self.stamp one
+          c.in-Some.stamp low high after c.set_stamp-in-hidden.new.self.stamp one
           (same_one (g.F.Files.contents c.newest_file_stamp.new.files) c.newest_file_stamp.new.self None c.set_stamp.new.self (at c.in-Some.stamp) named (rw c.in_default-2.is at c.in_ok-found.ensures.found));
-      key = c.set_stamp-in-Some.ensures ∙ ap (λ (k : CellKey). at_stamp k (c.in-Some.stamp - 1)) named ∙ ap at (sym last);
+      key = c.set_stamp-in-hidden.ensures ∙ ap (λ (k : CellKey). at_stamp k (c.in-Some.stamp - 1)) named ∙ ap at (sym last);
     }
 
-pub returns-clause-found : goal.returns-clause-found
-returns-clause-found g c =
+pub returns-in_default-clause-found : goal.returns-in_default-clause-found
+returns-in_default-clause-found g c =
     let o = g.F.Files.contents c.args.files.now in
     let i = c.hidden.invariant in
     let now = g.F.Files.contents c.hidden.files in
@@ -108,17 +108,29 @@ returns-in_err-found-clause-stays g c =
     let o = g.F.Files.contents c.args.files.now in
     let i = c.hidden.invariant in
     let mid = same_after_tablet o c.args.self.now c.hidden.self c.newest_file_stamp.new.self i.stays (over_now o (g.F.Files.contents c.hidden.files) c.hidden.self c.newest_file_stamp.new.self i.same c.newest_file_stamp.ensures.stays) in
-    same_after_tablet o c.args.self.now c.newest_file_stamp.new.self c.version_at-in-Some.new.self mid (over_now o (g.F.Files.contents c.newest_file_stamp.new.files) c.newest_file_stamp.new.self c.version_at-in-Some.new.self (c.newest_file_stamp.ensures.same ∙ i.same) c.version_at-in-Some.ensures.stays)
+    same_after_tablet o c.args.self.now c.newest_file_stamp.new.self c.version_at-in-hidden.new.self mid (over_now o (g.F.Files.contents c.newest_file_stamp.new.files) c.newest_file_stamp.new.self c.version_at-in-hidden.new.self (c.newest_file_stamp.ensures.same ∙ i.same) c.version_at-in-hidden.ensures.stays)
 
 pub returns-in-Some-2-clause-stays : goal.returns-in-Some-2-clause-stays
 returns-in-Some-2-clause-stays g c =
     let o = g.F.Files.contents c.args.files.now in
     let i = c.hidden.invariant in
     let mid = same_after_tablet o c.args.self.now c.hidden.self c.newest_file_stamp.new.self i.stays (over_now o (g.F.Files.contents c.hidden.files) c.hidden.self c.newest_file_stamp.new.self i.same c.newest_file_stamp.ensures.stays) in
-    same_after_tablet o c.args.self.now c.newest_file_stamp.new.self c.version_at-in-Some.new.self mid (over_now o (g.F.Files.contents c.newest_file_stamp.new.files) c.newest_file_stamp.new.self c.version_at-in-Some.new.self (c.newest_file_stamp.ensures.same ∙ i.same) c.version_at-in-Some.ensures.stays)
+    same_after_tablet o c.args.self.now c.newest_file_stamp.new.self c.version_at-in-hidden.new.self mid (over_now o (g.F.Files.contents c.newest_file_stamp.new.files) c.newest_file_stamp.new.self c.version_at-in-hidden.new.self (c.newest_file_stamp.ensures.same ∙ i.same) c.version_at-in-hidden.ensures.stays)
 
-pub returns-clause-stays : goal.returns-clause-stays
-returns-clause-stays g c =
+pub returns-in_default-clause-stays : goal.returns-in_default-clause-stays
+returns-in_default-clause-stays g c =
     let o = g.F.Files.contents c.args.files.now in
     let i = c.hidden.invariant in
     same_after_tablet o c.args.self.now c.hidden.self c.newest_file_stamp.new.self i.stays (over_now o (g.F.Files.contents c.hidden.files) c.hidden.self c.newest_file_stamp.new.self i.same c.newest_file_stamp.ensures.stays)
+
+-- those that are left are passed by together
+pub returns-clause-found : goal.returns-clause-found
+returns-clause-found g c =
+    let o = g.F.Files.contents c.args.files.now in
+    let i = c.hidden.invariant in
+    let t = c.args.self.now in
+    let row = c.args.row.now in
+    let family = c.args.family.now in
+    let below = c.hidden.key.stamp in
+    ok_map c.newest_by_pass.result c.newest_by_pass.ensures.found (λ found h. newest_below o t row family c.args.qualifier c.args.lo c.args.hi (g.F.Files.contents c.hidden.files) c.hidden.self i.same i.stays below i.high i.told (option_map stamped found)
+    (subst (λ (n : ℕ). IfSome (g.F.Files.contents c.hidden.files) (λ m. Holds m c.hidden.self → IsTrue (has_row (range_of c.hidden.self) row) → IsNewest (cells_at m c.hidden.self) (version row family c.args.qualifier) c.args.lo n (option_map stamped found))) (ap (λ (k : CellKey). k.stamp) c.key-3.ensures.key) h))
