@@ -1,14 +1,14 @@
 -- What lies ahead of a position, when a place is taken, and when keys of a cell are erased.
 use Rattle.std.proofs.Common.{◌≡◌, ◌≢◌, ◌<◌, ◌≤◌, ◌+◌, ◌-◌, ℕ, Bool, true, false, List, [], ◌∷◌, ◌++◌, length, Option, Some, None, IsSome, inl, inr, refl, sym, ap, ◌∙◌, subst, arith}
 use Rattle.std.specs.Option.{option_to_list}
-use Rattle.std.specs.Prelude.{IfSome, if◌then◌else◌}
+use Rattle.std.specs.Prelude.{IfSome, if◌then◌else◌, is_some}
 use Rattle.std.specs.Ordering.{ordering_reverse}
 use Rattle.std.specs.declared.cmp.Ordering.{Ordering}
 use Rattle.std.specs.declared.cmp.Ordering.TheVariants.{Less, Equal, Greater}
 use Rattle.std.specs.Cmp.{IsTotalOrder, on_total, then_total}
 use Rattle.std.specs.Cmp.Lexicographic.{nat_list_cmp_total}
 use Rattle.std.specs.FinMap.{get, remove, nat_cmp-IsAntisymmetric, slice_cmp-IsAntisymmetric}
-use Rattle.cell_key.specs.Cells.{Cells, after_edits}
+use Rattle.cell_key.specs.Cells.{Cells, IsNewest, after_edits}
 use Rattle.cell_key.specs.Keys.{byte_cmp}
 use Rattle.cell_key.specs.Places.{AreNext, AreNextCells, HasCell, IsAfter, IsNextCell, Place, place_cmp, place_of}
 use Rattle.cell_key.specs.declared.edits.Edit.{Edit}
@@ -18,6 +18,7 @@ use Rattle.cell_key.specs.declared.keys.Qualifier.TheVariants.{Data, Write}
 use Rattle.cell_key.proofs.KeyLaws.{both_Equal}
 use Rattle.row_atomic.specs.Laws.{OneNextCell}
 use Rattle.si_model.specs.Collection.{place_at}
+use Rattle.tablet.specs.Reads.{HasVersion}
 use Rattle.si_model.specs.ShowsCells.{key_of}
 use Rattle.si_model.specs.declared.replies.Cell.{Cell}
 use Rattle.si_model.proofs.ShownAt.{cases_key, erased_at, erased_off}
@@ -71,7 +72,7 @@ pub follow_found : (cells : Cells) (after : Option Place) (most : ℕ) (places :
 follow_found cells after most places true some ends = next_fewer (IsNextCell cells) most (length places + 1) after places (omega arith) (λ wanted. ends refl) some
 follow_found cells after most places false some ends = next_fewer (IsNextCell cells) most (length places + 0) after places (omega arith) (λ wanted. absurd (omega (arith, wanted))) some
 
--- where there are none, there is no next cell
+-- if there are none, there is no next cell
 pub follow_none : (cells : Cells) (after : Option Place) (places : List Place) (is_end : Bool) → places ≡ [] → is_end ≡ true → Follow cells after places is_end → IsNextCell cells after None
 follow_none cells after places is_end empty ends h = let at_end : AreNextCells cells after 1 [] = subst (λ (ps : List Place). AreNextCells cells after 1 ps) empty (more ends h) in at_end (omega arith)
   where
@@ -106,16 +107,26 @@ begin_before cells after x behind far n (p ∷ places) some = (
   some.2,
 )
 
-module _ (law : OneNextCell) (cells : Cells) (after : Option Place) (x : Cell) (places : List Place) (is_end : Bool) (ahead : IsFirst cells after (place_at x) × Follow cells (Some (place_at x)) places is_end) where
-  -- if another one is next, it has no key more
-  pub doubted_gone : (found : Option Place) → IsNextCell cells after found → found ≢ Some (place_at x) → Follow cells after places is_end
-  doubted_gone found next other =
-      begin_before cells after (place_at x) ahead.0.behind
-      (far_behind cells after (place_at x) ahead.0 (λ cell. other (law cells after found (Some (place_at x)) next (ahead.0.behind, cell, ahead.0.none))))
-      (length places + (if is_end then 1 else 0)) places ahead.1
+module _ (cells : Cells) (after : Option Place) (x : Cell) where
+  -- the cell of a version has a key
+  pub has_of_version : (q : Qualifier) (lo hi : ℕ) → HasVersion cells (key_of x q) lo hi true → HasCell cells (place_at x)
+  has_of_version q lo hi has = by has.found has.newest has.is
+    where
+      by : (found : Option (ℕ × List ℕ)) → IsNewest cells (key_of x q) lo hi found → true ≡ is_some found → HasCell cells (place_at x)
+      by None newest is = cc
+      by (Some found) newest is = record { key = key_of x q found.0; at = refl; some = subst (λ (o : Option (List ℕ)). IsSome o) (sym newest.2) refl }
 
-  pub doubted_next : IsNextCell cells after (Some (place_at x)) → IsStill cells after places is_end (Some x)
-  doubted_next next = (next, ahead.1)
+  module _ (first : IsFirst cells after (place_at x)) where
+    -- it is next if it has one
+    pub next_of_has : HasCell cells (place_at x) → IsNextCell cells after (Some (place_at x))
+    next_of_has has = (first.behind, has, first.none)
+
+    pub is_next : OneNextCell → (found : Option Place) → IsNextCell cells after found → HasCell cells (place_at x) → found ≡ Some (place_at x)
+    is_next law found next has = law cells after found (Some (place_at x)) next (next_of_has has)
+
+    -- and what follows it follows the position if it has none
+    pub doubted_gone : (places : List Place) (is_end : Bool) → ¬ HasCell cells (place_at x) → Follow cells (Some (place_at x)) places is_end → Follow cells after places is_end
+    doubted_gone places is_end none follow = begin_before cells after (place_at x) first.behind (far_behind cells after (place_at x) first none) (length places + (if is_end then 1 else 0)) places follow
 
 pub doubted_none : (cells : Cells) (after : Option Place) (doubted : Option Cell) (places : List Place) (is_end : Bool) → doubted ≡ None → AreAhead cells after doubted places is_end → Follow cells after places is_end
 doubted_none cells after doubted places is_end none h = subst (λ (o : Option Cell). AreAhead cells after o places is_end) none h

@@ -12,7 +12,7 @@ use Rattle.version_collector.specs.Versions.{AreShown}
 pub not_device : (e : Refusal) → e ≡ Damaged → e ≢ Device
 not_device e is other = cc
 
--- damage is told where something doesn't hold
+-- damage is answered if something doesn't hold
 pub refused_damaged : {B : Type 0} (Readable : Type 0) (r : Result B Refusal) (e : Refusal) → IsErrAnd r (λ f. f ≡ e) → e ≡ Damaged → ¬ Readable → IfErr r (IsRefusalOfRead Readable)
 refused_damaged Readable (Ok x) e by is none = tt
 refused_damaged Readable (Err f) e by is none = subst (IsRefusalOfRead Readable) (sym (by ∙ is)) none

@@ -27,7 +27,7 @@ use Rattle.si_model.specs.declared.replies.Cell.{Cell}
 use Rattle.si_model.proofs.Bounds.{reached_bounds}
 use Rattle.si_model.proofs.CleanerFates.{names_nearest}
 use Rattle.si_model.proofs.Steps.{reached_sound}
-use Rattle.tablet.specs.Reads.{AreNewest}
+use Rattle.tablet.specs.Reads.{AreNewestFirst}
 use Rattle.version_collector.specs.Versions.{AreFound, AreGreatest, AreNear, AreShown, AreUnnamed, HasOneRecord, IsAmong, IsLastDeletion, IsLastRecord, IsLatestBelow, IsLoneDeletion, IsNamedBy, IsUnnamed, NamesLast, NamesNext, NamesNone}
 use Rattle.version_collector.specs.declared.versions.NearStarts.{NearStarts}
 use Rattle.version_collector.proofs.Greatest.{AreAll, all_more, all_none, all_past, greatest_all, greatest_full, in_last, length-last}
@@ -162,7 +162,7 @@ old_full cells x floor below vs old full = old_are cells x floor below vs old
     (greatest_full 128 (λ c. IsThere cells x Write c × (c < old.w)) below (map (λ v. v.0) vs) old.stamps (length-map vs ∙ full))
 
 -- the newest of the versions that are left
-pub latest_left : (cells : Cells) (x : Cell) (q : Qualifier) (below most : ℕ) (v : ℕ × List ℕ) (vs : List (ℕ × List ℕ)) → 1 ≤ below → AreNewest cells (key_of x q) (below - 1) most (v ∷ vs) → IsLatestBelow cells x q below (Some v)
+pub latest_left : (cells : Cells) (x : Cell) (q : Qualifier) (below most : ℕ) (v : ℕ × List ℕ) (vs : List (ℕ × List ℕ)) → 1 ≤ below → AreNewestFirst cells (key_of x q) (below - 1) most (v ∷ vs) → IsLatestBelow cells x q below (Some v)
 latest_left cells x q below most v vs from (some, (low, high, there, above), one, rest) = (omega (arith, high), there, λ s up less. above s up (omega arith))
 
 -- old records were found, and these versions are left
@@ -170,9 +170,9 @@ pub record HasOlder (cells : Cells) (x : Cell) (floor : ℕ) (vs : List (ℕ × 
   pub below : ℕ
   pub from : 1 ≤ below
   pub old : AreOldFrom cells x floor below vs
-  pub rest : AreNewest cells (key_of x Write) (below - 1) (128 - length vs) left
+  pub rest : AreNewestFirst cells (key_of x Write) (below - 1) (128 - length vs) left
 
-pub older_begin : (cells : Cells) (x : Cell) (floor w : ℕ) (b : List ℕ) (left : List (ℕ × List ℕ)) → AreNewest cells (key_of x Write) floor 129 ((w, b) ∷ left) → HasOlder cells x floor [] left
+pub older_begin : (cells : Cells) (x : Cell) (floor w : ℕ) (b : List ℕ) (left : List (ℕ × List ℕ)) → AreNewestFirst cells (key_of x Write) floor 129 ((w, b) ∷ left) → HasOlder cells x floor [] left
 older_begin cells x floor w b left (some, newest, one, rest) = record { below = w; from = one; old = old_begin cells x floor w b newest; rest = rest }
 
 pub older_there : (cells : Cells) (x : Cell) (floor c : ℕ) (b : List ℕ) (vs : List (ℕ × ℕ)) (left : List (ℕ × List ℕ)) → HasOlder cells x floor vs ((c, b) ∷ left) → at cells x Write c ≡ Some b
@@ -183,7 +183,7 @@ older_more cells shown x floor c t b vs left h names = record {
   below = c;
   from = h.rest.2;
   old = old_more cells shown x floor h.below c t b vs h.old (latest_left cells x Write h.below (128 - length vs) (c, b) left h.from h.rest) names;
-  rest = subst (λ (n : ℕ). AreNewest cells (key_of x Write) (c - 1) n left) fewer h.rest.3;
+  rest = subst (λ (n : ℕ). AreNewestFirst cells (key_of x Write) (c - 1) n left) fewer h.rest.3;
 }
   where
     fewer : 128 - length vs - 1 ≡ 128 - length (vs ++ (c, t) ∷ [])
@@ -205,24 +205,24 @@ pub nothing_left : {A : Type 0} (xs : List A) → length xs ≡ 0 → xs ≡ []
 nothing_left [] none = refl
 nothing_left (x ∷ xs) none = absurd (omega (arith, none))
 
--- where fewer are found than were asked for, no more are left
-pub all_newest : (cells : Cells) (at : ℕ → CellKey) (hi n most : ℕ) (vs : List (ℕ × List ℕ)) → AreNewest cells at hi n vs → length vs < n → n ≤ most → AreNewest cells at hi most vs
+-- if fewer are found than were asked for, no more are left
+pub all_newest : (cells : Cells) (at : ℕ → CellKey) (hi n most : ℕ) (vs : List (ℕ × List ℕ)) → AreNewestFirst cells at hi n vs → length vs < n → n ≤ most → AreNewestFirst cells at hi most vs
 all_newest cells at hi n most [] h few fits = λ _. h (omega (arith, few))
 all_newest cells at hi n most (v ∷ vs) h few fits = (omega (arith, few, fits), h.1, h.2, all_newest cells at (v.0 - 1) (n - 1) (most - 1) vs h.3 (omega (arith, few)) (omega (arith, fits)))
 
 -- what is found after reads that changed nothing
 pub newest_then : {R : Type 0} {Z : Type 0} {seen : View R} {a b : R} (x : Cell) (floor most : ℕ) → OnlyReads seen a b → seen.readable a x.row
-    → (r : Result (Vec (ℕ × Vec ℕ Z) Z) Refusal) → (seen.readable b x.row → IfOk r (λ found. AreNewest (seen.cells b) (key_of x Write) floor most (map stamped found.items)))
-    → IfOk r (λ found. AreNewest (seen.cells a) (key_of x Write) floor most (map stamped found.items))
-newest_then {seen = seen} x floor most reads held (Ok found) h = subst (λ (cs : Cells). AreNewest cs (key_of x Write) floor most (map stamped found.items)) reads.kept (h (reads.readable x.row held))
+    → (r : Result (Vec (ℕ × Vec ℕ Z) Z) Refusal) → (seen.readable b x.row → IfOk r (λ found. AreNewestFirst (seen.cells b) (key_of x Write) floor most (map stamped found.items)))
+    → IfOk r (λ found. AreNewestFirst (seen.cells a) (key_of x Write) floor most (map stamped found.items))
+newest_then {seen = seen} x floor most reads held (Ok found) h = subst (λ (cs : Cells). AreNewestFirst cs (key_of x Write) floor most (map stamped found.items)) reads.kept (h (reads.readable x.row held))
 newest_then x floor most reads held (Err e) h = tt
 
 -- the same of versions as they are read
-pub older_first : {Z : Type 0} (cells : Cells) (x : Cell) (floor : ℕ) (items older : List (ℕ × Vec ℕ Z)) (v : ℕ × Vec ℕ Z) → items ≡ v ∷ older → AreNewest cells (key_of x Write) floor 129 (map stamped items) → HasOlder cells x floor [] (map stamped older)
-older_first {Z} cells x floor items older v is newest = older_begin cells x floor v.0 v.1.items (map stamped older) (subst (λ (vs : List (ℕ × Vec ℕ Z)). AreNewest cells (key_of x Write) floor 129 (map stamped vs)) is newest)
+pub older_first : {Z : Type 0} (cells : Cells) (x : Cell) (floor : ℕ) (items older : List (ℕ × Vec ℕ Z)) (v : ℕ × Vec ℕ Z) → items ≡ v ∷ older → AreNewestFirst cells (key_of x Write) floor 129 (map stamped items) → HasOlder cells x floor [] (map stamped older)
+older_first {Z} cells x floor items older v is newest = older_begin cells x floor v.0 v.1.items (map stamped older) (subst (λ (vs : List (ℕ × Vec ℕ Z)). AreNewestFirst cells (key_of x Write) floor 129 (map stamped vs)) is newest)
 
-pub older_none : {Z : Type 0} (cells : Cells) (x : Cell) (floor : ℕ) (items : List (ℕ × Vec ℕ Z)) → items ≡ [] → AreNewest cells (key_of x Write) floor 129 (map stamped items) → AreFound cells x floor []
-older_none {Z} cells x floor items is newest = found_none cells x floor (subst (λ (vs : List (ℕ × Vec ℕ Z)). AreNewest cells (key_of x Write) floor 129 (map stamped vs)) is newest (omega arith))
+pub older_none : {Z : Type 0} (cells : Cells) (x : Cell) (floor : ℕ) (items : List (ℕ × Vec ℕ Z)) → items ≡ [] → AreNewestFirst cells (key_of x Write) floor 129 (map stamped items) → AreFound cells x floor []
+older_none {Z} cells x floor items is newest = found_none cells x floor (subst (λ (vs : List (ℕ × Vec ℕ Z)). AreNewestFirst cells (key_of x Write) floor 129 (map stamped vs)) is newest (omega arith))
 
 pub older_next : {Z : Type 0} (cells : Cells) (x : Cell) (floor : ℕ) (vs : List (ℕ × ℕ)) (left after : List (ℕ × Vec ℕ Z)) (v : ℕ × Vec ℕ Z) → left ≡ v ∷ after → HasOlder cells x floor vs (map stamped left) → HasOlder cells x floor vs ((v.0, v.1.items) ∷ map stamped after)
 older_next {Z} cells x floor vs left after v is h = subst (λ (rs : List (ℕ × Vec ℕ Z)). HasOlder cells x floor vs (map stamped rs)) is h
@@ -372,7 +372,7 @@ deletion_at cells shown x floor w t b kind (Some c) newest names some none =
     let d = deletes cells shown x w t b newest.2 (subst (λ (k : WriteKind). NamesWrite b t k) some.1 names) in
     subst (λ (n : ℕ). IsLastDeletion cells x floor (Some n)) (sym some.0) (last_record cells x floor w b newest, d.0, d.1)
 
--- where no old records stand, it is the oldest
+-- if no old records stand, it is the oldest
 pub lone_deletion : (cells : Cells) (x : Cell) (floor c : ℕ) → AreUnnamed cells x floor [] → IsLastDeletion cells x floor (Some c) → IsLoneDeletion cells x floor c
 lone_deletion cells x floor c none (last, start, there) = record {
   none = none;

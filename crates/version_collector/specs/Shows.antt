@@ -79,8 +79,8 @@ TellsAt i n reply cells old cells' new st =
     (c c' : Collector) → kept_at old i ≡ Some c → kept_at new i ≡ kept_after (Ok reply) c'
     → IsTold n reply cells c cells' c' st
 
--- What the visits of a step read is in order. They leave the collector with this number where the
--- last of them began.
+-- What the visits of a step read is in order. They leave the collector with this number at the
+-- place where the last of them began.
 abbrev pub IsStepReadable : {R : Type 0} → View R → R → Collectors → Collectors → ℕ → Type 0
 IsStepReadable seen rows old new i =
     (c c' : Collector) → kept_at old i ≡ Some c → kept_at new i ≡ Some c'

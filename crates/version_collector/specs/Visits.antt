@@ -133,9 +133,8 @@ pub record Thins (n : ℕ) (cells cells' : Cells) : Type 0 where
   pub fewer : (k : CellKey) → (get cells' k ≡ get cells k) ⊎ (get cells' k ≡ None)
   pub locks : (k : CellKey) → k.qualifier ≡ column.Lock → get cells' k ≡ get cells k
 
--- What is told is so. After More at least n less is left. Where it is Blocked a lock below the
--- floor stands on the cell. Where all is Collected no mark stands below the floor, and each cell is
--- tidy.
+-- What is answered is so. After More at least n less is left. If it is Blocked, a lock below the floor
+-- stands on the cell. If all is Collected, no mark stands below the floor, and each cell is tidy.
 abbrev pub IsTold : ℕ → CollectReply → Cells → Collector → Cells → Collector → State → Type 0
 IsTold n More cells c cells' c' st = left_by cells' c' + n ≤ left_by cells c
 IsTold n (Blocked x t) cells c cells' c' st = IsThere cells' x column.Lock t × (t < c.floor)

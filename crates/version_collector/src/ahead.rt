@@ -4,14 +4,14 @@ ghost use Rattle.std.specs.Prelude.{◌≡◌, ◌≤◌, ◌↔◌, [], None, O
 ghost use Rattle.std.specs.Vec.Iter.{into_iter_items};
 ghost use Rattle.cell_key.specs.Cells.{Cells};
 ghost use Rattle.cell_key.specs.Faults.{HasReason};
-ghost use Rattle.cell_key.specs.Places.{IsNextCell, Place, place_named};
+ghost use Rattle.cell_key.specs.Places.{HasCell, IsAfter, IsNextCell, Place, place_named};
 ghost use Rattle.row_atomic.specs.Calls.{AreReadableFrom, OnlyReads};
 ghost use Rattle.row_atomic.specs.Refusals.{IsRefusalOfRead};
 ghost use Rattle.si_model.specs.Collection.{place_at};
-ghost use Rattle.version_collector.specs.Ahead.{Follow, IsAhead, IsStill};
+ghost use Rattle.version_collector.specs.Ahead.{Follow, IsAhead, IsFirst, IsStill};
 ghost use Rattle.version_collector.specs.Visits.{position_of};
 
-use cell_key::{Family, Refusal, Row};
+use cell_key::{Family, Qualifier, Refusal, Row, Stamp};
 use row_atomic::{Rows, one_next_cell};
 use si_model::Cell;
 use std::alloc::Global;
@@ -57,6 +57,29 @@ fn place_after(after: &Option<Cell>) -> Option<(&Row, &Family)>
     }
 }
 
+/// Whether a cell has a key. It is the first cell behind a position that may have one. One look-up says whether it has a
+/// record; only if it has none is the next cell looked for.
+fn has_key<R: Rows>(rows: &mut R, after: &Option<Cell>, cell: &Cell) -> Result<bool, Refusal>
+    ensures has { AreReadableFrom R.seen rows.old (position_of after.now)
+        → IsFirst (R.seen.cells rows.old) (position_of after.now) (place_at cell.now)
+        → IfOk result (λ has. IsTrue has ↔ HasCell (R.seen.cells rows.old) (place_at cell.now)) }
+    ensures reads { OnlyReads R.seen rows.old rows.new }
+    ensures refusal { IfErr result (IsRefusalOfRead
+        (AreReadableFrom R.seen rows.old (position_of after.now)
+        × IsAfter (position_of after.now) (place_at cell.now))) }
+    ensures reason { HasReason (R.faults rows.old) (R.faults rows.new) result }
+{
+    one_next_cell();
+    let has_record = rows.has_version(&cell.row, &cell.family, Qualifier::Write, 0, Stamp::MAX)?;
+    if has_record {
+        return Ok(true);
+    }
+    match cell_at(rows.next_cell(place_after(after))?) {
+        Some(next) => Ok(is_same(&next, cell)),
+        None => Ok(false),
+    }
+}
+
 impl Ahead {
     /// Nothing was found yet.
     pub(crate) fn new(alloc: Global) -> Ahead
@@ -82,23 +105,20 @@ impl Ahead {
         ensures doubted { OnOk result (self.new.doubted ≡ None) }
         ensures reads { OnlyReads R.seen rows.old rows.new }
         ensures refusal { IfErr result (IsRefusalOfRead
-            (AreReadableFrom R.seen rows.old (position_of after.now))) }
+            (AreReadableFrom R.seen rows.old (position_of after.now)
+            × IsAhead (R.seen.cells rows.old) (position_of after.now) self.old)) }
         ensures reason { HasReason (R.faults rows.old) (R.faults rows.new) result }
     {
-        one_next_cell();
         let Some(cell) = self.doubted.take() else {
             return Ok(None);
         };
-        let Some(next) = cell_at(rows.next_cell(place_after(after))?) else {
-            return Ok(None);
-        };
-        if is_same(&next, &cell) {
-            return Ok(Some(next));
+        if has_key(rows, after, &cell)? {
+            return Ok(Some(cell));
         }
         Ok(None)
     }
 
-    /// Finds places, as many as so many visits need.
+    /// Finds the places that this number of visits needs.
     fn find<R: Rows>(
         &mut self,
         rows: &mut R,
@@ -180,7 +200,7 @@ impl Ahead {
         Ok(cell_at(self.places.next()))
     }
 
-    /// Takes the next cell after a position. Of what lies ahead so many visits are to be made.
+    /// Takes the next cell after a position. If none is known, those of this number of visits are looked for.
     pub(crate) fn next<R: Rows>(
         &mut self,
         rows: &mut R,
@@ -199,7 +219,8 @@ impl Ahead {
         ensures doubted { OnOk result (self.new.doubted ≡ None) }
         ensures reads { OnlyReads R.seen rows.old rows.new }
         ensures refusal { IfErr result (IsRefusalOfRead
-            (AreReadableFrom R.seen rows.old (position_of after.now))) }
+            (AreReadableFrom R.seen rows.old (position_of after.now)
+            × IsAhead (R.seen.cells rows.old) (position_of after.now) self.old)) }
         ensures reason { HasReason (R.faults rows.old) (R.faults rows.new) result }
     {
         match self.still_there(rows, after)? {

@@ -11,7 +11,7 @@ ghost use Rattle.cell_key.specs.declared.keys.Qualifier.TheVariants.{Write};
 ghost use Rattle.row_atomic.specs.Calls.{OnlyReads};
 ghost use Rattle.row_atomic.specs.Refusals.{IsRefusalOfRead};
 ghost use Rattle.si_model.specs.ShowsCells.{key_of};
-ghost use Rattle.tablet.specs.Reads.{AreNewest};
+ghost use Rattle.tablet.specs.Reads.{AreNewestFirst};
 ghost use Rattle.version_collector.specs.Versions.{AreFound, AreNear, AreShown, AreUnnamed, HasOneRecord, IsAmong, IsLastDeletion, IsLatestBelow, IsNamedBy, NamesNext, NamesNone};
 
 use cell_key::{MOST_STAMP, Moment, Qualifier, Record, Refusal, Stamp, WriteKind};
@@ -77,7 +77,7 @@ fn look_up_records<R: Rows>(
     cell: &Cell,
     floor: Stamp,
 ) -> Result<Vec<(Stamp, Vec<u8>)>, Refusal>
-    ensures found { R.seen.readable rows.old cell.now.row → IfOk result (λ found. AreNewest
+    ensures found { R.seen.readable rows.old cell.now.row → IfOk result (λ found. AreNewestFirst
         (R.seen.cells rows.old) (key_of cell.now Write) floor 32 (map stamped found.items)) }
     ensures few { IfOk result (λ found. length found.items ≤ 32) }
     ensures limits { IfOk result (λ found.
@@ -100,14 +100,15 @@ fn look_up_records<R: Rows>(
 }
 
 /// The newest records of a cell at or below the floor, newest first: 129 of them, or fewer if no more are left. Few are
-/// looked up one by one. If they are many, all are read by one pass, which reads a block of each file whose range has the cell.
+/// looked up one by one. If they are many, all are read by one pass, which reads a block of each file whose range has
+/// the cell.
 fn newest_records<R: Rows>(
     alloc: Global,
     rows: &mut R,
     cell: &Cell,
     floor: Stamp,
 ) -> Result<Vec<(Stamp, Vec<u8>)>, Refusal>
-    ensures found { R.seen.readable rows.old cell.now.row → IfOk result (λ found. AreNewest
+    ensures found { R.seen.readable rows.old cell.now.row → IfOk result (λ found. AreNewestFirst
         (R.seen.cells rows.old) (key_of cell.now Write) floor 129 (map stamped found.items)) }
     ensures few { IfOk result (λ found. length found.items ≤ 129) }
     ensures limits { IfOk result (λ found.

@@ -9,15 +9,12 @@ use Rattle.cell_key.specs.Versions.{IsVersion, IsVersionIn, stamped}
 use Rattle.cell_key.specs.declared.keys.Qualifier.TheVariants.{Write}
 use Rattle.cell_key.specs.declared.refusals.Refusal.TheVariants.{Device}
 use Rattle.cell_key.proofs.Reasons.{not_refused}
+use Rattle.tablet.proofs.SourceLists.{each_push}
 use Rattle.row_atomic.proofs.Calls.{reads_none, reads_then}
 use Rattle.row_atomic.proofs.Halves.{at_none, at_some}
 use Rattle.row_atomic.proofs.NewestLists.{AreFollowed, newest_end, newest_more}
 use Rattle.si_model.specs.ShowsCells.{key_of}
 use Rattle.version_collector.proofs.versions.look_up_records.Goals as goal
-
-each-push : {A : Type 0} (P : A → Type 0) (xs : List A) (x : A) → AllByRecursion P xs → P x → AllByRecursion P (xs ++ x ∷ [])
-each-push P [] x all one = (one, tt)
-each-push P (y ∷ xs) x all one = (all.0, each-push P xs x all.1 one)
 
 pub records-init : goal.records-init
 records-init g c =
@@ -58,7 +55,7 @@ records-preserved g c =
       reads = reads_then i.reads c.in_ok-next.ensures.reads;
       faults = c.in_ok-next.ensures.reason.told (not_refused _ Device) ∙ i.faults;
       few = omega (arith, grown, less);
-      limits = subst (AllByRecursion (λ (version : ℕ × Vec ℕ Global). IsVersion version.0 version.1.items)) (sym items) (each-push _ found v i.limits is.limits);
+      limits = subst (AllByRecursion (λ (version : ℕ × Vec ℕ Global). IsVersion version.0 version.1.items)) (sym items) (each_push _ found v i.limits is.limits);
       newest = λ held.
           let newest = subst (λ (cs : Cells). IsNewest cs at 0 c.records.last (Some (stamped v))) i.reads.kept (at_some (IsNewest (g.R.Rows.seen.cells c.records.rows) at 0 c.records.last) c.in_ok-next.next v c.in-Some.is (c.in_ok-next.ensures.found (i.reads.readable c.args.cell.now.row held))) in
           subst (λ (n : ℕ). AreFollowed cells at c.args.floor 32 (c.in-Some.commit - 1) n (map stamped c.push.new.self.items)) fewer
