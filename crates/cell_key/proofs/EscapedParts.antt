@@ -36,7 +36,7 @@ escaped-most [] = omega arith
 escaped-most (zero ∷ bytes) = let h = escaped-most bytes in omega (arith, h)
 escaped-most (suc b ∷ bytes) = let h = escaped-most bytes in let e = ap length (ap (λ (t : List ℕ). t ++ escaped bytes) (plain_byte (suc b) (grind (arith, nat_tests)))) in omega (arith, h, e)
 
--- so many zeros, escaped
+-- n zeros, escaped
 abbrev pub pairs : ℕ → List ℕ
 pairs zero = []
 pairs (suc n) = 0 ∷ 255 ∷ pairs n

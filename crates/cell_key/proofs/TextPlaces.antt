@@ -97,7 +97,7 @@ module _ {X : Type 0} (f : X → Entry) (name : List ℕ) where
       (ap (λ (b : Bool). cond b (Some (f x).1) (find byte_cmp name (map f xs))) e)
   found_at (y ∷ xs) (suc i) x p lt g e = ap (λ (o : Ordering). cond (is_eq o) (Some (f y).1) (find byte_cmp name (map f xs))) p.0 ∙ found_at xs i x p.1 (omega arith) g e
 
-  -- where another text stands there, nothing is
+  -- if another text stands there, nothing is
   pub missed_at : (xs : List X) (i : ℕ) (x : X) → IsRising (map f xs) → IsPlace name (map f xs) i → i < length xs → x ≡ get_or xs i x → is_eq (byte_cmp name (f x).0) ≡ false → entry_of_key (map f xs) name ≡ None
   missed_at [] i x r p lt g n = absurd (omega arith)
   missed_at (y ∷ xs) zero x r p lt g n = go (byte_cmp name (f y).0) refl

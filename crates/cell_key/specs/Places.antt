@@ -61,14 +61,14 @@ IsNextCell cells after (Some found) =
     IsAfter after found × HasCell cells found × ((place : Place) → IsAfter after place
     → place_cmp place found ≡ Less → ¬ (HasCell cells place))
 
--- Places come one after the other, each next after the one before it: so many, or fewer if then none
--- is next.
+-- Places come one after the other, each next after the one before it: as many as most says, or fewer if
+-- then none is next.
 abbrev pub AreNext : (Option Place → Option Place → Type 0) → Option Place → ℕ → List Place → Type 0
 AreNext IsNext after most [] = 1 ≤ most → IsNext after None
 AreNext IsNext after most (found ∷ rest) =
     (1 ≤ most) × IsNext after (Some found) × AreNext IsNext (Some found) (most - 1) rest
 
--- found are the next cells after the given place: so many, or fewer if no more are left
+-- found are the next cells after the given place: as many as most says, or all, if they are fewer
 abbrev pub AreNextCells : Cells → Option Place → ℕ → List Place → Type 0
 AreNextCells cells = AreNext (IsNextCell cells)
 

@@ -68,7 +68,7 @@ fn are_ends_same(first: &[u8], second: &[u8], left: &[u8], right: &[u8]) -> bool
     left == right
 }
 
-/// Whether two texts are the same. Short ones are compared by eight bytes at once while so many are left, and then by
+/// Whether two texts are the same. Short ones are compared by eight bytes at once while eight are left, and then by
 /// their last eight. Takes no memory.
 #[inline(always)]
 pub fn are_same(first: &[u8], second: &[u8]) -> bool

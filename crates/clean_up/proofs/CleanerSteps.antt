@@ -128,7 +128,7 @@ module _ (cells : Cells) (cleaner : Cleaner) (st : State) (i : ℕ) (reached : I
       same : k.commit.start ≡ t
       same = (one_write b k.commit.start t (kind_of_change k.change) kind (names_of k.commit.start (kind_of_change k.change) b low k.is_text) names).0
 
-  -- where the first record above t doesn't name it, none does
+  -- if the first record above t doesn't name it, none does
   none_names : (next : Option (ℕ × List ℕ)) → IsNextRecord cells first t next → ((c : ℕ) (b : List ℕ) → next ≡ Some (c, b) → ¬ NamesStart b t)
       → (c : ℕ) → t < c → ¬ NamesAt cells first c t
   none_names None none other c above (text, kind, named, is) =
@@ -185,7 +185,7 @@ module _ (cells : Cells) (cleaner : Cleaner) (st : State) (i : ℕ) (reached : I
       s : Step st (machine.CleanStep i) machine.RolledBack cleared
       s = accepts able (machine.rolls_back (kept Back is) (marked there) uncommitted less)
 
-  -- the record of the commit takes its place, with the kind that the lock told
+  -- the record of the commit takes its place, with the kind that the lock names
   forward_at : (c : ℕ) (kind : WriteKind) → cleaner.fate ≡ Forward c → IsThere cells x column.Lock t → TellsKind cells x t kind → Takes st i (recorded_cells cells x t c kind) cleaner (clean.RolledForward c)
   forward_at c kind is there told = (
     cleared,

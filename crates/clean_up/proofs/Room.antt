@@ -92,7 +92,7 @@ module _ {R : Type 0} (seen : View R) (old new : R) where
 -- ---- where a state is shown
 
 module _ (Holds : Type 0) (cells : Cells) (i : ℕ) (cleaner : Cleaner) (held : Holds) (st : State) (store : ShowsCells cells st) (mine : ShowsCleaner cleaner i st) where
-  -- where the lock stands on the cleaner's cell, what it has decided is right
+  -- if the lock stands on the cleaner's cell, what it has decided is right
   marked : IsThere cells cleaner.cell column.Lock cleaner.lock.start → Marked st cleaner.cell cleaner.lock.start
   marked stands = store.locks cleaner.cell cleaner.lock.start stands.0 stands.1
 

@@ -87,7 +87,7 @@ shows_same old new st same shown = record {
   count = shown.count ∙ sym same.count;
 }
 
--- where the machine keeps the cleaner at i, what is shown at i stays shown
+-- if the machine keeps the cleaner at i, what is shown at i stays shown
 shows_other : (st next : State) → CleanersKnow st next → (o : Option Cleaner) (i : ℕ) → finmap.get next.cleaners i ≡ finmap.get st.cleaners i → ShowsAt o i st → ShowsAt o i next
 shows_other st next know None i same h = same ∙ h
 shows_other st next know (Some cleaner) i same h = record { kept = same ∙ h.kept; knows = know i (cleaner_of cleaner) cleaner.lock.first (verdict_of cleaner.fate) h.kept h.knows }
@@ -203,7 +203,7 @@ name_refused st x _ u = absurd u
 pub name_refused_at : (cells : Cells) (old new : Cleaners) (x : Cell) (e : Refusal) → SameCleaners old new → IsNameRefusal x e → Steps cells old (machine.CleanBegin x) (Refused e) cells new
 name_refused_at cells old new x e same u = stays cells old new (machine.CleanBegin x) e same (λ st reached store shown. name_refused st x e u)
 
--- where no lock stands, no mark does
+-- if no lock stands, no mark does
 pub unmarked : (cells : Cells) (st : State) → IsReached st → ShowsCells cells st → (x : Cell) → IsClear cells x column.Lock 0 (2 ^ 64 - 1) → (t : ℕ) → ¬ Marked st x t
 unmarked cells st reached store x clear t m =
     let shows = store.marks x t m in

@@ -1,7 +1,7 @@
 -- What the calls of a log's file may leave.
 use Rattle.std.specs.Prelude.{◌≡◌, ℕ, ◌⊎◌, List, ◌++◌, take, Option, option_map}
 
--- the bytes with more of them at the end, and the first of the bytes, where they are known
+-- the bytes with more of them at the end, and the first of the bytes, if they are known
 abbrev pub with_more : List ℕ → Option (List ℕ) → Option (List ℕ)
 with_more more = option_map (λ bytes. bytes ++ more)
 

@@ -8,7 +8,7 @@ use Rattle.cell_key.specs.Entries.{Entry}
 use Rattle.compaction.specs.Merging.{first_lent, lent_at, one, HaveStarted, MergeHolds, StepsTo}
 
 module _ {S : Type 0} (lent : S → Option Entry) where
-  -- where a source is at an entry, one is counted
+  -- if a source is at an entry, one is counted
   pub one_lent : (xs : List S) (k : ℕ) → IsSome (lent_at lent xs k) → 1 ≤ sum_by (λ s. one (lent s)) xs
   one_lent [] k h = cc
   one_lent (x ∷ xs) zero h =
@@ -25,7 +25,7 @@ module _ {S : Type 0} (lent : S → Option Entry) (remaining : S → List Entry)
   with_none [] h n = tt
   with_none (x ∷ xs) h n = ((h.0, n.0), with_none xs h.1 n.1)
 
-  -- where a merge is at no entry, each source goes on from there
+  -- if a merge is at no entry, each source goes on from there
   pub all_none : (olds news : List S) (order : List ℕ) → false ≡ is_some (first_lent lent olds order) → MergeHolds lent remaining holds olds order → (AllByRecursion (λ s. holds s × (lent s ≡ None)) olds → AllZip (StepsTo lent remaining holds None) olds news) → AllZip (StepsTo lent remaining holds (first_lent lent olds order)) olds news
   all_none olds news order n h steps =
       let none : first_lent lent olds order ≡ None = is_none _ (sym n) in

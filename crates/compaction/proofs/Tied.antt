@@ -40,7 +40,7 @@ module _ (lents : List (Option Entry)) where
 
 -- ---- which places are tied
 
--- where a key comes first and isn't tied, no later one is
+-- if a key comes first and isn't tied, no later one is
 untied_less : (e : Entry) (o : Option Entry) (r : Ordering) → T (is_le (ordering_then (lent_cmp (Some e) o) r)) → ties (Some e) o ≡ false → lent_cmp (Some e) o ≡ Less
 untied_less e None r h t = refl
 untied_less e (Some f) r h t = by (byte_cmp e.0 f.0) h t

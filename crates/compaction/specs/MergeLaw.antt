@@ -99,7 +99,7 @@ module _ {S : Type 0} (lent : S → Option Entry) (remaining : S → List Entry)
   unmapped [] n = tt
   unmapped (s ∷ sources) n = (n.0, unmapped sources n.1)
 
-  -- where a merge whose places are in order is at no entry, no source is
+  -- if a merge whose places are in order is at no entry, no source is
   pub none_at : (sources : List S) (order : List ℕ) → IsOrdered (map lent sources) order
       → first_lent lent sources order ≡ None → AllByRecursion (λ s. lent s ≡ None) sources
   none_at sources order l is = unmapped sources (ordered_none (map lent sources) order l is)

@@ -8,7 +8,7 @@ use Rattle.cell_key.specs.Keys.{byte_cmp}
 use Rattle.cell_key.specs.Entries.{Entry}
 use Rattle.compaction.specs.Least.{entry_at}
 
--- the order of lent entries, by their keys: where there is none comes last
+-- the order of lent entries, by their keys: a place without one comes last
 abbrev pub lent_cmp : Option Entry → Option Entry → Ordering
 lent_cmp (Some e) (Some f) = byte_cmp e.0 f.0
 lent_cmp (Some e) None = Less

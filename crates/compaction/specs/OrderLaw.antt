@@ -130,7 +130,7 @@ pub not_both : (o : Option Entry) → IsSome o → o ≡ None → ⊥
 not_both None some none = cc
 not_both (Some e) some none = cc
 
--- where none is lent at the first place, none is lent
+-- if none is lent at the first place, none is lent
 pub ordered_none : (lents : List (Option Entry)) (order : List ℕ) → IsOrdered lents order
     → first_entry lents order ≡ None → AllByRecursion (λ o. o ≡ None) lents
 ordered_none lents [] h is =

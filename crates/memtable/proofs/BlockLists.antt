@@ -272,7 +272,7 @@ module _ {X : Type 0} (f : X → List Entry) where
         before (x ∷ y ∷ xs) (suc (suc i)) (suc k) d r some lt e place =
             before (y ∷ xs) (suc i) k d (rising_back (f x) (flat_map f (y ∷ xs)) r) some.1 (omega (arith, lt)) (omega (arith, e)) place
 
-    -- and where the last one ends below, none is left
+    -- and if the last one ends below, none is left
     pub end_point : (xs : List X) (i : ℕ) → IsRising (flat_map f xs) → AreSome xs → suc i ≡ length xs → ((d : X) → is_passed (get_or xs i d) ≡ true) → IsBlockIndex name (map f xs) (length xs)
     end_point xs i r some e ends =
         block_point xs (length xs) (omega arith) (λ k d a b. parted_blocks xs r some k i d (omega (arith, e, b)) (omega (arith, e)) (ends d)) (λ k d a b. absurd (omega (arith, a, b)))
@@ -292,7 +292,7 @@ module _ {X : Type 0} (f : X → List Entry) where
         find_past name (f y) (flat_map f xs) (rising_front (f y) (flat_map f xs) r) p.0
         ∙ found_nowhere xs i (rising_back (f y) (flat_map f xs) r) p.1 (omega arith)
 
-    -- where the last block is behind none, what it has all have
+    -- if the last block is behind none, what it has all have
     pub found_last : (xs : List X) (i j : ℕ) (x : X) → IsRising (flat_map f xs) → IsBlockIndex name (map f xs) j → length xs ≤ j → i + 1 ≡ length xs → x ≡ get_or xs i x → entry_of_key (flat_map f xs) name ≡ entry_of_key (f x) name
     found_last [] i j x r p le last g = absurd (omega (arith, last))
     found_last (z ∷ xs) i zero x r p le last g = absurd (omega arith)
@@ -303,7 +303,7 @@ module _ {X : Type 0} (f : X → List Entry) where
         find_past name (f z) (flat_map f (w ∷ xs)) (rising_front (f z) (flat_map f (w ∷ xs)) r) p.0
         ∙ found_last (w ∷ xs) i j x (rising_back (f z) (flat_map f (w ∷ xs)) r) p.1 (omega arith) (omega (arith, last)) g
 
-    -- where no block is left, each ends below
+    -- if no block is left, each ends below
     pub each_passed : (xs : List X) (i k : ℕ) (d : X) → IsBlockIndex name (map f xs) i → length xs ≤ i → k < length xs → is_passed (get_or xs k d) ≡ true
     each_passed [] i k d p le lt = absurd (omega (arith, lt))
     each_passed (x ∷ xs) zero k d p le lt = absurd (omega (arith, le))

@@ -30,7 +30,7 @@ front_decides front other xs ys first second apart = go (nat_cmp front other) re
     go Equal p = absurd (apart (nat_cmp-IsAntisymmetric front other p))
     go Greater p = p ∙ ap (λ (o : Ordering). ordering_then o rest) (sym p) ∙ sym (by_fronts front other xs ys first second)
 
--- where they are equal, what follows decides
+-- if they are equal, what follows decides
 pub front_ties : (front other : ℕ) (xs ys : List ℕ) → IsFront front xs → IsFront other ys → front ≡ other
     → byte_cmp (drop 8 xs) (drop 8 ys) ≡ byte_cmp xs ys
 front_ties front other xs ys first second same =

@@ -51,6 +51,6 @@ module _ {A : Type 0} (name : List ℕ) (xs : List (Box Slot A)) (r : IsRising (
       rising_pair : (k : ℕ) (d : Box Slot A) → k < j → byte_cmp (get_or xs k d).value.text x.value.text ≡ Less
       rising_pair k d less = subst (λ (s : Box Slot A). byte_cmp (get_or xs k d).value.text s.value.text ≡ Less) (get_or_default xs j d x lt ∙ sym is) (in_order xs r k j d less lt)
 
-  -- where nothing is between, the place is
+  -- if nothing is between, the place is
   pub part_place : (i : ℕ) → IsPartOf name xs i i → IsPlace name (slot_entries xs) i
   part_place i part = at_point (λ (s : Box Slot A). slot_entry s.value) name xs i part.within (λ k d least before. part.below k d before (let w = part.within in omega (arith, before, w))) part.above

@@ -59,7 +59,7 @@ module _ {X : Type 0} (f : X → Entry) (name : List ℕ) where
       rw tie (λ j. ((s ∙ one_text name (f y).0 tie) j, (f x).1) ∷ map f xs)
   put_over x (y ∷ xs) (suc i) s p t = rw p.0 (ap (λ (es : List Entry). f y ∷ es) (put_over x xs i s p.1 t))
 
-  -- where another text stands, nothing has the text
+  -- if another text stands, nothing has the text
   pub not_found : (xs : List X) (i : ℕ) → IsRising (map f xs) → IsPlace name (map f xs) i → is_named name (map f xs) i ≡ false → entry_of_key (map f xs) name ≡ None
   not_found [] i r p n = refl
   not_found (y ∷ xs) zero r p n = go (byte_cmp name (f y).0) refl

@@ -62,7 +62,7 @@ each_again item bytes_of Fits again (x ∷ xs) rest fits =
 
 -- ---- files
 
--- so many lengths as a format has for these names
+-- as many lengths as a format has for these names
 abbrev pub HasShare : RootFormat → List ℕ → List ℕ → Type 0
 HasShare One names lengths = lengths ≡ []
 HasShare Two names lengths = length lengths ≡ length names

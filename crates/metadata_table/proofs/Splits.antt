@@ -18,7 +18,7 @@ module _ (row : List ℕ) where
   abbrev pub is_past : Place → Bool
   is_past place = ends_before place.end row
 
-  -- where a later end is below the row, so are those before
+  -- if a later end is below the row, so are those before
   pub parted : (ps : List Place) → EndsRise (views ps) → (i j : ℕ) (d : Place) → i ≤ j → j < length ps → is_past (get_or ps j d) ≡ true → is_past (get_or ps i d) ≡ true
   parted [] r i j d le lt t = absurd (omega arith)
   parted (p ∷ ps) r zero zero d le lt t = t

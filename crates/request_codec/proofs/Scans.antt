@@ -122,7 +122,7 @@ one_more m n item bytes after more fits e are = record {
   whole = e ∙ ap (λ (t : List ℕ). item_fields item ++ t) are.whole;
 }
 
--- so many items, of which there is one
+-- n items, of which there is one
 record Front (n : ℕ) (bytes : List ℕ) : Type 0 where
   pub item : Cell × Item
   pub after : List ℕ

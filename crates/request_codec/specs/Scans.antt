@@ -77,7 +77,7 @@ pub record ItemFits (item : Cell × Item) : Type 0 where
   pub named : IsNamed item.0
   pub said : SaidFits item.1
 
--- the bytes are the fields of so many items
+-- the bytes are the fields of count items
 pub record AreItems (count : ℕ) (bytes : List ℕ) : Type 0 where
   pub items : List (Cell × Item)
   pub many : length items ≡ count

@@ -121,7 +121,7 @@ fn take_item<'a>(rest: &mut &'a [u8]) -> Option<LentItem<'a>>
     Some(LentItem { row, family, found })
 }
 
-/// Whether the bytes are so many items.
+/// Whether the bytes are `count` items.
 pub(crate) fn are_items(bytes: &[u8], count: u32) -> bool
     ensures { IsTrue result ↔ AreItems count bytes.now }
 {

@@ -28,8 +28,8 @@ pub enum Request<'a> {
         row: &'a [u8],
         family: &'a [u8],
     },
-    /// Reads the cells of a range as of the session's start: their values, or whether they have one. At most so many
-    /// cells are looked at.
+    /// Reads the cells of a range as of the session's start: their values, or whether they have one. At most `cells`
+    /// of them are looked at.
     Scan {
         start: Stamp,
         range: ScanRange<'a>,

@@ -23,7 +23,7 @@ use Rattle.server_loop.proofs.SamePlaces.{KeepsPlaces}
 use Rattle.server_loop.proofs.OthersShown.{cleaners_not_collectors, cleaners_not_sessions, collectors_stay, not_kind, sessions_stay}
 use Rattle.server_loop.proofs.SplitSteps.{still_placed, still_next}
 
--- where the tablets are, by what lies below the memtables
+-- if the tablets are, by what lies below the memtables
 abbrev pub spots_in : Storage → List Spot
 spots_in storage = map spot_of storage.places
 

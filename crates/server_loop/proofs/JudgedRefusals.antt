@@ -36,7 +36,7 @@ same_first {st} {q} {m} {n} f g = elim (f.first n g.applies) [
   | inr low ↦ elim (g.first m f.applies) [ inl e ↦ e | inr high ↦ absurd (omega arith) ]
 ]
 
--- where a first refusal is known, and the refusal isn't of the store
+-- if a first refusal is known, and the refusal isn't of the store
 pub only_first : (st : State) (q : Request) (m n : Refusal) → IsFirstRefusal st q m → ¬ IsStorageRefusal n → Refuses st q n → m ≡ n
 only_first st q m n f not (applies_first g) = same_first f g
 only_first st q m n f not (gives_up s) = absurd (not s)

@@ -71,7 +71,7 @@ module _ (st : State) (old : List PlaceView) (same : st.places ≡ machine_place
 -- ---- steps that leave the tablets where they are
 
 module _ (st next : State) (q : machine.Request) (r : machine.Reply) (step : Step st q r next) (keeps : KeepsPlaces q) where
-  -- where no tablet gets another spot, the machine has the new places after the step
+  -- if no tablet gets another spot, the machine has the new places after the step
   pub still_placed : (old new : List PlaceView) → map spot_of new ≡ map spot_of old → machine_places old ≡ st.places → machine_places new ≡ next.places
   still_placed old new spots same = ap (map machine_place) spots ∙ same ∙ sym (keeps_places st q r next step keeps).0
 

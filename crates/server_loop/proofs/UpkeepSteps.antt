@@ -150,7 +150,7 @@ same_spots old new files e = ap (λ (cluster : ClusterState _). spots_of cluster
 -- ---- whole steps
 
 module _ {F M : Type 0} (contents : F → Option Contents) (old new : Server F M) (kept : KeepsMap contents old.rows.cluster new.rows.cluster) (follows : Holds contents old.rows.cluster → Follows contents old.rows.cluster old.rows.journal → Follows contents new.rows.cluster new.rows.journal) (same_clients : new.clients ≡ old.clients) (same_last : new.oracle.last ≡ old.oracle.last) (same_cleaners : new.cleaners ≡ old.cleaners) (same_collectors : new.collectors ≡ old.collectors) where
-  -- where cells, sessions and stamps are as before, they show the same
+  -- if cells, sessions and stamps are as before, they show the same
   shows_kept : (st : State) → Holds contents old.rows.cluster → clients.Shows (cells_in (contents old.rows.cluster.files) old.rows.cluster.tablets) old.clients old.oracle.last st
       → clients.Shows (cells_in (contents new.rows.cluster.files) new.rows.cluster.tablets) new.clients new.oracle.last st
   shows_kept st held shows =

@@ -171,7 +171,7 @@ pub record TellsCauses {F M : Type 0} (contents : F → Option Contents) (file_f
 
 -- ---- what is written down
 
--- What a server takes to be logged stays, and where tablets move all that is written down. A checkpoint
+-- What a server takes to be logged stays, and all that is written down if tablets move. A checkpoint
 -- and a sweep end the recording.
 abbrev pub KeepsLogged : Request → Option JournalView → Option JournalView → Type 0
 KeepsLogged Checkpoint old new = ⊤

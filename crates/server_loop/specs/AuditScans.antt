@@ -29,7 +29,7 @@ seen audit = record machine.new_machine {
 abbrev pub Lacks : List ScanItem → Cell → Type 0
 Lacks items x = AllByRecursion (λ item. item.cell ≢ x) items
 
--- the write is to the cell, of a value of so many bytes at least, which a read finds as of s
+-- the write is to the cell, of a value of least bytes or more, which a read finds as of s
 unfoldable pub WritesValue : List machine.Commit → ℕ → Cell → ℕ → Write → Type 0
 WritesValue commits s x least write =
     (v : Value) × (write_of write ≡ (x, Some v)) × (least ≤ length v)
@@ -40,7 +40,7 @@ unfoldable pub GivesValue : List machine.Commit → ℕ → Cell → ℕ → Com
 GivesValue commits s x least commit =
     Any (λ write. WritesValue commits s x least write) commit.writes.items
 
--- a read of the cell finds a value of so many bytes at least, as of s
+-- a read of the cell finds a value of least bytes or more, as of s
 abbrev pub HasValue : List machine.Commit → ℕ → Cell → ℕ → Type 0
 HasValue commits s x least =
     (v : Value) × (least ≤ length v) × IsSnapshot commits s x (Some v)

@@ -75,7 +75,7 @@ WritesReplies says between result old new taken replies written =
 abbrev pub most_left : ℕ
 most_left = longest + 3
 
--- and where a length past the limit comes: less than its four bytes, and one piece of the input
+-- and if a length past the limit comes: less than its four bytes, and one piece of the input
 abbrev pub most_dropped : ℕ
 most_dropped = 3 + 65536
 

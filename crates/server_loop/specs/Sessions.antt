@@ -68,7 +68,7 @@ ComesFirst refusal n = IsEarlyRefusal refusal ⊎ (n ≡ 1)
 -- visits, and what it answers is true: if all is Collected, each cell is tidy; if it is Blocked,
 -- the lock stands; and after More this much less is left. It alone may change cells and then be
 -- refused, by its later visits; whatever the cells show, it only erases. What writes files changes
--- none if the files hold, and all else changes none, also where it is refused for what stands in the
+-- none if the files hold, and all else changes none, also if it is refused for what stands in the
 -- files. A scan finds what reads of the cells find, sends each value that it may, and looks at as many
 -- cells as it may, unless none is left or the next item does not fit.
 abbrev pub ChangesCells : {F M : Type 0} → (F → Option Contents) → Request → Reply → Server F M

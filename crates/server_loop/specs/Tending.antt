@@ -28,7 +28,7 @@ abbrev pub MergesWhere : {F : Type 0} → Bool → (F → Option Contents) → (
 MergesWhere true contents faults merge old new = Merges contents faults merge old new
 MergesWhere false contents faults merge old new = new ≡ old
 
--- where they were due the name that the next file has then is kept
+-- if they were due, the name that the next file has then is kept
 abbrev pub merged_to : Bool → Tending → ℕ → Tending
 merged_to true tending name = record tending { merged_to = name }
 merged_to false tending name = tending

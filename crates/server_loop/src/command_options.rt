@@ -1,6 +1,6 @@
 //! What the command line can say: the options, and their limits.
 
-/// How many entries a memtable has, where the command line says nothing else, before it is compacted.
+/// How many entries a memtable has, if the command line says nothing else, before it is compacted.
 pub const DEFAULT_FLUSH: u32 = 10_000;
 
 /// The greatest number that `--flush` takes. The least is 1.
@@ -15,7 +15,7 @@ pub const MOST_FLUSH_BYTES: u32 = 67_108_864;
 /// The greatest number that `--merge` takes. The least is 2.
 pub const MOST_MERGE: u32 = 64;
 
-/// How many blocks a file caches at most, where the command line says nothing else, and the least number that `--cache`
+/// How many blocks a file caches at most, if the command line says nothing else, and the least number that `--cache`
 /// takes.
 pub const LEAST_CACHE: u32 = 8;
 
@@ -25,7 +25,7 @@ pub const MOST_CACHE: u32 = 4096;
 /// The least number that `--log-bytes` takes.
 pub const LEAST_LOG_BYTES: u32 = 4096;
 
-/// At how many bytes of a log a checkpoint is made, where the command line says nothing else, and the greatest number that
+/// At how many bytes of a log a checkpoint is made, if the command line says nothing else, and the greatest number that
 /// `--log-bytes` takes: half of what a log can have.
 pub const MOST_LOG_BYTES: u32 = 33_554_432;
 

@@ -147,7 +147,7 @@ impl<S: Recording, L: Log> LastingServer<S, L> {
         }
     }
 
-    /// Puts a root once tablets were moved, with nothing that waits. Where it is refused no reply leaves any more.
+    /// Puts a root once tablets were moved, with nothing that waits. If it is refused, no reply leaves any more.
     fn root_moved(&mut self)
         ensures shown { (st : State) → S.shows self.old.server st → S.shows self.new.server st }
         ensures answered { (reply : CodecReply)

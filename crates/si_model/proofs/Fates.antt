@@ -77,7 +77,7 @@ acts_wrote i (moves_tablet is_moved) y u p ws w = w
 abbrev still_primary : {st st' : State} {q : Request} {r : Reply} → Sound st → Acts st q r st' → (u : ℕ) → Primary st u → Primary st' u
 still_primary i s u p = record { x = p.x; ws = p.ws; v = p.v; wrote = acts_wrote i s p.x u p.placed p.ws p.wrote; puts = p.puts; placed = acts_placed i s p.x u p.placed }
 
--- where the mark of t on x leaves, and t is committed or dead by then
+-- if the mark of t on x leaves, and t is committed or dead by then
 left_known : (st st' : State) (x : Cell) (t : ℕ) → IsWithout st.marks (x, t) st'.marks → (IsCommitted st' t ⊎ IsDead st' t) → ((u : ℕ) → IsCommitted st u ⊎ IsDead st u → IsCommitted st' u ⊎ IsDead st' u)
     → (y : Cell) (u : ℕ) → Marked st y u ⊎ (IsCommitted st u ⊎ IsDead st u) → Marked st' y u ⊎ (IsCommitted st' u ⊎ IsDead st' u)
 left_known st st' x t less fate later y u (inr f) = inr (later u f)

@@ -68,7 +68,7 @@ acts_placed {st} {st'} i (has_collected h none) y u p = same_placed st st' refl 
 acts_placed {st} {st'} i (splits cut) y u p = same_placed st st' refl refl y u p
 acts_placed {st} {st'} i (moves_tablet is_moved) y u p = same_placed st st' refl refl y u p
 
--- where t holds x now, it has not had its chance before
+-- if t holds x now, it has not had its chance before
 not_again : {st : State} {t k : ℕ} {ws : Writes} {x : Cell} {v : Change} → Sound st → HasHeld st t k → Wrote st t ws → Puts ws k x v → HasTried st x t → ⊥
 not_again {st} {t} {k} {ws} {x} {v} i h w puts p =
     let hp = Kept.held_phase st t k h in

@@ -468,7 +468,7 @@ module _ (st : State) (active' : FinMap nat_cmp Phase) (less : Recedes st active
 pub ends : (st : State) (t : ℕ) → Recedes st (remove st.active t)
 ends st t u p h = inl (each_remove st.active t (λ u p. InPhase st u p) (λ u p ne g. g) u p h)
 
--- also where active is more than what the state has, by t alone
+-- also if active is more than what the state has, by t alone
 pub ends_or_finishes : (st : State) (active : FinMap nat_cmp Phase) (t c k n : ℕ) → ((u : ℕ) (p : Phase) → u ≢ t → get active u ≡ Some p → InPhase st u p)
     → CommittedAt st t c → (ws : Writes) → Wrote st t ws → Recedes st (finishing active t c k n)
 ends_or_finishes st active t c k n others m ws w u p h = by_test (nat_eq k n) h

@@ -100,7 +100,7 @@ and_false : (a b : Bool) → a ≡ false → (a && b) ≡ false
 and_false true b e = cc
 and_false false b e = refl
 
--- where keys go and none joins, no cell joins
+-- if keys go and none joins, no cell joins
 few_after : (cells cells' : Cells) → IsWithin key_cmp_total cells' cells → (after : Option Place) → cells_after cells' after ≤ cells_after cells after
 few_after cells cells' within after = few place_cmp_total (retain_keys (places_of cells') (comes_after after)) (retain_keys (places_of cells) (comes_after after)) (λ p h.
     let b = both (comes_after after p) (contains_key (places_of cells') p) (sym (after_at cells' after p) ∙ h) in

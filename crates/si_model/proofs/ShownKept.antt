@@ -74,7 +74,7 @@ module _ (cells : Cells) (st st' : State) (go : Goes st st') (shown : ShowsCells
     given = given_stays;
   }
 
-  -- where t's mark on x joins, with its data, if it has any, and its lock
+  -- if t's mark on x joins, with its data, if it has any, and its lock
   module _ (x : Cell) (t : ℕ) (v : Change) (first : Cell) where
     abbrev pub with_data : Cells
     with_data = changed_cells cells x t v
@@ -136,7 +136,7 @@ module _ (cells : Cells) (st st' : State) (go : Goes st st') (shown : ShowsCells
         new_given : (y : Cell) (u : ℕ) (b : List ℕ) → y ≡ x → u ≡ t → v ≡ Some b → IsGiven st' y u b
         new_given y u b ey eu ev = subst (λ (p : Cell × ℕ). IsGiven st' p.0 p.1 b) (λ i. (sym ey i, sym eu i)) (record { ws = ws; wrote = wrote; gives = subst (λ (w : Change). Gives ws x w) ev gives; late = late })
 
-  -- where t's mark on x leaves, and its lock gives way to the record of t's commit
+  -- if t's mark on x leaves, and its lock gives way to the record of t's commit
   module _ (x : Cell) (t : ℕ) (a : Commit) (v : Change) where
     abbrev pub with_record : Cells
     with_record = insert cells (key_of x Write a.stamp) (record_text t (kind_of_change v))
@@ -223,7 +223,7 @@ module _ (cells : Cells) (st st' : State) (go : Goes st st') (shown : ShowsCells
           value = λ given e. value_rests x a.start (subst (λ (u : ℕ). IsThere cells x Data u) (sym start) (value given e));
         })
 
-  -- where t, which has not committed, has its mark on x removed, and its lock goes
+  -- if t, which has not committed, has its mark on x removed, and its lock goes
   module _ (x : Cell) (t : ℕ) where
     abbrev pub with_none : Cells
     with_none = remove cells (key_of x Lock t)

@@ -11,7 +11,7 @@ pub data Request : Type 0 where
   Get : (start : ℕ) (cell : Cell) → Request
   Set : (start : ℕ) (cell : Cell) (value : Value) → Request
   Delete : (start : ℕ) (cell : Cell) → Request
-  -- what the cells of the range have, at most so many of them; if keys only, no values
+  -- what the cells of the range have, at most this number of them; if keys only, no values
   ScanFrom : (start : ℕ) (range : Range) (keys_only : Bool) (cells : ℕ) → Request
   -- the session's next step
   Advance : (start : ℕ) → Request

@@ -49,7 +49,7 @@ ScansAsGets st =
     → (x : Cell) (said : Option Item) → Covers range reach x → Says items x said
     → IsAsGet st s x said
 
--- where a cell map shows a state, a cell without a key has no mark, and nothing as of each stamp
+-- if a cell map shows a state, a cell without a key has no mark, and nothing as of each stamp
 -- from the floor on
 abbrev pub NothingThere : Cells → State → Type 0
 NothingThere cells st =

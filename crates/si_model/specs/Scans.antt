@@ -114,7 +114,7 @@ pub record IsScanned (st : State) (s : ℕ) (range : Range) (keys_only : Bool) (
     (items : List (Cell × Item)) (reach : Reach) : Type 0 where
   pub said : (x : Cell) → Covers range reach x → (said : Option Item) → Says items x said
       → IsSaid st s x said
-  -- it names only cells that it goes over, each once and in their order, and at most so many
+  -- it names only cells that it goes over, each once and in their order, and at most this number
   pub covered : (x : Cell) (item : Item) → (x, item) ∈ items → Covers range reach x
   pub rises : Rise range.after items
   pub few : length items ≤ cells

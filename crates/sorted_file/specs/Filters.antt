@@ -2,7 +2,7 @@
 use Rattle.std.specs.Prelude.{◌≡◌, ◌-◌, ◌/◌, ◌%◌, ◌^◌, ℕ, List, length, bit_and, slice_get, IfSome}
 use Rattle.std.specs.Int.{bit_at}
 
--- which of so many words of a filter has a number's bits
+-- which of the words of a filter has a number's bits
 abbrev pub word_place : ℕ → ℕ → ℕ
 word_place words number = bit_and number (words - 1)
 

@@ -91,7 +91,7 @@ fn starts_of(alloc: Global, bytes: &[u8]) -> Result<Option<Vec<u32>>, Refusal>
     Ok(Some(starts))
 }
 
-/// Room for the starts of the entries of a block of so many bytes, if their values are short.
+/// Room for the starts of the entries of a block of `len` bytes, if their values are short.
 pub(crate) fn room_for_starts(alloc: Global, len: usize) -> Result<Vec<u32>, Refusal>
     ensures none { IfOk result (λ starts. starts.items ≡ []) }
     ensures refusal { IfErr result (λ refusal. refusal ≡ Refusal.NoMemory) }

@@ -40,7 +40,7 @@ fn front_of(row: &[u8]) -> u64
     ])
 }
 
-/// The byte of a row at the front of a text, and what follows it; `None` where the row ends.
+/// The byte of a row at the front of a text, and what follows it; `None` if the row ends there.
 fn split_byte(text: &[u8]) -> Option<(u8, &[u8])>
     ensures found { IfSome result (λ p. text.now ≡ escaped_byte p.0 ++ p.1.now) }
     ensures none { IfNone result ((byte : ℕ) (rest : List ℕ)

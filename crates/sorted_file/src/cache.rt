@@ -15,10 +15,10 @@ use lru::LruCache;
 use std::alloc::Global;
 use std::num::NonZeroUsize;
 
-/// How many blocks an open file caches at most, if it isn't told otherwise.
+/// The default of how many blocks an open file caches at most.
 const FEW_BLOCKS: usize = 8;
 
-/// How many blocks an open file caches at most, if it isn't told otherwise: 8.
+/// The default of how many blocks an open file caches at most: 8.
 pub fn few_blocks() -> NonZeroUsize
     ensures { non_zero_usize_get result ≡ 8 }
 {

@@ -16,7 +16,7 @@ const FIRST_SHIFT: u64 = 58;
 /// How far down the six bits below those are shifted, which say which bit is its second.
 const SECOND_SHIFT: u64 = 52;
 
-/// How many words the filter of so many numbers has: a power of two, with at least 8 bits for each number, and at most
+/// How many words a filter has for this number of numbers: a power of two, with at least 8 bits for each, and at most
 /// 16 for each and 64 more.
 fn words_for(count: usize) -> usize
     ensures power { IsPowerOfTwo result }
@@ -26,7 +26,7 @@ fn words_for(count: usize) -> usize
     count.div_ceil(NUMBERS_A_WORD).next_power_of_two()
 }
 
-/// The place of the word that has a number's bits, among so many words.
+/// The place of the word that has a number's bits, in a filter of `count` words.
 #[inline(always)]
 fn place_of(count: usize, number: u64) -> usize
     ensures { result ≡ word_place count number }
@@ -125,7 +125,7 @@ impl Filter {
         }
     }
 
-    /// A filter of no numbers, with words for so many. Answers `NoMemory` if there is no memory.
+    /// An empty filter, with words for `count` numbers. Answers `NoMemory` if there is no memory.
     pub(crate) fn with_room(alloc: Global, count: usize) -> Result<Filter, Refusal>
         ensures refusal { IfErr result (λ refusal. refusal ≡ Refusal.NoMemory) }
     {
@@ -133,7 +133,7 @@ impl Filter {
         Ok(Filter { words, count: 0 })
     }
 
-    /// Whether it has words for so many numbers more.
+    /// Whether it has words for `more` numbers beside those that it has.
     pub(crate) fn has_room(&self, more: usize) -> bool {
         self.count.saturating_add(more) <= self.words.len().saturating_mul(NUMBERS_A_WORD)
     }

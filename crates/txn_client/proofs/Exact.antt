@@ -63,6 +63,6 @@ module _ (clients : Clients) (t : ℕ) (st : State) (shown : ShowsClients client
       let same : writes_of session ≡ [] = same_Some (writes_of session) [] (sym (kept_at session there).writes ∙ none.1) in
       omega (arith, ap (λ (ws : Writes). length ws) same, length-map session.writes write_of)
 
--- where there is room for a session more, no state that is shown is crowded
+-- if there is room for a session more, no state that is shown is crowded
 pub not_crowded : (clients : Clients) (st : State) → ShowsClients clients st → btree.btree_map_len clients.sessions < 1024 → IsCrowded st → ⊥
 not_crowded clients st shown few many = let count = shown.count in omega (arith, count, few, many)

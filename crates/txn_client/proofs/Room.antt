@@ -149,7 +149,7 @@ module _ (Holds : Type 0) (cells : Cells) (session : Session) where
         let phase = held_phase st session.start k (held_of session st k mine so) in
         (w.cell, first.cell, w.value, first.value, puts_of session k w e, puts_of session 0 first e0, free_open cells st reached shown w.cell session.start phase.p phase.is (free held), at.0, at.1)
 
-    -- where a lock stands, the mark does
+    -- if a lock stands, the mark does
     records_next : (k : ℕ) (row : List ℕ) (edits : List Edit) → RecordsAt Holds cells session k row edits → RecordsNext st (writes_of session) k session.start session.commit row edits
     records_next k row edits (w, e, at) =
         let stands = at.1 held in

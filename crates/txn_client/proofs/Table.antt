@@ -67,7 +67,7 @@ pub on_err_then : {A : Type 0} (P Q : Type 0) (r : Result A Refusal) → (P → 
 on_err_then P Q (Ok x) go h = tt
 on_err_then P Q (Err e) go h = go h
 
--- where the machine keeps phase and writes of t, what is shown at t stays shown
+-- if the machine keeps phase and writes of t, what is shown at t stays shown
 pub shows_other : (st next : State) (o : Option Session) (t : ℕ) → finmap.get next.active t ≡ finmap.get st.active t → finmap.get next.begun t ≡ finmap.get st.begun t → ShowsAt o t st → ShowsAt o t next
 shows_other st next None t a b h = a ∙ h
 shows_other st next (Some s) t a b h = record { start = h.start; phase = a ∙ h.phase; writes = b ∙ h.writes }
@@ -498,7 +498,7 @@ touches_at clients t session cells cells' was touched st shown = by session.phas
     by Stamped e h = inr (inr (session.commit, inl (in_phase Stamped e), subst (λ (n : ℕ). TouchesOneRow cells cells' n session.commit) mine.start h))
     by (Finishing k) e h = inr (inr (session.commit, inr (k, in_phase (Finishing k) e), subst (λ (n : ℕ). TouchesOneRow cells cells' n session.commit) mine.start h))
 
--- where the machine is about to draw, the session that is shown is too
+-- if the machine is about to draw, the session that is shown is too
 held_count : (p : Phase) (c n : ℕ) → phase_of p c ≡ machine.Holding n → p ≡ Holding n
 held_count Open c n e = cc
 held_count (Holding k) c n e = ap Holding (same_held k n e)

@@ -14,7 +14,7 @@ use Rattle.si_model.specs.declared.replies.Cell.{Cell}
 use Rattle.si_model.specs.declared.replies.Found.TheVariants.{Nothing}
 use Rattle.txn_client.specs.Reads.{IsDamaged, IsFound, ReadsValue}
 
--- so many cells may be looked at
+-- a scan may look at this number of cells
 abbrev pub IsScanCount : ℕ → Type 0
 IsScanCount cells = (1 ≤ cells) × (cells ≤ most_scanned)
 
@@ -71,7 +71,7 @@ Stops cells s range keys_only count items (UpTo x) =
     (n : ℕ) × (1 ≤ n) × (n ≤ count) × LooksAt cells range n (Some x)
     × ((n ≡ count) ⊎ DoesNotFit cells s range keys_only items (Some x))
 
--- What a scan of this range finds, that may look at so many cells.
+-- What a scan of this range finds that may look at count cells.
 pub record IsScanFound (cells : Cells) (s : ℕ) (range : Range) (keys_only : Bool) (count : ℕ)
     (items : List (Cell × Item)) (reach : Reach) : Type 0 where
   -- of each cell that it goes over it says what a read finds

@@ -389,7 +389,7 @@ impl Gathered {
 }
 
 impl Scan {
-    /// Looks at the cells of the range in order, at most at so many.
+    /// Looks at the cells of the range in order, at most at `cells` of them.
     ///
     /// # Errors
     ///

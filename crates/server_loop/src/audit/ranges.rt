@@ -74,7 +74,7 @@ fn has_families(range: &ScanRange<'_>) -> bool
     has_family(range.after) && is_family_if_any(range.family)
 }
 
-/// Why a scan of so many cells of the range is refused, or none if it isn't.
+/// Why a scan of at most `cells` cells of the range is refused, or none if it isn't.
 pub(crate) fn range_refusal(range: &ScanRange<'_>, cells: u32) -> Option<Refusal>
     ensures { RefusesRange (range_of range.now) cells result }
 {

@@ -140,7 +140,7 @@ fn lacks(items: &[ScanItem], cell: &Cell) -> bool
     items.iter().all(|item| is_of_another(item, cell))
 }
 
-/// Whether a write of the cell is of a value of so many bytes at least, which a read finds as of the stamp.
+/// Whether a write of the cell is of a value of at least `least` bytes, which a read finds as of the stamp.
 #[tactic(auto, unfolding(crate::specs::AuditScans::WritesValue))]
 fn writes_value(write: &Write, commits: &[Commit], stamp: Stamp, cell: &Cell, least: usize) -> bool
     ensures { IsTrue result
@@ -210,7 +210,7 @@ fn one_gives_value(
     false
 }
 
-/// Whether a read of the cell finds a value of so many bytes at least, as of the stamp.
+/// Whether a read of the cell finds a value of at least `least` bytes, as of the stamp.
 fn has_value(commits: &[Commit], stamp: Stamp, cell: &Cell, least: usize) -> bool
     ensures { IsTrue result ↔ HasValue (map commit_of commits.now) stamp cell.now least }
 {

@@ -40,7 +40,7 @@ impl Audit {
         self.use_refusal(start, row, family)
     }
 
-    /// The first refusal of a Scan of so many cells, or none if it is acceptable.
+    /// The first refusal of a Scan of at most `cells` cells, or none if it is acceptable.
     pub(crate) fn scan_refusal(
         &self,
         start: Stamp,

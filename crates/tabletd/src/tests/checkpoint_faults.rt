@@ -162,7 +162,7 @@ fn came(rt: &HostRuntime, path: &str, at: u64, how: How) -> Result<(usize, Optio
 }
 
 /// The calls of the files that put a root. The second is the last call of all.
-const ROOTS: [u64; 2] = [4, 38];
+const ROOTS: [u64; 2] = [4, 35];
 
 /// Which checkpoint is to open if a call fails so: the last answered one. If all of a root was put, it is the refused one, and
 /// half a root is damage.

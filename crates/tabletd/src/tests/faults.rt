@@ -17,7 +17,7 @@ const MARK_CALLS: u64 = 4;
 
 /// Whether the server compacts by itself, and how many calls of the files there are then in the script: those that its
 /// requests make, and those between two requests.
-const FILE_CALLS: [(bool, u64, u64); 2] = [(false, 33, 0), (true, 49, 37)];
+const FILE_CALLS: [(bool, u64, u64); 2] = [(false, 30, 0), (true, 46, 37)];
 
 /// More calls than there are.
 const MOST_CALLS: u64 = 1000;

@@ -43,7 +43,7 @@ fn stream_of_cells(alloc: Global, count: u8) -> Result<Vec<u8>, AllocError> {
     Ok(stream)
 }
 
-/// Whether a server that compacts memtables of so many bytes writes this last.
+/// Whether a server that compacts memtables of this number of bytes writes `last` at the end.
 fn ends_with(alloc: Global, bytes: Option<u32>, count: u8, last: &[u8]) -> Result<bool, Refusal> {
     let limits = FlushLimits {
         entries: 10_000,

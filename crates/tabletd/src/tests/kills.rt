@@ -364,19 +364,19 @@ fn calls_of(alloc: Global, upkeep: Upkeep) -> Result<Vec<Result<u64, u64>>, Refu
 /// The numbers of calls.
 type Calls = [Result<u64, u64>; 7];
 
-const ASKED_CALLS: Calls = [Ok(75), Ok(73), Ok(81), Ok(81), Ok(81), Ok(29), Ok(29)];
+const ASKED_CALLS: Calls = [Ok(72), Ok(70), Ok(78), Ok(78), Ok(78), Ok(29), Ok(29)];
 
 const CHECKPOINT_CALLS: Calls = [
-    Ok(474),
-    Ok(474),
-    Ok(474),
-    Ok(474),
-    Ok(474),
+    Ok(453),
+    Ok(453),
+    Ok(453),
+    Ok(453),
+    Ok(453),
     Ok(101),
     Ok(101),
 ];
 
-const OWN_CALLS: Calls = [Ok(185), Ok(184), Ok(189), Ok(189), Ok(189), Ok(17), Ok(17)];
+const OWN_CALLS: Calls = [Ok(182), Ok(181), Ok(186), Ok(186), Ok(186), Ok(17), Ok(17)];
 
 #[test]
 fn a_server_is_killed(rt: HostRuntime) -> Result<(), Fail> {

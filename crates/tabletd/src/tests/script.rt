@@ -213,7 +213,7 @@ pub struct Run<'a> {
     pub watch: &'a Watch,
 }
 
-/// A reader of frames of fewer than 256 bytes, of which a read gives one. It ends where the last one was refused.
+/// A reader of frames of fewer than 256 bytes, of which a read gives one. It ends if the last one was refused.
 #[derive(Drop)]
 struct Frames<'a> {
     last: &'a [u8],
@@ -241,7 +241,7 @@ impl Read for Frames<'_> {
     }
 }
 
-/// A writer that has room for all replies, and sees where one is the refusal that may come.
+/// A writer that has room for all replies, and sees whether one is the refusal that may come.
 #[derive(Drop)]
 struct Replies<'a> {
     written: Vec<u8>,
@@ -264,8 +264,8 @@ impl Write for Replies<'_> {
     }
 }
 
-/// Serves frames, and writes the replies behind what is there. It answers how many bytes of frames are left where one was refused
-/// so, from that one on: its reply is then not kept.
+/// Serves frames, and writes the replies behind what is there. It answers how many bytes of frames are left if one was refused so,
+/// from that one on: its reply is then not kept.
 pub fn served<F: Files + Drop, M: MarkStore + Drop>(
     server: &mut Server<F, M>,
     run: Run<'_>,
@@ -413,7 +413,7 @@ struct Play<'a, F, M: MarkStore> {
 }
 
 impl<'a, F: Files + Drop, M: MarkStore + Drop> Play<'a, F, M> {
-    /// A new server, which is made once more of what it gave back where it was refused so.
+    /// A new server, which is made once more of what it gave back if it was refused so.
     fn new(
         alloc: Global,
         files: F,
@@ -438,7 +438,7 @@ impl<'a, F: Files + Drop, M: MarkStore + Drop> Play<'a, F, M> {
         }
     }
 
-    /// Serves a stream, and what is left of it once more where a request was refused so and nothing was before. It gives back
+    /// Serves a stream, and what is left of it once more if a request was refused so and nothing was before. It gives back
     /// the room for the replies.
     fn ask(&mut self, streams: &Streams, room: Vec<u8>) -> Vec<u8> {
         let frames = streams.requests.as_slice();

@@ -4,7 +4,7 @@ use Rattle.std.proofs.lemmas.List.{append_cancel_left, take-append-drop}
 use Rattle.cell_key.proofs.TextPlaces.{clash}
 use Rattle.cell_key.proofs.text_order.are_same.Goals as goal
 
--- where bytes are the same, so is what is left of them, and its front
+-- if bytes are the same, so is what is left of them, and its front
 rest_same : (bytes other both left right : List ℕ) → bytes ≡ both ++ left → other ≡ both ++ right → bytes ≡ other → left ≡ right
 rest_same bytes other both left right one two same = append_cancel_left both left right (sym one ∙ same ∙ two)
 
