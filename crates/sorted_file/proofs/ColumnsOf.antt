@@ -10,13 +10,12 @@ use Rattle.cell_key.proofs.EntryLaws.{key_of_text-text}
 use Rattle.sorted_file.specs.Block.{entries_of, IsParsed}
 use Rattle.sorted_file.specs.Bounds.{AreWithin, IsBounded}
 use Rattle.sorted_file.specs.Columns.{AreColumnsOf, IsGathered}
-use Rattle.sorted_file.specs.Numbers.{AreNamed, IsAmong, IsLockKept, IsLockKeyNumbered, IsLockStamped, IsNumbered}
+use Rattle.sorted_file.specs.Numbers.{AreNamed, IsAmong, IsLockKept, IsLockKeyNumbered, IsNumbered}
 use Rattle.sorted_file.specs.declared.block.Block.{Block}
 use Rattle.sorted_file.specs.declared.gathering.Columns.{Columns}
-use Rattle.sorted_file.specs.declared.lock_stamps.LockStamp.{LockStamp}
 use Rattle.sorted_file.proofs.Bounded.{covered_all}
 use Rattle.sorted_file.proofs.Joining.{all_joined}
-use Rattle.sorted_file.proofs.Locked.{kept_on, keyed_on, locked_on}
+use Rattle.sorted_file.proofs.Locked.{kept_on, keyed_on}
 use Rattle.sorted_file.proofs.NamedLocks.{named_joined}
 use Rattle.sorted_file.proofs.Numbered.{numbered_on}
 use Rattle.sorted_file.proofs.Parsed.{parsed_is}
@@ -27,27 +26,24 @@ lent_is lent k key stored e = sym (key_of_text-text k.key k.stored) ∙ ap key_o
 
 -- one entry more
 pub columns_on : (old new : Columns) (es : List Entry) (e : Entry) → AreWithin old.bounds new.bounds → IsBounded new.bounds e → IsAmong old.numbers.items new.numbers.items → IsNumbered new.numbers.items e
-    → IsAmong old.locks.items new.locks.items → IsLockStamped new.locks.items e → IsAmong old.lock_keys.items new.lock_keys.items → IsLockKeyNumbered new.lock_keys.items e
+    → IsAmong old.lock_keys.items new.lock_keys.items → IsLockKeyNumbered new.lock_keys.items e
     → IsAmong old.lock_values.items new.lock_values.items → IsLockKept new.lock_values.items e
     → AreNamed new.named_locks.items (es ++ e ∷ []) → AreColumnsOf old es → AreColumnsOf new (es ++ e ∷ [])
-columns_on old new es e covers bounded among numbered held locked has keyed keeps kept named k = record {
+columns_on old new es e covers bounded among numbered has keyed keeps kept named k = record {
   bounded = all_joined (IsBounded new.bounds) es (e ∷ []) (covered_all old.bounds new.bounds es covers k.bounded) (bounded, tt);
   numbered = all_joined (IsNumbered new.numbers.items) es (e ∷ []) (numbered_on old.numbers.items new.numbers.items among es k.numbered) (numbered, tt);
-  locked = all_joined (IsLockStamped new.locks.items) es (e ∷ []) (locked_on old.locks.items new.locks.items held es k.locked) (locked, tt);
   keyed = all_joined (IsLockKeyNumbered new.lock_keys.items) es (e ∷ []) (keyed_on old.lock_keys.items new.lock_keys.items has es k.keyed) (keyed, tt);
   locks_kept = record { values = all_joined (IsLockKept new.lock_values.items) es (e ∷ []) (kept_on old.lock_values.items new.lock_values.items keeps es k.locks_kept.values) (kept, tt); named = named };
 }
 
 -- those of two lists
 pub columns_joined : (old more new : Columns) (es fs : List Entry) → AreWithin old.bounds new.bounds → AreWithin more.bounds new.bounds → new.numbers.items ≡ old.numbers.items ++ more.numbers.items
-    → new.locks.items ≡ old.locks.items ++ more.locks.items → new.lock_keys.items ≡ old.lock_keys.items ++ more.lock_keys.items → new.lock_values.items ≡ old.lock_values.items ++ more.lock_values.items
+    → new.lock_keys.items ≡ old.lock_keys.items ++ more.lock_keys.items → new.lock_values.items ≡ old.lock_values.items ++ more.lock_values.items
     → new.named_locks.items ≡ old.named_locks.items ++ more.named_locks.items
     → AreColumnsOf old es → AreColumnsOf more fs → AreColumnsOf new (es ++ fs)
-columns_joined old more new es fs first second numbers locks keys values named k m =
+columns_joined old more new es fs first second numbers keys values named k m =
     let front : IsAmong old.numbers.items new.numbers.items = λ n there. subst (λ (l : List ℕ). Contains l n) (sym numbers) (Contains-append_left old.numbers.items more.numbers.items n there) in
     let back : IsAmong more.numbers.items new.numbers.items = λ n there. subst (λ (l : List ℕ). Contains l n) (sym numbers) (Contains-append_right old.numbers.items more.numbers.items n there) in
-    let held : IsAmong old.locks.items new.locks.items = λ n there. subst (λ (l : List LockStamp). Contains l n) (sym locks) (Contains-append_left old.locks.items more.locks.items n there) in
-    let added : IsAmong more.locks.items new.locks.items = λ n there. subst (λ (l : List LockStamp). Contains l n) (sym locks) (Contains-append_right old.locks.items more.locks.items n there) in
     let has : IsAmong old.lock_keys.items new.lock_keys.items = λ n there. subst (λ (l : List ℕ). Contains l n) (sym keys) (Contains-append_left old.lock_keys.items more.lock_keys.items n there) in
     let gets : IsAmong more.lock_keys.items new.lock_keys.items = λ n there. subst (λ (l : List ℕ). Contains l n) (sym keys) (Contains-append_right old.lock_keys.items more.lock_keys.items n there) in
     let keeps : IsAmong old.lock_values.items new.lock_values.items = λ k there. subst (λ (l : List CellKey). Contains l k) (sym values) (Contains-append_left old.lock_values.items more.lock_values.items k there) in
@@ -55,7 +51,6 @@ columns_joined old more new es fs first second numbers locks keys values named k
     record {
       bounded = all_joined (IsBounded new.bounds) es fs (covered_all old.bounds new.bounds es first k.bounded) (covered_all more.bounds new.bounds fs second m.bounded);
       numbered = all_joined (IsNumbered new.numbers.items) es fs (numbered_on old.numbers.items new.numbers.items front es k.numbered) (numbered_on more.numbers.items new.numbers.items back fs m.numbered);
-      locked = all_joined (IsLockStamped new.locks.items) es fs (locked_on old.locks.items new.locks.items held es k.locked) (locked_on more.locks.items new.locks.items added fs m.locked);
       keyed = all_joined (IsLockKeyNumbered new.lock_keys.items) es fs (keyed_on old.lock_keys.items new.lock_keys.items has es k.keyed) (keyed_on more.lock_keys.items new.lock_keys.items gets fs m.keyed);
       locks_kept = record {
         values = all_joined (IsLockKept new.lock_values.items) es fs (kept_on old.lock_values.items new.lock_values.items keeps es k.locks_kept.values) (kept_on more.lock_values.items new.lock_values.items takes fs m.locks_kept.values);

@@ -15,7 +15,7 @@ use Rattle.sorted_file.specs.Index.{block_of, blocks_of, entries_in, first_of, r
 use Rattle.sorted_file.specs.Block.{IsParsed, BeginsWith}
 use Rattle.sorted_file.specs.Grammar.{block_bytes, IsFile}
 use Rattle.sorted_file.specs.Bounds.{IsBounded, IsWithin, column_bounds}
-use Rattle.sorted_file.specs.Numbers.{IsLockKeyNumbered, IsLockStamped, IsNumbered, KeepsLocks, lock_stamp, number_of}
+use Rattle.sorted_file.specs.Numbers.{IsLockKeyNumbered, IsNumbered, KeepsLocks, number_of}
 use Rattle.sorted_file.specs.declared.block.BlockRow.{BlockRow}
 use Rattle.sorted_file.specs.declared.block.Block.{Block}
 use Rattle.sorted_file.specs.declared.format.Format.{Format}
@@ -64,7 +64,6 @@ pub record IsOpen (m : Contents) (file : SortedFile) : Type 0 where
   pub bounds : AllByRecursion (IsBounded file.bounds) (listed m file)
   pub bounded : AllByRecursion IsBoundedRow file.rows.items
   pub numbered : AllByRecursion (IsNumbered file.numbers) (listed m file)
-  pub locked : AllByRecursion (IsLockStamped file.locks) (listed m file)
   pub keyed : AllByRecursion (IsLockKeyNumbered file.lock_keys) (listed m file)
   pub locks_kept : IsTelling file
   pub heads : texts_of file.heads.items ≡ map row_head file.rows.items
@@ -131,16 +130,14 @@ HasBlockNow disk file number =
     → IsUncached number file.cache.entries → Tells disk (name_of file) image
     → (es : List Entry) × IsReadFrom image row es
 
--- by what an open file keeps, the column of this kind with this number may have a value at a stamp
-abbrev pub MayHaveIn : SortedFile → Qualifier → ℕ → ℕ → Type 0
-MayHaveIn file Data number stamp = Contains file.numbers number
-MayHaveIn file Lock number stamp = Contains file.locks (lock_stamp number stamp)
-MayHaveIn file Write number stamp = Contains file.numbers number
+-- by what an open file keeps, the column with this number may have an entry
+abbrev pub MayHaveIn : SortedFile → ℕ → Type 0
+MayHaveIn file number = Contains file.numbers number
 
 -- By what an open file knows without a read, the block of a row may have a value of the key's column
 -- at this stamp.
 pub record MayHaveAt (file : SortedFile) (row : BlockRow) (key : CellKey) (stamp : ℕ) : Type 0 where
-  pub in_column : MayHaveIn file key.qualifier (number_of (text key)) stamp
+  pub in_column : MayHaveIn file (number_of (text key))
   pub in_file : IsWithin (column_bounds file.bounds key.qualifier) key.row stamp
   pub in_block : IsWithin (column_bounds row.bounds key.qualifier) key.row stamp
 

@@ -28,12 +28,6 @@ IsNumbered numbers entry = Contains numbers (number_of entry.0)
 abbrev pub lock_stamp : ℕ → ℕ → LockStamp
 lock_stamp column stamp = record { column = column; stamp = stamp }
 
--- if the entry is the value of a lock, its stamp is among these, by its column's number
-abbrev pub IsLockStamped : List LockStamp → Entry → Type 0
-IsLockStamped locks entry =
-    (key : CellKey) → IsStored key → entry.0 ≡ text key → key.qualifier ≡ Lock → IsSome entry.1
-    → Contains locks (lock_stamp (number_of entry.0) key.stamp)
-
 -- if the entry is a lock's, a value or an erasure, the number of its text is among these
 abbrev pub IsLockKeyNumbered : List ℕ → Entry → Type 0
 IsLockKeyNumbered numbers entry =

@@ -1,7 +1,9 @@
 -- What a source answers.
-use Rattle.std.specs.Prelude.{◌≡◌, List, ◌++◌, Option, None, IsSome}
+use Rattle.std.specs.Prelude.{◌≡◌, ℕ, List, ◌++◌, Option, None, IsSome, Result, IfErr}
 use Rattle.std.specs.Option.{option_to_list}
 use Rattle.cell_key.specs.Entries.{Entry, IsEntryList}
+use Rattle.cell_key.specs.Faults.{HasReason}
+use Rattle.file_store.specs.Store.{Contents}
 use Rattle.cell_key.specs.declared.refusals.Refusal.{Refusal}
 use Rattle.cell_key.specs.declared.refusals.Refusal.TheVariants as refused
 use Rattle.file_store.specs.declared.files.FileFault.{FileFault}
@@ -23,6 +25,13 @@ IsReadRefusal refused.Device = Unit {0}
 IsReadRefusal refused.NoMemory = Unit {0}
 IsReadRefusal refused.Damaged = Unit {0}
 IsReadRefusal _ = ⊥
+
+-- A read of files: what stands in them stays, and each refusal has its reason.
+pub record ReadsFiles {F T : Type 0} (contents : F → Option Contents) (faults : F → ℕ) (old new : F)
+    (result : Result T Refusal) : Type 0 where
+  pub refusal : IfErr result IsReadRefusal
+  pub same : contents new ≡ contents old
+  pub reason : HasReason (faults old) (faults new) result
 
 -- what writing a file may be refused: that too, and a file that is too large
 abbrev pub IsWriteRefusal : Refusal → Type 0

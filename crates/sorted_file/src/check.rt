@@ -11,7 +11,7 @@ ghost use Rattle.sorted_file.specs.Check.{IsFollowed, IsFramed, IsNext, IsOpenin
 ghost use Rattle.sorted_file.specs.Block.{IsBlock, IsParsed, entries_of};
 ghost use Rattle.sorted_file.specs.Columns.{AreColumnsOf};
 ghost use Rattle.sorted_file.specs.File.{HasFile};
-ghost use Rattle.sorted_file.specs.Source.{IsReadRefusal};
+ghost use Rattle.sorted_file.specs.Source.{ReadsFiles, IsReadRefusal};
 
 use crate::block::{Block, BlockRow, is_followed};
 use crate::bounds::head_of;
@@ -35,9 +35,7 @@ fn file_size<F: Files>(name: u64, files: &mut F) -> Result<u64, Refusal>
         IfSome (F.contents files.old) (λ m. IsSome (map.get m name))) }
     ensures damaged { IsErrOf result Refusal.Damaged → (image : List ℕ)
         → Tells (F.contents files.old) name image → IsNoFile image }
-    ensures refusal { IfErr result IsReadRefusal }
-    ensures same { F.contents files.new ≡ F.contents files.old }
-    ensures reason { HasReason (F.faults files.old) (F.faults files.new) result }
+    ensures reads { ReadsFiles F.contents F.faults files.old files.new result }
 {
     files
         .size(name)
@@ -59,9 +57,7 @@ fn read_format<F: Files>(
     ensures most { IfOk result (λ format. size < most format) }
     ensures damaged { IsErrOf result Refusal.Damaged → (image : List ℕ)
         → Tells (F.contents files.old) name image → length image ≡ size → IsNoFile image }
-    ensures refusal { IfErr result IsReadRefusal }
-    ensures same { F.contents files.new ≡ F.contents files.old }
-    ensures reason { HasReason (F.faults files.old) (F.faults files.new) result }
+    ensures reads { ReadsFiles F.contents F.faults files.old files.new result }
 {
     let head = read_part(alloc, name, 0, HEAD, files)?;
     let Some(format) = format_of(&head) else {
@@ -92,9 +88,7 @@ fn read_foot<F: Files>(
     ensures damaged { IsErrOf result Refusal.Damaged → (image : List ℕ)
         → Tells (F.contents files.old) name image → length image ≡ size
         → take 8 image ≡ head format → IsNoFile image }
-    ensures refusal { IfErr result IsReadRefusal }
-    ensures same { F.contents files.new ≡ F.contents files.old }
-    ensures reason { HasReason (F.faults files.old) (F.faults files.new) result }
+    ensures reads { ReadsFiles F.contents F.faults files.old files.new result }
 {
     let len = format.foot_len();
     let foot = read_part(alloc, name, size - len, len, files)?;
@@ -121,9 +115,7 @@ fn read_frame<F: Files>(
     ensures damaged { IsErrOf result Refusal.Damaged → (image : List ℕ)
         → Tells (F.contents files.old) name image → length image ≡ size
         → take 8 image ≡ head format → IsNoFile image }
-    ensures refusal { IfErr result IsReadRefusal }
-    ensures same { F.contents files.new ≡ F.contents files.old }
-    ensures reason { HasReason (F.faults files.old) (F.faults files.new) result }
+    ensures reads { ReadsFiles F.contents F.faults files.old files.new result }
 {
     let (at, foot) = read_foot(alloc, name, format, size, files)?;
     let index = read_part(alloc, name, at, size - format.foot_len() - at, files)?;
@@ -197,9 +189,7 @@ impl Opening {
             → Tells (F.contents files.old) self.now.name image → length image ≡ self.now.size
             → (es : List Entry) → length (block_bytes es) ≡ row.entry.length
             → ¬ IsBlock es (part image self.now.end row.entry.length) }
-        ensures refusal { IfErr result IsReadRefusal }
-        ensures same { F.contents files.new ≡ F.contents files.old }
-        ensures reason { HasReason (F.faults files.old) (F.faults files.new) result }
+        ensures reads { ReadsFiles F.contents F.faults files.old files.new result }
     {
         if row.length > self.size - self.end || row.length > LONGEST_BLOCK {
             return Err(Refusal::Damaged);
@@ -291,9 +281,7 @@ impl Opening {
         ensures damaged { IsErrOf result Refusal.Damaged → (image all end : List ℕ)
             → IsReading (F.contents files.old) self.old image all end left.now
             → 0 < length left.now → IsNoFile image }
-        ensures refusal { IfErr result IsReadRefusal }
-        ensures same { F.contents files.new ≡ F.contents files.old }
-        ensures reason { HasReason (F.faults files.old) (F.faults files.new) result }
+        ensures reads { ReadsFiles F.contents F.faults files.old files.new result }
     {
         let Some((row, rest)) = read_row(self.format, left) else {
             return Err(Refusal::Damaged);
@@ -322,9 +310,7 @@ impl Opening {
         ensures damaged { IsErrOf result Refusal.Damaged → (image end : List ℕ)
             → IsReading (F.contents files.old) self.old image index.now end index.now
             → IsNoFile image }
-        ensures refusal { IfErr result IsReadRefusal }
-        ensures same { F.contents files.new ≡ F.contents files.old }
-        ensures reason { HasReason (F.faults files.old) (F.faults files.new) result }
+        ensures reads { ReadsFiles F.contents F.faults files.old files.new result }
     {
         let mut rest = index;
         'blocks: while !rest.is_empty() {
@@ -365,9 +351,7 @@ pub(crate) fn read_file<F: Files>(
     ensures whole { IfOk result (λ o. IfSome (F.contents files.old) (λ m. IsWhole m name o)) }
     ensures damaged { IsErrOf result Refusal.Damaged
         → IfSome (F.contents files.old) (λ m. ¬ HasFile m name) }
-    ensures refusal { IfErr result IsReadRefusal }
-    ensures same { F.contents files.new ≡ F.contents files.old }
-    ensures reason { HasReason (F.faults files.old) (F.faults files.new) result }
+    ensures reads { ReadsFiles F.contents F.faults files.old files.new result }
 {
     let size = file_size(name, files)?;
     let format = read_format(alloc, name, size, files)?;

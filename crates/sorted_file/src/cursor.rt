@@ -6,7 +6,7 @@ ghost use Rattle.cell_key.specs.Faults.{HasReason};
 ghost use Rattle.sorted_file.specs.Cursor.{HasNoBlock, IsOpened};
 ghost use Rattle.sorted_file.specs.Index.{block_of, IsBlockIn, Tells};
 ghost use Rattle.sorted_file.specs.Grammar.{block_bytes};
-ghost use Rattle.sorted_file.specs.Source.{IsReadRefusal};
+ghost use Rattle.sorted_file.specs.Source.{ReadsFiles, IsReadRefusal};
 
 use crate::block::{BlockRow, EntryExtent, bytes_from, entry_extent};
 use crate::source::{Source, read_part};
@@ -81,9 +81,7 @@ impl<'a> FileCursor<'a> {
             → Tells (F.contents files.old) self.now.name image → ¬ IsBlockIn image row.now }
         ensures broken { IsErrOf result Refusal.Damaged → IfSome (F.contents files.old) (λ m.
             HasNoBlock m self.now.name row.now) }
-        ensures refusal { IfErr result IsReadRefusal }
-        ensures same { F.contents files.new ≡ F.contents files.old }
-        ensures reason { HasReason (F.faults files.old) (F.faults files.new) result }
+        ensures reads { ReadsFiles F.contents F.faults files.old files.new result }
     {
         let block = read_part(self.alloc, self.name, row.offset, row.length as u64, files)?;
         let Some(rest) = bytes_from(&block, self.from) else {

@@ -10,7 +10,7 @@ ghost use Rattle.lru.specs.LruCache.{lru_cache};
 ghost use Rattle.sorted_file.specs.Index.{block_of, blocks_of, entries_in, Tells};
 ghost use Rattle.sorted_file.specs.File.{IsUncached, IsShortValue, value_bytes};
 ghost use Rattle.sorted_file.specs.Block.{IsParsed, first_value};
-ghost use Rattle.sorted_file.specs.Source.{IsReadRefusal};
+ghost use Rattle.sorted_file.specs.Source.{ReadsFiles};
 ghost use Rattle.sorted_file.specs.declared.block.BlockRow.{BlockRow as Row};
 
 use crate::block::{Block, BlockRow, rows_to, text_at, value_at};
@@ -20,7 +20,6 @@ use crate::check::{Opening, read_file};
 use crate::cursor::FileCursor;
 use crate::gathering::Columns;
 use crate::lock_index::LockIndex;
-use crate::lock_stamps::LockStamps;
 use crate::lock_values::LockValue;
 use crate::lookup_key::LookupKey;
 use crate::numbers::Numbers;
@@ -47,8 +46,6 @@ pub struct SortedFile {
     pub(crate) bounds: ColumnBounds,
     /// A number of each column that has an entry.
     pub(crate) numbers: Numbers,
-    /// The stamps of the locks that have a value. Mostly there is none.
-    pub(crate) locks: LockStamps,
     /// A number of the text of each lock's key, of a value or an erasure.
     pub(crate) lock_keys: Numbers,
     /// The key of each lock that has a value.
@@ -76,9 +73,7 @@ impl SortedFile {
         ensures sized { IfOk result (λ file. file.cache.cap ≡ 8) }
         ensures damaged { IsErrOf result Refusal.Damaged
             → IfSome (F.contents files.old) (λ m. ¬ HasFile m name) }
-        ensures refusal { IfErr result IsReadRefusal }
-        ensures same { F.contents files.new ≡ F.contents files.old }
-        ensures reason { HasReason (F.faults files.old) (F.faults files.new) result }
+        ensures reads { ReadsFiles F.contents F.faults files.old files.new result }
     {
         SortedFile::open_with(alloc, name, few_blocks(), files)
     }
@@ -96,9 +91,7 @@ impl SortedFile {
         ensures sized { IfOk result (λ file. file.cache.cap ≡ non_zero_usize_get most_blocks) }
         ensures damaged { IsErrOf result Refusal.Damaged
             → IfSome (F.contents files.old) (λ m. ¬ HasFile m name) }
-        ensures refusal { IfErr result IsReadRefusal }
-        ensures same { F.contents files.new ≡ F.contents files.old }
-        ensures reason { HasReason (F.faults files.old) (F.faults files.new) result }
+        ensures reads { ReadsFiles F.contents F.faults files.old files.new result }
     {
         let none = LockIndex::new(alloc);
         SortedFile::open_over(alloc, name, most_blocks, &none, files)
@@ -118,9 +111,7 @@ impl SortedFile {
         ensures sized { IfOk result (λ file. file.cache.cap ≡ non_zero_usize_get most_blocks) }
         ensures damaged { IsErrOf result Refusal.Damaged
             → IfSome (F.contents files.old) (λ m. ¬ HasFile m name) }
-        ensures refusal { IfErr result IsReadRefusal }
-        ensures same { F.contents files.new ≡ F.contents files.old }
-        ensures reason { HasReason (F.faults files.old) (F.faults files.new) result }
+        ensures reads { ReadsFiles F.contents F.faults files.old files.new result }
     {
         let opening = read_file(alloc, name, over, files)?;
         SortedFile::of_opening(alloc, name, most_blocks, opening)
@@ -150,7 +141,6 @@ impl SortedFile {
         let Columns {
             bounds,
             numbers,
-            locks,
             lock_keys,
             lock_values,
             named_locks,
@@ -158,7 +148,6 @@ impl SortedFile {
         let skips = skips_of(alloc, &heads)?;
         let cache = no_blocks(alloc, most_blocks)?;
         let numbers = Numbers::new(alloc, numbers)?;
-        let locks = LockStamps::new(locks);
         let lock_keys = Numbers::new(alloc, lock_keys)?;
         Ok(SortedFile {
             alloc,
@@ -169,7 +158,6 @@ impl SortedFile {
             count,
             bounds,
             numbers,
-            locks,
             lock_keys,
             lock_values,
             named_locks,
@@ -191,28 +179,11 @@ impl SortedFile {
         self.count as usize
     }
 
-    /// Whether the file may have a value of a column of this kind at a stamp in `lo..=hi`. Takes no memory and
-    /// reads nothing.
-    pub fn may_have(&self, qualifier: Qualifier, lo: Stamp, hi: Stamp) -> bool
-        ensures { result ≡ false → (m : Contents) → IsOpen m self.now
-            → HasNoValue qualifier lo hi (listed m self.now) }
+    /// Whether the key's column may have an entry.
+    fn may_have_value(&self, key: &LookupKey) -> bool
+        ensures { result ≡ false → ¬ MayHaveIn self.now (number_of (text key.now)) }
     {
-        self.bounds.meet(qualifier, lo, hi)
-    }
-
-    /// Whether the key's column may have a value at a stamp from `lo` up to the key's: of a lock's, whether there is one
-    /// of its number, and of any other, whether the column may have an entry.
-    fn may_have_value(&self, key: &LookupKey, lo: Stamp) -> bool
-        ensures { result ≡ false → (s : ℕ) → lo ≤ s → s ≤ key.now.stamp
-            → ¬ MayHaveIn self.now key.now.qualifier (number_of (text key.now)) s }
-    {
-        match key.key().qualifier {
-            Qualifier::Lock => self
-                .locks
-                .latest(key.column_number(), lo, key.key().stamp)
-                .is_some(),
-            Qualifier::Data | Qualifier::Write => self.numbers.has(key.column_number()),
-        }
+        self.numbers.has(key.column_number())
     }
 
     /// Whether the file may have an entry of a key, a value or an erasure: of a lock's, whether it may have one of this
@@ -250,9 +221,7 @@ impl SortedFile {
         ensures kept { KeepsWhatItRead (F.contents files.old) self.old self.new }
         ensures damaged { IsErrOf result Refusal.Damaged
             → IfSome (F.contents files.old) (λ m. ¬ IsOpen m self.old) }
-        ensures refusal { IfErr result IsReadRefusal }
-        ensures same { F.contents files.new ≡ F.contents files.old }
-        ensures reason { HasReason (F.faults files.old) (F.faults files.new) result }
+        ensures reads { ReadsFiles F.contents F.faults files.old files.new result }
     {
         let key = LookupKey::new(self.alloc, key.clone()?)?;
         self.find(&key, files)
@@ -277,9 +246,7 @@ impl SortedFile {
         ensures kept { KeepsWhatItRead (F.contents files.old) self.old self.new }
         ensures damaged { IsErrOf result Refusal.Damaged
             → IfSome (F.contents files.old) (λ m. ¬ IsOpen m self.old) }
-        ensures refusal { IfErr result IsReadRefusal }
-        ensures same { F.contents files.new ≡ F.contents files.old }
-        ensures reason { HasReason (F.faults files.old) (F.faults files.new) result }
+        ensures reads { ReadsFiles F.contents F.faults files.old files.new result }
     {
         match rows_to(&self.rows, key.text()) {
             0 => Ok(None),
@@ -309,9 +276,7 @@ impl SortedFile {
         ensures kept { KeepsWhatItRead (F.contents files.old) self.old self.new }
         ensures damaged { IsErrOf result Refusal.Damaged
             → IfSome (F.contents files.old) (λ m. ¬ IsOpen m self.old) }
-        ensures refusal { IfErr result IsReadRefusal }
-        ensures same { F.contents files.new ≡ F.contents files.old }
-        ensures reason { HasReason (F.faults files.old) (F.faults files.new) result }
+        ensures reads { ReadsFiles F.contents F.faults files.old files.new result }
     {
         match self.cache.peek(&number) {
             Some(block) => {
@@ -340,9 +305,7 @@ impl SortedFile {
             → IsParsed (block_of row) block)) }
         ensures damaged { IsErrOf result Refusal.Damaged
             → IfSome (F.contents files.old) (λ m. ¬ IsOpen m self.now) }
-        ensures refusal { IfErr result IsReadRefusal }
-        ensures same { F.contents files.new ≡ F.contents files.old }
-        ensures reason { HasReason (F.faults files.old) (F.faults files.new) result }
+        ensures reads { ReadsFiles F.contents F.faults files.old files.new result }
     {
         let row = &self.rows[number];
         let bytes = read_part(self.alloc, self.name, row.offset, row.length as u64, files)?;
@@ -356,8 +319,8 @@ impl SortedFile {
     }
 
     /// The greatest stamp, from `lo` up to that of the key, at which the file has a value of the key's
-    /// column. It reads one block at most, and none that can't have such a value, nor any if the column is a lock's and no
-    /// value of it stands in the file; if `may_have` says that there is none it takes no memory. The file stays what it was,
+    /// column. It reads one block at most, and none that can't have such a value, nor any if the file has no entry of the
+    /// column. The file stays what it was,
     /// also after an `Err`.
     ///
     /// # Errors
@@ -378,12 +341,10 @@ impl SortedFile {
         ensures kept { KeepsWhatItRead (F.contents files.old) self.old self.new }
         ensures damaged { IsErrOf result Refusal.Damaged
             → IfSome (F.contents files.old) (λ m. ¬ IsOpen m self.old) }
-        ensures refusal { IfErr result IsReadRefusal }
-        ensures same { F.contents files.new ≡ F.contents files.old }
-        ensures reason { HasReason (F.faults files.old) (F.faults files.new) result }
+        ensures reads { ReadsFiles F.contents F.faults files.old files.new result }
     {
         let own = key.key();
-        if !self.may_have_value(key, lo) {
+        if !self.may_have_value(key) {
             return Ok(None);
         }
         if !self.bounds.meet_column(own, lo) {
@@ -420,9 +381,7 @@ impl SortedFile {
         ensures kept { KeepsWhatItRead (F.contents files.old) self.old self.new }
         ensures damaged { IsErrOf result Refusal.Damaged
             → IfSome (F.contents files.old) (λ m. ¬ IsOpen m self.old) }
-        ensures refusal { IfErr result IsReadRefusal }
-        ensures same { F.contents files.new ≡ F.contents files.old }
-        ensures reason { HasReason (F.faults files.old) (F.faults files.new) result }
+        ensures reads { ReadsFiles F.contents F.faults files.old files.new result }
     {
         match self.cache.peek(&number) {
             Some(block) => {
@@ -471,9 +430,7 @@ impl SortedFile {
         ensures kept { KeepsWhatItRead (F.contents files.old) self.old self.new }
         ensures damaged { IsErrOf result Refusal.Damaged
             → IfSome (F.contents files.old) (λ m. ¬ IsOpen m self.old) }
-        ensures refusal { IfErr result IsReadRefusal }
-        ensures same { F.contents files.new ≡ F.contents files.old }
-        ensures reason { HasReason (F.faults files.old) (F.faults files.new) result }
+        ensures reads { ReadsFiles F.contents F.faults files.old files.new result }
     {
         let to = rows_to(&self.rows, sought);
         if !self.may_have_before(to, key, lo) {

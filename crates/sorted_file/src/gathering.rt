@@ -1,7 +1,7 @@
 //! What an open file keeps of the entries of blocks, gathered as these are read or written.
 
 ghost use Rattle.std.specs.Prelude.{◌≡◌, ◌≢◌, ◌<◌, ◌+◌, ◌^◌, ◌⊎◌, ◌++◌, ◌∷◌, [], ℕ, List, Option, Contains, length, IfOk, IfErr, IfSome, IfNone, OnOk};
-ghost use Rattle.sorted_file.specs.Numbers.{number_of, IsAmong, IsLockKept, IsLockKeyNumbered, IsLockStamped};
+ghost use Rattle.sorted_file.specs.Numbers.{number_of, IsAmong, IsLockKept, IsLockKeyNumbered};
 ghost use Rattle.cell_key.specs.Entries.{Entry, IsEntryList, entry_len, lent_entry};
 ghost use Rattle.cell_key.specs.Keys.{text};
 ghost use Rattle.cell_key.specs.LentKeys.{IsLentKey};
@@ -14,7 +14,6 @@ use crate::block::{Block, next_entry, room_for_starts};
 use crate::bounds::ColumnBounds;
 use crate::format::{BLOCK_LIMIT, push_entry};
 use crate::lock_index::LockIndex;
-use crate::lock_stamps::LockStamp;
 use crate::lock_values::LockValue;
 use crate::numbers::{column_number, push_number, text_number};
 use cell_key::{CellKey, EntryRef, KeyRef, Qualifier, Refusal};
@@ -30,8 +29,6 @@ pub(crate) struct Columns {
     pub(crate) bounds: ColumnBounds,
     /// A number of each column that has an entry.
     pub(crate) numbers: Vec<u64>,
-    /// The stamp of each lock that has a value.
-    pub(crate) locks: Vec<LockStamp>,
     /// A number of the text of each lock's key.
     pub(crate) lock_keys: Vec<u64>,
     /// The key of each lock that has a value.
@@ -50,7 +47,6 @@ impl Columns {
         Columns {
             bounds: ColumnBounds::NONE,
             numbers: Vec::new(alloc),
-            locks: Vec::new(alloc),
             lock_keys: Vec::new(alloc),
             lock_values: Vec::new(alloc),
             named_locks: Vec::new(alloc),
@@ -65,7 +61,6 @@ impl Columns {
         Ok(Columns {
             bounds: ColumnBounds::NONE,
             numbers: Vec::with_capacity(alloc, MOST_NUMBERS)?,
-            locks: Vec::new(alloc),
             lock_keys: Vec::with_capacity(alloc, MOST_NUMBERS)?,
             lock_values: Vec::new(alloc),
             named_locks: Vec::new(alloc),
@@ -88,7 +83,6 @@ impl Columns {
         let Some(_) = entry.value else {
             return Ok(());
         };
-        push_lock(&mut self.locks, key, number)?;
         push_lock_value(&mut self.lock_values, key, number)?;
         self.bounds.widen(key);
         Ok(())
@@ -101,7 +95,6 @@ impl Columns {
         ensures refusal { IfErr result (λ refusal. refusal ≡ Refusal.NoMemory) }
     {
         self.numbers.extend_from_slice(&more.numbers)?;
-        self.locks.extend_from_slice(&more.locks)?;
         self.lock_keys.extend_from_slice(&more.lock_keys)?;
         let mut more = more;
         self.lock_values.append(&mut more.lock_values)?;
@@ -109,25 +102,6 @@ impl Columns {
         self.bounds = self.bounds.joined(more.bounds);
         Ok(())
     }
-}
-
-/// Adds the stamp of a key, if it is a lock's. Answers `NoMemory` if there is no memory.
-fn push_lock(locks: &mut Vec<LockStamp>, key: KeyRef<'_>, number: u64) -> Result<(), Refusal>
-    requires key { IsLentKey key }
-    requires number { number ≡ number_of key.text.now }
-    ensures has { OnOk result ((value : Option (List ℕ))
-        → IsLockStamped locks.new.items (key.entry.text.now, value)) }
-    ensures keeps { OnOk result (IsAmong locks.old.items locks.new.items) }
-    ensures refusal { IfErr result (λ refusal. refusal ≡ Refusal.NoMemory) }
-{
-    if key.qualifier != Qualifier::Lock {
-        return Ok(());
-    }
-    locks.push(LockStamp {
-        column: number,
-        stamp: key.stamp,
-    })?;
-    Ok(())
 }
 
 /// Adds the number of a key's text, if it is a lock's. Answers `NoMemory` if there is no memory.

@@ -5,7 +5,7 @@ ghost use Rattle.cell_key.specs.Entries.{Entry, IsEntryList, Takes, lent_entry};
 ghost use Rattle.cell_key.specs.Faults.{HasReason};
 ghost use Rattle.file_store.specs.Store.{Contents, Reads, bytes_of, part};
 ghost use Rattle.sorted_file.specs.Index.{Tells};
-ghost use Rattle.sorted_file.specs.Source.{IsReadRefusal, pending, fault_refusal};
+ghost use Rattle.sorted_file.specs.Source.{ReadsFiles, IsReadRefusal, pending, fault_refusal};
 
 use cell_key::{EntryRef, Refusal};
 use file_store::{FileFault, Files};
@@ -84,10 +84,8 @@ fn read_into<F: Files>(
         → Reads image offset buffer.old buffer.new n) }
     ensures now { IfOk result (λ n. IfSome (F.contents files.old) (λ m.
         Reads (bytes_of m name) offset buffer.old buffer.new n)) }
-    ensures refusal { IfErr result IsReadRefusal }
     ensures sound { ¬ IsErrOf result Refusal.Damaged }
-    ensures same { F.contents files.new ≡ F.contents files.old }
-    ensures reason { HasReason (F.faults files.old) (F.faults files.new) result }
+    ensures reads { ReadsFiles F.contents F.faults files.old files.new result }
 {
     files.read_at(name, offset, buffer).map_err(refusal_of)
 }
@@ -110,9 +108,7 @@ pub(crate) fn read_part<F: Files>(
         → Tells (F.contents files.old) name image → length image < offset + len }
     ensures short { IsErrOf result Refusal.Damaged → IfSome (F.contents files.old) (λ m.
         length (part (bytes_of m name) offset len) < len) }
-    ensures refusal { IfErr result IsReadRefusal }
-    ensures same { F.contents files.new ≡ F.contents files.old }
-    ensures reason { HasReason (F.faults files.old) (F.faults files.new) result }
+    ensures reads { ReadsFiles F.contents F.faults files.old files.new result }
 {
     let mut bytes = vec![in alloc; 0; len as usize]?;
     let read = read_into(name, offset, &mut bytes, files)?;

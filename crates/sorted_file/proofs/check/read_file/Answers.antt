@@ -15,14 +15,14 @@ returns-in_err-size-clause-damaged g c = λ is.
 pub returns-in_err-format-clause-damaged : goal.returns-in_err-format-clause-damaged
 returns-in_err-format-clause-damaged g c = λ is.
     no_file _ c.args.name (λ image tells.
-    let still = subst (λ (told : Option Contents). Tells told c.args.name image) (sym c.in_ok-size.ensures.same) tells in
+    let still = subst (λ (told : Option Contents). Tells told c.args.name image) (sym c.in_ok-size.ensures.reads.same) tells in
     c.in_err-format.ensures.damaged (passed_on c.from_residual-in_err-format.result _ c.in_err-format.field-0.0 _ c.from_residual-in_err-format.ensures.1 refl is) image still (c.in_ok-size.ensures.size image tells))
 
 pub returns-in_err-index-clause-damaged : goal.returns-in_err-index-clause-damaged
 returns-in_err-index-clause-damaged g c = λ is.
     no_file _ c.args.name (λ image tells.
-    let still = subst (λ (told : Option Contents). Tells told c.args.name image) (sym c.in_ok-size.ensures.same) tells in
-    let later = subst (λ (told : Option Contents). Tells told c.args.name image) (sym c.in_ok-format.ensures.same) still in
+    let still = subst (λ (told : Option Contents). Tells told c.args.name image) (sym c.in_ok-size.ensures.reads.same) tells in
+    let later = subst (λ (told : Option Contents). Tells told c.args.name image) (sym c.in_ok-format.ensures.reads.same) still in
     c.in_err-index.ensures.damaged (passed_on c.from_residual-in_err-index.result _ c.in_err-index.field-0.0 _ c.from_residual-in_err-index.ensures.1 refl is) image later (c.in_ok-size.ensures.size image tells)
     (c.in_ok-format.ensures.head image still))
 
@@ -30,9 +30,9 @@ pub returns-in_err-read_blocks-clause-damaged : goal.returns-in_err-read_blocks-
 returns-in_err-read_blocks-clause-damaged g c = λ is.
     no_file _ c.args.name (λ image tells.
     let size = c.in_ok-size.ensures.size image tells in
-    let still = subst (λ (told : Option Contents). Tells told c.args.name image) (sym c.in_ok-size.ensures.same) tells in
-    let then = subst (λ (told : Option Contents). Tells told c.args.name image) (sym c.in_ok-format.ensures.same) still in
-    let later = subst (λ (told : Option Contents). Tells told c.args.name image) (sym c.in_ok-index.ensures.same) then in
+    let still = subst (λ (told : Option Contents). Tells told c.args.name image) (sym c.in_ok-size.ensures.reads.same) tells in
+    let then = subst (λ (told : Option Contents). Tells told c.args.name image) (sym c.in_ok-format.ensures.reads.same) still in
+    let later = subst (λ (told : Option Contents). Tells told c.args.name image) (sym c.in_ok-index.ensures.reads.same) then in
     let framed = subst (λ (f : Format). IsFramed f image c.in_ok-index.index.items c.in_ok-index.end.items) (sym c.new-opening.ensures.format) (c.in_ok-index.ensures.framed image then size (c.in_ok-format.ensures.head image still)) in
     let start = start_reading c.new-opening.result _ c.args.name image c.in_ok-index.index.items c.in_ok-index.end.items c.new-opening.ensures.name c.new-opening.ensures.rows later (size ∙ sym c.new-opening.ensures.size) framed in
     c.in_err-read_blocks.ensures.damaged (passed_on c.from_residual-in_err-read_blocks.result _ c.in_err-read_blocks.field-0.0 _ c.from_residual-in_err-read_blocks.ensures.1 refl is) image c.in_ok-index.end.items
@@ -42,9 +42,9 @@ pub returns-then-not-branch-clause-damaged : goal.returns-then-not-branch-clause
 returns-then-not-branch-clause-damaged g c = λ is.
     no_file _ c.args.name (λ image tells.
     let size = c.in_ok-size.ensures.size image tells in
-    let still = subst (λ (told : Option Contents). Tells told c.args.name image) (sym c.in_ok-size.ensures.same) tells in
-    let then = subst (λ (told : Option Contents). Tells told c.args.name image) (sym c.in_ok-format.ensures.same) still in
-    let later = subst (λ (told : Option Contents). Tells told c.args.name image) (sym c.in_ok-index.ensures.same) then in
+    let still = subst (λ (told : Option Contents). Tells told c.args.name image) (sym c.in_ok-size.ensures.reads.same) tells in
+    let then = subst (λ (told : Option Contents). Tells told c.args.name image) (sym c.in_ok-format.ensures.reads.same) still in
+    let later = subst (λ (told : Option Contents). Tells told c.args.name image) (sym c.in_ok-index.ensures.reads.same) then in
     let framed = subst (λ (f : Format). IsFramed f image c.in_ok-index.index.items c.in_ok-index.end.items) (sym c.new-opening.ensures.format) (c.in_ok-index.ensures.framed image then size (c.in_ok-format.ensures.head image still)) in
     let start = start_reading c.new-opening.result _ c.args.name image c.in_ok-index.index.items c.in_ok-index.end.items c.new-opening.ensures.name c.new-opening.ensures.rows later (size ∙ sym c.new-opening.ensures.size) framed in
     let reading = c.in_ok-read_blocks.ensures.read image c.in_ok-index.end.items (subst (λ (l : List ℕ). IsReading (g.F.Files.contents c.read_frame.new.files) c.new-opening.result image l c.in_ok-index.end.items l) (sym c.deref.ensures.value) start) in
@@ -57,9 +57,9 @@ pub returns-clause-whole : goal.returns-clause-whole
 returns-clause-whole g c =
     whole_file _ c.args.name c.read_blocks.new.self c.in_ok-size.ensures.there (λ image tells.
     let size = c.in_ok-size.ensures.size image tells in
-    let still = subst (λ (told : Option Contents). Tells told c.args.name image) (sym c.in_ok-size.ensures.same) tells in
-    let then = subst (λ (told : Option Contents). Tells told c.args.name image) (sym c.in_ok-format.ensures.same) still in
-    let later = subst (λ (told : Option Contents). Tells told c.args.name image) (sym c.in_ok-index.ensures.same) then in
+    let still = subst (λ (told : Option Contents). Tells told c.args.name image) (sym c.in_ok-size.ensures.reads.same) tells in
+    let then = subst (λ (told : Option Contents). Tells told c.args.name image) (sym c.in_ok-format.ensures.reads.same) still in
+    let later = subst (λ (told : Option Contents). Tells told c.args.name image) (sym c.in_ok-index.ensures.reads.same) then in
     let framed = subst (λ (f : Format). IsFramed f image c.in_ok-index.index.items c.in_ok-index.end.items) (sym c.new-opening.ensures.format) (c.in_ok-index.ensures.framed image then size (c.in_ok-format.ensures.head image still)) in
     let start = start_reading c.new-opening.result _ c.args.name image c.in_ok-index.index.items c.in_ok-index.end.items c.new-opening.ensures.name c.new-opening.ensures.rows later (size ∙ sym c.new-opening.ensures.size) framed in
     let reading = c.in_ok-read_blocks.ensures.read image c.in_ok-index.end.items (subst (λ (l : List ℕ). IsReading (g.F.Files.contents c.read_frame.new.files) c.new-opening.result image l c.in_ok-index.end.items l) (sym c.deref.ensures.value) start) in

@@ -15,8 +15,8 @@ pub blocks-2-preserved : goal.blocks-2-preserved
 blocks-2-preserved g c =
     let i = c.blocks-2.invariant in
     record {
-      contents = c.in_ok-rest.ensures.same ∙ i.contents;
-      quiet = c.in_ok-rest.ensures.reason.told (λ e. cc) ∙ i.quiet;
+      contents = c.in_ok-rest.ensures.reads.same ∙ i.contents;
+      quiet = c.in_ok-rest.ensures.reads.reason.told (λ e. cc) ∙ i.quiet;
       opening = c.in_ok-rest.ensures.opening;
       read = λ image end reading.
           let now = subst (λ (told : Option Contents). IsReading told c.blocks-2.self image c.args.index.now end c.blocks-2.rest.now) (sym i.contents) (i.read image end reading) in

@@ -42,8 +42,8 @@ blocks-2-preserved g c =
     let read : (image : List ℕ) → Tells told s.name image → IsBlockIn image row → Read = λ image tells b.
     (c.in_ok-self.ensures.ahead image (subst (λ (told : Option Contents). Tells told s.name image) (sym i.contents) tells) b, b.list.rising) in
     record {
-      contents = c.in_ok-self.ensures.same ∙ i.contents;
-      quiet = c.in_ok-self.ensures.reason.told (λ e. cc) ∙ i.quiet;
+      contents = c.in_ok-self.ensures.reads.same ∙ i.contents;
+      quiet = c.in_ok-self.ensures.reads.reason.told (λ e. cc) ∙ i.quiet;
       left = omega (arith, size, left, fewer, over);
       name = i.name;
       from = i.from;

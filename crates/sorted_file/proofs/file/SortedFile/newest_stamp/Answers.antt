@@ -38,7 +38,7 @@ returns-then-not-meet_column-clause-found g c =
 pub returns-then-not-may_have_value-clause-found : goal.returns-then-not-may_have_value-clause-found
 returns-then-not-may_have_value-clause-found g c =
     as_some (g.F.Files.contents c.args.files.now) _ (λ m o s low high stored.
-    no_value_numbered c.args.self.now _ o.numbered o.locked c.args.key.now s stored (c.may_have_value.ensures c.if-not-may_have_value.true s low high))
+    no_value_numbered c.args.self.now _ o.numbered c.args.key.now s (c.may_have_value.ensures c.if-not-may_have_value.true))
 
 pub returns-in_default-clause-found : goal.returns-in_default-clause-found
 returns-in_default-clause-found g c =
@@ -94,7 +94,7 @@ returns-then-not-meet_column-clause-now g c = λ m o number row stamp placed at 
 
 pub returns-then-not-may_have_value-clause-now : goal.returns-then-not-may_have_value-clause-now
 returns-then-not-may_have_value-clause-now g c = λ m o number row stamp placed at low high may.
-    absurd (c.may_have_value.ensures c.if-not-may_have_value.true stamp low high may.in_column)
+    absurd (c.may_have_value.ensures c.if-not-may_have_value.true may.in_column)
 
 pub returns-in_default-clause-now : goal.returns-in_default-clause-now
 returns-in_default-clause-now g c = subst (λ (k : CellKey). IsSearchedNow (g.F.Files.contents c.args.files.now) c.args.self.now k c.args.lo) c.key-own.ensures.key c.in_ok-text.ensures.now

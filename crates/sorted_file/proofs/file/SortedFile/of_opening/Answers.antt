@@ -2,7 +2,7 @@ use Rattle.std.proofs.Common.{List, ℕ, Option, ap, ◌∙◌}
 use Rattle.std.specs.Global.{Vec}
 use Rattle.sorted_file.specs.Index.{skips}
 use Rattle.sorted_file.proofs.Keeping.{none_kept}
-use Rattle.sorted_file.proofs.Locked.{keyed_on, locked_on}
+use Rattle.sorted_file.proofs.Locked.{keyed_on}
 use Rattle.sorted_file.proofs.Numbered.{numbered_on}
 use Rattle.sorted_file.proofs.file.SortedFile.of_opening.Goals as goal
 
@@ -14,7 +14,6 @@ returns-clause-opened c = λ m w.
       bounds = o.columns.bounded;
       bounded = o.bounded;
       numbered = numbered_on _ _ c.in_ok-numbers.ensures.keeps _ o.columns.numbered;
-      locked = locked_on _ _ c.new-locks.ensures.keeps _ o.columns.locked;
       keyed = keyed_on _ _ c.in_ok-lock_keys.ensures.keeps _ o.columns.keyed;
       locks_kept = o.columns.locks_kept;
       heads = o.heads;
