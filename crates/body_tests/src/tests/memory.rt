@@ -2,7 +2,6 @@
 
 pub mod keys;
 
-use cell_key::Refusal;
 use std::test::Fail;
 use testing::memory::are_answered;
 

@@ -3,7 +3,6 @@
 pub mod rows;
 pub mod sessions;
 
-use cell_key::Refusal;
 use std::test::Fail;
 use testing::memory::are_answered;
 

@@ -2,7 +2,6 @@
 
 pub mod servers;
 
-use cell_key::Refusal;
 use std::test::Fail;
 use testing::memory::are_answered;
 

@@ -1,6 +1,5 @@
 //! Merges of memtables and sorted files, by the bytes that are written.
 
-use testing::edits::edits_of;
 use crate::tests::memory::files::merge;
 use cell_key::{Refusal, Row, Stamp};
 use file_store::{MemFiles, read_whole};
@@ -8,6 +7,7 @@ use memtable::Memtable;
 use sorted_file::SortedFile;
 use std::alloc::Global;
 use std::test::Fail;
+use testing::edits::edits_of;
 
 /// The file of 3 at the stamp 3, an erasure at 2, and 7 at 1.
 const ERASURE_KEPT: &[u8] = b"TABLET02\

@@ -1,9 +1,9 @@
 //! The texts of keys.
 
-use testing::edits::data_key;
 use cell_key::{Lock, Record, Refusal, Row, WriteKind};
 use std::alloc::Global;
 use std::test::Fail;
+use testing::edits::data_key;
 
 /// The text of the key of a row's `bal`, data, at 1.
 fn text_of(alloc: Global, row: &[u8]) -> Result<Vec<u8>, Refusal> {

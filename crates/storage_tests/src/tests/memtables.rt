@@ -1,10 +1,10 @@
 //! A full memtable.
 
-use testing::edits::{data_key, edits_of};
 use cell_key::{Refusal, Row, Stamp};
 use memtable::Memtable;
 use std::alloc::Global;
 use std::test::Fail;
+use testing::edits::{data_key, edits_of};
 
 /// Puts this many zeros at a stamp of `a`.
 fn put(alloc: Global, table: &mut Memtable, stamp: Stamp, len: usize) -> Result<(), Refusal> {

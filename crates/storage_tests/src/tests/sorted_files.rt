@@ -1,17 +1,16 @@
 //! Sorted files, by their bytes.
 
-use testing::FILE_LIMIT;
-use testing::edits::{data_key, edits_of};
 use crate::tests::files::Recorder;
-use crate::tests::memory::files::{merge, refused};
+use crate::tests::memory::files::{merge, refused, write_again};
 use crate::tests::slow::found_at;
 use cell_key::{CellKey, Family, Qualifier, Refusal, Row, Stamp};
 use file_store::{Files, MemFiles, read_whole};
 use memtable::Memtable;
-use sorted_file::{KeyFilter, LockIndex, LookupKey, SortedFile, few_blocks, write_file};
+use sorted_file::{KeyFilter, LockIndex, LookupKey, SortedFile, few_blocks};
 use std::alloc::{AllocError, Global};
 use std::num::NonZeroUsize;
 use std::test::Fail;
+use testing::edits::{data_key, edits_of};
 
 /// A file of no entries.
 pub const EMPTY: &[u8] = b"TABLET01\0\0\0\x08\0\0\0\0\0\0\0\0\0\0\0\x20TABLETZZ";
@@ -85,17 +84,33 @@ fn opened(alloc: Global, files: &mut MemFiles, bytes: &[u8]) -> Result<SortedFil
     SortedFile::open(alloc, 1, files)
 }
 
+/// Opens a file of these bytes under the name 1, over files that record what is read of it.
+fn recorded(alloc: Global, bytes: &[u8]) -> Result<(Recorder, SortedFile), Refusal> {
+    let mut files = Recorder::new(alloc);
+    refused(files.put(1, bytes))?;
+    let file = SortedFile::open(alloc, 1, &mut files)?;
+    Ok((files, file))
+}
+
+/// Whether the file of a name has these bytes.
+fn has_bytes(
+    alloc: Global,
+    files: &mut MemFiles,
+    name: u64,
+    bytes: &[u8],
+) -> Result<bool, Refusal> {
+    match refused(read_whole(alloc, files, name))? {
+        Some(written) => Ok(written.as_slice() == bytes),
+        None => Ok(false),
+    }
+}
+
 /// Whether a file of these bytes is opened, and is written again with these other bytes.
 fn is_written_as(alloc: Global, bytes: &[u8], again: &[u8]) -> Result<bool, Refusal> {
     let mut files = MemFiles::new(alloc);
     let file = opened(alloc, &mut files, bytes)?;
-    let mut cursor = file.cursor(b"");
-    let none = LockIndex::new(alloc);
-    let copy = write_file(alloc, &mut cursor, 2, FILE_LIMIT, &none, &mut files)?;
-    match read_whole(alloc, &mut files, copy.name()) {
-        Ok(Some(written)) => Ok(written.as_slice() == again),
-        _ => Ok(false),
-    }
+    let name = write_again(alloc, &file, &mut files)?;
+    has_bytes(alloc, &mut files, name, again)
 }
 
 /// Whether a file of these bytes is refused as damaged.
@@ -251,9 +266,7 @@ fn is_found(
 
 #[test]
 fn look_ups_read_one_block(rt: HostRuntime) -> Result<(), Fail> {
-    let mut files = Recorder::new(rt.alloc());
-    files.put(1, &three(rt.alloc())?)?;
-    let mut file = SortedFile::open(rt.alloc(), 1, &mut files)?;
+    let (mut files, mut file) = recorded(rt.alloc(), &three(rt.alloc())?)?;
     for (forgets, stamp, reads, len) in LOOK_UPS {
         if forgets {
             file.drop_cache();
@@ -263,16 +276,33 @@ fn look_ups_read_one_block(rt: HostRuntime) -> Result<(), Fail> {
     Ok(())
 }
 
-/// A memtable of `a` at the stamps 1 to 9, with values of 4,000 bytes: a block each in a file.
-fn nine(alloc: Global) -> Result<Memtable, Refusal> {
+/// Writes a value into the row `a` at a stamp, or an erasure.
+fn write(
+    alloc: Global,
+    table: &mut Memtable,
+    stamp: Stamp,
+    value: Option<&[u8]>,
+) -> Result<(), Refusal> {
     let row = Row::new(alloc, b"a")?;
+    let edits = edits_of(alloc, &row, stamp, value, None)?;
+    table.apply(&row, edits)
+}
+
+/// The bytes of the file that a memtable is written to.
+fn file_of(alloc: Global, table: &Memtable) -> Result<Vec<u8>, Refusal> {
+    let mut files = MemFiles::new(alloc);
+    merge(alloc, table, None, true, 1, &mut files)?;
+    refused(read_whole(alloc, &mut files, 1))?.ok_or(Refusal::Device)
+}
+
+/// A file of `a` at the stamps 1 to 9, with values of 4,000 bytes: a block each.
+fn nine(alloc: Global) -> Result<Vec<u8>, Refusal> {
     let value = vec![in alloc; b'v'; 4000]?;
     let mut table = Memtable::new(alloc);
     for stamp in 1..10 {
-        let edits = edits_of(alloc, &row, stamp, Some(&value), None)?;
-        table.apply(&row, edits)?;
+        write(alloc, &mut table, stamp, Some(&value))?;
     }
-    Ok(table)
+    file_of(alloc, &table)
 }
 
 /// Stamps that are looked up one after the other in the file of nine blocks, and whether each look-up reads the file.
@@ -304,12 +334,7 @@ fn are_read(
 
 #[test]
 fn eight_blocks_are_kept(rt: HostRuntime) -> Result<(), Fail> {
-    let mut memory = MemFiles::new(rt.alloc());
-    merge(rt.alloc(), &nine(rt.alloc())?, None, true, 1, &mut memory)?;
-    let bytes = read_whole(rt.alloc(), &mut memory, 1)?.ok_or("no file")?;
-    let mut files = Recorder::new(rt.alloc());
-    files.put(1, &bytes)?;
-    let mut file = SortedFile::open(rt.alloc(), 1, &mut files)?;
+    let (mut files, mut file) = recorded(rt.alloc(), &nine(rt.alloc())?)?;
     for (stamps, is_read) in NINE_LOOK_UPS {
         assert!(rt; are_read(rt.alloc(), &mut file, &mut files, stamps, is_read)?);
     }
@@ -324,27 +349,31 @@ const RESIZED: [(usize, &[Stamp], bool); 4] = [
     (1, &[8, 7], true),
 ];
 
+/// What is read before that.
+const BEFORE_RESIZED: [Stamp; 8] = [1, 2, 4, 5, 6, 7, 8, 9];
+
+/// The same of a file that keeps this number of blocks from now on.
+fn are_read_of(
+    alloc: Global,
+    file: &mut SortedFile,
+    files: &mut Recorder,
+    most: usize,
+    stamps: &[Stamp],
+    is_read: bool,
+) -> Result<bool, Refusal> {
+    let Some(most) = NonZeroUsize::new(most) else {
+        return Ok(false);
+    };
+    file.resize_cache(most);
+    are_read(alloc, file, files, stamps, is_read)
+}
+
 #[test]
 fn as_many_blocks_are_kept(rt: HostRuntime) -> Result<(), Fail> {
-    let mut memory = MemFiles::new(rt.alloc());
-    merge(rt.alloc(), &nine(rt.alloc())?, None, true, 1, &mut memory)?;
-    let bytes = read_whole(rt.alloc(), &mut memory, 1)?.ok_or("no file")?;
-    let mut files = Recorder::new(rt.alloc());
-    files.put(1, &bytes)?;
-    let mut file = SortedFile::open(rt.alloc(), 1, &mut files)?;
-    assert!(rt;
-        are_read(
-            rt.alloc(),
-            &mut file,
-            &mut files,
-            &[1, 2, 4, 5, 6, 7, 8, 9],
-            true
-        )?
-    );
+    let (mut files, mut file) = recorded(rt.alloc(), &nine(rt.alloc())?)?;
+    assert!(rt; are_read(rt.alloc(), &mut file, &mut files, &BEFORE_RESIZED, true)?);
     for (most, stamps, is_read) in RESIZED {
-        let most = NonZeroUsize::new(most).ok_or("no blocks")?;
-        file.resize_cache(most);
-        assert!(rt; are_read(rt.alloc(), &mut file, &mut files, stamps, is_read)?);
+        assert!(rt; are_read_of(rt.alloc(), &mut file, &mut files, most, stamps, is_read)?);
     }
     Ok(())
 }
@@ -365,33 +394,84 @@ const LOCK_TESTS: [(&[u8], Option<Stamp>, &[(u64, u64, usize)]); 4] = [
     (b"c", Some(1), &[(1, 8, 93)]),
 ];
 
+/// The key of a row's lock at the stamp 9.
+fn lock_key(alloc: Global, row: &[u8]) -> Result<LookupKey, Refusal> {
+    let key = CellKey {
+        row: Row::new(alloc, row)?,
+        family: Family::new(alloc, b"bal")?,
+        qualifier: Qualifier::Lock,
+        stamp: 9,
+    };
+    Ok(LookupKey::new(alloc, key)?)
+}
+
+/// A list of the file of the locks.
+fn files_of_locks(alloc: Global) -> Result<Vec<SortedFile>, Refusal> {
+    let (_, file) = recorded(alloc, LOCKS)?;
+    Ok(vec![in alloc; file]?)
+}
+
+/// Whether the filter of the file of the locks lets through a look-up of locks from a stamp up to 9.
+fn may_have_locks(alloc: Global, from: Stamp) -> Result<bool, Refusal> {
+    let files = files_of_locks(alloc)?;
+    let filter = KeyFilter::new(alloc, &files, 0)?;
+    Ok(filter.may_have(Qualifier::Lock, from, 9))
+}
+
+/// The index of the file of the locks.
+fn index_of_locks(alloc: Global) -> Result<LockIndex, Refusal> {
+    LockIndex::of(alloc, &files_of_locks(alloc)?)
+}
+
+/// Whether an index says that a row may have locks.
+fn may_have_row(alloc: Global, index: &LockIndex, row: &[u8]) -> Result<bool, Refusal> {
+    let row = Row::new(alloc, row)?;
+    Ok(index.may_have_row(&row))
+}
+
+/// The stamp of a row's newest lock up to 9 in an index, if there is none up to 0.
+fn latest(alloc: Global, index: &LockIndex, row: &[u8]) -> Result<Option<Stamp>, Refusal> {
+    let mut key = lock_key(alloc, row)?;
+    let latest = index.latest(&key, 0);
+    key.set_stamp(0);
+    match index.latest(&key, 0) {
+        None => Ok(latest),
+        Some(_) => Err(Refusal::Damaged),
+    }
+}
+
+/// Whether a file of which no block is held has this stamp of a row's newest lock, and this is read for it.
+fn is_newest(
+    alloc: Global,
+    file: &mut SortedFile,
+    files: &mut Recorder,
+    row: &[u8],
+    stamp: Option<Stamp>,
+    reads: &[(u64, u64, usize)],
+) -> Result<bool, Refusal> {
+    let key = lock_key(alloc, row)?;
+    file.drop_cache();
+    files.reads.clear();
+    let newest = file.newest_stamp(&key, 0, files)?;
+    Ok(newest == stamp && files.reads.as_slice() == reads)
+}
+
 #[test]
 fn lock_tests_read_what_is_locked(rt: HostRuntime) -> Result<(), Fail> {
-    let mut files = Recorder::new(rt.alloc());
-    files.put(1, LOCKS)?;
-    let mut file = SortedFile::open(rt.alloc(), 1, &mut files)?;
-    let again = vec![in rt.alloc(); SortedFile::open(rt.alloc(), 1, &mut files)?]?;
-    let filter = KeyFilter::new(rt.alloc(), &again, 0)?;
-    let index = LockIndex::of(rt.alloc(), &again)?;
-    assert!(rt; filter.may_have(Qualifier::Lock, 0, 9));
-    assert!(rt; !filter.may_have(Qualifier::Lock, 2, 9));
+    let (mut files, mut file) = recorded(rt.alloc(), LOCKS)?;
     for (row, stamp, reads) in LOCK_TESTS {
-        let row = Row::new(rt.alloc(), row)?;
-        assert!(rt; index.may_have_row(&row) == stamp.is_some());
-        let key = CellKey {
-            row,
-            family: Family::new(rt.alloc(), b"bal")?,
-            qualifier: Qualifier::Lock,
-            stamp: 9,
-        };
-        let mut key = LookupKey::new(rt.alloc(), key)?;
-        file.drop_cache();
-        files.reads.clear();
-        assert!(rt; index.latest(&key, 0) == stamp);
-        assert!(rt; file.newest_stamp(&key, 0, &mut files)? == stamp);
-        assert!(rt; files.reads.as_slice() == reads);
-        key.set_stamp(0);
-        assert!(rt; index.latest(&key, 0) == None);
+        assert!(rt; is_newest(rt.alloc(), &mut file, &mut files, row, stamp, reads)?);
+    }
+    Ok(())
+}
+
+#[test]
+fn lock_tests_of_the_index(rt: HostRuntime) -> Result<(), Fail> {
+    assert!(rt; may_have_locks(rt.alloc(), 0)? && !may_have_locks(rt.alloc(), 2)?);
+    let index = index_of_locks(rt.alloc())?;
+    for (row, stamp, _) in LOCK_TESTS {
+        assert!(rt; may_have_row(rt.alloc(), &index, row)? == stamp.is_some());
+        assert!(rt; latest(rt.alloc(), &index, row)? == stamp);
     }
     Ok(())
 }
@@ -402,27 +482,28 @@ const ERASED: &[u8] = b"TABLET01\
     \0\0\0\x08\0\0\0\x1B\0\0\0\x16a\0\0bal\0\0lock\0\0\xFF\xFF\xFF\xFF\xFF\xFF\xFF\xFE\
     \0\0\0\x23\0\0\0\x01\0\0\0\x01\0\0\0\x5DTABLETZZ";
 
+/// The file of the erasure, opened over an index.
+fn erased_over(alloc: Global, index: &LockIndex) -> Result<SortedFile, Refusal> {
+    let mut files = Recorder::new(alloc);
+    refused(files.put(2, ERASED))?;
+    SortedFile::open_over(alloc, 2, few_blocks(), index, &mut files)
+}
+
+/// The index of the file of the locks, with that of the erasure over it.
+fn index_of_both(alloc: Global) -> Result<LockIndex, Refusal> {
+    let index = index_of_locks(alloc)?;
+    let newer = erased_over(alloc, &index)?;
+    index.over(&newer)
+}
+
 #[test]
 fn erased_locks_leave_the_index(rt: HostRuntime) -> Result<(), Fail> {
-    let mut files = Recorder::new(rt.alloc());
-    files.put(1, LOCKS)?;
-    files.put(2, ERASED)?;
-    let older = vec![in rt.alloc(); SortedFile::open(rt.alloc(), 1, &mut files)?]?;
-    let index = LockIndex::of(rt.alloc(), &older)?;
-    let newer = SortedFile::open_over(rt.alloc(), 2, few_blocks(), &index, &mut files)?;
-    let both = index.over(&newer)?;
+    let index = index_of_locks(rt.alloc())?;
+    let both = index_of_both(rt.alloc())?;
     for (row, before, after) in [(b"a", Some(1), None), (b"c", Some(1), Some(1))] {
-        let row = Row::new(rt.alloc(), row)?;
-        assert!(rt; index.may_have_row(&row));
-        let key = CellKey {
-            row,
-            family: Family::new(rt.alloc(), b"bal")?,
-            qualifier: Qualifier::Lock,
-            stamp: 9,
-        };
-        let key = LookupKey::new(rt.alloc(), key)?;
-        assert!(rt; index.latest(&key, 0) == before);
-        assert!(rt; both.latest(&key, 0) == after);
+        assert!(rt; may_have_row(rt.alloc(), &index, row)?);
+        assert!(rt; latest(rt.alloc(), &index, row)? == before);
+        assert!(rt; latest(rt.alloc(), &both, row)? == after);
     }
     Ok(())
 }
@@ -446,9 +527,7 @@ fn put_changed(alloc: Global, files: &mut Recorder, at: usize, byte: u8) -> Resu
 /// Whether a block that was held in memory is still found when its bytes have changed so, and is no block when it is
 /// read anew.
 fn is_kept(alloc: Global, at: usize, byte: u8) -> Result<bool, Refusal> {
-    let mut files = Recorder::new(alloc);
-    refused(files.put(1, &three(alloc)?))?;
-    let mut file = SortedFile::open(alloc, 1, &mut files)?;
+    let (mut files, mut file) = recorded(alloc, &three(alloc)?)?;
     let before = value_len(alloc, &mut file, 3, &mut files)?;
     put_changed(alloc, &mut files, at, byte)?;
     let after = value_len(alloc, &mut file, 3, &mut files)?;
@@ -458,9 +537,7 @@ fn is_kept(alloc: Global, at: usize, byte: u8) -> Result<bool, Refusal> {
 
 /// Whether a block whose bytes have changed so is no block, however often it is read.
 fn is_never_kept(alloc: Global, at: usize, byte: u8) -> Result<bool, Refusal> {
-    let mut files = Recorder::new(alloc);
-    refused(files.put(1, &three(alloc)?))?;
-    let mut file = SortedFile::open(alloc, 1, &mut files)?;
+    let (mut files, mut file) = recorded(alloc, &three(alloc)?)?;
     put_changed(alloc, &mut files, at, byte)?;
     Ok(is_refused(alloc, &mut file, &mut files) && is_refused(alloc, &mut file, &mut files))
 }
@@ -474,19 +551,20 @@ fn garbled_blocks_are_not_kept(rt: HostRuntime) -> Result<(), Fail> {
     Ok(())
 }
 
-/// A memtable of `a` at the even stamps from 2 to 28: erasures if 3 divides them, and else values of 500 to 4,000
-/// bytes.
-fn many(alloc: Global) -> Result<Memtable, Refusal> {
-    let row = Row::new(alloc, b"a")?;
+/// Writes `a` at a stamp: an erasure if 3 divides it, and else a value of 500 to 4,000 bytes.
+fn write_some(alloc: Global, table: &mut Memtable, stamp: Stamp) -> Result<(), Refusal> {
+    let value = vec![in alloc; (stamp % 256) as u8; 500 * (stamp % 9) as usize]?;
+    let put = (stamp % 3 != 0).then_some(value.as_slice());
+    write(alloc, table, stamp, put)
+}
+
+/// A file of `a` at the even stamps from 2 to 28: more than five blocks.
+fn many(alloc: Global) -> Result<Vec<u8>, Refusal> {
     let mut table = Memtable::new(alloc);
     for half in 1..15u64 {
-        let stamp = half * 2;
-        let value = vec![in alloc; (stamp % 256) as u8; 500 * (stamp % 9) as usize]?;
-        let put = (stamp % 3 != 0).then_some(value.as_slice());
-        let edits = edits_of(alloc, &row, stamp, put, None)?;
-        table.apply(&row, edits)?;
+        write_some(alloc, &mut table, half * 2)?;
     }
-    Ok(table)
+    file_of(alloc, &table)
 }
 
 /// Whether a look-up at a stamp of `a` finds what a slow one finds in the bytes.
@@ -507,21 +585,23 @@ fn agree_on(
     })
 }
 
+/// Whether a slow look-up agrees on each stamp below `end`, in a file of these bytes.
+fn agree_below(alloc: Global, bytes: &[u8], end: Stamp) -> Result<bool, Refusal> {
+    let mut files = MemFiles::new(alloc);
+    let mut file = opened(alloc, &mut files, bytes)?;
+    for stamp in 0..end {
+        if !agree_on(alloc, &mut file, stamp, bytes, &mut files)? {
+            return Ok(false);
+        }
+    }
+    Ok(true)
+}
+
 /// Each key of a file of more than five blocks, and keys before, between and behind them; and the file of three entries in
 /// format 1.
 #[test]
 fn a_slow_look_up_agrees(rt: HostRuntime) -> Result<(), Fail> {
-    let mut files = MemFiles::new(rt.alloc());
-    merge(rt.alloc(), &many(rt.alloc())?, None, true, 1, &mut files)?;
-    let bytes = read_whole(rt.alloc(), &mut files, 1)?.ok_or("no file")?;
-    let mut file = SortedFile::open(rt.alloc(), 1, &mut files)?;
-    for stamp in 0..31 {
-        assert!(rt; agree_on(rt.alloc(), &mut file, stamp, &bytes, &mut files)?);
-    }
-    let old = three(rt.alloc())?;
-    let mut file = opened(rt.alloc(), &mut files, &old)?;
-    for stamp in 0..5 {
-        assert!(rt; agree_on(rt.alloc(), &mut file, stamp, &old, &mut files)?);
-    }
+    assert!(rt; agree_below(rt.alloc(), &many(rt.alloc())?, 31)?);
+    assert!(rt; agree_below(rt.alloc(), &three(rt.alloc())?, 5)?);
     Ok(())
 }

@@ -1,9 +1,9 @@
 //! Keys, and the bodies of requests and replies.
 
-use testing::memory::{Call, Subject, Table};
 use cell_key::{CellKey, Family, Lock, Qualifier, Refusal, Row, WriteKind};
 use request_codec::{Reply, decode_reply, decode_request, encode_reply, encode_request};
 use std::alloc::Global;
+use testing::memory::{Call, Subject, Table};
 
 /// A key of the row `a\0b`, and a text that things are appended to.
 #[derive(Drop)]

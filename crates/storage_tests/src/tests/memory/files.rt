@@ -1,14 +1,14 @@
 //! Memtables, files in memory, and sorted files.
 
-use testing::FILE_LIMIT;
-use testing::edits::{data_key, edits_of};
-use testing::memory::{Call, Subject, Table};
 use cell_key::{EntryRef, Refusal, Row, Stamp};
 use compaction::{Input, merge_into};
 use file_store::{FileFault, Files, MemFiles, read_whole};
 use memtable::Memtable;
 use sorted_file::{LockIndex, SortedFile, refusal_of, write_file};
 use std::alloc::Global;
+use testing::FILE_LIMIT;
+use testing::edits::{data_key, edits_of};
+use testing::memory::{Call, Subject, Table};
 
 /// The refusal of a call of files.
 pub fn refused<T>(call: Result<T, FileFault>) -> Result<T, Refusal> {
@@ -175,12 +175,12 @@ pub fn merge(
     Ok(())
 }
 
-/// Writes a sorted file again as the file 2.
-fn write_again(alloc: Global, file: &SortedFile, files: &mut MemFiles) -> Result<(), Refusal> {
+/// Writes a sorted file again as the file 2: the name of what was written.
+pub fn write_again(alloc: Global, file: &SortedFile, files: &mut MemFiles) -> Result<u64, Refusal> {
     let mut cursor = file.cursor(b"");
     let none = LockIndex::new(alloc);
-    let _file = write_file(alloc, &mut cursor, 2, FILE_LIMIT, &none, files)?;
-    Ok(())
+    let again = write_file(alloc, &mut cursor, 2, FILE_LIMIT, &none, files)?;
+    Ok(again.name())
 }
 
 pub const SORTED: Table = (b"\x95--x2x1", &SORTED_CALLS);
@@ -200,7 +200,9 @@ impl Subject for Sorted {
     fn answers(&mut self, alloc: Global, number: usize, wanted: &[u8]) -> Result<bool, Refusal> {
         let files = &mut self.files;
         match number {
-            0 => write_again(alloc, &self.file, files)?,
+            0 => {
+                let _name = write_again(alloc, &self.file, files)?;
+            }
             1 => {
                 let mut file = SortedFile::open(alloc, 1, files)?;
                 return Ok(wanted == [found(alloc, &mut file, files, 9)?].as_slice());

@@ -1,14 +1,14 @@
 //! Tablets, and the table of their places.
 
-use testing::FILE_LIMIT;
-use testing::edits::edits_of;
-use testing::memory::{Call, Subject, Table};
 use cell_key::{Family, Qualifier, Refusal, Row, Stamp};
 use file_store::MemFiles;
 use metadata_table::MetadataTable;
 use sorted_file::few_blocks;
 use std::alloc::Global;
 use tablet::{RowRange, Tablet};
+use testing::FILE_LIMIT;
+use testing::edits::edits_of;
+use testing::memory::{Call, Subject, Table};
 
 /// A tablet over its files, and names that others are appended to.
 #[derive(Drop)]
