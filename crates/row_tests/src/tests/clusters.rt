@@ -3,13 +3,13 @@
 ghost use Rattle.std.specs.Prelude.{IfOk};
 ghost use Rattle.row_atomic.specs.Commands.{IsUnderRow};
 
-use testing::edits::edits_of;
 use crate::tests::memory::rows::{new_cluster, newest, next};
 use cell_key::{Refusal, Row, Stamp};
 use file_store::MemFiles;
 use row_atomic::{Cluster, Command, Outcome, Rows, one_newest, one_next_cell};
 use std::alloc::Global;
 use std::test::Fail;
+use testing::edits::edits_of;
 
 /// What is done to a cluster. A write has a row, a stamp of `bal` and a value, or is an erasure.
 #[derive(Clone, Copy)]

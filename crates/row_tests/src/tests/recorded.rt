@@ -1,12 +1,12 @@
 //! Rows whose edits are written down.
 
-use testing::edits::edits_of;
 use crate::tests::memory::rows::{new_cluster, newest};
 use cell_key::{Refusal, Row, Stamp};
 use file_store::MemFiles;
 use row_atomic::{Recorded, Rows};
 use std::alloc::Global;
 use std::test::Fail;
+use testing::edits::edits_of;
 
 /// The bytes of a put of `1` at the stamp 1 of `a`, `bal`, data, and of an erasure at 9.
 const WRITTEN: [u8; 59] =

@@ -1,12 +1,12 @@
 //! Rows: in memory, and in a cluster of tablets.
 
-use testing::FILE_LIMIT;
-use testing::edits::edits_of;
-use testing::memory::{Call, Subject, Table};
 use cell_key::{Family, Qualifier, Refusal, Row, Stamp};
 use file_store::MemFiles;
 use row_atomic::{Cluster, Command, Outcome, PlainRows, Rows};
 use std::alloc::Global;
+use testing::FILE_LIMIT;
+use testing::edits::edits_of;
+use testing::memory::{Call, Subject, Table};
 
 /// Writes a value of one byte into a row, and an erasure at the stamp 9.
 fn write<R: Rows>(

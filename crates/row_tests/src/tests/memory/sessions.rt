@@ -1,12 +1,12 @@
 //! Sessions over rows in memory.
 
 use crate::tests::memory::rows::newest;
-use testing::memory::{Call, Subject, Table};
 use cell_key::{Refusal, Stamp};
 use oracle::{MemMark, Oracle};
 use row_atomic::PlainRows;
 use si_model::{Found, Progress, ScanFound, ScanRange, ScanReach};
 use std::alloc::Global;
+use testing::memory::{Call, Subject, Table};
 use txn_client::Clients;
 
 /// Sessions: 1 has committed `a` and `n` at 2, 3 holds `b`, and 4 has a write of `n` and 5 one of `b`.
