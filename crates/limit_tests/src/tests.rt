@@ -4,3 +4,28 @@ mod audits;
 mod limits;
 mod recordings;
 mod scan_limits;
+
+use cell_key::Refusal;
+use file_store::MemFiles;
+use oracle::MemMark;
+use server_loop::{Config, FlushLimits, Server};
+use std::alloc::Global;
+use testing::FILE_LIMIT;
+
+type MemServer = Server<MemFiles, MemMark>;
+
+/// A server over files in memory, each of `file_limit` bytes at most.
+fn new_server(alloc: Global, file_limit: u64) -> Result<MemServer, Refusal> {
+    if file_limit < 48 || file_limit > FILE_LIMIT {
+        return Err(Refusal::FileTooLarge);
+    }
+    let flush = FlushLimits {
+        entries: 10_000,
+        bytes: None,
+    };
+    let config = Config { flush, file_limit };
+    match Server::new(alloc, MemFiles::new(alloc), MemMark::new(), config) {
+        Ok(server) => Ok(server),
+        Err((refusal, _, _)) => Err(refusal),
+    }
+}

@@ -1,7 +1,5 @@
 //! What an audit says: of all orders of a client that stops, a cleaner and a collector, and of recorded runs with one wrong reply.
 
-use testing::FILE_LIMIT;
-use testing::rows::TRANSFER;
 use crate::tests::{MemServer, new_server};
 use cell_key::Refusal;
 use request_codec::{Reply, Request, decode_request};
@@ -9,6 +7,8 @@ use server_loop::Audit;
 use si_model::{CleanStart, Found, Progress};
 use std::alloc::Global;
 use std::test::Fail;
+use testing::FILE_LIMIT;
+use testing::rows::TRANSFER;
 
 /// How many exchanges of the transfer there are up to the write of its first cell.
 const FIRST_WRITE: usize = 12;

@@ -1,14 +1,15 @@
 //! Limits of sessions, tablets, files and collectors, and the longest names and values.
 
-use testing::FILE_LIMIT;
-use testing::streams::{Holding, Pieces, Recording};
-use crate::tests::{MemServer, new_server, outcome, push_frame, served, stream_of};
+use crate::tests::{MemServer, new_server};
 use cell_key::{Qualifier, Refusal, Stamp};
 use request_codec::{Reply, Request};
 use server_loop::End;
 use si_model::Found;
 use std::alloc::{AllocError, Global};
 use std::test::Fail;
+use testing::FILE_LIMIT;
+use testing::frames::{push_frame, stream_of};
+use testing::streams::{Holding, Recording};
 
 /// The number of the refusal that a request is answered, and 0 if it is done.
 fn refused(server: &mut MemServer, request: Request<'_>) -> u8 {
@@ -422,8 +423,10 @@ fn is_answered(
     if is_accepted {
         expected.extend_from_slice(&value)?;
     }
-    let (ended, written) = outcome(alloc, Pieces::new(alloc, &stream)?, u64::MAX)?;
-    Ok(matches!(ended, Ok(End::Clean)) && written == expected)
+    let mut reader = stream.as_slice();
+    let mut writer = Holding::new(alloc);
+    let ended = new_server(alloc, FILE_LIMIT)?.serve(&mut reader, &mut writer, u64::MAX);
+    Ok(matches!(ended, Ok(End::Clean)) && writer.out == expected)
 }
 
 #[test]
@@ -494,7 +497,8 @@ fn input_is_read_in_pieces(rt: HostRuntime) -> Result<(), Fail> {
         asked: Vec::new(rt.alloc()),
     };
     let mut writer = Holding::new(rt.alloc());
-    let ended = served(rt.alloc(), &mut reader, &mut writer, u64::MAX)?;
+    let mut server = new_server(rt.alloc(), FILE_LIMIT)?;
+    let ended = server.serve(&mut reader, &mut writer, u64::MAX);
     assert!(rt; matches!(ended, Ok(End::Clean)));
     assert!(rt; reader.asked.as_slice() == [65_536, 65_536, 65_536].as_slice());
     Ok(())

@@ -1,12 +1,12 @@
 //! Recorded runs with one wrong reply at their end, and requests that may be answered in more ways than one, as an audit judges them.
 
-use testing::cleaning::{ROLLED_FORWARD, SESSION_STOPPED};
-use testing::rows::{CELL_HELD, COMMITTED, Exchange, TRANSFER};
 use cell_key::Refusal;
 use request_codec::{decode_reply, decode_request};
 use server_loop::Audit;
 use std::alloc::Global;
 use std::test::Fail;
+use testing::cleaning::{ROLLED_FORWARD, SESSION_STOPPED};
+use testing::rows::{CELL_HELD, COMMITTED, Exchange, TRANSFER};
 
 /// A later session begins.
 const BEGUN: [Exchange; 1] = [

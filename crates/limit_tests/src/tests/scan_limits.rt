@@ -1,11 +1,12 @@
 //! Limits of scans: how many cells one looks at, how long its reply is, and the longest names.
 
-use testing::FILE_LIMIT;
 use crate::tests::{MemServer, new_server};
-use cell_key::Stamp;
+use cell_key::{Refusal, Stamp};
 use request_codec::{Reply, Request};
 use si_model::{ScanFound, ScanItem, ScanRange, ScanReach, ScanReply};
+use std::alloc::Global;
 use std::test::Fail;
+use testing::FILE_LIMIT;
 
 /// The cells after one, or all.
 type After<'a> = Option<(&'a [u8], &'a [u8])>;
@@ -181,18 +182,34 @@ fn are_said(items: &[ScanItem], said: &[u8]) -> bool {
     true
 }
 
+/// Whether a scan says this of each cell that it names, and goes up to this row.
+fn is_scanned(server: &mut MemServer, scan: Request<'_>, said: &[u8], last: &[u8]) -> bool {
+    match server.answer(scan) {
+        Reply::Scan(reply) => are_said(&reply.items, said) && last_row(&reply) == last,
+        _ => false,
+    }
+}
+
+/// Whether a scan of values of these lengths says this, and goes up to this row.
+fn is_sent_of(
+    alloc: Global,
+    lengths: (u32, u32),
+    keys_only: bool,
+    said: &[u8],
+    last: &[u8],
+) -> Result<bool, Refusal> {
+    let mut server = new_server(alloc, FILE_LIMIT)?;
+    let a = vec![in alloc; b'v'; lengths.0 as usize]?;
+    let b = vec![in alloc; b'v'; lengths.1 as usize]?;
+    let scan = scan_of(3, None, keys_only, 1_000);
+    let is_begun = are_set(&mut server, 1, &a, &b) && is_done(&mut server, Request::Begin);
+    Ok(is_begun && is_scanned(&mut server, scan, said, last))
+}
+
 #[test]
 fn lengths_of_scans(rt: HostRuntime) -> Result<(), Fail> {
     for (a, b, keys_only, said, last) in LENGTHS {
-        let mut server = new_server(rt.alloc(), FILE_LIMIT)?;
-        let a = vec![in rt.alloc(); b'v'; a as usize]?;
-        let b = vec![in rt.alloc(); b'v'; b as usize]?;
-        assert!(rt; are_set(&mut server, 1, &a, &b) && is_done(&mut server, Request::Begin));
-        let scan = scan_of(3, None, keys_only, 1_000);
-        let Reply::Scan(reply) = server.answer(scan) else {
-            return Err(Fail::from("the scan is refused"));
-        };
-        assert!(rt; are_said(&reply.items, said) && last_row(&reply) == last);
+        assert!(rt; is_sent_of(rt.alloc(), (a, b), keys_only, said, last)?);
     }
     Ok(())
 }
@@ -200,32 +217,53 @@ fn lengths_of_scans(rt: HostRuntime) -> Result<(), Fail> {
 /// Values of a cell with the longest names, and whether a scan sends them: its item takes 4,077 bytes more.
 const LONGEST: [(u32, &[u8]); 2] = [(57_363, b"v"), (57_364, b"u")];
 
+/// Whether sessions commit a cell of these names, and one of the row 1 after it, and another session begins.
+fn are_written(server: &mut MemServer, row: &[u8], family: &[u8], value: &[u8]) -> bool {
+    let set = Request::Set {
+        start: 1,
+        row,
+        family,
+        value,
+    };
+    is_done(server, Request::Begin)
+        && is_done(server, set)
+        && are_stepped(server, 1, 3)
+        && are_committed(server, 3, 1, 1)
+        && is_done(server, Request::Begin)
+}
+
+/// Whether a scan names cells from the row 1 on, and goes over all of its range.
+fn is_rest(server: &mut MemServer, scan: Request<'_>) -> bool {
+    match server.answer(scan) {
+        Reply::Scan(reply) => are_numbered(&reply.items, 1) && last_row(&reply).is_empty(),
+        _ => false,
+    }
+}
+
+/// Whether a scan says this of a cell of these names and a value of this length, and a scan after it goes on.
+fn is_sent(
+    alloc: Global,
+    row: &[u8],
+    family: &[u8],
+    length: u32,
+    said: &[u8],
+) -> Result<bool, Refusal> {
+    let mut server = new_server(alloc, FILE_LIMIT)?;
+    let value = vec![in alloc; b'v'; length as usize]?;
+    Ok(
+        are_written(&mut server, row, family, &value)
+            && is_scanned(&mut server, scan(5, None, 1), said, row)
+            && is_rest(&mut server, scan(5, Some((row, family)), 2)),
+    )
+}
+
 /// The reply with the longest names twice, in its item and as the cell that it went up to.
 #[test]
 fn scans_of_longest_names(rt: HostRuntime) -> Result<(), Fail> {
     let row = vec![in rt.alloc(); 0u8; 4_000]?;
     let family = vec![in rt.alloc(); b'~'; 64]?;
     for (length, said) in LONGEST {
-        let mut server = new_server(rt.alloc(), FILE_LIMIT)?;
-        let value = vec![in rt.alloc(); b'v'; length as usize]?;
-        let set = Request::Set {
-            start: 1,
-            row: &row,
-            family: &family,
-            value: &value,
-        };
-        assert!(rt; is_done(&mut server, Request::Begin) && is_done(&mut server, set));
-        assert!(rt; are_stepped(&mut server, 1, 3) && are_committed(&mut server, 3, 1, 1));
-        assert!(rt; is_done(&mut server, Request::Begin));
-        let Reply::Scan(reply) = server.answer(scan(5, None, 1)) else {
-            return Err(Fail::from("the scan is refused"));
-        };
-        assert!(rt; are_said(&reply.items, said) && last_row(&reply) == row.as_slice());
-        let after = Some((row.as_slice(), family.as_slice()));
-        let Reply::Scan(rest) = server.answer(scan(5, after, 2)) else {
-            return Err(Fail::from("the scan is refused"));
-        };
-        assert!(rt; are_numbered(&rest.items, 1) && last_row(&rest).is_empty());
+        assert!(rt; is_sent(rt.alloc(), &row, &family, length, said)?);
     }
     Ok(())
 }
