@@ -5,3 +5,11 @@ mod lasting;
 mod logs;
 mod memory;
 mod stopping;
+
+use server_loop::FlushLimits;
+
+/// How full a memtable is when it is compacted.
+const FLUSH: FlushLimits = FlushLimits {
+    entries: 10_000,
+    bytes: None,
+};

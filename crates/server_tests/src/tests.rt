@@ -1,58 +1,28 @@
-//! The store as its users meet it: streams of requests with the replies that they get. Below it are the tests of each crate.
+//! The store as its users meet it: streams of requests with the replies that they get.
 
-mod audits;
-mod bodies;
-mod caches;
 mod checkpoint_faults;
 mod checkpoints;
-mod cleaning;
-mod clusters;
-mod collecting;
-mod compactions;
-mod damages;
-mod deleting;
-mod edits;
 mod faults;
-mod files;
 mod filling;
-mod folders;
-mod keys;
-mod kills;
-mod lasting;
-mod limits;
-mod logs;
 mod memory;
-mod memtables;
-mod places;
-mod recorded;
-mod recordings;
-mod rows;
-mod scan_limits;
-mod scanning;
 mod script;
-mod slow;
-mod slow_roots;
-mod sorted_files;
-mod stamps;
 mod statuses;
-mod stopping;
-mod streams;
-mod upkeep;
 
 ghost use Rattle.std.specs.Prelude.{◌≤◌, IfSome, IsTrue};
 
-use testing::FILE_LIMIT;
 use cell_key::Refusal;
 use file_store::MemFiles;
 use oracle::MemMark;
 use request_codec::{Reply, Request};
-use rows::{Row, TRANSFER};
 use server_loop::{Config, End, FlushLimits, ServeFault, Server, end_status};
-use std::alloc::{AllocError, Global};
+use std::alloc::Global;
 use std::cell::Cell;
 use std::io::{Read, Write};
 use std::test::Fail;
-use streams::{Asking, Holding, Narrow, Pieces, Telling};
+use testing::frames::streams_of;
+use testing::rows::Row;
+use testing::streams::{Asking, Holding, Narrow, Pieces, Telling};
+use testing::{FILE_LIMIT, cleaning, collecting, deleting, rows, scanning, upkeep};
 
 type MemServer = Server<MemFiles, MemMark>;
 

@@ -1,17 +1,16 @@
 //! The script with a log, over devices that a kill cuts off at each of their calls: what was written are whole replies, and
 //! what opens then is what a beginning of the requests leaves that has each of those that were replied to.
 
-use crate::tests::checkpoints::WRITTEN;
-use testing::cleaning::{ROLLED_FORWARD, SESSION_STOPPED};
 use crate::tests::lasting::{Devices, ON_REQUEST, Upkeep, reads, states};
-use crate::tests::push_frame;
-use testing::rows::{COMMITTED, Exchange, TRANSFER};
-use crate::tests::script::{COLLECTED, FLUSHED, MERGED, SPLIT};
 use crate::tests::stopping::Written;
-use testing::streams::Pieces;
 use cell_key::Refusal;
 use std::alloc::{AllocError, Global};
 use std::test::Fail;
+use testing::cleaning::{ROLLED_FORWARD, SESSION_STOPPED};
+use testing::frames::push_frame;
+use testing::rows::{COMMITTED, Exchange, TRANSFER};
+use testing::script::{COLLECTED, FLUSHED, MERGED, SPLIT, WRITTEN};
+use testing::streams::Pieces;
 
 /// A session after the restart sets two cells and deletes one.
 const THREE_CELLS: [Exchange; 12] = [

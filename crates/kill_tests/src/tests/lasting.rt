@@ -1,8 +1,7 @@
 //! A server with a log over devices in memory that can be cut off, and what is read of it.
 
-use testing::FILE_LIMIT;
+use crate::tests::FLUSH;
 use crate::tests::stopping::{Life, Stopping};
-use crate::tests::{FLUSH, push_frame};
 use cell_key::Refusal;
 use commit_log::{FileLog, HEAD, LogFault, LogFile, MemFile};
 use file_store::MemFiles;
@@ -10,6 +9,8 @@ use oracle::{MarkStore, MemMark};
 use server_loop::{Config, FlushLimits, LastingServer, ServeFault, Server};
 use std::alloc::{AllocError, Global};
 use std::cell::Cell;
+use testing::FILE_LIMIT;
+use testing::frames::push_frame;
 
 /// A server over devices that can be cut off.
 pub type StoppingServer<'a> = LastingServer<
@@ -196,9 +197,8 @@ fn reads_between(alloc: Global, requests: &[&[u8]]) -> Result<Vec<u8>, AllocErro
     Ok(stream)
 }
 
-/// What the reads give after each beginning of some requests, in a store without a log.
-pub fn states(alloc: Global, requests: &[&[u8]]) -> Result<Vec<Vec<u8>>, Refusal> {
-    let stream = reads_between(alloc, requests)?;
+/// What a store without a log writes for a stream.
+fn written(alloc: Global, stream: &[u8]) -> Result<Vec<u8>, Refusal> {
     let config = Config {
         flush: FLUSH,
         file_limit: FILE_LIMIT,
@@ -207,9 +207,16 @@ pub fn states(alloc: Global, requests: &[&[u8]]) -> Result<Vec<Vec<u8>>, Refusal
     let Ok(mut server) = made else {
         return Err(Refusal::NoMemory);
     };
-    let mut reader = stream.as_slice();
+    let mut reader = stream;
     let mut written = Vec::new(alloc);
     let _ = server.serve(&mut reader, &mut written, u64::MAX);
+    Ok(written)
+}
+
+/// What the reads give after each beginning of some requests, in a store without a log.
+pub fn states(alloc: Global, requests: &[&[u8]]) -> Result<Vec<Vec<u8>>, Refusal> {
+    let stream = reads_between(alloc, requests)?;
+    let written = written(alloc, &stream)?;
     let mut states = Vec::new(alloc);
     let mut rest = written.as_slice();
     for _ in 0..=requests.len() {

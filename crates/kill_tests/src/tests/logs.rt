@@ -1,11 +1,8 @@
 //! Logs by their bytes: what a server writes, and what it opens if they are cut short, garbled or no edits.
 
-use testing::FILE_LIMIT;
-use crate::tests::lasting::{Devices, ON_REQUEST, Upkeep, reads, states};
-use testing::rows::{Exchange, FIRST_CELL, Row, TRANSFER};
+use crate::tests::FLUSH;
+use crate::tests::lasting::{Devices, ON_REQUEST, StoppingServer, Upkeep, reads, states};
 use crate::tests::stopping::Written;
-use testing::streams::{Holding, Pieces};
-use crate::tests::{FLUSH, push_frame, streams_of};
 use cell_key::Refusal;
 use commit_log::{HEAD, MemLog};
 use file_store::MemFiles;
@@ -14,6 +11,10 @@ use server_loop::{Config, End, LastingServer, ServeFault, Server, end_status};
 use std::alloc::Global;
 use std::num::NonZeroUsize;
 use std::test::Fail;
+use testing::FILE_LIMIT;
+use testing::frames::{push_frame, streams_of};
+use testing::rows::{Exchange, FIRST_CELL, Row, TRANSFER};
+use testing::streams::{Holding, Pieces};
 
 /// The log after a cell was held and committed, one record for each: a value and a lock, and a record and no lock.
 pub const TWO_RECORDS: &[u8] = b"TABLOG01\
@@ -192,6 +193,28 @@ impl Logged {
     }
 }
 
+/// Serves a request.
+fn serve_one(alloc: Global, server: &mut StoppingServer<'_>, body: &[u8]) -> Result<(), Refusal> {
+    let mut frame = Vec::new(alloc);
+    push_frame(&mut frame, body)?;
+    let mut reader = frame.as_slice();
+    let mut writer: Vec<u8> = Vec::new(alloc);
+    let _ = server.serve(&mut reader, &mut writer, u64::MAX);
+    Ok(())
+}
+
+/// How many bytes the log has before each of the requests, served one by one over these devices, and after the last.
+fn log_lengths(alloc: Global, devices: &Devices, bodies: &[&[u8]]) -> Result<Vec<usize>, Refusal> {
+    let mut server = devices.open(ON_REQUEST)?;
+    let mut lengths = Vec::new(alloc);
+    lengths.push(devices.log_bytes()?.len())?;
+    for body in bodies {
+        serve_one(alloc, &mut server, body)?;
+        lengths.push(devices.log_bytes()?.len())?;
+    }
+    Ok(lengths)
+}
+
 /// What is read after each of the requests, served one by one over these devices, at which the log has got a frame; and before the
 /// first.
 fn logged_states(
@@ -200,22 +223,14 @@ fn logged_states(
     bodies: &[&[u8]],
 ) -> Result<Vec<Vec<u8>>, Refusal> {
     let all = states(alloc, bodies)?;
+    let lengths = log_lengths(alloc, devices, bodies)?;
     let mut logged = Vec::new(alloc);
-    let mut server = devices.open(ON_REQUEST)?;
-    let mut len = 0;
-    for (count, state) in all.iter().enumerate() {
-        let bytes = devices.log_bytes()?;
-        if bytes.len() > len {
+    let mut last = 0;
+    for (state, length) in all.iter().zip(lengths.iter()) {
+        if *length > last {
             logged.push(state.clone()?)?;
-            len = bytes.len();
+            last = *length;
         }
-        let mut frame = Vec::new(alloc);
-        if let Some(body) = bodies.get(count) {
-            push_frame(&mut frame, body)?;
-        }
-        let mut reader = frame.as_slice();
-        let mut writer: Vec<u8> = Vec::new(alloc);
-        let _ = server.serve(&mut reader, &mut writer, u64::MAX);
     }
     Ok(logged)
 }
@@ -295,6 +310,15 @@ fn edits_without_a_root(rt: HostRuntime) -> Result<(), Fail> {
 /// More calls than the devices get.
 const MOST_CALLS: u64 = 100;
 
+/// Whether a server whose log failed says so again, and writes nothing more.
+fn is_silent(server: &mut StoppingServer<'_>, writer: &mut Written<'_>) -> bool {
+    let count = writer.bytes.len();
+    // Begin
+    let mut reader: &[u8] = b"\0\0\0\x01\x01";
+    let again = server.serve(&mut reader, writer, u64::MAX);
+    matches!(again, Err(ServeFault::Log)) && writer.bytes.len() == count
+}
+
 /// How the first cell's requests end, of which a read gives this many bytes at most, if all calls from this one on fail: how many
 /// bytes were written if the log failed. Then it fails again, and nothing more is written.
 fn lost_at(alloc: Global, most: usize, at: u64) -> Result<Option<usize>, Refusal> {
@@ -316,10 +340,7 @@ fn lost_at(alloc: Global, most: usize, at: u64) -> Result<Option<usize>, Refusal
         return Ok(None);
     }
     let count = writer.bytes.len();
-    // Begin
-    let mut reader: &[u8] = b"\0\0\0\x01\x01";
-    let again = server.serve(&mut reader, &mut writer, u64::MAX);
-    let is_silent = matches!(again, Err(ServeFault::Log)) && writer.bytes.len() == count;
+    let is_silent = is_silent(&mut server, &mut writer);
     let is_told = end_status(&ended) == (4, "tabletd: log failed");
     if is_silent && is_told && replies.starts_with(&writer.bytes) {
         return Ok(Some(count));

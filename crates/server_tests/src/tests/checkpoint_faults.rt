@@ -1,20 +1,21 @@
 //! The script with two checkpoints and one failing call of the folder's files: what opens then is the last checkpoint that
 //! was answered, or the one that was refused.
 
-use testing::FILE_LIMIT;
-use crate::tests::checkpoints::{HALF, WRITTEN, opened};
-use testing::cleaning::{ROLLED_FORWARD, SESSION_STOPPED};
-use crate::tests::folders::new_folder;
-use testing::rows::Row;
-use crate::tests::script::{COLLECTED, COLUMNS, MERGED, Run, SPLIT, Watch, served};
-use testing::streams::Holding;
-use crate::tests::{FLUSH, push_frame, stream_of, streams_of};
+use crate::tests::FLUSH;
+use crate::tests::checkpoints::{HALF, new_folder, opened};
+use crate::tests::script::{Run, Watch, served};
 use cell_key::Refusal;
 use file_store::{DirFiles, Fail as How, FailAt};
 use oracle::DirMark;
 use server_loop::{Config, Server};
 use std::fs;
 use std::test::Fail;
+use testing::FILE_LIMIT;
+use testing::cleaning::{ROLLED_FORWARD, SESSION_STOPPED};
+use testing::frames::{push_frame, stream_of, streams_of};
+use testing::rows::Row;
+use testing::script::{COLLECTED, COLUMNS, MERGED, SPLIT, WRITTEN};
+use testing::streams::Holding;
 
 type FailingServer = Server<FailAt<DirFiles<HostRuntime>>, DirMark<HostRuntime>>;
 

@@ -1,19 +1,19 @@
 //! Checkpoints, and what is opened of the folder that they are in.
 
-use testing::FILE_LIMIT;
-use testing::cleaning::ROLLED_FORWARD;
-use crate::tests::folders::new_folder;
-use testing::NEW_ROOT;
-use testing::rows::{COMMITTED, Exchange, Row, TRANSFER};
-use testing::streams::{Holding, Pieces};
-use crate::tests::{FLUSH, streams_of};
+use crate::tests::FLUSH;
 use cell_key::Refusal;
 use file_store::DirFiles;
 use oracle::DirMark;
 use server_loop::{Config, End, Server, open_status};
-use std::fs;
 use std::os::unix::fs::symlink;
 use std::test::Fail;
+use std::{fs, io, process};
+use testing::cleaning::ROLLED_FORWARD;
+use testing::frames::streams_of;
+use testing::rows::{COMMITTED, Exchange, Row, TRANSFER};
+use testing::script::WRITTEN;
+use testing::streams::{Holding, Pieces};
+use testing::{FILE_LIMIT, NEW_ROOT};
 
 type DirServer = Server<DirFiles<HostRuntime>, DirMark<HostRuntime>>;
 
@@ -215,6 +215,11 @@ const OLD_COLLECTED: [Exchange; 15] = [
 
 const IS_READ: Row = (0, &[&READ, &OLD_RECORDS, &OLD_COLLECTED]);
 
+/// A new folder of this name in the machine's temporary folder.
+pub fn new_folder(rt: &HostRuntime, name: &str) -> io::Result<String> {
+    testing::folders::new_folder(rt, process::id(rt.process()), name)
+}
+
 /// A server of a folder. It takes the folder's files and mark as a program that is started does.
 pub fn opened(rt: &HostRuntime, path: &str) -> Result<DirServer, Refusal> {
     let files = match DirFiles::open(*rt, path) {
@@ -382,6 +387,16 @@ fn raise_length(rt: &HostRuntime, path: &str) -> Result<(), Fail> {
     Ok(())
 }
 
+/// Whether a folder has the root and the file of the migrated store, and no file that was there before.
+fn is_migrated(rt: &HostRuntime, path: &str) -> Result<bool, Fail> {
+    let root = bytes_of(rt, path, "t0000000000000000.tab")?;
+    let file = bytes_of(rt, path, "t0000000000000002.tab")?;
+    let old = path_of(rt, path, "t0000000000000001.tab")?;
+    let is_gone = !fs::exists(rt, old.as_str())?;
+    let is_file = file.len() == 398 && file.starts_with(b"TABLET02");
+    Ok(root.as_slice() == MIGRATED_ROOT && is_file && is_gone)
+}
+
 /// A folder of format 1 is opened, and is of format 2 after a major compaction, a checkpoint and a sweep. A root that
 /// names another length than its file has is damage.
 #[test]
@@ -389,10 +404,7 @@ fn a_folder_is_migrated(rt: HostRuntime) -> Result<(), Fail> {
     let folder = old_folder(&rt, "old")?;
     let path = folder.as_str();
     assert!(rt; is_met(&rt, path, &MIGRATES)?);
-    assert!(rt; bytes_of(&rt, path, "t0000000000000000.tab")?.as_slice() == MIGRATED_ROOT);
-    let file = bytes_of(&rt, path, "t0000000000000002.tab")?;
-    assert!(rt; file.len() == 398 && file.starts_with(b"TABLET02"));
-    assert!(rt; !fs::exists(&rt, path_of(&rt, path, "t0000000000000001.tab")?.as_str())?);
+    assert!(rt; is_migrated(&rt, path)?);
     assert!(rt; is_met(&rt, path, &IS_READ)?);
     raise_length(&rt, path)?;
     assert!(rt; status(&rt, path) == 5);

@@ -1,12 +1,13 @@
 //! Memtables that fill by the bytes of their entries.
 
-use testing::FILE_LIMIT;
-use testing::streams::Holding;
-use crate::tests::{flushing_server, push_frame};
+use crate::tests::flushing_server;
 use cell_key::Refusal;
 use server_loop::FlushLimits;
 use std::alloc::{AllocError, Global};
 use std::test::Fail;
+use testing::FILE_LIMIT;
+use testing::frames::push_frame;
+use testing::streams::Holding;
 
 /// Step 1.
 const STEP: &[u8] = b"\x04\0\0\0\0\0\0\0\x01";

@@ -1,10 +1,6 @@
 //! A script of requests that goes through every part of the store: sessions, a cleaner, a collector, compactions, a split, a move
 //! and a restart. `scripts/refuse_allocations` runs it with one allocation refused at a time.
 
-use testing::FILE_LIMIT;
-use testing::cleaning::{ROLLED_FORWARD, SESSION_STOPPED};
-use crate::tests::push_frame;
-use testing::rows::{COMMITTED, Exchange, TRANSFER};
 use cell_key::Refusal;
 use file_store::{Files, MemFiles};
 use oracle::{MarkStore, MemMark};
@@ -14,6 +10,12 @@ use std::cell::Cell;
 use std::io;
 use std::io::{Read, Write};
 use std::test::Fail;
+use testing::FILE_LIMIT;
+use testing::cleaning::{ROLLED_FORWARD, SESSION_STOPPED};
+use testing::frames::push_frame;
+use testing::memory::Came;
+use testing::rows::{COMMITTED, Exchange, TRANSFER};
+use testing::script::{COLLECTED, COLUMNS, FLUSHED, MERGED, SPLIT};
 
 /// A session begins after the restart, and files that no tablet has are removed.
 const SWEPT: [Exchange; 2] = [

@@ -3,6 +3,8 @@
 use cell_key::Refusal;
 use file_store::FileFault;
 use server_loop::{End, Options, ServeFault, end_status, open_status, options};
+use std::alloc::Global;
+use std::fmt::Display;
 use std::test::Fail;
 
 #[test]
@@ -175,6 +177,11 @@ fn command_lines(rt: HostRuntime) -> Result<(), Fail> {
     Ok(())
 }
 
+/// Whether a refusal or a fault is written so.
+fn is_text<T: Display>(alloc: Global, told: &T, text: &str) -> Result<bool, Fail> {
+    Ok(told.to_string(alloc)?.as_str() == text)
+}
+
 #[test]
 fn texts(rt: HostRuntime) -> Result<(), Fail> {
     let table = [
@@ -184,14 +191,10 @@ fn texts(rt: HostRuntime) -> Result<(), Fail> {
         (ServeFault::Log, "log failed"),
     ];
     for (fault, text) in &table {
-        let told = fault.to_string(rt.alloc())?;
-        assert!(rt; told.as_str() == *text);
+        assert!(rt; is_text(rt.alloc(), fault, *text)?);
     }
-    let told = Refusal::NoMemory.to_string(rt.alloc())?;
-    assert!(rt; told.as_str() == "refused 20: NoMemory");
-    let told = FileFault::Device.to_string(rt.alloc())?;
-    assert!(rt; told.as_str() == "device failed");
-    let told = FileFault::Memory.to_string(rt.alloc())?;
-    assert!(rt; told.as_str() == "no memory");
+    assert!(rt; is_text(rt.alloc(), &Refusal::NoMemory, "refused 20: NoMemory")?);
+    assert!(rt; is_text(rt.alloc(), &FileFault::Device, "device failed")?);
+    assert!(rt; is_text(rt.alloc(), &FileFault::Memory, "no memory")?);
     Ok(())
 }

@@ -1,14 +1,15 @@
 //! Stores with a log: opened over what a server has left on its devices.
 
-use testing::FILE_LIMIT;
-use testing::memory::{Call, Subject, Table};
-use crate::tests::{FLUSH, stream_of};
+use crate::tests::FLUSH;
 use cell_key::Refusal;
 use commit_log::MemLog;
 use file_store::MemFiles;
 use oracle::MemMark;
 use server_loop::{Config, End, LastingServer, ServeFault, Server};
 use std::alloc::Global;
+use testing::FILE_LIMIT;
+use testing::frames::stream_of;
+use testing::memory::{Call, Subject, Table};
 
 /// A server with a log over devices in memory.
 type LogServer = LastingServer<Server<MemFiles, MemMark>, MemLog>;

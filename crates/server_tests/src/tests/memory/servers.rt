@@ -1,12 +1,13 @@
 //! Servers: asked by requests, and over streams of frames.
 
-use testing::FILE_LIMIT;
-use testing::memory::{Call, Subject, Table};
-use crate::tests::{MemServer, new_server, stream_of};
+use crate::tests::{MemServer, new_server};
 use cell_key::Refusal;
 use request_codec::{Reply, decode_request};
 use server_loop::{End, ServeFault};
 use std::alloc::Global;
+use testing::FILE_LIMIT;
+use testing::frames::stream_of;
+use testing::memory::{Call, Subject, Table};
 
 /// What a server is asked for first. Then sessions stand at each phase, a cleaner is to take its first step and another its
 /// second, a collector is open, and there are two files and a memtable.
