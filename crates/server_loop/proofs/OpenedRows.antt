@@ -13,7 +13,7 @@ use Rattle.metadata_table.specs.Roots.{RootView}
 use Rattle.row_atomic.specs.Clusters.{ClusterState, Spot, cells_in, spots_of}
 use Rattle.row_atomic.specs.Commands.{cells_shown}
 use Rattle.row_atomic.specs.Open.{IsDamaged, IsNewStore, Reopens}
-use Rattle.row_atomic.specs.Refusals.{IsReadRefusal}
+use Rattle.rows.specs.Refusals.{IsReadRefusal}
 use Rattle.row_atomic.specs.Roots.{KeepsCells, root_at, root_name}
 use Rattle.row_atomic.specs.declared.recorded.Recorded.{Recorded}
 use Rattle.row_atomic.proofs.Fresh.{new_cells as none_in}

@@ -8,8 +8,9 @@ use Rattle.cell_key.specs.declared.edits.Edit.{Edit}
 use Rattle.commit_log.specs.Edits.{IsStoredEdit, spelled_edit, spelled_edits}
 use Rattle.file_store.specs.Store.{Contents}
 use Rattle.metadata_table.specs.Roots.{RootView}
-use Rattle.row_atomic.specs.Calls.{Applies}
-use Rattle.row_atomic.specs.Clusters.{ClusterState, Storage, storage_of}
+use Rattle.rows.specs.Calls.{Applies}
+use Rattle.row_atomic.specs.Clusters.{ClusterState, storage_of}
+use Rattle.rows.specs.Storage.{Storage}
 use Rattle.row_atomic.specs.Journals.{HasRoomFor, JournalView, all_logged, empty_journal, with_waiting}
 use Rattle.row_atomic.specs.Recorded.{FitsMemtables, OverfillsJournal, OverfillsRecorded, seen_recorded}
 use Rattle.row_atomic.specs.Roots.{RootIsStored}

@@ -15,7 +15,7 @@ ghost use Rattle.row_atomic.specs.Clusters.{spots_of};
 ghost use Rattle.row_atomic.specs.Commands.{cells_shown};
 ghost use Rattle.row_atomic.specs.Journals.{HasRoomFor, empty_journal};
 ghost use Rattle.row_atomic.specs.Open.{IsDamaged};
-ghost use Rattle.row_atomic.specs.Refusals.{IsReadRefusal};
+ghost use Rattle.rows.specs.Refusals.{IsReadRefusal};
 ghost use Rattle.row_atomic.specs.Roots.{KeepsCells, root_at, root_name};
 ghost use Rattle.si_model.specs.Machine.{IsReached, IsStorageRefusal, State, new_machine, reopened};
 ghost use Rattle.sorted_file.specs.Limits.{IsFileLimit};

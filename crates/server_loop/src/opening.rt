@@ -2,7 +2,7 @@
 
 ghost use Rattle.std.specs.Prelude.{◌≡◌, ◌≢◌, ◌≤◌, ◌⊎◌, IfErr, IfOk, IfSome, MatchResult};
 ghost use Rattle.cell_key.specs.Faults.{HasRisen};
-ghost use Rattle.row_atomic.specs.Refusals.{IsReadRefusal};
+ghost use Rattle.rows.specs.Refusals.{IsReadRefusal};
 ghost use Rattle.si_model.specs.Machine.{State, new_machine, reopened};
 
 use crate::server::{Config, Server};

@@ -9,7 +9,7 @@ ghost use Rattle.row_atomic.specs.Clusters.{storage_of};
 ghost use Rattle.row_atomic.specs.Journals.{HasRoomFor, empty_journal};
 ghost use Rattle.row_atomic.specs.Changes.{IsEmptied};
 ghost use Rattle.row_atomic.specs.Recorded.{FitsMemtables, OverfillsRecorded};
-ghost use Rattle.row_atomic.specs.Refusals.{IsApplyRefusal};
+ghost use Rattle.rows.specs.Refusals.{IsApplyRefusal};
 ghost use Rattle.server_loop.specs.Replaying.{FollowsLog, HasRoom, Replays, ShowsRoot};
 
 use cell_key::{Edit, Refusal};
