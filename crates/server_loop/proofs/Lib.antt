@@ -7,19 +7,7 @@ mod Filled
 mod Following
 mod FrameHeads
 mod FromLogs
-mod JudgedCleaners
-mod JudgedActs
-mod JudgedCleanSteps
-mod JudgedCollectors
-mod JudgedRefusals
-mod JudgedScans
-mod JudgedSessions
-mod JudgedSteps
-mod JudgedTablets
-mod JudgedUpkeep
 mod Kept
-mod KeptLists
-mod KeptMaps
 mod Lengths
 mod Logged
 mod MachinePlaces
@@ -30,12 +18,10 @@ mod OpensLogs
 mod OthersShown
 mod RawReads
 mod ReachedRuns
-mod RefusedFirst
 mod Replayed
 mod Rested
 mod Rooted
 mod SamePlaces
-mod Searches
 mod ServingLemmas
 mod SessionSteps
 mod SplitSteps
@@ -45,4 +31,3 @@ mod Tended
 mod UpkeepRefusals
 mod UpkeepSteps
 mod Whole
-mod WriteIndexes

@@ -16,7 +16,3 @@ pub mod Opening
 pub mod Replaying
 pub mod Answer
 pub mod Tending
-pub mod Audits
-pub mod AuditScans
-pub mod AuditSteps
-pub mod AuditRefusals

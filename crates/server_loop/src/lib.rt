@@ -1,7 +1,6 @@
 //! The server: a stream of framed requests is answered, reply by reply, as a run of the snapshot machine.
 #![tactic(auto)]
 
-mod audit;
 mod batches;
 mod cleaning;
 mod collecting;
