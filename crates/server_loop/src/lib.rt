@@ -4,8 +4,6 @@
 mod batches;
 mod cleaning;
 mod collecting;
-mod command_line;
-mod command_options;
 mod frames;
 mod lasting;
 mod lasting_opening;
@@ -24,11 +22,6 @@ mod upkeep;
 mod whole_files;
 
 pub use audit::Audit;
-pub use command_line::options;
-pub use command_options::{
-    DEFAULT_FLUSH, LEAST_CACHE, LEAST_FLUSH_BYTES, LEAST_LOG_BYTES, MOST_CACHE, MOST_FLUSH,
-    MOST_FLUSH_BYTES, MOST_LOG_BYTES, MOST_MERGE, Options,
-};
 pub use lasting::LastingServer;
 pub use laws::{resting_is_kept, rests_between};
 pub use row_atomic::FlushLimits;

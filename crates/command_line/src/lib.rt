@@ -1,11 +1,15 @@
-//! Reading the command line.
+//! The command line of `tabletd`: what it can say, and its reading.
+#![tactic(auto)]
 
-ghost use Rattle.std.specs.Prelude.{◌≡◌, ◌≤◌, IfOk, IfSome, IsTrue, is_some, true};
+mod command_options;
 
-use crate::command_options::{
+pub use command_options::{
     DEFAULT_FLUSH, LEAST_CACHE, LEAST_FLUSH_BYTES, LEAST_LOG_BYTES, MOST_CACHE, MOST_FLUSH,
     MOST_FLUSH_BYTES, MOST_LOG_BYTES, MOST_MERGE, Options,
 };
+
+ghost use Rattle.std.specs.Prelude.{◌≡◌, ◌≤◌, IfOk, IfSome, IsTrue, is_some, true};
+
 use clap::builder::ValueParser;
 use clap::{Arg, ArgAction, Command, Error};
 use std::alloc::{AllocError, Global};
