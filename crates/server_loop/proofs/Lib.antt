@@ -2,31 +2,21 @@ mod Causes
 mod CellChanges
 mod CleanSteps
 mod CollectSteps
-mod CutBatches
-mod Filled
+pub mod Filled
 mod Following
-mod FrameHeads
-mod FromLogs
-mod Kept
+pub mod FrameHeads
 mod Lengths
-mod Logged
 mod MachinePlaces
-mod Opened
-mod OpenedLogs
-mod OpenedRows
-mod OpensLogs
+pub mod Opened
 mod OthersShown
 mod RawReads
-mod ReachedRuns
-mod Replayed
+pub mod ReachedRuns
 mod Rested
-mod Rooted
-mod SamePlaces
-mod ServingLemmas
-mod SessionSteps
+pub mod SamePlaces
+pub mod ServingLemmas
+pub mod SessionSteps
 mod SplitSteps
-mod Stored
-mod StreamReads
+pub mod StreamReads
 mod Tended
 mod UpkeepRefusals
 mod UpkeepSteps

@@ -2,17 +2,10 @@ pub mod Statuses
 pub mod Refusals
 pub mod Runs
 pub mod Serve
-pub mod Lasting
-pub mod Devices
-pub mod Lasts
-pub mod Stored
-pub mod ServesLogged
-pub mod LastingOpening
 pub mod Server
 pub mod Commands
 pub mod Sessions
 pub mod Resting
 pub mod Opening
-pub mod Replaying
 pub mod Answer
 pub mod Tending
