@@ -5,9 +5,10 @@ use crate::tests::stopping::{Life, Stopping};
 use crate::tests::{FLUSH, push_frame};
 use cell_key::Refusal;
 use commit_log::{FileLog, HEAD, LogFault, LogFile, MemFile};
+use durable::LastingServer;
 use file_store::MemFiles;
 use oracle::{MarkStore, MemMark};
-use server_loop::{Config, FlushLimits, LastingServer, ServeFault, Server};
+use server_loop::{Config, FlushLimits, ServeFault, Server};
 use std::alloc::{AllocError, Global};
 use std::cell::Cell;
 

@@ -5,9 +5,10 @@ use crate::tests::memory::{Call, Subject, Table};
 use crate::tests::{FLUSH, stream_of};
 use cell_key::Refusal;
 use commit_log::MemLog;
+use durable::LastingServer;
 use file_store::MemFiles;
 use oracle::MemMark;
-use server_loop::{Config, End, LastingServer, ServeFault, Server};
+use server_loop::{Config, End, ServeFault, Server};
 use std::alloc::Global;
 
 /// A server with a log over devices in memory.
