@@ -21,9 +21,6 @@ use std::process::ExitCode;
 use std::rt::{Env, Files as Folders};
 use std::{env, io, mem};
 
-#[cfg(test)]
-mod tests;
-
 /// The exit status if the command line is refused.
 const REFUSED: u8 = 1;
 

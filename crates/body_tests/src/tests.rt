@@ -1,0 +1,4 @@
+//! Tests of the bodies of requests and replies.
+
+mod bodies;
+mod memory;

@@ -1,0 +1,12 @@
+//! Keys and bodies: calls that take memory.
+
+pub mod keys;
+
+use std::test::Fail;
+use testing::memory::are_answered;
+
+#[test]
+fn calls_of_bodies(rt: HostRuntime) -> Result<(), Fail> {
+    assert!(rt; are_answered::<keys::Keys>(rt.alloc(), keys::KEYS)?);
+    Ok(())
+}

@@ -1,0 +1,121 @@
+//! Keys, and the bodies of requests and replies.
+
+use cell_key::{CellKey, Family, Lock, Qualifier, Refusal, Row, WriteKind};
+use request_codec::{Reply, decode_reply, decode_request, encode_reply, encode_request};
+use std::alloc::Global;
+use testing::memory::{Call, Subject, Table};
+
+/// A key of the row `a\0b`, and a text that things are appended to.
+#[derive(Drop)]
+pub struct Keys {
+    key: CellKey,
+    text: Vec<u8>,
+}
+
+const KEY: &[u8] = b"a\0\xFFb\0\0bal\0\0data\0\0\xFF\xFF\xFF\xFF\xFF\xFF\xFF\xFE";
+
+/// Names that take memory.
+const LONG_ROW: &[u8] = b"the name of a row that takes memory";
+
+const LONG_FAMILY: &[u8] = b"family_of_columns";
+
+const GET: &[u8] = b"\x02\0\0\0\0\0\0\0\x01\0\0\0\x01a\0\0\0\x03bal";
+
+const RAW: &[u8] = b"\x91\x01\0\0\0\0\0\0\0\x01\0\0\0\x06m\0\0c\0\0";
+
+const CALLS: [Call; 11] = [
+    // Row::new
+    (LONG_ROW, b"text"),
+    // Family::new
+    (LONG_FAMILY, b"text"),
+    // CellKey::clone
+    (b"a\0b", b"text"),
+    // Row::fence
+    (b"a\0\xFFb\0\0\xFF", b"text"),
+    // Lock::encode
+    (b"a\0\xFFb\0\0bal\0\0S", b"text"),
+    // CellKey::encode
+    (
+        b"",
+        b"texta\0\xFFb\0\0bal\0\0data\0\0\xFF\xFF\xFF\xFF\xFF\xFF\xFF\xFE",
+    ),
+    // CellKey::decode
+    (b"a\0b", b"text"),
+    // CellKey::decode of no key
+    (b"", b"text"),
+    // encode_request
+    (b"", b"text\x02\0\0\0\0\0\0\0\x01\0\0\0\x01a\0\0\0\x03bal"),
+    // encode_reply
+    (b"", b"text\x81\0\0\0\0\0\0\0\x07"),
+    // decode_reply
+    (b"m\0\0c\0\0", b"text"),
+];
+
+/// Whether the key of a text has this row, or there is none and no bytes are wanted.
+fn is_decoded(alloc: Global, text: &[u8], wanted: &[u8]) -> Result<bool, Refusal> {
+    match CellKey::decode(alloc, text)? {
+        Some(key) => Ok(key.row.as_bytes() == wanted),
+        None => Ok(wanted.is_empty()),
+    }
+}
+
+impl Keys {
+    /// Calls of names, and of a raw reply.
+    fn names(&self, alloc: Global, number: usize, wanted: &[u8]) -> Result<bool, Refusal> {
+        match number {
+            0 => Ok(Row::new(alloc, LONG_ROW)?.as_bytes() == wanted),
+            1 => Ok(Family::new(alloc, LONG_FAMILY)?.as_bytes() == wanted),
+            2 => Ok(self.key.clone()?.row.as_bytes() == wanted),
+            3 => Ok(self.key.row.fence(alloc)?.as_slice() == wanted),
+            4 => {
+                let (row, family) = (&self.key.row, &self.key.family);
+                Ok(Lock::encode(alloc, row, family, WriteKind::Set)?.as_slice() == wanted)
+            }
+            _ => match decode_reply(alloc, RAW)? {
+                Some(Reply::Raw(Some((_, value)))) => Ok(value.as_slice() == wanted),
+                _ => Ok(false),
+            },
+        }
+    }
+
+    /// Writes a request after the text.
+    fn write_request(&mut self) -> Result<(), Refusal> {
+        match decode_request(GET) {
+            Some(request) => encode_request(&request, &mut self.text),
+            None => Err(Refusal::BadRequest),
+        }
+    }
+}
+
+pub const KEYS: Table = (b"text", &CALLS);
+
+impl Subject for Keys {
+    fn set_up(alloc: Global) -> Result<Keys, Refusal> {
+        let row = Row::new(alloc, b"a\0b")?;
+        let family = Family::new(alloc, b"bal")?;
+        let text = Vec::from_slice(alloc, b"text")?;
+        let key = CellKey {
+            row,
+            family,
+            qualifier: Qualifier::Data,
+            stamp: 1,
+        };
+        Ok(Keys { key, text })
+    }
+
+    fn answers(&mut self, alloc: Global, number: usize, wanted: &[u8]) -> Result<bool, Refusal> {
+        match number {
+            5 => self.key.encode(&mut self.text)?,
+            6 => return is_decoded(alloc, KEY, wanted),
+            7 => return is_decoded(alloc, b"a\0", wanted),
+            8 => self.write_request()?,
+            9 => encode_reply(&Reply::Begin(7), &mut self.text)?,
+            _ => return self.names(alloc, number, wanted),
+        }
+        Ok(wanted.is_empty())
+    }
+
+    fn read(&mut self, alloc: Global) -> Result<Vec<u8>, Refusal> {
+        Ok(Vec::from_slice(alloc, &self.text)?)
+    }
+}

@@ -1,0 +1,403 @@
+//! The script with a log, over devices that a kill cuts off at each of their calls: what was written are whole replies, and
+//! what opens then is what a beginning of the requests leaves that has each of those that were replied to.
+
+use crate::tests::checkpoints::WRITTEN;
+use testing::cleaning::{ROLLED_FORWARD, SESSION_STOPPED};
+use crate::tests::lasting::{Devices, ON_REQUEST, Upkeep, reads, states};
+use crate::tests::push_frame;
+use testing::rows::{COMMITTED, Exchange, TRANSFER};
+use crate::tests::script::{COLLECTED, FLUSHED, MERGED, SPLIT};
+use crate::tests::stopping::Written;
+use testing::streams::Pieces;
+use cell_key::Refusal;
+use std::alloc::{AllocError, Global};
+use std::test::Fail;
+
+/// A session after the restart sets two cells and deletes one.
+const THREE_CELLS: [Exchange; 12] = [
+    // Begin: 1001
+    (b"\x01", b"\x81\0\0\0\0\0\0\x03\xE9"),
+    // Set 1001 Amy bal 1: done
+    (
+        b"\x03\0\0\0\0\0\0\x03\xE9\0\0\0\x03Amy\0\0\0\x03bal\0\0\0\x011",
+        b"\x83",
+    ),
+    // Set 1001 Bob bal 5: done
+    (
+        b"\x03\0\0\0\0\0\0\x03\xE9\0\0\0\x03Bob\0\0\0\x03bal\0\0\0\x015",
+        b"\x83",
+    ),
+    // Delete 1001 Joe bal: done
+    (
+        b"\x13\0\0\0\0\0\0\x03\xE9\0\0\0\x03Joe\0\0\0\x03bal",
+        b"\x93",
+    ),
+    // Step 1001: Held 1 3
+    (b"\x04\0\0\0\0\0\0\x03\xE9", b"\x84\x01\0\x01\0\x03"),
+    // Step 1001: Held 2 3
+    (b"\x04\0\0\0\0\0\0\x03\xE9", b"\x84\x01\0\x02\0\x03"),
+    // Step 1001: Held 3 3
+    (b"\x04\0\0\0\0\0\0\x03\xE9", b"\x84\x01\0\x03\0\x03"),
+    // Step 1001: Stamped 1002
+    (b"\x04\0\0\0\0\0\0\x03\xE9", b"\x84\x03\0\0\0\0\0\0\x03\xEA"),
+    // Step 1001: Committed 1002
+    (b"\x04\0\0\0\0\0\0\x03\xE9", b"\x84\x04\0\0\0\0\0\0\x03\xEA"),
+    // Step 1001: Finished 2 3
+    (b"\x04\0\0\0\0\0\0\x03\xE9", b"\x84\x06\0\x02\0\x03"),
+    // Step 1001: Finished 3 3
+    (b"\x04\0\0\0\0\0\0\x03\xE9", b"\x84\x06\0\x03\0\x03"),
+    // Get 5 Bob bal: 3
+    (
+        b"\x02\0\0\0\0\0\0\0\x05\0\0\0\x03Bob\0\0\0\x03bal",
+        b"\x82\x01\0\0\0\x013",
+    ),
+];
+
+/// Files that no tablet has are removed. Their number is forgotten.
+const SWEPT: [Exchange; 1] = [(b"\x0F", b"\x8F\0\0\0\0\0\0\0\0")];
+
+/// Another session holds a cell, which stays so.
+const HELD: [Exchange; 3] = [
+    // Begin: 1003
+    (b"\x01", b"\x81\0\0\0\0\0\0\x03\xEB"),
+    // Set 1003 Amy bal 7: done
+    (
+        b"\x03\0\0\0\0\0\0\x03\xEB\0\0\0\x03Amy\0\0\0\x03bal\0\0\0\x017",
+        b"\x83",
+    ),
+    // Step 1003: Held 1 1
+    (b"\x04\0\0\0\0\0\0\x03\xEB", b"\x84\x01\0\x01\0\x01"),
+];
+
+/// What comes after the transfer's beginning: up to a checkpoint, and from there to a Sweep.
+const FIRST_PART: [&[Exchange]; 5] = [
+    &FLUSHED,
+    &SESSION_STOPPED,
+    &SPLIT,
+    &ROLLED_FORWARD,
+    &WRITTEN,
+];
+
+const SECOND_PART: [&[Exchange]; 2] = [&COLLECTED, &THREE_CELLS];
+
+/// A server that compacts and checkpoints on request.
+const ASKED: Upkeep = ON_REQUEST;
+
+/// One that makes a checkpoint whenever something was written down.
+const CHECKPOINTS: Upkeep = Upkeep {
+    flush: 10_000,
+    merge: None,
+    checkpoint: Some(1),
+};
+
+/// One that compacts memtables of two entries and merges two files, and makes checkpoints now and then.
+const BY_ITSELF: Upkeep = Upkeep {
+    flush: 2,
+    merge: Some(2),
+    checkpoint: Some(3_000),
+};
+
+/// How the script is cut off: how many bytes a read gives at most, whether the call at which the kill comes is made, and whether
+/// the writer is cut off too, as it is by a kill, or only the devices.
+#[derive(Clone, Copy, Debug)]
+struct Cut {
+    most: usize,
+    makes_last: bool,
+    cuts_writer: bool,
+}
+
+/// The bodies of the requests, their frames, those of their replies, where each of these ends, and where the last eight bytes of
+/// the Sweep's reply stand: how many files it removes depends on when others were written.
+#[derive(Drop)]
+struct Script {
+    bodies: Vec<&'static [u8]>,
+    requests: Vec<u8>,
+    replies: Vec<u8>,
+    ends: Vec<usize>,
+    removed_at: usize,
+}
+
+impl Script {
+    /// The script. A server that merges by itself is asked for no Merge.
+    fn new(alloc: Global, merges: bool) -> Result<Script, AllocError> {
+        let mut script = Script {
+            bodies: Vec::new(alloc),
+            requests: Vec::new(alloc),
+            replies: Vec::new(alloc),
+            ends: Vec::new(alloc),
+            removed_at: 0,
+        };
+        script.push_all(&TRANSFER[..COMMITTED])?;
+        for part in FIRST_PART {
+            script.push_all(part)?;
+        }
+        if !merges {
+            script.push_all(&MERGED)?;
+        }
+        for part in SECOND_PART {
+            script.push_all(part)?;
+        }
+        script.push_all(&SWEPT)?;
+        script.removed_at = script.replies.len().saturating_sub(8);
+        script.push_all(&HELD)?;
+        Ok(script)
+    }
+
+    fn push_all(&mut self, exchanges: &[Exchange]) -> Result<(), AllocError> {
+        for (request, reply) in exchanges {
+            self.bodies.push(*request)?;
+            push_frame(&mut self.requests, request)?;
+            push_frame(&mut self.replies, reply)?;
+            self.ends.push(self.replies.len())?;
+        }
+        Ok(())
+    }
+
+    /// Forgets how many files the Sweep removed, if its reply was written.
+    fn forget_removed(&self, written: &mut [u8]) {
+        for byte in written.iter_mut().skip(self.removed_at).take(8) {
+            *byte = 0;
+        }
+    }
+
+    /// How many whole replies begin what was written.
+    fn count(&self, written: &[u8]) -> usize {
+        self.ends
+            .iter()
+            .filter(|end| written.get(..**end) == self.replies.get(..**end))
+            .count()
+    }
+
+    /// Whether these are whole replies and nothing else.
+    fn are_whole(&self, written: &[u8]) -> bool {
+        let count = self.count(written);
+        let end = match count.checked_sub(1) {
+            Some(last) => self.ends.get(last).copied().unwrap_or(0),
+            None => 0,
+        };
+        end == written.len()
+    }
+}
+
+/// More calls than there are.
+const MOST_CALLS: u64 = 2000;
+
+/// Steps of sessions, all of which are gone, and a Begin.
+const SESSIONS: &[u8] = b"\
+    \0\0\0\x09\x04\0\0\0\0\0\0\0\x03\
+    \0\0\0\x09\x04\0\0\0\0\0\0\0\x05\
+    \0\0\0\x09\x04\0\0\0\0\0\0\x03\xE9\
+    \0\0\0\x09\x04\0\0\0\0\0\0\x03\xEB\
+    \0\0\0\x01\x01";
+
+/// Each Step is refused 1, and what follows stands before the start of the Begin.
+const GONE: &[u8] = b"\
+    \0\0\0\x02\xFF\x01\
+    \0\0\0\x02\xFF\x01\
+    \0\0\0\x02\xFF\x01\
+    \0\0\0\x02\xFF\x01\
+    \0\0\0\x09\x81";
+
+/// The script, with what is asked afterwards, and what is read after each beginning of its requests.
+#[derive(Drop)]
+struct Trial {
+    alloc: Global,
+    upkeep: Upkeep,
+    script: Script,
+    asks: Vec<u8>,
+    states: Vec<Vec<u8>>,
+}
+
+impl Trial {
+    fn new(alloc: Global, upkeep: Upkeep) -> Result<Trial, Refusal> {
+        let script = Script::new(alloc, upkeep.merge.is_some())?;
+        let states = states(alloc, &script.bodies)?;
+        let mut asks = reads(alloc)?;
+        asks.extend_from_slice(SESSIONS)?;
+        Ok(Trial {
+            alloc,
+            upkeep,
+            script,
+            asks,
+            states,
+        })
+    }
+
+    /// What a server over these devices writes of the replies.
+    fn written(&self, devices: &Devices, cut: Cut) -> Result<Vec<u8>, Refusal> {
+        let mut writer = Written {
+            bytes: Vec::new(self.alloc),
+            life: &devices.life,
+            is_cut: cut.cuts_writer,
+        };
+        let mut reader = Pieces::new(self.alloc, &self.script.requests)?;
+        reader.most = cut.most;
+        match devices.open(self.upkeep) {
+            Ok(mut server) => {
+                let _ = server.serve(&mut reader, &mut writer, u64::MAX);
+            }
+            Err(Refusal::Device) if devices.life.is_over() => {}
+            Err(refusal) => return Err(refusal),
+        }
+        let mut written = writer.bytes;
+        self.script.forget_removed(&mut written);
+        Ok(written)
+    }
+
+    /// Whether the devices open with what a beginning of the requests leaves that has this many of them at least, with no session,
+    /// and the next start is the first that the mark doesn't count as drawn.
+    fn opens(&self, devices: &Devices, count: usize) -> Result<bool, Refusal> {
+        let start = devices.mark()?.saturating_add(1);
+        let mut gone = Vec::from_slice(self.alloc, GONE)?;
+        gone.extend_from_slice(&start.to_be_bytes())?;
+        let read = devices.replies(self.upkeep, &self.asks)?;
+        Ok(
+            self.states.iter().skip(count).any(|state| read.strip_prefix(state.as_slice())
+                == Some(gone.as_slice())),
+        )
+    }
+
+    /// Whether all is right after a kill at this call. `None` if there are fewer calls.
+    fn survives(&self, cut: Cut, at: u64) -> Result<Option<bool>, Refusal> {
+        let devices = Devices::new(self.alloc)?;
+        devices.life.begin(at, cut.makes_last);
+        let written = self.written(&devices, cut)?;
+        let is_over = devices.life.is_over();
+        let count = self.script.count(&written);
+        devices.life.begin(u64::MAX, false);
+        if !self.opens(&devices, count)? {
+            return Ok(Some(false));
+        }
+        if !is_over {
+            return Ok((written != self.script.replies).then_some(false));
+        }
+        Ok(Some(!cut.cuts_writer || self.script.are_whole(&written)))
+    }
+
+    /// How many calls the devices get, if all is right after a kill at each of them, and else the first at which it isn't.
+    fn calls(&self, cut: Cut) -> Result<Result<u64, u64>, Refusal> {
+        for at in 1..=MOST_CALLS {
+            match self.survives(cut, at)? {
+                Some(true) => {}
+                Some(false) => return Ok(Err(at)),
+                None => return Ok(Ok(at.saturating_sub(1))),
+            }
+        }
+        Ok(Err(MOST_CALLS))
+    }
+
+    /// The same of an open after the whole script.
+    fn open_calls(&self, makes_last: bool) -> Result<Result<u64, u64>, Refusal> {
+        let devices = Devices::new(self.alloc)?;
+        let cut = Cut {
+            most: usize::MAX,
+            makes_last,
+            cuts_writer: false,
+        };
+        self.written(&devices, cut)?;
+        let count = self.script.bodies.len();
+        for at in 1..=MOST_CALLS {
+            devices.life.begin(at, makes_last);
+            let is_opened = devices.open(self.upkeep).is_ok();
+            let is_over = devices.life.is_over();
+            devices.life.begin(u64::MAX, false);
+            if is_opened == is_over || !self.opens(&devices, count)? {
+                return Ok(Err(at));
+            }
+            if is_opened {
+                return Ok(Ok(at.saturating_sub(1)));
+            }
+        }
+        Ok(Err(MOST_CALLS))
+    }
+}
+
+/// So few bytes that a read gives one or two requests.
+const FEW: usize = 30;
+
+/// The bytes of the requests before the transfer commits its first cell. What commits it is in a batch with the Split: the log has
+/// the cell's lock then, and the root that the split puts does not.
+const STAMPED_BYTES: usize = 297;
+
+/// How the script is cut off: all in one batch, in a few batches, and in batches of one or two requests.
+const CUTS: [Cut; 5] = [
+    Cut {
+        most: STAMPED_BYTES,
+        makes_last: false,
+        cuts_writer: true,
+    },
+    Cut {
+        most: usize::MAX,
+        makes_last: false,
+        cuts_writer: true,
+    },
+    Cut {
+        most: FEW,
+        makes_last: false,
+        cuts_writer: true,
+    },
+    Cut {
+        most: FEW,
+        makes_last: true,
+        cuts_writer: true,
+    },
+    Cut {
+        most: FEW,
+        makes_last: true,
+        cuts_writer: false,
+    },
+];
+
+/// How many calls the devices get with each cut, and in an open after the script, whose last call is not made or made; or the
+/// first call after which something is wrong.
+fn calls_of(alloc: Global, upkeep: Upkeep) -> Result<Vec<Result<u64, u64>>, Refusal> {
+    let trial = Trial::new(alloc, upkeep)?;
+    let mut calls = Vec::new(alloc);
+    for cut in CUTS {
+        calls.push(trial.calls(cut)?)?;
+    }
+    calls.push(trial.open_calls(false)?)?;
+    calls.push(trial.open_calls(true)?)?;
+    Ok(calls)
+}
+
+/// The numbers of calls.
+type Calls = [Result<u64, u64>; 7];
+
+const ASKED_CALLS: Calls = [Ok(72), Ok(70), Ok(78), Ok(78), Ok(78), Ok(29), Ok(29)];
+
+const CHECKPOINT_CALLS: Calls = [
+    Ok(453),
+    Ok(453),
+    Ok(453),
+    Ok(453),
+    Ok(453),
+    Ok(101),
+    Ok(101),
+];
+
+const OWN_CALLS: Calls = [Ok(182), Ok(181), Ok(186), Ok(186), Ok(186), Ok(17), Ok(17)];
+
+#[test]
+fn a_server_is_killed(rt: HostRuntime) -> Result<(), Fail> {
+    let calls = calls_of(rt.alloc(), ASKED)?;
+    assert!(rt; calls.as_slice() == ASKED_CALLS.as_slice(), "{calls:?}");
+    Ok(())
+}
+
+#[test]
+fn a_server_that_makes_checkpoints_is_killed(rt: HostRuntime) -> Result<(), Fail> {
+    let calls = calls_of(rt.alloc(), CHECKPOINTS)?;
+    assert!(rt;
+        calls.as_slice() == CHECKPOINT_CALLS.as_slice(),
+        "{calls:?}"
+    );
+    Ok(())
+}
+
+#[test]
+fn a_server_that_merges_is_killed(rt: HostRuntime) -> Result<(), Fail> {
+    let calls = calls_of(rt.alloc(), BY_ITSELF)?;
+    assert!(rt; calls.as_slice() == OWN_CALLS.as_slice(), "{calls:?}");
+    Ok(())
+}

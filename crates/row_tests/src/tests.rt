@@ -1,0 +1,7 @@
+//! Tests of rows: clusters of tablets, sessions over rows, and the oracle.
+
+mod caches;
+mod clusters;
+mod memory;
+mod recorded;
+mod stamps;

@@ -1,0 +1,202 @@
+//! Sessions over rows in memory.
+
+use crate::tests::memory::rows::newest;
+use cell_key::{Refusal, Stamp};
+use oracle::{MemMark, Oracle};
+use row_atomic::PlainRows;
+use si_model::{Found, Progress, ScanFound, ScanRange, ScanReach};
+use std::alloc::Global;
+use testing::memory::{Call, Subject, Table};
+use txn_client::Clients;
+
+/// Sessions: 1 has committed `a` and `n` at 2, 3 holds `b`, and 4 has a write of `n` and 5 one of `b`.
+/// Session 6 reads.
+#[derive(Drop)]
+pub struct Sessions {
+    clients: Clients,
+    rows: PlainRows,
+    oracle: Oracle<MemMark>,
+}
+
+/// What is read are `a` and `b` by session 6, the newest data of `a`, `b` and `n`, and the top.
+const CALLS: [Call; 13] = [
+    // begin
+    (b"\x07", b"1L162\x07"),
+    // get of a value
+    (b"1", b"1L162\x06"),
+    // get of a lock
+    (b"L", b"1L162\x06"),
+    // set of a further cell
+    (b"", b"1L162\x06"),
+    // set of the same cell
+    (b"", b"1L162\x06"),
+    // step that draws
+    (b"\x03\x07", b"1L162\x07"),
+    // step that holds
+    (b"\x01\x01", b"1L168\x06"),
+    // step that meets a lock
+    (b"\x02\x01", b"1L162\x06"),
+    // stop
+    (b"", b"1L162\x06"),
+    // delete of a further cell
+    (b"", b"1L162\x06"),
+    // delete of the same cell
+    (b"", b"1L162\x06"),
+    // scan of all cells
+    (b"1L2.", b"1L162\x06"),
+    // scan of two cells
+    (b"1L+", b"1L162\x06"),
+];
+
+/// An oracle whose mark is in memory, with nothing drawn.
+pub fn new_oracle(mark: MemMark) -> Result<Oracle<MemMark>, Refusal> {
+    match Oracle::open(mark) {
+        Ok(oracle) => Ok(oracle),
+        Err((refusal, _)) => Err(refusal),
+    }
+}
+
+/// What a step came to, and the lowest byte of its cell or stamp.
+fn told(progress: Progress) -> [u8; 2] {
+    let (kind, number) = match progress {
+        Progress::Held(cell, _) => (1, u64::from(cell)),
+        Progress::Conflict(cell) => (2, u64::from(cell)),
+        Progress::Stamped(stamp) => (3, stamp),
+        Progress::Committed(stamp) => (4, stamp),
+        Progress::Lost => (5, 0),
+        Progress::Finished(cell, _) => (6, u64::from(cell)),
+    };
+    [kind, (number % 256) as u8]
+}
+
+/// What session 6 finds at a row.
+fn get(clients: &mut Clients, rows: &mut PlainRows, row: &[u8]) -> Result<u8, Refusal> {
+    match clients.get(rows, 6, row, b"bal")? {
+        Found::Value(value) => Ok(value.first().copied().unwrap_or(b' ')),
+        Found::Nothing => Ok(b'-'),
+        Found::Pending(_) => Ok(b'L'),
+    }
+}
+
+/// What a scan of session 6 names: the first byte of a value, L for a lock, and a point at the end of all, or a plus.
+fn scan(
+    alloc: Global,
+    clients: &mut Clients,
+    rows: &mut PlainRows,
+    cells: u32,
+) -> Result<Vec<u8>, Refusal> {
+    let range = ScanRange {
+        after: None,
+        end: None,
+        family: None,
+    };
+    let reply = clients.scan(rows, 6, range, false, cells)?;
+    let mut out = Vec::new(alloc);
+    for item in &reply.items {
+        out.push(match &item.found {
+            ScanFound::Value(value) => value.first().copied().unwrap_or(b' '),
+            ScanFound::Pending(_) => b'L',
+            ScanFound::Unsent => b'U',
+        })?;
+    }
+    out.push(match reply.reach {
+        ScanReach::End => b'.',
+        ScanReach::More(_) => b'+',
+    })?;
+    Ok(out)
+}
+
+/// Sets of the sessions.
+const SETS: [(Stamp, &[u8], &[u8]); 5] = [
+    (1, b"a", b"1"),
+    (1, b"n", b"2"),
+    (3, b"b", b"6"),
+    (4, b"n", b"8"),
+    (5, b"b", b"9"),
+];
+
+impl Sessions {
+    /// Begins this many sessions, makes their sets, and steps of one.
+    fn begin(&mut self, count: u8, starts: (Stamp, Stamp), steps: u8) -> Result<(), Refusal> {
+        for _ in 0..count {
+            self.clients.begin(&mut self.oracle)?;
+        }
+        for (start, row, value) in SETS {
+            if start >= starts.0 && start <= starts.1 {
+                self.clients.set(start, row, b"bal", value)?;
+            }
+        }
+        for _ in 0..steps {
+            self.clients
+                .step(&mut self.rows, &mut self.oracle, starts.0)?;
+        }
+        Ok(())
+    }
+}
+
+pub const SESSIONS: Table = (b"1L162\x06", &CALLS);
+
+impl Subject for Sessions {
+    fn set_up(alloc: Global) -> Result<Sessions, Refusal> {
+        let mut sessions = Sessions {
+            clients: Clients::new(alloc, 0),
+            rows: PlainRows::new(alloc),
+            oracle: new_oracle(MemMark::new())?,
+        };
+        sessions.begin(1, (1, 2), 5)?;
+        sessions.begin(4, (3, 6), 1)?;
+        Ok(sessions)
+    }
+
+    fn answers(&mut self, alloc: Global, number: usize, wanted: &[u8]) -> Result<bool, Refusal> {
+        let start = match number {
+            0 => {
+                let start = self.clients.begin(&mut self.oracle)?;
+                return Ok(wanted == [(start % 256) as u8].as_slice());
+            }
+            1 => return Ok(wanted == [get(&mut self.clients, &mut self.rows, b"a")?].as_slice()),
+            2 => return Ok(wanted == [get(&mut self.clients, &mut self.rows, b"b")?].as_slice()),
+            3 => {
+                self.clients.set(4, b"a", b"bal", b"7")?;
+                return Ok(wanted.is_empty());
+            }
+            4 => {
+                self.clients.set(4, b"n", b"bal", b"7")?;
+                return Ok(wanted.is_empty());
+            }
+            9 => {
+                self.clients.delete(4, b"a", b"bal")?;
+                return Ok(wanted.is_empty());
+            }
+            10 => {
+                self.clients.delete(4, b"n", b"bal")?;
+                return Ok(wanted.is_empty());
+            }
+            11 | 12 => {
+                let cells = if number == 11 { 10 } else { 2 };
+                let found = scan(alloc, &mut self.clients, &mut self.rows, cells)?;
+                return Ok(wanted == found.as_slice());
+            }
+            8 => {
+                self.clients.stop(3)?;
+                return Ok(wanted.is_empty());
+            }
+            5 => 3,
+            6 => 4,
+            _ => 5,
+        };
+        let progress = self.clients.step(&mut self.rows, &mut self.oracle, start)?;
+        Ok(wanted == told(progress).as_slice())
+    }
+
+    fn read(&mut self, alloc: Global) -> Result<Vec<u8>, Refusal> {
+        let first = get(&mut self.clients, &mut self.rows, b"a")?;
+        let second = get(&mut self.clients, &mut self.rows, b"b")?;
+        let mut out = vec![in alloc; first, second]?;
+        for row in [b'a', b'b', b'n'] {
+            out.push(newest(alloc, &mut self.rows, row)?)?;
+        }
+        out.push((self.clients.top() % 256) as u8)?;
+        Ok(out)
+    }
+}

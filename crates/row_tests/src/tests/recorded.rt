@@ -1,0 +1,70 @@
+//! Rows whose edits are written down.
+
+use crate::tests::memory::rows::{new_cluster, newest};
+use cell_key::{Refusal, Row, Stamp};
+use file_store::MemFiles;
+use row_atomic::{Recorded, Rows};
+use std::alloc::Global;
+use std::test::Fail;
+use testing::edits::edits_of;
+
+/// The bytes of a put of `1` at the stamp 1 of `a`, `bal`, data, and of an erasure at 9.
+const WRITTEN: [u8; 59] =
+    *b"\0\0\0\x16a\0\0bal\0\0data\0\0\xff\xff\xff\xff\xff\xff\xff\xfe\x01\0\0\0\x011\
+       \0\0\0\x16a\0\0bal\0\0data\0\0\xff\xff\xff\xff\xff\xff\xff\xf6\0";
+
+/// Puts one byte at a stamp of `a`, and erases what is at the stamp 9.
+fn write(
+    alloc: Global,
+    rows: &mut Recorded<MemFiles>,
+    stamp: Stamp,
+    value: u8,
+) -> Result<(), Refusal> {
+    let row = Row::new(alloc, b"a")?;
+    let edits = edits_of(alloc, &row, stamp, Some(&[value]), Some(9))?;
+    rows.apply(&row, edits)
+}
+
+#[test]
+fn nothing_is_kept_of_edits_that_are_not_recorded(rt: HostRuntime) -> Result<(), Fail> {
+    let mut rows = Recorded::new(new_cluster(rt.alloc())?);
+    write(rt.alloc(), &mut rows, 1, b'1')?;
+    assert!(rt; !rows.is_recording() && rows.waiting().is_empty());
+    assert!(rt; rows.written_edits() == 0 && rows.written_bytes() == 0);
+    Ok(())
+}
+
+#[test]
+fn edits_wait_until_they_are_settled(rt: HostRuntime) -> Result<(), Fail> {
+    let mut rows = Recorded::new(new_cluster(rt.alloc())?);
+    rows.record();
+    write(rt.alloc(), &mut rows, 1, b'1')?;
+    assert!(rt; rows.is_recording() && rows.waiting() == WRITTEN.as_slice());
+    rows.settled();
+    assert!(rt; rows.waiting().is_empty());
+    assert!(rt; rows.written_edits() == 2 && rows.written_bytes() == 59);
+    write(rt.alloc(), &mut rows, 1, b'1')?;
+    assert!(rt; rows.waiting() == WRITTEN.as_slice());
+    assert!(rt; rows.written_edits() == 4 && rows.written_bytes() == 118);
+    rows.emptied();
+    assert!(rt; rows.written_edits() == 0 && rows.waiting().is_empty());
+    Ok(())
+}
+
+/// The memtable has two entries only, but a replay might need as many as there are edits.
+#[test]
+fn full_at_its_most_edits(rt: HostRuntime) -> Result<(), Fail> {
+    let mut rows = Recorded::new(new_cluster(rt.alloc())?);
+    rows.record();
+    for _ in 0..50_000u32 {
+        write(rt.alloc(), &mut rows, 1, b'1')?;
+    }
+    rows.settled();
+    assert!(rt; write(rt.alloc(), &mut rows, 2, b'2') == Err(Refusal::MemtableFull));
+    assert!(rt; rows.written_edits() == 100_000 && rows.waiting().is_empty());
+    assert!(rt; newest(rt.alloc(), &mut rows, b'a')? == b'1');
+    rows.emptied();
+    write(rt.alloc(), &mut rows, 2, b'2')?;
+    assert!(rt; newest(rt.alloc(), &mut rows, b'a')? == b'2');
+    Ok(())
+}

@@ -1,0 +1,400 @@
+//! The store as its users meet it: streams of requests with the replies that they get. Below it are the tests of each crate.
+
+mod audits;
+mod bodies;
+mod caches;
+mod checkpoint_faults;
+mod checkpoints;
+mod cleaning;
+mod clusters;
+mod collecting;
+mod compactions;
+mod damages;
+mod deleting;
+mod edits;
+mod faults;
+mod files;
+mod filling;
+mod folders;
+mod keys;
+mod kills;
+mod lasting;
+mod limits;
+mod logs;
+mod memory;
+mod memtables;
+mod places;
+mod recorded;
+mod recordings;
+mod rows;
+mod scan_limits;
+mod scanning;
+mod script;
+mod slow;
+mod slow_roots;
+mod sorted_files;
+mod stamps;
+mod statuses;
+mod stopping;
+mod streams;
+mod upkeep;
+
+ghost use Rattle.std.specs.Prelude.{◌≤◌, IfSome, IsTrue};
+
+use testing::FILE_LIMIT;
+use cell_key::Refusal;
+use file_store::MemFiles;
+use oracle::MemMark;
+use request_codec::{Reply, Request};
+use rows::{Row, TRANSFER};
+use server_loop::{Config, End, FlushLimits, ServeFault, Server, end_status};
+use std::alloc::{AllocError, Global};
+use std::cell::Cell;
+use std::io::{Read, Write};
+use std::test::Fail;
+use streams::{Asking, Holding, Narrow, Pieces, Telling};
+
+type MemServer = Server<MemFiles, MemMark>;
+
+/// How a server ended.
+type Ended = Result<End, ServeFault>;
+
+/// How full a memtable is when it is compacted, if nothing else is said.
+const FLUSH: FlushLimits = FlushLimits {
+    entries: 10_000,
+    bytes: None,
+};
+
+/// A server over files in memory, each of `file_limit` bytes at most.
+fn new_server(alloc: Global, file_limit: u64) -> Result<MemServer, Refusal> {
+    flushing_server(alloc, FLUSH, file_limit)
+}
+
+/// Whether a number of bytes at which memtables are compacted, if there is one, is within its limits.
+fn are_flush_bytes(bytes: Option<u32>) -> bool
+    ensures { IsTrue result → IfSome bytes (λ bytes. (1048576 ≤ bytes) × (bytes ≤ 67108864)) }
+{
+    match bytes {
+        Some(bytes) => 1_048_576 <= bytes && bytes <= 67_108_864,
+        None => true,
+    }
+}
+
+/// The same, whose memtables are compacted when they are as full as this.
+fn flushing_server(
+    alloc: Global,
+    flush: FlushLimits,
+    file_limit: u64,
+) -> Result<MemServer, Refusal> {
+    if flush.entries == 0 || flush.entries > 100_000 || !are_flush_bytes(flush.bytes) {
+        return Err(Refusal::FileTooLarge);
+    }
+    if file_limit < 48 || file_limit > FILE_LIMIT {
+        return Err(Refusal::FileTooLarge);
+    }
+    let config = Config { flush, file_limit };
+    match Server::new(alloc, MemFiles::new(alloc), MemMark::new(), config) {
+        Ok(server) => Ok(server),
+        Err((refusal, _, _)) => Err(refusal),
+    }
+}
+
+/// How a new server ends, with this many reads at most.
+fn served<I: Read, O: Write>(
+    alloc: Global,
+    reader: &mut I,
+    writer: &mut O,
+    most_reads: u64,
+) -> Result<Ended, Refusal> {
+    let mut server = new_server(alloc, FILE_LIMIT)?;
+    Ok(server.serve(reader, writer, most_reads))
+}
+
+/// How a new server ends, with this many reads at most, and what it has written and flushed.
+fn outcome(alloc: Global, reader: Pieces, most_reads: u64) -> Result<(Ended, Vec<u8>), Refusal> {
+    let mut reader = reader;
+    let mut writer = Holding::new(alloc);
+    let ended = served(alloc, &mut reader, &mut writer, most_reads)?;
+    Ok((ended, writer.out))
+}
+
+/// Whether a new server ends cleanly, and writes the row's replies, both if each read gives a byte and if the stream is
+/// cut in two at each place.
+fn is_met(alloc: Global, row: &Row) -> Result<bool, Refusal> {
+    let (requests, replies) = streams_of(alloc, row)?;
+    for cut in 0..=requests.len() {
+        let mut reader = Pieces::new(alloc, &requests)?;
+        reader.most = if cut == 0 { 1 } else { usize::MAX };
+        reader.cut = cut;
+        let (ended, written) = outcome(alloc, reader, u64::MAX)?;
+        if !matches!(ended, Ok(End::Clean)) || written != replies {
+            return Ok(false);
+        }
+    }
+    Ok(true)
+}
+
+/// Whether each of some rows is met.
+fn are_met(alloc: Global, rows: &[Row]) -> Result<bool, Refusal> {
+    for row in rows {
+        if !is_met(alloc, row)? {
+            return Ok(false);
+        }
+    }
+    Ok(true)
+}
+
+#[test]
+fn transactions(rt: HostRuntime) -> Result<(), Fail> {
+    assert!(rt; are_met(rt.alloc(), &rows::ROWS)?);
+    Ok(())
+}
+
+#[test]
+fn upkeep_of_tablets(rt: HostRuntime) -> Result<(), Fail> {
+    assert!(rt; are_met(rt.alloc(), &upkeep::ROWS)?);
+    Ok(())
+}
+
+#[test]
+fn cleaners(rt: HostRuntime) -> Result<(), Fail> {
+    assert!(rt; are_met(rt.alloc(), &cleaning::ROWS)?);
+    Ok(())
+}
+
+#[test]
+fn collectors(rt: HostRuntime) -> Result<(), Fail> {
+    assert!(rt; are_met(rt.alloc(), &collecting::ROWS)?);
+    Ok(())
+}
+
+/// Rows of deletions: with memtables that stay, and with memtables that are compacted after each reply and files that are
+/// merged at two.
+#[test]
+fn deletions(rt: HostRuntime) -> Result<(), Fail> {
+    for row in deleting::ROWS {
+        assert!(rt; flushing(rt.alloc(), 10_000, None, &row)?);
+        assert!(rt; flushing(rt.alloc(), 1, Some(2), &row)?);
+    }
+    Ok(())
+}
+
+/// Rows of scans: with memtables that stay, and with memtables that are compacted after each reply and files that are merged at
+/// two.
+#[test]
+fn scans(rt: HostRuntime) -> Result<(), Fail> {
+    for row in scanning::ROWS {
+        assert!(rt; flushing(rt.alloc(), 10_000, None, &row)?);
+        assert!(rt; flushing(rt.alloc(), 1, Some(2), &row)?);
+    }
+    Ok(())
+}
+
+/// Input, output and the exit status.
+const ENDS: [(&[u8], &[u8], u8); 10] = [
+    // empty input
+    (b"", b"", 0),
+    // one begin
+    (b"\0\0\0\x01\x01", b"\0\0\0\x09\x81\0\0\0\0\0\0\0\x01", 0),
+    // a bad body, a begin, and then too large a frame
+    (
+        b"\0\0\0\x02\x01\0\0\0\0\x01\x01\0\x10\0\x01",
+        b"\0\0\0\x02\xFF\x16\0\0\0\x09\x81\0\0\0\0\0\0\0\x01\0\0\0\x02\xFF\x17",
+        3,
+    ),
+    // cut inside a length
+    (b"\0\0\0", b"", 2),
+    (b"\xFF\xFF\xFF", b"", 2),
+    // cut inside a body
+    (b"\0\0\0\x09\x04\0", b"", 2),
+    // an empty body
+    (b"\0\0\0\0", b"\0\0\0\x02\xFF\x16", 0),
+    // too large a frame alone
+    (b"\xFF\xFF\xFF\xFF", b"\0\0\0\x02\xFF\x17", 3),
+    // a field that would go far past its body
+    (
+        b"\0\0\0\x0D\x02\0\0\0\0\0\0\0\x01\xFF\xFF\xFF\xFF",
+        b"\0\0\0\x02\xFF\x16",
+        0,
+    ),
+    // a begin, and empty rows in its session and in an unknown one
+    (
+        b"\0\0\0\x01\x01\
+        \0\0\0\x12\x02\0\0\0\0\0\0\0\x01\0\0\0\0\0\0\0\x01c\
+        \0\0\0\x12\x02\0\0\0\0\0\0\0\x02\0\0\0\0\0\0\0\x01c",
+        b"\0\0\0\x09\x81\0\0\0\0\0\0\0\x01\0\0\0\x02\xFF\x03\0\0\0\x02\xFF\x01",
+        0,
+    ),
+];
+
+#[test]
+fn ends_of_streams(rt: HostRuntime) -> Result<(), Fail> {
+    for (input, output, status) in ENDS {
+        let (ended, written) = outcome(rt.alloc(), Pieces::new(rt.alloc(), input)?, u64::MAX)?;
+        assert!(rt; written.as_slice() == output);
+        assert!(rt; end_status(&ended).0 == status);
+    }
+    Ok(())
+}
+
+const BEGIN: &[u8] = b"\0\0\0\x01\x01";
+
+/// Two requests.
+const TWO_BEGINS: &[u8] = b"\0\0\0\x01\x01\0\0\0\x01\x01";
+
+/// The first reply, and both.
+const ONE_REPLY: &[u8] = b"\0\0\0\x09\x81\0\0\0\0\0\0\0\x01";
+
+const TWO_REPLIES: &[u8] = b"\0\0\0\x09\x81\0\0\0\0\0\0\0\x01\0\0\0\x09\x81\0\0\0\0\0\0\0\x02";
+
+/// Whether a new server can't read what is behind a place of these bytes, of which a read gives this many at most, and
+/// has written these replies.
+fn is_read_to(
+    alloc: Global,
+    bytes: &[u8],
+    most: usize,
+    place: usize,
+    replies: &[u8],
+) -> Result<bool, Refusal> {
+    let mut reader = Pieces::new(alloc, bytes)?;
+    reader.most = most;
+    reader.fails_at = place;
+    let (ended, written) = outcome(alloc, reader, u64::MAX)?;
+    Ok(matches!(ended, Err(ServeFault::Read)) && written.as_slice() == replies)
+}
+
+/// Whether a new server ends after this many reads of a byte of two requests, and has written these replies.
+fn is_used_up(alloc: Global, most_reads: u64, replies: &[u8]) -> Result<bool, Refusal> {
+    let mut reader = Pieces::new(alloc, TWO_BEGINS)?;
+    reader.most = 1;
+    let (ended, written) = outcome(alloc, reader, most_reads)?;
+    Ok(matches!(ended, Ok(End::ReadsUsedUp)) && written.as_slice() == replies)
+}
+
+/// A reader that fails at each place of two requests, which it gives byte by byte or all at once: the requests before
+/// it are answered. So it is if the reads are used up there.
+#[test]
+fn a_read_fails_at_each_place(rt: HostRuntime) -> Result<(), Fail> {
+    for place in 0..10 {
+        let replies = if place < 5 { b"" } else { ONE_REPLY };
+        let given = &TWO_BEGINS[..place];
+        assert!(rt; is_read_to(rt.alloc(), TWO_BEGINS, 1, place, replies)?);
+        assert!(rt; is_read_to(rt.alloc(), given, usize::MAX, place, replies)?);
+        assert!(rt; is_used_up(rt.alloc(), place as u64, replies)?);
+    }
+    Ok(())
+}
+
+/// Whether a writer that gives up after this many calls got just as many bytes of the first cell's replies.
+fn is_cut_short(alloc: Global, calls_left: usize, stalls: bool) -> Result<bool, Refusal> {
+    let (requests, replies) = streams_of(alloc, &rows::FIRST_CELL)?;
+    let mut reader = Pieces::new(alloc, &requests)?;
+    let mut writer = Narrow {
+        written: Vec::new(alloc),
+        calls_left,
+        stalls,
+    };
+    let ended = served(alloc, &mut reader, &mut writer, u64::MAX)?;
+    let is_told = match ended {
+        Err(ServeFault::Write) => calls_left < replies.len(),
+        Ok(End::Clean) => calls_left >= replies.len(),
+        _ => false,
+    };
+    let most = calls_left.min(replies.len());
+    Ok(is_told && writer.written.as_slice() == &replies[..most])
+}
+
+#[test]
+fn a_write_fails_at_each_call(rt: HostRuntime) -> Result<(), Fail> {
+    for calls_left in 0..=80 {
+        assert!(rt; is_cut_short(rt.alloc(), calls_left, false)?);
+        assert!(rt; is_cut_short(rt.alloc(), calls_left, true)?);
+    }
+    Ok(())
+}
+
+/// How many flushes there are before one that fails, what has left then, and the next session's start.
+const FLUSHES: [(usize, &[u8], u64); 4] = [
+    // before the first read
+    (0, b"", 1),
+    // before the second one
+    (1, b"", 2),
+    // before that at the end
+    (2, ONE_REPLY, 3),
+    // the last
+    (3, TWO_REPLIES, 3),
+];
+
+#[test]
+fn a_flush_fails(rt: HostRuntime) -> Result<(), Fail> {
+    for (flushes_left, replies, start) in FLUSHES {
+        let mut server = new_server(rt.alloc(), FILE_LIMIT)?;
+        let mut reader = Pieces::new(rt.alloc(), TWO_BEGINS)?;
+        reader.most = BEGIN.len();
+        let mut writer = Holding::new(rt.alloc());
+        writer.flushes_left = flushes_left;
+        let ended = server.serve(&mut reader, &mut writer, u64::MAX);
+        assert!(rt; matches!(ended, Err(ServeFault::Write)));
+        assert!(rt; writer.out.as_slice() == replies);
+        let next = server.answer(Request::Begin);
+        assert!(rt; matches!(next, Reply::Begin(next) if next == start));
+    }
+    Ok(())
+}
+
+/// Whether a server that compacts memtables at this many entries, and merges at this many files, writes a row's
+/// replies.
+fn flushing(alloc: Global, flush: u32, merge: Option<u32>, row: &Row) -> Result<bool, Refusal> {
+    let (requests, replies) = streams_of(alloc, row)?;
+    let limits = FlushLimits {
+        entries: flush,
+        bytes: None,
+    };
+    let mut server = flushing_server(alloc, limits, FILE_LIMIT)?;
+    if let Some(most) = merge {
+        server.merge_at(most);
+    }
+    let mut reader = requests.as_slice();
+    let mut writer = Holding::new(alloc);
+    let ended = server.serve(&mut reader, &mut writer, u64::MAX);
+    Ok(matches!(ended, Ok(End::Clean)) && writer.out == replies)
+}
+
+/// At how many entries memtables are compacted, at how many files these are merged, and the row.
+const COMPACTIONS: [(u32, Option<u32>, Row); 9] = [
+    (2, None, upkeep::COMPACTED),
+    (2, Some(3), upkeep::COMPACTED),
+    (2, Some(2), upkeep::MERGED_AT_TWO),
+    (2, None, upkeep::BOTH_COMPACTED),
+    (2, Some(2), upkeep::BOTH_MERGED_AT_TWO),
+    (3, Some(2), upkeep::NOT_COMPACTED),
+    (10_000, None, upkeep::NOT_COMPACTED),
+    (10_000, None, upkeep::CHECKPOINTED),
+    (10_000, Some(2), upkeep::CHECKPOINTED_AND_MERGED),
+];
+
+#[test]
+fn full_memtables_are_compacted(rt: HostRuntime) -> Result<(), Fail> {
+    for (flush, merge, row) in COMPACTIONS {
+        assert!(rt; flushing(rt.alloc(), flush, merge, &row)?);
+    }
+    Ok(())
+}
+
+#[test]
+fn a_reply_leaves_before_the_next_read(rt: HostRuntime) -> Result<(), Fail> {
+    let left = Cell::new(false);
+    let mut reader = Asking {
+        first: BEGIN,
+        second: BEGIN,
+        left: &left,
+    };
+    let mut writer = Telling {
+        written: Vec::new(rt.alloc()),
+        left: &left,
+    };
+    let ended = served(rt.alloc(), &mut reader, &mut writer, u64::MAX)?;
+    assert!(rt; matches!(ended, Ok(End::Clean)));
+    assert!(rt; writer.written.as_slice() == TWO_REPLIES);
+    Ok(())
+}

@@ -1,0 +1,13 @@
+//! Tests of the crates of storage: names and texts, files, memtables, sorted files, tablets and the table of their places.
+
+mod compactions;
+mod damages;
+mod files;
+mod folders;
+mod keys;
+mod memory;
+mod memtables;
+mod places;
+mod slow;
+mod slow_roots;
+mod sorted_files;

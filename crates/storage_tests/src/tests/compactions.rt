@@ -1,0 +1,70 @@
+//! Merges of memtables and sorted files, by the bytes that are written.
+
+use crate::tests::memory::files::merge;
+use cell_key::{Refusal, Row, Stamp};
+use file_store::{MemFiles, read_whole};
+use memtable::Memtable;
+use sorted_file::SortedFile;
+use std::alloc::Global;
+use std::test::Fail;
+use testing::edits::edits_of;
+
+/// The file of 3 at the stamp 3, an erasure at 2, and 7 at 1.
+const ERASURE_KEPT: &[u8] = b"TABLET02\
+    \0\0\0\x16a\0\0bal\0\0data\0\0\xFF\xFF\xFF\xFF\xFF\xFF\xFF\xFC\x01\0\0\0\x013\
+    \0\0\0\x16a\0\0bal\0\0data\0\0\xFF\xFF\xFF\xFF\xFF\xFF\xFF\xFD\0\
+    \0\0\0\x16a\0\0bal\0\0data\0\0\xFF\xFF\xFF\xFF\xFF\xFF\xFF\xFE\x01\0\0\0\x017\
+    \0\0\0\0\0\0\0\x08\0\0\0\0\0\0\0\x5B\0\0\0\x16a\0\0bal\0\0data\0\0\xFF\xFF\xFF\xFF\xFF\xFF\xFF\xFC\
+    \0\0\0\0\0\0\0\x63\0\0\0\0\0\0\0\x01\0\0\0\0\0\0\0\x03\0\0\0\0\0\0\0\xB5TABLETZZ";
+
+/// The same without the erasure.
+const ERASURE_DROPPED: &[u8] = b"TABLET02\
+    \0\0\0\x16a\0\0bal\0\0data\0\0\xFF\xFF\xFF\xFF\xFF\xFF\xFF\xFC\x01\0\0\0\x013\
+    \0\0\0\x16a\0\0bal\0\0data\0\0\xFF\xFF\xFF\xFF\xFF\xFF\xFF\xFE\x01\0\0\0\x017\
+    \0\0\0\0\0\0\0\x08\0\0\0\0\0\0\0\x40\0\0\0\x16a\0\0bal\0\0data\0\0\xFF\xFF\xFF\xFF\xFF\xFF\xFF\xFC\
+    \0\0\0\0\0\0\0\x48\0\0\0\0\0\0\0\x01\0\0\0\0\0\0\0\x02\0\0\0\0\0\0\0\x9ATABLETZZ";
+
+/// What an older file holds at stamps of (`a`, `bal`, data), and what a newer memtable does.
+const OLDER: [(Stamp, Option<&[u8]>); 3] = [(3, Some(b"3")), (2, Some(b"2")), (1, Some(b"1"))];
+
+const NEWER: [(Stamp, Option<&[u8]>); 2] = [(2, None), (1, Some(b"7"))];
+
+/// A memtable of these.
+fn table_of(alloc: Global, writes: &[(Stamp, Option<&[u8]>)]) -> Result<Memtable, Refusal> {
+    let row = Row::new(alloc, b"a")?;
+    let mut table = Memtable::new(alloc);
+    for (stamp, value) in writes {
+        let edits = edits_of(alloc, &row, *stamp, *value, None)?;
+        table.apply(&row, edits)?;
+    }
+    Ok(table)
+}
+
+/// Whether a memtable and an older file are merged to these bytes.
+fn is_merged(
+    alloc: Global,
+    newer: &Memtable,
+    file: &SortedFile,
+    keep_erasures: bool,
+    bytes: &[u8],
+    files: &mut MemFiles,
+) -> Result<bool, Refusal> {
+    merge(alloc, newer, Some(file), keep_erasures, 2, files)?;
+    match read_whole(alloc, files, 2) {
+        Ok(Some(written)) => Ok(written.as_slice() == bytes),
+        _ => Ok(false),
+    }
+}
+
+#[test]
+fn newest_wins(rt: HostRuntime) -> Result<(), Fail> {
+    let older = table_of(rt.alloc(), &OLDER)?;
+    let newer = table_of(rt.alloc(), &NEWER)?;
+    let mut files = MemFiles::new(rt.alloc());
+    merge(rt.alloc(), &older, None, true, 1, &mut files)?;
+    let file = SortedFile::open(rt.alloc(), 1, &mut files)?;
+    for (keep_erasures, bytes) in [(true, ERASURE_KEPT), (false, ERASURE_DROPPED)] {
+        assert!(rt; is_merged(rt.alloc(), &newer, &file, keep_erasures, bytes, &mut files)?);
+    }
+    Ok(())
+}

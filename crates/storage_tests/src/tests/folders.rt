@@ -1,0 +1,324 @@
+//! Files and the oracle's mark in real folders.
+
+use cell_key::MOST_STAMP;
+use file_store::{DirFiles, FileFault, Files};
+use oracle::{DirMark, MarkStore};
+use std::os::unix::fs::symlink;
+use std::test::Fail;
+use std::{fs, io, process};
+
+/// A new folder of this name in the machine's temporary folder.
+fn new_folder(rt: &HostRuntime, name: &str) -> io::Result<String> {
+    testing::folders::new_folder(rt, process::id(rt.process()), name)
+}
+
+/// The path of a file in a folder.
+fn path_of(rt: &HostRuntime, folder: &str, name: &str) -> io::Result<String> {
+    Ok(format!(in rt.alloc(); "{folder}/{name}")?)
+}
+
+/// Writes a file of a folder, past the store.
+fn write(rt: &HostRuntime, folder: &str, name: &str, bytes: &[u8]) -> io::Result<()> {
+    let path = path_of(rt, folder, name)?;
+    fs::write(rt, path.as_str(), bytes)
+}
+
+/// Whether a folder has a file of a name.
+fn is_there(rt: &HostRuntime, folder: &str, name: &str) -> io::Result<bool> {
+    let path = path_of(rt, folder, name)?;
+    fs::exists(rt, path.as_str())
+}
+
+/// Whether a file of a folder has these bytes.
+fn has_bytes(rt: &HostRuntime, folder: &str, name: &str, bytes: &[u8]) -> io::Result<bool> {
+    let path = path_of(rt, folder, name)?;
+    Ok(fs::read(rt, path.as_str())?.as_slice() == bytes)
+}
+
+/// What a file of the store has at an offset, up to eight bytes.
+fn part(
+    rt: &HostRuntime,
+    files: &mut DirFiles<HostRuntime>,
+    name: u64,
+    offset: u64,
+) -> Result<Vec<u8>, FileFault> {
+    let mut bytes = vec![in rt.alloc(); 0u8; 8]?;
+    let len = files.read_at(name, offset, &mut bytes)?;
+    bytes.truncate(len);
+    Ok(bytes)
+}
+
+/// Files that are none of the store's.
+const OTHERS: [&str; 5] = [
+    "t0000000000000003.new",
+    "t0000000000000004.tab.old",
+    "T0000000000000005.tab",
+    "t000000000000000A.tab",
+    "notes",
+];
+
+/// A new folder with files that are none of the store's.
+fn folder_of_others(rt: &HostRuntime) -> io::Result<String> {
+    let folder = new_folder(rt, "files")?;
+    for name in OTHERS {
+        write(rt, folder.as_str(), name, b"other")?;
+    }
+    Ok(folder)
+}
+
+/// Whether a store has just these files.
+fn has_files(
+    rt: &HostRuntime,
+    files: &mut DirFiles<HostRuntime>,
+    wanted: &[u64],
+) -> Result<bool, FileFault> {
+    let mut names = Vec::new(rt.alloc());
+    files.list(&mut names)?;
+    Ok(names.as_slice() == wanted)
+}
+
+/// Names of files, and their sizes.
+const SIZES: [(u64, Option<u64>); 3] = [(10, Some(10)), (2, Some(0)), (3, None)];
+
+/// Names of files and offsets, and what is there.
+const PARTS: [(u64, u64, &[u8]); 6] = [
+    (10, 0, b"ten byte"),
+    (10, 6, b"tes!"),
+    (10, 10, b""),
+    (10, u64::MAX, b""),
+    (2, 0, b""),
+    (3, 0, b""),
+];
+
+/// Whether the files have these sizes.
+fn are_sizes(files: &mut DirFiles<HostRuntime>) -> Result<bool, FileFault> {
+    for (name, size) in SIZES {
+        if files.size(name)? != size {
+            return Ok(false);
+        }
+    }
+    Ok(true)
+}
+
+/// Whether these are the parts of the files.
+fn are_parts(rt: &HostRuntime, files: &mut DirFiles<HostRuntime>) -> Result<bool, FileFault> {
+    for (name, offset, bytes) in PARTS {
+        if part(rt, files, name, offset)?.as_slice() != bytes {
+            return Ok(false);
+        }
+    }
+    Ok(true)
+}
+
+/// Whether files that are put, one of them twice, are there.
+fn are_put(rt: &HostRuntime, files: &mut DirFiles<HostRuntime>) -> Result<bool, FileFault> {
+    for (name, bytes) in [(10, "old bytes"), (10, "ten bytes!"), (2, "")] {
+        files.put(name, bytes.as_bytes())?;
+    }
+    Ok(has_files(rt, files, &[2, 10])? && are_sizes(files)? && are_parts(rt, files)?)
+}
+
+/// Whether a file that is removed, and removed again, is gone.
+fn is_removed(rt: &HostRuntime, files: &mut DirFiles<HostRuntime>) -> Result<bool, FileFault> {
+    for name in [10, 10] {
+        files.remove(name)?;
+    }
+    Ok(has_files(rt, files, &[2])? && files.size(10)?.is_none())
+}
+
+/// Whether files are put into a folder and removed without a fault.
+fn are_kept(rt: &HostRuntime, folder: &str) -> Result<bool, FileFault> {
+    let mut files = DirFiles::open(*rt, folder)?;
+    let is_empty = has_files(rt, &mut files, &[])?;
+    let are_put = are_put(rt, &mut files)?;
+    let is_removed = is_removed(rt, &mut files)?;
+    Ok(is_empty && are_put && is_removed && files.faults() == 0)
+}
+
+#[test]
+fn files_in_a_folder(rt: HostRuntime) -> Result<(), Fail> {
+    let folder = folder_of_others(&rt)?;
+    let path = folder.as_str();
+    assert!(rt; are_kept(&rt, path)?);
+    assert!(rt; is_there(&rt, path, "t0000000000000002.tab")?);
+    fs::remove_dir_all(&rt, path)?;
+    Ok(())
+}
+
+/// Bytes that are no mark.
+const NO_MARKS: [&[u8]; 4] = [
+    b"",
+    b"\0\0\0\0\0\0\0",
+    b"\0\0\0\0\0\0\0\0\0",
+    b"\x80\0\0\0\0\0\0\0",
+];
+
+/// The file of the mark.
+const MARK: &str = "oracle.mark";
+
+/// Whether the mark of a new folder is 0, and the next one is written. Then the greatest one is stored.
+fn is_stored(rt: &HostRuntime, folder: &str) -> Result<bool, Fail> {
+    let mut mark = DirMark::open(*rt, folder)?;
+    let first = mark.load()?;
+    mark.store(1000)?;
+    let is_written = has_bytes(rt, folder, MARK, b"\0\0\0\0\0\0\x03\xE8")?;
+    mark.store(MOST_STAMP)?;
+    Ok(first == 0 && is_written)
+}
+
+/// Whether the greatest mark is loaded, and what is no mark is a fault.
+fn is_loaded(rt: &HostRuntime, folder: &str) -> Result<bool, Fail> {
+    let mut mark = DirMark::open(*rt, folder)?;
+    if mark.load()? != MOST_STAMP || mark.faults() != 0 {
+        return Ok(false);
+    }
+    for bytes in NO_MARKS {
+        write(rt, folder, MARK, bytes)?;
+        if mark.load().is_ok() {
+            return Ok(false);
+        }
+    }
+    Ok(mark.faults() == 4)
+}
+
+#[test]
+fn mark_in_a_folder(rt: HostRuntime) -> Result<(), Fail> {
+    let folder = new_folder(&rt, "mark")?;
+    let path = folder.as_str();
+    assert!(rt; is_stored(&rt, path)?);
+    assert!(rt; is_loaded(&rt, path)?);
+    fs::remove_dir_all(&rt, path)?;
+    Ok(())
+}
+
+#[test]
+fn a_folder_is_removed(rt: HostRuntime) -> Result<(), Fail> {
+    let folder = new_folder(&rt, "removed")?;
+    let path = folder.as_str();
+    let mut files = DirFiles::open(rt, path)?;
+    let mut mark = DirMark::open(rt, path)?;
+    fs::remove_dir_all(&rt, path)?;
+    assert!(rt; files.put(1, b"x") == Err(FileFault::Device));
+    assert!(rt; has_files(&rt, &mut files, &[]) == Err(FileFault::Device));
+    assert!(rt; files.faults() == 2);
+    assert!(rt; mark.store(5).is_err());
+    assert!(rt; matches!(DirFiles::open(rt, path), Err(FileFault::Device)));
+    assert!(rt; DirMark::open(rt, path).is_err());
+    Ok(())
+}
+
+/// The name of the file 5.
+const FIVE: &str = "t0000000000000005.tab";
+
+/// Whether the file 5 can't be put where a folder stands, and leaves nothing beside it.
+fn is_failed(
+    rt: &HostRuntime,
+    folder: &str,
+    files: &mut DirFiles<HostRuntime>,
+) -> io::Result<bool> {
+    let place = path_of(rt, folder, FIVE)?;
+    fs::create_dir(rt, place.as_str())?;
+    let called = files.put(5, b"five");
+    let is_beside = is_there(rt, folder, "t0000000000000005.new")?;
+    fs::remove_dir(rt, place.as_str())?;
+    Ok(called == Err(FileFault::Device) && !is_beside && files.faults() == 1)
+}
+
+/// Whether the file 5 is put.
+fn is_put(files: &mut DirFiles<HostRuntime>) -> Result<bool, FileFault> {
+    files.put(5, b"five")?;
+    Ok(files.size(5)? == Some(4))
+}
+
+/// A file that can't be put in its place, where a folder stands, leaves nothing beside it, and is put there later.
+#[test]
+fn a_failed_put_leaves_nothing(rt: HostRuntime) -> Result<(), Fail> {
+    let folder = new_folder(&rt, "taken")?;
+    let path = folder.as_str();
+    let mut files = DirFiles::open(rt, path)?;
+    assert!(rt; is_failed(&rt, path, &mut files)?);
+    assert!(rt; is_put(&mut files)? && files.faults() == 1);
+    fs::remove_dir_all(&rt, path)?;
+    Ok(())
+}
+
+/// Writes a file of a folder, and links the place of the file 5 to it.
+fn link_to_old(rt: &HostRuntime, folder: &str) -> io::Result<()> {
+    write(rt, folder, "old", b"old")?;
+    let old = path_of(rt, folder, "old")?;
+    let place = path_of(rt, folder, FIVE)?;
+    symlink(rt, old.as_str(), place.as_str())
+}
+
+/// A file is never written where it stands: what its place linked to is as before.
+#[test]
+fn files_are_put_in_place_whole(rt: HostRuntime) -> Result<(), Fail> {
+    let folder = new_folder(&rt, "links")?;
+    let path = folder.as_str();
+    link_to_old(&rt, path)?;
+    DirFiles::open(rt, path)?.put(5, b"five")?;
+    assert!(rt; has_bytes(&rt, path, "old", b"old")?);
+    assert!(rt; has_bytes(&rt, path, FIVE, b"five")?);
+    fs::remove_dir_all(&rt, path)?;
+    Ok(())
+}
+
+/// How many files are read: more than are kept open.
+const MANY: u64 = 200;
+
+/// Whether a file begins with these bytes, up to eight.
+fn begins_with(
+    rt: &HostRuntime,
+    files: &mut DirFiles<HostRuntime>,
+    name: u64,
+    bytes: &[u8],
+) -> Result<bool, FileFault> {
+    Ok(part(rt, files, name, 0)?.as_slice() == bytes)
+}
+
+/// Whether a file is read as it is when it is put, put again and removed.
+fn is_as_put(rt: &HostRuntime, files: &mut DirFiles<HostRuntime>) -> Result<bool, FileFault> {
+    for (bytes, read) in [("old", b"old".as_slice()), ("newer bytes", b"newer by")] {
+        files.put(5, bytes.as_bytes())?;
+        if !begins_with(rt, files, 5, read)? || !begins_with(rt, files, 5, read)? {
+            return Ok(false);
+        }
+    }
+    files.remove(5)?;
+    begins_with(rt, files, 5, b"")
+}
+
+/// Whether each of many files, which holds its name, is read as it is when it is put.
+fn are_many_put(rt: &HostRuntime, files: &mut DirFiles<HostRuntime>) -> Result<bool, FileFault> {
+    for name in 1..MANY {
+        files.put(name, &name.to_be_bytes())?;
+        if !begins_with(rt, files, name, &name.to_be_bytes())? {
+            return Ok(false);
+        }
+    }
+    Ok(true)
+}
+
+/// Whether each of them is read as it is.
+fn are_many_read(rt: &HostRuntime, files: &mut DirFiles<HostRuntime>) -> Result<bool, FileFault> {
+    for name in 1..MANY {
+        if !begins_with(rt, files, name, &name.to_be_bytes())? {
+            return Ok(false);
+        }
+    }
+    Ok(true)
+}
+
+/// A file that was read is kept open. Once it is replaced or removed, its old bytes are read no more; and if more files
+/// are read than are kept open, each is read as it is.
+#[test]
+fn open_files_are_read_as_they_are(rt: HostRuntime) -> Result<(), Fail> {
+    let folder = new_folder(&rt, "open")?;
+    let path = folder.as_str();
+    let mut files = DirFiles::open(rt, path)?;
+    assert!(rt; is_as_put(&rt, &mut files)?);
+    assert!(rt; are_many_put(&rt, &mut files)? && are_many_read(&rt, &mut files)?);
+    assert!(rt; files.faults() == 0);
+    fs::remove_dir_all(&rt, path)?;
+    Ok(())
+}

@@ -1,0 +1,234 @@
+//! Memtables, files in memory, and sorted files.
+
+use cell_key::{EntryRef, Refusal, Row, Stamp};
+use compaction::{Input, merge_into};
+use file_store::{FileFault, Files, MemFiles, read_whole};
+use memtable::Memtable;
+use sorted_file::{LockIndex, SortedFile, refusal_of, write_file};
+use std::alloc::Global;
+use testing::FILE_LIMIT;
+use testing::edits::{data_key, edits_of};
+use testing::memory::{Call, Subject, Table};
+
+/// The refusal of a call of files.
+pub fn refused<T>(call: Result<T, FileFault>) -> Result<T, Refusal> {
+    call.map_err(|fault| refusal_of(fault))
+}
+
+/// Files in memory, and names that others are appended to.
+#[derive(Drop)]
+pub struct Stored {
+    files: MemFiles,
+    names: Vec<u64>,
+}
+
+/// What is read are how many names there are, and the first four bytes of the files 1 to 3.
+const FILE_CALLS: [Call; 6] = [
+    // put of a new file
+    (b"", b"\x01one-two-6789"),
+    // put in place of a file
+    (b"", b"\x01six-two-----"),
+    // list
+    (b"", b"\x03one-two-----"),
+    // read_whole
+    (b"two", b"\x01one-two-----"),
+    // remove
+    (b"", b"\x01----two-----"),
+    // put_owned in place of a file
+    (b"", b"\x01six-two-----"),
+];
+
+pub const STORED: Table = (b"\x01one-two-----", &FILE_CALLS);
+
+impl Subject for Stored {
+    fn set_up(alloc: Global) -> Result<Stored, Refusal> {
+        let names = vec![in alloc; 9]?;
+        let mut files = MemFiles::new(alloc);
+        refused(files.put(1, b"one"))?;
+        refused(files.put(2, b"two"))?;
+        Ok(Stored { files, names })
+    }
+
+    fn answers(&mut self, alloc: Global, number: usize, wanted: &[u8]) -> Result<bool, Refusal> {
+        match number {
+            0 => refused(self.files.put(3, b"6789"))?,
+            1 => refused(self.files.put(1, b"six"))?,
+            2 => refused(self.files.list(&mut self.names))?,
+            3 => {
+                return match refused(read_whole(alloc, &mut self.files, 2))? {
+                    Some(bytes) => Ok(bytes.as_slice() == wanted),
+                    None => Ok(false),
+                };
+            }
+            4 => refused(self.files.remove(1))?,
+            _ => refused(self.files.put_owned(1, b"six".to_vec(alloc)?))?,
+        }
+        Ok(wanted.is_empty())
+    }
+
+    fn read(&mut self, alloc: Global) -> Result<Vec<u8>, Refusal> {
+        let mut out = vec![in alloc; (self.names.len() % 256) as u8]?;
+        for name in 1..=3 {
+            let mut bytes = *b"----";
+            refused(self.files.read_at(name, 0, &mut bytes))?;
+            out.extend_from_slice(&bytes)?;
+        }
+        Ok(out)
+    }
+}
+
+/// A sorted file with a write of `a` at 1, and a memtable with one at 2.
+#[derive(Drop)]
+pub struct Sorted {
+    files: MemFiles,
+    file: SortedFile,
+    table: Memtable,
+}
+
+/// What is read are the sizes of the files 1 to 3, the values of the memtable in the order of their keys, with x for an
+/// erasure, and those of the sorted file at 9 and 1.
+const SORTED_CALLS: [Call; 7] = [
+    // write_file
+    (b"", b"\x95\x95-x2x1"),
+    // SortedFile::open
+    (b"x", b"\x95--x2x1"),
+    // SortedFile::lookup
+    (b"1", b"\x95--x2x1"),
+    // merge_into
+    (b"", b"\x95\xB5-x2x1"),
+    // Memtable::apply to other cells of the row
+    (b"", b"\x95--x32x1"),
+    // Memtable::apply to the same cell
+    (b"", b"\x95--x3x1"),
+    // Memtable::apply to another row
+    (b"", b"\x95--x2x3x1"),
+];
+
+/// Writes a value of one byte into a row, and an erasure at the stamp 9.
+fn write(
+    alloc: Global,
+    table: &mut Memtable,
+    row: u8,
+    stamp: Stamp,
+    value: u8,
+) -> Result<(), Refusal> {
+    let row = Row::new(alloc, &[row])?;
+    let edits = edits_of(alloc, &row, stamp, Some(&[value]), Some(9))?;
+    table.apply(&row, edits)
+}
+
+/// The first byte of an entry's value, x for an erasure, or a dash.
+fn first_byte(entry: Option<EntryRef<'_>>) -> u8 {
+    match entry {
+        Some(entry) => entry.value.unwrap_or(b"x").first().copied().unwrap_or(b' '),
+        None => b'-',
+    }
+}
+
+/// What a sorted file has at a stamp of `a`.
+fn found(
+    alloc: Global,
+    file: &mut SortedFile,
+    files: &mut MemFiles,
+    stamp: Stamp,
+) -> Result<u8, Refusal> {
+    let key = data_key(alloc, &Row::new(alloc, b"a")?, stamp)?;
+    match file.lookup(&key, files)? {
+        Some(Some(value)) => Ok(value.first().copied().unwrap_or(b' ')),
+        Some(None) => Ok(b'x'),
+        None => Ok(b'-'),
+    }
+}
+
+/// The lowest byte of a file's size, or a dash.
+fn size_of(files: &mut MemFiles, name: u64) -> Result<u8, Refusal> {
+    match refused(files.size(name))? {
+        Some(size) => Ok((size % 256) as u8),
+        None => Ok(b'-'),
+    }
+}
+
+/// Writes a memtable and perhaps a file, the newer first, as a file of a name.
+pub fn merge(
+    alloc: Global,
+    table: &Memtable,
+    file: Option<&SortedFile>,
+    keep_erasures: bool,
+    name: u64,
+    files: &mut MemFiles,
+) -> Result<(), Refusal> {
+    let mut sources = Vec::new(alloc);
+    sources.push(Input::Memtable(table.cursor(b"")))?;
+    if let Some(file) = file {
+        sources.push(Input::File(file.cursor(b"")))?;
+    }
+    let none = LockIndex::new(alloc);
+    let _file = merge_into(
+        alloc,
+        sources,
+        keep_erasures,
+        name,
+        FILE_LIMIT,
+        &none,
+        files,
+    )?;
+    Ok(())
+}
+
+/// Writes a sorted file again as the file 2: the name of what was written.
+pub fn write_again(alloc: Global, file: &SortedFile, files: &mut MemFiles) -> Result<u64, Refusal> {
+    let mut cursor = file.cursor(b"");
+    let none = LockIndex::new(alloc);
+    let again = write_file(alloc, &mut cursor, 2, FILE_LIMIT, &none, files)?;
+    Ok(again.name())
+}
+
+pub const SORTED: Table = (b"\x95--x2x1", &SORTED_CALLS);
+
+impl Subject for Sorted {
+    fn set_up(alloc: Global) -> Result<Sorted, Refusal> {
+        let mut older = Memtable::new(alloc);
+        write(alloc, &mut older, b'a', 1, b'1')?;
+        let mut table = Memtable::new(alloc);
+        write(alloc, &mut table, b'a', 2, b'2')?;
+        let mut files = MemFiles::new(alloc);
+        merge(alloc, &older, None, true, 1, &mut files)?;
+        let file = SortedFile::open(alloc, 1, &mut files)?;
+        Ok(Sorted { files, file, table })
+    }
+
+    fn answers(&mut self, alloc: Global, number: usize, wanted: &[u8]) -> Result<bool, Refusal> {
+        let files = &mut self.files;
+        match number {
+            0 => {
+                let _name = write_again(alloc, &self.file, files)?;
+            }
+            1 => {
+                let mut file = SortedFile::open(alloc, 1, files)?;
+                return Ok(wanted == [found(alloc, &mut file, files, 9)?].as_slice());
+            }
+            2 => return Ok(wanted == [found(alloc, &mut self.file, files, 1)?].as_slice()),
+            3 => merge(alloc, &self.table, Some(&self.file), true, 2, files)?,
+            4 => write(alloc, &mut self.table, b'a', 3, b'3')?,
+            5 => write(alloc, &mut self.table, b'a', 2, b'3')?,
+            _ => write(alloc, &mut self.table, b'b', 1, b'3')?,
+        }
+        Ok(wanted.is_empty())
+    }
+
+    fn read(&mut self, alloc: Global) -> Result<Vec<u8>, Refusal> {
+        let mut out = Vec::new(alloc);
+        for name in 1..=3 {
+            out.push(size_of(&mut self.files, name)?)?;
+        }
+        let mut cursor = self.table.cursor(b"");
+        for _ in 0..self.table.len() {
+            if cursor.advance() {
+                out.push(first_byte(cursor.current()))?;
+            }
+        }
+        out.push(found(alloc, &mut self.file, &mut self.files, 9)?)?;
+        out.push(found(alloc, &mut self.file, &mut self.files, 1)?)?;
+        Ok(out)
+    }
+}

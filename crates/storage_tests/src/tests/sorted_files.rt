@@ -1,0 +1,607 @@
+//! Sorted files, by their bytes.
+
+use crate::tests::files::Recorder;
+use crate::tests::memory::files::{merge, refused, write_again};
+use crate::tests::slow::found_at;
+use cell_key::{CellKey, Family, Qualifier, Refusal, Row, Stamp};
+use file_store::{Files, MemFiles, read_whole};
+use memtable::Memtable;
+use sorted_file::{KeyFilter, LockIndex, LookupKey, SortedFile, few_blocks};
+use std::alloc::{AllocError, Global};
+use std::num::NonZeroUsize;
+use std::test::Fail;
+use testing::edits::{data_key, edits_of};
+
+/// A file of no entries.
+pub const EMPTY: &[u8] = b"TABLET01\0\0\0\x08\0\0\0\0\0\0\0\0\0\0\0\x20TABLETZZ";
+
+/// A file of one entry, the key (`a`, `bal`, data, 1) with the value `10`.
+pub const ONE: &[u8] = b"TABLET01\
+    \0\0\0\x16a\0\0bal\0\0data\0\0\xFF\xFF\xFF\xFF\xFF\xFF\xFF\xFE\x01\0\0\0\x0210\
+    \0\0\0\x08\0\0\0\x21\0\0\0\x16a\0\0bal\0\0data\0\0\xFF\xFF\xFF\xFF\xFF\xFF\xFF\xFE\
+    \0\0\0\x29\0\0\0\x01\0\0\0\x01\0\0\0\x63TABLETZZ";
+
+/// A file of two entries, at the stamps 2 and 1.
+pub const TWO: &[u8] = b"TABLET01\
+    \0\0\0\x16a\0\0bal\0\0data\0\0\xFF\xFF\xFF\xFF\xFF\xFF\xFF\xFD\x01\0\0\0\x0210\
+    \0\0\0\x16a\0\0bal\0\0data\0\0\xFF\xFF\xFF\xFF\xFF\xFF\xFF\xFE\x01\0\0\0\x0210\
+    \0\0\0\x08\0\0\0\x42\0\0\0\x16a\0\0bal\0\0data\0\0\xFF\xFF\xFF\xFF\xFF\xFF\xFF\xFD\
+    \0\0\0\x4A\0\0\0\x01\0\0\0\x02\0\0\0\x84TABLETZZ";
+
+/// The same in format 2, in which files are written: a file of no entries.
+pub const EMPTY_NEW: &[u8] = b"TABLET02\
+    \0\0\0\0\0\0\0\x08\0\0\0\0\0\0\0\0\
+    \0\0\0\0\0\0\0\0\0\0\0\0\0\0\0\x30TABLETZZ";
+
+/// The one entry in format 2.
+pub const ONE_NEW: &[u8] = b"TABLET02\
+    \0\0\0\x16a\0\0bal\0\0data\0\0\xFF\xFF\xFF\xFF\xFF\xFF\xFF\xFE\x01\0\0\0\x0210\
+    \0\0\0\0\0\0\0\x08\0\0\0\0\0\0\0\x21\0\0\0\x16a\0\0bal\0\0data\0\0\xFF\xFF\xFF\xFF\xFF\xFF\xFF\xFE\
+    \0\0\0\0\0\0\0\x29\0\0\0\0\0\0\0\x01\
+    \0\0\0\0\0\0\0\x01\0\0\0\0\0\0\0\x7BTABLETZZ";
+
+/// The two entries in format 2.
+pub const TWO_NEW: &[u8] = b"TABLET02\
+    \0\0\0\x16a\0\0bal\0\0data\0\0\xFF\xFF\xFF\xFF\xFF\xFF\xFF\xFD\x01\0\0\0\x0210\
+    \0\0\0\x16a\0\0bal\0\0data\0\0\xFF\xFF\xFF\xFF\xFF\xFF\xFF\xFE\x01\0\0\0\x0210\
+    \0\0\0\0\0\0\0\x08\0\0\0\0\0\0\0\x42\0\0\0\x16a\0\0bal\0\0data\0\0\xFF\xFF\xFF\xFF\xFF\xFF\xFF\xFD\
+    \0\0\0\0\0\0\0\x4A\0\0\0\0\0\0\0\x01\
+    \0\0\0\0\0\0\0\x02\0\0\0\0\0\0\0\x9CTABLETZZ";
+
+/// The two entries in format 1 in two blocks, though one would do.
+const SPLIT_EARLY: &[u8] = b"TABLET01\
+    \0\0\0\x16a\0\0bal\0\0data\0\0\xFF\xFF\xFF\xFF\xFF\xFF\xFF\xFD\x01\0\0\0\x0210\
+    \0\0\0\x16a\0\0bal\0\0data\0\0\xFF\xFF\xFF\xFF\xFF\xFF\xFF\xFE\x01\0\0\0\x0210\
+    \0\0\0\x08\0\0\0\x21\0\0\0\x16a\0\0bal\0\0data\0\0\xFF\xFF\xFF\xFF\xFF\xFF\xFF\xFD\
+    \0\0\0\x29\0\0\0\x21\0\0\0\x16a\0\0bal\0\0data\0\0\xFF\xFF\xFF\xFF\xFF\xFF\xFF\xFE\
+    \0\0\0\x4A\0\0\0\x02\0\0\0\x02\0\0\0\xA6TABLETZZ";
+
+/// The same in format 2.
+const SPLIT_EARLY_NEW: &[u8] = b"TABLET02\
+    \0\0\0\x16a\0\0bal\0\0data\0\0\xFF\xFF\xFF\xFF\xFF\xFF\xFF\xFD\x01\0\0\0\x0210\
+    \0\0\0\x16a\0\0bal\0\0data\0\0\xFF\xFF\xFF\xFF\xFF\xFF\xFF\xFE\x01\0\0\0\x0210\
+    \0\0\0\0\0\0\0\x08\0\0\0\0\0\0\0\x21\0\0\0\x16a\0\0bal\0\0data\0\0\xFF\xFF\xFF\xFF\xFF\xFF\xFF\xFD\
+    \0\0\0\0\0\0\0\x29\0\0\0\0\0\0\0\x21\0\0\0\x16a\0\0bal\0\0data\0\0\xFF\xFF\xFF\xFF\xFF\xFF\xFF\xFE\
+    \0\0\0\0\0\0\0\x4A\0\0\0\0\0\0\0\x02\
+    \0\0\0\0\0\0\0\x02\0\0\0\0\0\0\0\xC6TABLETZZ";
+
+/// The one entry with the head of format 2 and the index and foot of format 1, and the other way.
+const ONE_MIXED: [&[u8]; 2] = [
+    b"TABLET02\
+    \0\0\0\x16a\0\0bal\0\0data\0\0\xFF\xFF\xFF\xFF\xFF\xFF\xFF\xFE\x01\0\0\0\x0210\
+    \0\0\0\x08\0\0\0\x21\0\0\0\x16a\0\0bal\0\0data\0\0\xFF\xFF\xFF\xFF\xFF\xFF\xFF\xFE\
+    \0\0\0\x29\0\0\0\x01\0\0\0\x01\0\0\0\x63TABLETZZ",
+    b"TABLET01\
+    \0\0\0\x16a\0\0bal\0\0data\0\0\xFF\xFF\xFF\xFF\xFF\xFF\xFF\xFE\x01\0\0\0\x0210\
+    \0\0\0\0\0\0\0\x08\0\0\0\0\0\0\0\x21\0\0\0\x16a\0\0bal\0\0data\0\0\xFF\xFF\xFF\xFF\xFF\xFF\xFF\xFE\
+    \0\0\0\0\0\0\0\x29\0\0\0\0\0\0\0\x01\
+    \0\0\0\0\0\0\0\x01\0\0\0\0\0\0\0\x7BTABLETZZ",
+];
+
+/// Opens a file of these bytes under the name 1.
+fn opened(alloc: Global, files: &mut MemFiles, bytes: &[u8]) -> Result<SortedFile, Refusal> {
+    refused(files.put(1, bytes))?;
+    SortedFile::open(alloc, 1, files)
+}
+
+/// Opens a file of these bytes under the name 1, over files that record what is read of it.
+fn recorded(alloc: Global, bytes: &[u8]) -> Result<(Recorder, SortedFile), Refusal> {
+    let mut files = Recorder::new(alloc);
+    refused(files.put(1, bytes))?;
+    let file = SortedFile::open(alloc, 1, &mut files)?;
+    Ok((files, file))
+}
+
+/// Whether the file of a name has these bytes.
+fn has_bytes(
+    alloc: Global,
+    files: &mut MemFiles,
+    name: u64,
+    bytes: &[u8],
+) -> Result<bool, Refusal> {
+    match refused(read_whole(alloc, files, name))? {
+        Some(written) => Ok(written.as_slice() == bytes),
+        None => Ok(false),
+    }
+}
+
+/// Whether a file of these bytes is opened, and is written again with these other bytes.
+fn is_written_as(alloc: Global, bytes: &[u8], again: &[u8]) -> Result<bool, Refusal> {
+    let mut files = MemFiles::new(alloc);
+    let file = opened(alloc, &mut files, bytes)?;
+    let name = write_again(alloc, &file, &mut files)?;
+    has_bytes(alloc, &mut files, name, again)
+}
+
+/// Whether a file of these bytes is refused as damaged.
+pub fn is_damaged(alloc: Global, bytes: &[u8]) -> bool {
+    let mut files = MemFiles::new(alloc);
+    matches!(opened(alloc, &mut files, bytes), Err(Refusal::Damaged))
+}
+
+/// What stands before each value of 2,017 bytes in a file of three entries, at the stamps 3, 2 and 1.
+const BEFORE_VALUES: [&[u8]; 3] = [
+    b"TABLET01\0\0\0\x16a\0\0bal\0\0data\0\0\xFF\xFF\xFF\xFF\xFF\xFF\xFF\xFC\x01\0\0\x07\xE1",
+    b"\0\0\0\x16a\0\0bal\0\0data\0\0\xFF\xFF\xFF\xFF\xFF\xFF\xFF\xFD\x01\0\0\x07\xE1",
+    b"\0\0\0\x16a\0\0bal\0\0data\0\0\xFF\xFF\xFF\xFF\xFF\xFF\xFF\xFE\x01\0\0\x07\xE1",
+];
+
+/// What stands after them: the index of two blocks, and the foot.
+const AFTER_VALUES: &[u8] = b"\
+    \0\0\0\x08\0\0\x10\0\0\0\0\x16a\0\0bal\0\0data\0\0\xFF\xFF\xFF\xFF\xFF\xFF\xFF\xFC\
+    \0\0\x10\x08\0\0\x08\0\0\0\0\x16a\0\0bal\0\0data\0\0\xFF\xFF\xFF\xFF\xFF\xFF\xFF\xFE\
+    \0\0\x18\x08\0\0\0\x02\0\0\0\x03\0\0\x18\x64TABLETZZ";
+
+/// What stands after them in format 2.
+const AFTER_VALUES_NEW: &[u8] = b"\
+    \0\0\0\0\0\0\0\x08\0\0\0\0\0\0\x10\0\0\0\0\x16a\0\0bal\0\0data\0\0\xFF\xFF\xFF\xFF\xFF\xFF\xFF\xFC\
+    \0\0\0\0\0\0\x10\x08\0\0\0\0\0\0\x08\0\0\0\0\x16a\0\0bal\0\0data\0\0\xFF\xFF\xFF\xFF\xFF\xFF\xFF\xFE\
+    \0\0\0\0\0\0\x18\x08\0\0\0\0\0\0\0\x02\
+    \0\0\0\0\0\0\0\x03\0\0\0\0\0\0\x18\x84TABLETZZ";
+
+/// The file of three entries in format 2.
+fn three_new(alloc: Global) -> Result<Vec<u8>, AllocError> {
+    let mut bytes = three(alloc)?;
+    bytes.truncate(6152);
+    put_at(&mut bytes, 7, b'2');
+    bytes.extend_from_slice(AFTER_VALUES_NEW)?;
+    Ok(bytes)
+}
+
+/// A file of three entries at the stamps 3, 2 and 1, with values of 2,017 bytes: two blocks.
+fn three(alloc: Global) -> Result<Vec<u8>, AllocError> {
+    let value = vec![in alloc; b'v'; 2017]?;
+    let mut bytes = Vec::new(alloc);
+    for before in BEFORE_VALUES {
+        bytes.extend_from_slice(before)?;
+        bytes.extend_from_slice(&value)?;
+    }
+    bytes.extend_from_slice(AFTER_VALUES)?;
+    Ok(bytes)
+}
+
+/// Files of either format are read, and written in format 2.
+#[test]
+fn files_of_literal_bytes(rt: HostRuntime) -> Result<(), Fail> {
+    let three = three(rt.alloc())?;
+    let three_new = three_new(rt.alloc())?;
+    let pairs = [
+        (EMPTY, 32, EMPTY_NEW, 48),
+        (ONE, 99, ONE_NEW, 123),
+        (TWO, 132, TWO_NEW, 156),
+        (&three, 6244, &three_new, 6276),
+    ];
+    for (old, old_len, new, new_len) in pairs {
+        assert!(rt; old.len() == old_len && new.len() == new_len);
+        assert!(rt; is_written_as(rt.alloc(), old, new)?);
+        assert!(rt; is_written_as(rt.alloc(), new, new)?);
+    }
+    Ok(())
+}
+
+/// Puts a byte at a place.
+pub fn put_at(bytes: &mut [u8], at: usize, byte: u8) {
+    if let Some(place) = bytes.get_mut(at) {
+        *place = byte;
+    }
+}
+
+/// Whether the file of one entry is damaged if this byte is put at a place.
+fn is_damaged_by(alloc: Global, at: usize, byte: u8) -> Result<bool, AllocError> {
+    let mut bytes = Vec::from_slice(alloc, ONE)?;
+    put_at(&mut bytes, at, byte);
+    Ok(is_damaged(alloc, &bytes))
+}
+
+/// Places in the file of one entry, the bytes that are put there, and whether the file is damaged then.
+const CHANGES: [(usize, u8, bool); 4] = [
+    (34, 2, true),
+    (34, 0, true),
+    (7, 0x32, true),
+    (39, 0x32, false),
+];
+
+#[test]
+fn damaged_files(rt: HostRuntime) -> Result<(), Fail> {
+    assert!(rt; SPLIT_EARLY.len() == 166 && SPLIT_EARLY_NEW.len() == 198);
+    for bytes in [SPLIT_EARLY, SPLIT_EARLY_NEW, ONE_MIXED[0], ONE_MIXED[1]] {
+        assert!(rt; is_damaged(rt.alloc(), bytes));
+    }
+    for len in 0..99 {
+        assert!(rt; is_damaged(rt.alloc(), &ONE[..len]));
+    }
+    for len in 0..123 {
+        assert!(rt; is_damaged(rt.alloc(), &ONE_NEW[..len]));
+    }
+    for (at, byte, damaged) in CHANGES {
+        assert!(rt; is_damaged_by(rt.alloc(), at, byte)? == damaged);
+    }
+    Ok(())
+}
+
+/// How many bytes the value has that the file of three entries has at a stamp.
+fn value_len(
+    alloc: Global,
+    file: &mut SortedFile,
+    stamp: Stamp,
+    files: &mut Recorder,
+) -> Result<Option<usize>, Refusal> {
+    let key = CellKey {
+        row: Row::new(alloc, b"a")?,
+        family: Family::new(alloc, b"bal")?,
+        qualifier: Qualifier::Data,
+        stamp,
+    };
+    match file.lookup(&key, files)? {
+        Some(Some(value)) => Ok(Some(value.len())),
+        _ => Ok(None),
+    }
+}
+
+/// What is looked up in the file of three entries, one after the other: whether the blocks in memory are forgotten
+/// first, the stamp, what is read of the file 1 (an offset and a number of bytes), and the length of the value.
+const LOOK_UPS: [(bool, Stamp, &[(u64, u64, usize)], Option<usize>); 7] = [
+    (true, 3, &[(1, 8, 4096)], Some(2017)),
+    (true, 2, &[(1, 8, 4096)], Some(2017)),
+    (true, 1, &[(1, 4104, 2048)], Some(2017)),
+    (true, 4, &[], None),
+    (false, 3, &[(1, 8, 4096)], Some(2017)),
+    (false, 3, &[], Some(2017)),
+    (false, 2, &[], Some(2017)),
+];
+
+/// Whether a look-up at a stamp reads this, and finds a value of this many bytes.
+fn is_found(
+    alloc: Global,
+    file: &mut SortedFile,
+    stamp: Stamp,
+    files: &mut Recorder,
+    reads: &[(u64, u64, usize)],
+    len: Option<usize>,
+) -> Result<bool, Refusal> {
+    files.reads.clear();
+    let found = value_len(alloc, file, stamp, files)?;
+    Ok(found == len && files.reads.as_slice() == reads)
+}
+
+#[test]
+fn look_ups_read_one_block(rt: HostRuntime) -> Result<(), Fail> {
+    let (mut files, mut file) = recorded(rt.alloc(), &three(rt.alloc())?)?;
+    for (forgets, stamp, reads, len) in LOOK_UPS {
+        if forgets {
+            file.drop_cache();
+        }
+        assert!(rt; is_found(rt.alloc(), &mut file, stamp, &mut files, reads, len)?);
+    }
+    Ok(())
+}
+
+/// Writes a value into the row `a` at a stamp, or an erasure.
+fn write(
+    alloc: Global,
+    table: &mut Memtable,
+    stamp: Stamp,
+    value: Option<&[u8]>,
+) -> Result<(), Refusal> {
+    let row = Row::new(alloc, b"a")?;
+    let edits = edits_of(alloc, &row, stamp, value, None)?;
+    table.apply(&row, edits)
+}
+
+/// The bytes of the file that a memtable is written to.
+fn file_of(alloc: Global, table: &Memtable) -> Result<Vec<u8>, Refusal> {
+    let mut files = MemFiles::new(alloc);
+    merge(alloc, table, None, true, 1, &mut files)?;
+    refused(read_whole(alloc, &mut files, 1))?.ok_or(Refusal::Device)
+}
+
+/// A file of `a` at the stamps 1 to 9, with values of 4,000 bytes: a block each.
+fn nine(alloc: Global) -> Result<Vec<u8>, Refusal> {
+    let value = vec![in alloc; b'v'; 4000]?;
+    let mut table = Memtable::new(alloc);
+    for stamp in 1..10 {
+        write(alloc, &mut table, stamp, Some(&value))?;
+    }
+    file_of(alloc, &table)
+}
+
+/// Stamps that are looked up one after the other in the file of nine blocks, and whether each look-up reads the file.
+/// The last eight blocks are held in memory.
+const NINE_LOOK_UPS: [(&[Stamp], bool); 4] = [
+    (&[1, 2, 3, 4, 5, 6, 7, 8], true),
+    (&[1, 2, 3, 4, 5, 6, 7, 8], false),
+    (&[9, 1, 2], true),
+    (&[4, 5, 6, 7, 8, 9, 1, 2], false),
+];
+
+/// Whether the look-ups at these stamps find values of 4,000 bytes, and each of them reads the file, or none does.
+fn are_read(
+    alloc: Global,
+    file: &mut SortedFile,
+    files: &mut Recorder,
+    stamps: &[Stamp],
+    is_read: bool,
+) -> Result<bool, Refusal> {
+    for stamp in stamps {
+        files.reads.clear();
+        let len = value_len(alloc, file, *stamp, files)?;
+        if len != Some(4000) || files.reads.is_empty() == is_read {
+            return Ok(false);
+        }
+    }
+    Ok(true)
+}
+
+#[test]
+fn eight_blocks_are_kept(rt: HostRuntime) -> Result<(), Fail> {
+    let (mut files, mut file) = recorded(rt.alloc(), &nine(rt.alloc())?)?;
+    for (stamps, is_read) in NINE_LOOK_UPS {
+        assert!(rt; are_read(rt.alloc(), &mut file, &mut files, stamps, is_read)?);
+    }
+    Ok(())
+}
+
+/// How many blocks the file of nine keeps then, and what is read after that.
+const RESIZED: [(usize, &[Stamp], bool); 4] = [
+    (9, &[3], true),
+    (9, &[1, 2, 3, 4, 5, 6, 7, 8, 9], false),
+    (1, &[9], false),
+    (1, &[8, 7], true),
+];
+
+/// What is read before that.
+const BEFORE_RESIZED: [Stamp; 8] = [1, 2, 4, 5, 6, 7, 8, 9];
+
+/// The same of a file that keeps this number of blocks from now on.
+fn are_read_of(
+    alloc: Global,
+    file: &mut SortedFile,
+    files: &mut Recorder,
+    most: usize,
+    stamps: &[Stamp],
+    is_read: bool,
+) -> Result<bool, Refusal> {
+    let Some(most) = NonZeroUsize::new(most) else {
+        return Ok(false);
+    };
+    file.resize_cache(most);
+    are_read(alloc, file, files, stamps, is_read)
+}
+
+#[test]
+fn as_many_blocks_are_kept(rt: HostRuntime) -> Result<(), Fail> {
+    let (mut files, mut file) = recorded(rt.alloc(), &nine(rt.alloc())?)?;
+    assert!(rt; are_read(rt.alloc(), &mut file, &mut files, &BEFORE_RESIZED, true)?);
+    for (most, stamps, is_read) in RESIZED {
+        assert!(rt; are_read_of(rt.alloc(), &mut file, &mut files, most, stamps, is_read)?);
+    }
+    Ok(())
+}
+
+/// A file of locks of `a` and of `c` and an erasure of that of `b`, at the stamp 1.
+const LOCKS: &[u8] = b"TABLET01\
+    \0\0\0\x16a\0\0bal\0\0lock\0\0\xFF\xFF\xFF\xFF\xFF\xFF\xFF\xFE\x01\0\0\0\x0210\
+    \0\0\0\x16b\0\0bal\0\0lock\0\0\xFF\xFF\xFF\xFF\xFF\xFF\xFF\xFE\0\
+    \0\0\0\x16c\0\0bal\0\0lock\0\0\xFF\xFF\xFF\xFF\xFF\xFF\xFF\xFE\x01\0\0\0\x0210\
+    \0\0\0\x08\0\0\0\x5D\0\0\0\x16a\0\0bal\0\0lock\0\0\xFF\xFF\xFF\xFF\xFF\xFF\xFF\xFE\
+    \0\0\0\x65\0\0\0\x01\0\0\0\x03\0\0\0\x9FTABLETZZ";
+
+/// A row, the stamp of its newest lock up to 9, and what is read for it. The file's first lock is known without a read.
+const LOCK_TESTS: [(&[u8], Option<Stamp>, &[(u64, u64, usize)]); 4] = [
+    (b"a", Some(1), &[]),
+    (b"b", None, &[]),
+    (b"bb", None, &[]),
+    (b"c", Some(1), &[(1, 8, 93)]),
+];
+
+/// The key of a row's lock at the stamp 9.
+fn lock_key(alloc: Global, row: &[u8]) -> Result<LookupKey, Refusal> {
+    let key = CellKey {
+        row: Row::new(alloc, row)?,
+        family: Family::new(alloc, b"bal")?,
+        qualifier: Qualifier::Lock,
+        stamp: 9,
+    };
+    Ok(LookupKey::new(alloc, key)?)
+}
+
+/// A list of the file of the locks.
+fn files_of_locks(alloc: Global) -> Result<Vec<SortedFile>, Refusal> {
+    let (_, file) = recorded(alloc, LOCKS)?;
+    Ok(vec![in alloc; file]?)
+}
+
+/// Whether the filter of the file of the locks lets through a look-up of locks from a stamp up to 9.
+fn may_have_locks(alloc: Global, from: Stamp) -> Result<bool, Refusal> {
+    let files = files_of_locks(alloc)?;
+    let filter = KeyFilter::new(alloc, &files, 0)?;
+    Ok(filter.may_have(Qualifier::Lock, from, 9))
+}
+
+/// The index of the file of the locks.
+fn index_of_locks(alloc: Global) -> Result<LockIndex, Refusal> {
+    LockIndex::of(alloc, &files_of_locks(alloc)?)
+}
+
+/// Whether an index says that a row may have locks.
+fn may_have_row(alloc: Global, index: &LockIndex, row: &[u8]) -> Result<bool, Refusal> {
+    let row = Row::new(alloc, row)?;
+    Ok(index.may_have_row(&row))
+}
+
+/// The stamp of a row's newest lock up to 9 in an index, if there is none up to 0.
+fn latest(alloc: Global, index: &LockIndex, row: &[u8]) -> Result<Option<Stamp>, Refusal> {
+    let mut key = lock_key(alloc, row)?;
+    let latest = index.latest(&key, 0);
+    key.set_stamp(0);
+    match index.latest(&key, 0) {
+        None => Ok(latest),
+        Some(_) => Err(Refusal::Damaged),
+    }
+}
+
+/// Whether a file of which no block is held has this stamp of a row's newest lock, and this is read for it.
+fn is_newest(
+    alloc: Global,
+    file: &mut SortedFile,
+    files: &mut Recorder,
+    row: &[u8],
+    stamp: Option<Stamp>,
+    reads: &[(u64, u64, usize)],
+) -> Result<bool, Refusal> {
+    let key = lock_key(alloc, row)?;
+    file.drop_cache();
+    files.reads.clear();
+    let newest = file.newest_stamp(&key, 0, files)?;
+    Ok(newest == stamp && files.reads.as_slice() == reads)
+}
+
+#[test]
+fn lock_tests_read_what_is_locked(rt: HostRuntime) -> Result<(), Fail> {
+    let (mut files, mut file) = recorded(rt.alloc(), LOCKS)?;
+    for (row, stamp, reads) in LOCK_TESTS {
+        assert!(rt; is_newest(rt.alloc(), &mut file, &mut files, row, stamp, reads)?);
+    }
+    Ok(())
+}
+
+#[test]
+fn lock_tests_of_the_index(rt: HostRuntime) -> Result<(), Fail> {
+    assert!(rt; may_have_locks(rt.alloc(), 0)? && !may_have_locks(rt.alloc(), 2)?);
+    let index = index_of_locks(rt.alloc())?;
+    for (row, stamp, _) in LOCK_TESTS {
+        assert!(rt; may_have_row(rt.alloc(), &index, row)? == stamp.is_some());
+        assert!(rt; latest(rt.alloc(), &index, row)? == stamp);
+    }
+    Ok(())
+}
+
+/// A file of an erasure of the lock of `a`, at the stamp 1.
+const ERASED: &[u8] = b"TABLET01\
+    \0\0\0\x16a\0\0bal\0\0lock\0\0\xFF\xFF\xFF\xFF\xFF\xFF\xFF\xFE\0\
+    \0\0\0\x08\0\0\0\x1B\0\0\0\x16a\0\0bal\0\0lock\0\0\xFF\xFF\xFF\xFF\xFF\xFF\xFF\xFE\
+    \0\0\0\x23\0\0\0\x01\0\0\0\x01\0\0\0\x5DTABLETZZ";
+
+/// The file of the erasure, opened over an index.
+fn erased_over(alloc: Global, index: &LockIndex) -> Result<SortedFile, Refusal> {
+    let mut files = Recorder::new(alloc);
+    refused(files.put(2, ERASED))?;
+    SortedFile::open_over(alloc, 2, few_blocks(), index, &mut files)
+}
+
+/// The index of the file of the locks, with that of the erasure over it.
+fn index_of_both(alloc: Global) -> Result<LockIndex, Refusal> {
+    let index = index_of_locks(alloc)?;
+    let newer = erased_over(alloc, &index)?;
+    index.over(&newer)
+}
+
+#[test]
+fn erased_locks_leave_the_index(rt: HostRuntime) -> Result<(), Fail> {
+    let index = index_of_locks(rt.alloc())?;
+    let both = index_of_both(rt.alloc())?;
+    for (row, before, after) in [(b"a", Some(1), None), (b"c", Some(1), Some(1))] {
+        assert!(rt; may_have_row(rt.alloc(), &index, row)?);
+        assert!(rt; latest(rt.alloc(), &index, row)? == before);
+        assert!(rt; latest(rt.alloc(), &both, row)? == after);
+    }
+    Ok(())
+}
+
+/// Places in the file of three entries, and bytes that are put there: the length of the second key, and the row of the
+/// first.
+const GARBLED: [(usize, u8); 2] = [(2059, 0x17), (12, b'`')];
+
+/// Whether a look-up at the stamp 3 is refused as damaged.
+fn is_refused(alloc: Global, file: &mut SortedFile, files: &mut Recorder) -> bool {
+    matches!(value_len(alloc, file, 3, files), Err(Refusal::Damaged))
+}
+
+/// Writes the file of three entries, with this byte at a place.
+fn put_changed(alloc: Global, files: &mut Recorder, at: usize, byte: u8) -> Result<(), Refusal> {
+    let mut bytes = three(alloc)?;
+    put_at(&mut bytes, at, byte);
+    refused(files.put(1, &bytes))
+}
+
+/// Whether a block that was held in memory is still found when its bytes have changed so, and is no block when it is
+/// read anew.
+fn is_kept(alloc: Global, at: usize, byte: u8) -> Result<bool, Refusal> {
+    let (mut files, mut file) = recorded(alloc, &three(alloc)?)?;
+    let before = value_len(alloc, &mut file, 3, &mut files)?;
+    put_changed(alloc, &mut files, at, byte)?;
+    let after = value_len(alloc, &mut file, 3, &mut files)?;
+    file.drop_cache();
+    Ok(before == Some(2017) && after == before && is_refused(alloc, &mut file, &mut files))
+}
+
+/// Whether a block whose bytes have changed so is no block, however often it is read.
+fn is_never_kept(alloc: Global, at: usize, byte: u8) -> Result<bool, Refusal> {
+    let (mut files, mut file) = recorded(alloc, &three(alloc)?)?;
+    put_changed(alloc, &mut files, at, byte)?;
+    Ok(is_refused(alloc, &mut file, &mut files) && is_refused(alloc, &mut file, &mut files))
+}
+
+#[test]
+fn garbled_blocks_are_not_kept(rt: HostRuntime) -> Result<(), Fail> {
+    for (at, byte) in GARBLED {
+        assert!(rt; is_kept(rt.alloc(), at, byte)?);
+        assert!(rt; is_never_kept(rt.alloc(), at, byte)?);
+    }
+    Ok(())
+}
+
+/// Writes `a` at a stamp: an erasure if 3 divides it, and else a value of 500 to 4,000 bytes.
+fn write_some(alloc: Global, table: &mut Memtable, stamp: Stamp) -> Result<(), Refusal> {
+    let value = vec![in alloc; (stamp % 256) as u8; 500 * (stamp % 9) as usize]?;
+    let put = (stamp % 3 != 0).then_some(value.as_slice());
+    write(alloc, table, stamp, put)
+}
+
+/// A file of `a` at the even stamps from 2 to 28: more than five blocks.
+fn many(alloc: Global) -> Result<Vec<u8>, Refusal> {
+    let mut table = Memtable::new(alloc);
+    for half in 1..15u64 {
+        write_some(alloc, &mut table, half * 2)?;
+    }
+    file_of(alloc, &table)
+}
+
+/// Whether a look-up at a stamp of `a` finds what a slow one finds in the bytes.
+fn agree_on(
+    alloc: Global,
+    file: &mut SortedFile,
+    stamp: Stamp,
+    bytes: &[u8],
+    files: &mut MemFiles,
+) -> Result<bool, Refusal> {
+    let key = data_key(alloc, &Row::new(alloc, b"a")?, stamp)?;
+    let mut text = Vec::new(alloc);
+    key.encode(&mut text)?;
+    Ok(match (file.lookup(&key, files)?, found_at(bytes, &text)) {
+        (Some(Some(value)), Some(Some(slow))) => value.as_slice() == slow,
+        (Some(None), Some(None)) | (None, None) => true,
+        _ => false,
+    })
+}
+
+/// Whether a slow look-up agrees on each stamp below `end`, in a file of these bytes.
+fn agree_below(alloc: Global, bytes: &[u8], end: Stamp) -> Result<bool, Refusal> {
+    let mut files = MemFiles::new(alloc);
+    let mut file = opened(alloc, &mut files, bytes)?;
+    for stamp in 0..end {
+        if !agree_on(alloc, &mut file, stamp, bytes, &mut files)? {
+            return Ok(false);
+        }
+    }
+    Ok(true)
+}
+
+/// Each key of a file of more than five blocks, and keys before, between and behind them; and the file of three entries in
+/// format 1.
+#[test]
+fn a_slow_look_up_agrees(rt: HostRuntime) -> Result<(), Fail> {
+    assert!(rt; agree_below(rt.alloc(), &many(rt.alloc())?, 31)?);
+    assert!(rt; agree_below(rt.alloc(), &three(rt.alloc())?, 5)?);
+    Ok(())
+}
