@@ -8,7 +8,7 @@ use Rattle.cell_key.specs.declared.keys.Qualifier.TheVariants as column
 use Rattle.cell_key.specs.Columns.{NamesStart, IsRecordText}
 use Rattle.cell_key.proofs.RecordTexts.{names_of, one_write}
 use Rattle.cell_key.specs.declared.columns.WriteKind.{WriteKind}
-use Rattle.row_atomic.specs.Calls.{AppliesSuch, OnlyReads, View}
+use Rattle.rows.specs.Calls.{AppliesSuch, OnlyReads, View}
 use Rattle.si_model.specs.Deciding.{IsRight, TellsFirst}
 use Rattle.si_model.specs.Sets.{◌∈◌, here, IsWithout}
 use Rattle.si_model.specs.Machine as machine

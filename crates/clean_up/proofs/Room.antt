@@ -8,9 +8,9 @@ use Rattle.cell_key.specs.declared.keys.Qualifier.TheVariants as column
 use Rattle.cell_key.specs.LockEdits.{IsRecording}
 use Rattle.cell_key.proofs.RecordTexts.{names_of}
 use Rattle.cell_key.specs.declared.columns.WriteKind.{WriteKind}
-use Rattle.row_atomic.specs.Calls.{AppliesSuch, View}
-use Rattle.row_atomic.specs.Room.{HasNoRoom, TakesRoomOf}
-use Rattle.row_atomic.proofs.Calls.{such_so}
+use Rattle.rows.specs.Calls.{AppliesSuch, View}
+use Rattle.rows.specs.Room.{HasNoRoom, TakesRoomOf}
+use Rattle.rows.proofs.Calls.{such_so}
 use Rattle.si_model.specs.Deciding.{IsRight}
 use Rattle.si_model.specs.Edits.{ErasesCell}
 use Rattle.si_model.specs.Machine.{State, IsReached, Marked}

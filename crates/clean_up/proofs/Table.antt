@@ -17,8 +17,8 @@ use Rattle.cell_key.specs.Texts.{place_text}
 use Rattle.cell_key.specs.Columns.{IsLockText}
 use Rattle.cell_key.proofs.LockTexts.{one_first}
 use Rattle.cell_key.proofs.Order.{one_place_a_text}
-use Rattle.row_atomic.specs.Calls.{View}
-use Rattle.row_atomic.specs.Refusals.{IsReadRefusal}
+use Rattle.rows.specs.Calls.{View}
+use Rattle.rows.specs.Refusals.{IsReadRefusal}
 use Rattle.si_model.specs.Deciding.{CleanersKnow}
 use Rattle.si_model.specs.Laws.{IsWritable}
 use Rattle.si_model.specs.Machine as machine

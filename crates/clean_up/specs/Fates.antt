@@ -3,8 +3,8 @@ use Rattle.std.specs.Prelude.{◌≡◌, ◌≢◌, ◌⊎◌, ℕ, ◌+◌, ◌
 use Rattle.cell_key.specs.Cells.{Cells}
 use Rattle.cell_key.specs.declared.keys.Qualifier.TheVariants.{Write}
 use Rattle.cell_key.specs.Columns.{NamesStart}
-use Rattle.row_atomic.specs.Calls.{AppliesSuch, OnlyReads, View}
-use Rattle.row_atomic.specs.Oldest.{IsOldest}
+use Rattle.rows.specs.Calls.{AppliesSuch, OnlyReads, View}
+use Rattle.rows.specs.Oldest.{IsOldest}
 use Rattle.si_model.specs.Deciding as deciding
 use Rattle.si_model.specs.Deciding.{Verdict}
 use Rattle.si_model.specs.Edits.{ErasesCell}

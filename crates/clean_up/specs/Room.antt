@@ -7,8 +7,8 @@ use Rattle.cell_key.specs.Cells.{Cells}
 use Rattle.cell_key.specs.declared.edits.Edit.{Edit}
 use Rattle.cell_key.specs.LockEdits.{IsErasing, IsRecording}
 use Rattle.cell_key.specs.declared.columns.WriteKind.{WriteKind}
-use Rattle.row_atomic.specs.Calls.{AppliesSuch, OnlyReads, View}
-use Rattle.row_atomic.specs.Room.{AreAfter, TakesNoRoom, TakesRoomOf}
+use Rattle.rows.specs.Calls.{AppliesSuch, OnlyReads, View}
+use Rattle.rows.specs.Room.{AreAfter, TakesNoRoom, TakesRoomOf}
 use Rattle.si_model.specs.Edits.{ErasesCell, RecordsCell}
 use Rattle.si_model.specs.Machine as machine
 use Rattle.si_model.specs.Machine.{State, Change, Marked, IsDead, CommittedAt}

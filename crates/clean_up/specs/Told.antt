@@ -3,7 +3,7 @@ use Rattle.std.specs.Prelude.{◌≡◌, ℕ, true, cond, Option, Some, None}
 use Rattle.std.specs.Ordering.{nat_cmp}
 use Rattle.std.specs.BTreeMap as btree
 use Rattle.cell_key.specs.Cells.{Cells}
-use Rattle.row_atomic.specs.Calls.{View}
+use Rattle.rows.specs.Calls.{View}
 use Rattle.si_model.specs.Reads.{IsGone}
 use Rattle.si_model.specs.declared.replies.Cell.{Cell}
 use Rattle.si_model.specs.declared.replies.CleanReply.{CleanReply}

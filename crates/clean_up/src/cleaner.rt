@@ -2,8 +2,8 @@
 
 ghost use Rattle.std.specs.Prelude.{◌≡◌, IfErr, IfOk, IsErrOf, OnErr};
 ghost use Rattle.cell_key.specs.Faults.{HasReason};
-ghost use Rattle.row_atomic.specs.Calls.{OnlyReads};
-ghost use Rattle.row_atomic.specs.Room.{HasNoRoom};
+ghost use Rattle.rows.specs.Calls.{OnlyReads};
+ghost use Rattle.rows.specs.Room.{HasNoRoom};
 ghost use Rattle.clean_up.specs.Fates.{HasBadRecord};
 ghost use Rattle.clean_up.specs.Refusals.{IsAdvanceRefusal};
 ghost use Rattle.clean_up.specs.Room.{Does, EditsOf};
@@ -14,7 +14,7 @@ use crate::clearing;
 use crate::fates::{self, Fate};
 use crate::locks::Lock;
 use cell_key::{Moment, Refusal};
-use row_atomic::Rows;
+use rows::Rows;
 use si_model::{Cell, CleanReply};
 use std::alloc::Global;
 

@@ -5,14 +5,14 @@ ghost use Rattle.std.specs.Bool.{OnFalse, OnTrue};
 ghost use Rattle.std.specs.List.{AllByRecursion};
 ghost use Rattle.cell_key.specs.Cells.{IsEditOf};
 ghost use Rattle.cell_key.specs.Faults.{HasReason};
-ghost use Rattle.row_atomic.specs.Calls.{AppliesSuch, OnlyReads};
-ghost use Rattle.row_atomic.specs.Room.{HasNoRoom};
+ghost use Rattle.rows.specs.Calls.{AppliesSuch, OnlyReads};
+ghost use Rattle.rows.specs.Room.{HasNoRoom};
 ghost use Rattle.si_model.specs.Reads.{IsGone};
 ghost use Rattle.clean_up.specs.Refusals.{IsRowRefusal};
 ghost use Rattle.clean_up.specs.Room.{ClearsCell, IsClearing};
 
 use cell_key::{Edit, Lock, Moment, Qualifier, Refusal, WriteKind, erase_lock, record_lock};
-use row_atomic::Rows;
+use rows::Rows;
 use si_model::Cell;
 use std::alloc::Global;
 

@@ -2,9 +2,9 @@
 
 ghost use Rattle.std.specs.Prelude.{◌≡◌, IfErr, IfOk, IsErrOf, OnErr};
 ghost use Rattle.cell_key.specs.Faults.{HasReason};
-ghost use Rattle.row_atomic.specs.Calls.{OnlyReads};
-ghost use Rattle.row_atomic.specs.Refusals.{IsReadRefusal};
-ghost use Rattle.row_atomic.specs.Room.{HasNoRoom};
+ghost use Rattle.rows.specs.Calls.{OnlyReads};
+ghost use Rattle.rows.specs.Refusals.{IsReadRefusal};
+ghost use Rattle.rows.specs.Room.{HasNoRoom};
 ghost use Rattle.si_model.specs.Edits.{ErasesCell};
 ghost use Rattle.clean_up.specs.Fates.{Decides, HasBadRecord, IsToldBy};
 ghost use Rattle.clean_up.specs.Refusals.{IsAdvanceRefusal};
@@ -12,7 +12,7 @@ ghost use Rattle.clean_up.specs.Refusals.{IsAdvanceRefusal};
 use crate::clearing;
 use crate::locks::Lock;
 use cell_key::{Moment, Qualifier, Record, Refusal};
-use row_atomic::{Rows, oldest};
+use rows::{Rows, oldest};
 use si_model::Cell;
 use std::alloc::Global;
 

@@ -2,12 +2,12 @@
 
 ghost use Rattle.std.specs.Prelude.{◌≡◌, IfErr, IfOk};
 ghost use Rattle.cell_key.specs.Faults.{HasReason};
-ghost use Rattle.row_atomic.specs.Calls.{OnlyReads};
-ghost use Rattle.row_atomic.specs.Refusals.{IsReadRefusal};
+ghost use Rattle.rows.specs.Calls.{OnlyReads};
+ghost use Rattle.rows.specs.Refusals.{IsReadRefusal};
 ghost use Rattle.clean_up.specs.Locks.{IsStanding, LacksPlace};
 
 use cell_key::{Moment, Qualifier, Refusal};
-use row_atomic::Rows;
+use rows::Rows;
 use si_model::Cell;
 use std::alloc::Global;
 

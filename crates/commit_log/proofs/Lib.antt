@@ -1,4 +1,4 @@
-mod Bits
+mod Tables
 mod Cuts
 mod Entries
 mod Fronts

@@ -8,7 +8,7 @@ ghost use Rattle.commit_log.specs.Faults.{HasFaultCause};
 use crate::faults::LogFault;
 use crate::file_log::FileLog;
 use crate::files::LogFile;
-use crate::frames::HEAD;
+use crate::frames::{HEAD, read_log};
 use std::alloc::Global;
 use std::fs::{File, OpenFile, OpenOptions};
 use std::io::{ErrorKind, Read, Seek, SeekFrom, Write};
@@ -69,13 +69,13 @@ fn read_all<S: Read + Seek>(alloc: Global, file: &mut S) -> io::Result<Vec<u8>> 
     Ok(bytes)
 }
 
-/// Makes the file of a log without records: it is written beside its place, forced to the disk and put there, and the folder
+/// Makes the file of a log with these bytes: it is written beside its place, forced to the disk and put there, and the folder
 /// is forced to the disk too.
-fn make_file<R: Folders + AllocGlobal>(rt: &R, folder: &str) -> io::Result<()> {
+fn make_file<R: Folders + AllocGlobal>(rt: &R, folder: &str, bytes: &[u8]) -> io::Result<()> {
     let path = format!(in rt.alloc(); "{folder}/commit.log")?;
     let beside = format!(in rt.alloc(); "{folder}/commit.new")?;
     let mut file = File::create(rt, beside.as_str())?;
-    write_synced(&mut file, &HEAD)?;
+    write_synced(&mut file, bytes)?;
     fs::rename(rt, beside.as_str(), path.as_str())?;
     let folder = File::open(rt, folder)?;
     folder.sync_all()
@@ -93,7 +93,22 @@ fn fault_of(error: io::Error) -> LogFault
     }
 }
 
-/// The log of a folder, if there is one. The folder is this program's alone.
+/// Writes the records of a file's log anew: what a program that was killed, or whose write failed, left in the system's memory
+/// is on the disk then.
+fn force_records<R: Folders + AllocGlobal>(
+    rt: &R,
+    folder: &str,
+    file: &mut DirFile<R::File>,
+) -> Result<(), LogFault> {
+    let bytes = file.read(rt.alloc())?;
+    let end = read_log(rt.alloc(), &bytes)?.end;
+    if end <= HEAD.len() {
+        return Ok(());
+    }
+    make_file(rt, folder, &bytes[..end]).map_err(fault_of)
+}
+
+/// The log of a folder, if there is one, with all its records on the disk. The folder is this program's alone.
 ///
 /// # Errors
 ///
@@ -102,6 +117,10 @@ pub fn open_log<R: Folders + AllocGlobal>(
     rt: &R,
     folder: &str,
 ) -> Result<Option<DirLog<R::File>>, LogFault> {
+    let Some(mut found) = open_file(rt, folder).map_err(fault_of)? else {
+        return Ok(None);
+    };
+    force_records(rt, folder, &mut found)?;
     let Some(file) = open_file(rt, folder).map_err(fault_of)? else {
         return Ok(None);
     };
@@ -117,7 +136,7 @@ pub fn open_log<R: Folders + AllocGlobal>(
 ///
 /// `Device`; `Memory`.
 pub fn make_log<R: Folders + AllocGlobal>(rt: &R, folder: &str) -> Result<(), LogFault> {
-    make_file(rt, folder).map_err(fault_of)
+    make_file(rt, folder, &HEAD).map_err(fault_of)
 }
 
 impl<F: Read + Write + Seek + OpenFile> DirFile<F> {

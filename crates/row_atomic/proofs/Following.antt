@@ -11,7 +11,8 @@ use Rattle.cell_key.specs.declared.edits.Edit.{Edit}
 use Rattle.commit_log.specs.Edits.{IsStoredEdit, spelled_edit, spelled_edits}
 use Rattle.file_store.specs.Store.{Contents}
 use Rattle.metadata_table.specs.Roots.{RootView}
-use Rattle.row_atomic.specs.Calls.{Applies, OnlyReads, seen_of}
+use Rattle.rows.specs.Calls.{Applies, OnlyReads}
+use Rattle.row_atomic.specs.Seen.{seen_of}
 use Rattle.row_atomic.specs.Changes.{Holds}
 use Rattle.row_atomic.specs.Clusters.{ClusterState, cells_in, storage_of}
 use Rattle.row_atomic.specs.Commands.{AnswersFromCells, cells_shown}

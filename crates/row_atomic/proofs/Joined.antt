@@ -15,7 +15,7 @@ use Rattle.cell_key.specs.declared.keys.CellKey.{CellKey}
 use Rattle.cell_key.specs.declared.edits.Edit.{Edit}
 use Rattle.cell_key.specs.declared.edits.Edit.TheVariants.{Put, Erase}
 use Rattle.row_atomic.specs.Clusters.{joined}
-use Rattle.row_atomic.proofs.SlotLemmas.{same_at}
+use Rattle.rows.proofs.SlotLemmas.{same_at}
 
 cond_or : {A : Type 0} (b : Bool) (v : A) (x y : Option A) → cond b (Some v) (or_else x y) ≡ or_else (cond b (Some v) x) y
 cond_or true v x y = refl

@@ -21,11 +21,11 @@ use Rattle.metadata_table.specs.declared.places.Place.{Place as Spot}
 use Rattle.tablet.specs.Views.{Holds, cells_at, range_of}
 use Rattle.row_atomic.specs.Changes.{HasNoMore, Passes}
 use Rattle.row_atomic.specs.Clusters.{ArePlaced, cells_in, tablet_numbered}
-use Rattle.row_atomic.proofs.NextLists.{last_more, next_append}
+use Rattle.rows.proofs.NextLists.{last_more, next_append, next_ended}
 use Rattle.row_atomic.proofs.Nexts.{NoneAfter, begin_past, found_next, in_range}
 use Rattle.row_atomic.proofs.Owners.{BeginsPast, OfTablet, index_of, numbered_at}
 use Rattle.row_atomic.proofs.Shares.{each_map}
-use Rattle.row_atomic.proofs.Places.{exact_places, place_cmp_total}
+use Rattle.rows.proofs.Places.{exact_places, place_cmp_total}
 
 pub after_after : (start : Option Place) (p q : Place) → IsAfter start p → IsAfter (Some p) q → IsAfter start q
 after_after None p q h k = tt
@@ -36,11 +36,6 @@ module _ (cells : Cells) where
   pub behind_last : (most : ℕ) (start : Option Place) (places : List Place) → AreNextCells cells start most places → (place : Place) → IsAfter (last_or start places) place → IsAfter start place
   behind_last most start [] some place behind = behind
   behind_last most start (p ∷ places) some place behind = after_after start p place some.1.0 (behind_last (most - 1) (Some p) places some.2 place behind)
-
-  -- where fewer were found none is left
-  pub next_ended : (most : ℕ) (start : Option Place) (places : List Place) → AreNextCells cells start most places → length places < most → IsNextCell cells (last_or start places) None
-  next_ended most start [] some few = some (omega (arith, few))
-  next_ended most start (p ∷ places) some few = next_ended (most - 1) (Some p) places some.2 (omega (arith, few))
 
   -- next cells are those after any place before which there are none
   pub begin_later : (start later : Option Place) → ((place : Place) → IsAfter later place → IsAfter start place) → ((place : Place) → HasCell cells place → IsAfter later place) → (most : ℕ) (places : List Place) → AreNextCells cells start most places → AreNextCells cells later most places
@@ -177,7 +172,7 @@ module _ (m : Contents) (ts : List Tablet) (pre : List PlaceView) (p : PlaceView
     pub asked_ended : length (found ++ more) < most → IsNextCell (cells_at m t) (last_or start (found ++ more)) None
     asked_ended few =
         subst (λ (o : Option Place). IsNextCell (cells_at m t) o None) (sym (last_more start found more))
-        (next_ended (cells_at m t) (most - length found) (last_or start found) more then (omega (arith, few, length-append found more)))
+        (next_ended (IsNextCell (cells_at m t)) (most - length found) (last_or start found) more then (omega (arith, few, length-append found more)))
 
 -- ---- what is passed
 

@@ -10,15 +10,15 @@ use Rattle.file_store.specs.Store.{Contents}
 use Rattle.metadata_table.specs.Places.{PlaceView}
 use Rattle.metadata_table.specs.Table.{IsTable}
 use Rattle.sorted_file.specs.Source as sources
-use Rattle.tablet.specs.Batches.{AreNextVersions, HasNewest, of_column, place_in, places_in}
+use Rattle.rows.specs.Batches.{AreNextVersions, HasNewest, of_column, place_in, places_in}
 use Rattle.tablet.specs.Views.{cells_at}
-use Rattle.tablet.specs.declared.batches.CellVersions.{CellVersions}
-use Rattle.tablet.specs.declared.batches.VersionBatch.{VersionBatch}
+use Rattle.rows.specs.declared.batches.CellVersions.{CellVersions}
+use Rattle.rows.specs.declared.batches.VersionBatch.{VersionBatch}
 use Rattle.tablet.specs.declared.tablet.Tablet.{Tablet}
 use Rattle.row_atomic.specs.Clusters.{AreOpenFrom, ArePlaced, cells_in, tablet_numbered}
-use Rattle.row_atomic.specs.Refusals.{IsRefusalOfRead}
+use Rattle.rows.specs.Refusals.{IsRefusalOfRead}
 use Rattle.row_atomic.proofs.ManyNexts.{BeginBehind, begin_fewer, behind_last, goes_on, later_none, tablet_begins, tablet_next}
-use Rattle.row_atomic.proofs.NextLists.{last_more, next_append}
+use Rattle.rows.proofs.NextLists.{last_more, next_append}
 use Rattle.row_atomic.proofs.Nexts.{NoneAfter, in_range}
 use Rattle.row_atomic.proofs.Owners.{index_of, numbered_at}
 use Rattle.row_atomic.proofs.Parts.{owns_if_has}

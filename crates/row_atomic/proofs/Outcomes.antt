@@ -16,7 +16,7 @@ use Rattle.tablet.specs.declared.tablet.Tablet.{Tablet}
 use Rattle.row_atomic.specs.Changes.{Holds, IsAsBefore, IsCompacted, IsCut, IsEmptied, IsFlushed, IsFullTablet, IsHalved, IsMoveRefusal, IsMoved, IsNumberedRefusal, IsOn, IsOutOfOrder, IsRefusalOf, IsSplitRefusal, IsUndone, KeepsMap, ListsAll, MayBeFlushed, MayHolderBeFlushed, MeetsBadCount, MeetsFull, Numbered, OfHolder, Remakes, WritesNone}
 use Rattle.row_atomic.specs.Clusters.{ClusterState, spots_of, storage_of}
 use Rattle.row_atomic.specs.Commands.{AnswersFromCells, BarsCompaction, BarsReading, HasCause, IsNoFuller, IsOutcome, LeavesRoom, MayCompact, OverfillsCluster, TellsFaults, Upholds, UsesFiles, cells_shown, compacting, done_of, split_of, swept_of}
-use Rattle.row_atomic.specs.Refusals.{IsApplyRefusal, IsReadRefusal}
+use Rattle.rows.specs.Refusals.{IsApplyRefusal, IsReadRefusal}
 use Rattle.row_atomic.specs.Sweeps.{MayLackUnkept, count_swept, swept}
 use Rattle.tablet.specs.declared.compactions.Compaction.{Compaction}
 use Rattle.tablet.specs.declared.compactions.Compaction.TheVariants as compactions

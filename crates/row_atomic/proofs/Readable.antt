@@ -18,10 +18,10 @@ use Rattle.metadata_table.specs.Table.{EndsRise, IsHolder, IsTable}
 use Rattle.sorted_file.specs.Source as sources
 use Rattle.tablet.specs.Views.{Holds, IsSameTablet}
 use Rattle.tablet.specs.declared.tablet.Tablet.{Tablet}
-use Rattle.row_atomic.specs.Calls.{IsRowFrom}
+use Rattle.rows.specs.Calls.{IsRowFrom}
 use Rattle.row_atomic.specs.Changes.{MeetsDamage}
 use Rattle.row_atomic.specs.Clusters.{AreOpenFrom, ArePlaced, IsReadable, PrecedesCell, cells_in, tablet_numbered}
-use Rattle.row_atomic.specs.Refusals.{IsRefusalOfRead}
+use Rattle.rows.specs.Refusals.{IsRefusalOfRead}
 use Rattle.row_atomic.proofs.Parts.{IsNumbered, at_parts, has_holder}
 use Rattle.row_atomic.proofs.PlacedTablets.{is_placed}
 use Rattle.row_atomic.proofs.RowAnswers.{not_damaged}

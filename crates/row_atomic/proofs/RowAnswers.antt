@@ -15,7 +15,7 @@ use Rattle.metadata_table.specs.Places.{PlaceView}
 use Rattle.metadata_table.specs.Table.{IsTable, IsHolder}
 use Rattle.sorted_file.specs.File.{name_of}
 use Rattle.tablet.specs.Ranges.{has_row, seen}
-use Rattle.tablet.specs.Reads.{AreNewestFirst, HasVersion}
+use Rattle.rows.specs.Reads.{AreNewestFirst, HasVersion}
 use Rattle.tablet.specs.Views.{Holds, IsBelow, IsSameTablet, cells_at, lists_of, range_of, files_of, names_of, memory_of}
 use Rattle.tablet.specs.declared.tablet.Tablet.{Tablet}
 use Rattle.row_atomic.specs.Clusters.{tablet_numbered, cells_in, joined, edits_in, InOrder, ArePlaced, IsMatched, Overfills}

@@ -13,7 +13,7 @@ use Rattle.cell_key.specs.declared.edits.Edit.{Edit}
 use Rattle.cell_key.proofs.KeyLaws.{exact_keys}
 use Rattle.file_store.specs.Store.{Contents}
 use Rattle.tablet.specs.Ranges.{has_row}
-use Rattle.tablet.specs.Reads.{AreNewestFirst}
+use Rattle.rows.specs.Reads.{AreNewestFirst}
 use Rattle.tablet.specs.Views.{Holds, IsBelow, UsesName, Keeps, cells_at, range_of}
 use Rattle.tablet.specs.Laws.{OthersStay}
 use Rattle.tablet.specs.declared.tablet.Tablet.{Tablet}

@@ -12,7 +12,7 @@ use Rattle.tablet.specs.Laws.{OthersStay, StaysInRange}
 use Rattle.tablet.specs.declared.tablet.Tablet.{Tablet}
 use Rattle.row_atomic.specs.Clusters.{ArePlaced, InOrder, IsMatched, cells_in}
 use Rattle.row_atomic.specs.Changes.{IsEmptied, IsFlushed, Numbered, OfHolder, Remakes}
-use Rattle.tablet.proofs.SourceLists.{each_push}
+use Rattle.rows.proofs.PushedLists.{each_push}
 use Rattle.row_atomic.proofs.FileNames.{cut_files}
 use Rattle.row_atomic.proofs.ChangedTablets.{matched_next, numbered_at, stays}
 use Rattle.row_atomic.proofs.CutTablets.{cut_placed}

@@ -12,6 +12,7 @@ use Rattle.metadata_table.specs.Places.{PlaceView, EndsBefore}
 use Rattle.metadata_table.specs.Roots.{AreFiles}
 use Rattle.metadata_table.specs.Table.{IsHolder, IsTable}
 use Rattle.sorted_file.specs.Limits.{IsFileLimit}
+use Rattle.rows.specs.Storage.{Storage}
 use Rattle.tablet.specs.Ranges.{has_row}
 use Rattle.tablet.specs.Views.{Holds, IsBelow, cells_at, files_of, memory_of, names_of, range_of}
 use Rattle.tablet.specs.declared.ranges.RowRange.{RowRange}
@@ -64,16 +65,7 @@ Spot = Option (List ℕ) × (ℕ × ℕ)
 abbrev pub spot_of : PlaceView → Spot
 spot_of p = (p.end, (p.tablet, p.server))
 
--- What lies below the memtables: the bytes of the files, as far as they are known, the most bytes
--- of a sorted file, the next file's name, and the places of the tablets with their files; and the
--- bytes of edits that a log has, if edits are written down.
-pub record Storage : Type 0 where
-  pub disk : Option Contents
-  pub file_limit : ℕ
-  pub next_name : ℕ
-  pub places : List PlaceView
-  pub logged : List ℕ
-
+-- what lies below the memtables of a cluster that writes no edits down
 abbrev pub storage_of : {F : Type 0} → (F → Option Contents) → ClusterState F → Storage
 storage_of contents state =
     record {
@@ -83,10 +75,6 @@ storage_of contents state =
       places = state.places;
       logged = [];
     }
-
--- rows that are held in memory alone
-abbrev pub no_storage : Storage
-no_storage = record { disk = None; file_limit = 0; next_name = 0; places = []; logged = [] }
 
 -- where the tablets are, in the order of their ends
 abbrev pub spots_of : {F : Type 0} → ClusterState F → List Spot

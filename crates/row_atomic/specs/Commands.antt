@@ -17,8 +17,8 @@ use Rattle.tablet.specs.Views.{UsesName}
 use Rattle.row_atomic.specs.Changes.{CannotRead, ComesOfWriting, ComesTo, FitsLimit, Holds, IsAsBefore, IsCompacted, IsCut, IsEmptied, IsFullTablet, IsHalved, IsMoveRefusal, IsNumberedRefusal, IsOn, IsOutOfOrder, IsSplitRefusal, IsTooLarge, IsUncached, IsUndone, ListsAll, MayBeFlushed, MayHolderBeFlushed, MeetsBadCount, MeetsDamage, MeetsFull, Numbered, OfHolder, WritesNone}
 use Rattle.row_atomic.specs.Clusters.{ClusterState, Overfills, cells_in, spots_of, storage_of}
 use Rattle.row_atomic.specs.Compactions as compaction
-use Rattle.row_atomic.specs.Refusals.{IsApplyRefusal, IsReadRefusal}
-use Rattle.row_atomic.specs.Room.{TakesNoRoom, TakesRoomOf}
+use Rattle.rows.specs.Refusals.{IsApplyRefusal, IsReadRefusal}
+use Rattle.rows.specs.Room.{TakesNoRoom, TakesRoomOf}
 use Rattle.row_atomic.specs.Sweeps.{IsSwept, IsSweptInPart}
 use Rattle.tablet.specs.declared.compactions.Compaction.{Compaction}
 use Rattle.tablet.specs.declared.compactions.Compaction.TheVariants as compactions

@@ -6,7 +6,8 @@ use Rattle.cell_key.specs.Cells.{Cells, after_edits}
 use Rattle.cell_key.specs.declared.edits.Edit.{Edit}
 use Rattle.file_store.specs.Store.{Contents}
 use Rattle.metadata_table.specs.Roots.{RootView}
-use Rattle.row_atomic.specs.Calls.{View, seen_of}
+use Rattle.rows.specs.Calls.{View}
+use Rattle.row_atomic.specs.Seen.{seen_of}
 use Rattle.row_atomic.specs.Changes.{Holds, IsEmptied, ListsAll}
 use Rattle.row_atomic.specs.Clusters.{ClusterState, storage_of}
 use Rattle.row_atomic.specs.Commands.{IsOutcome, OverfillsCluster, cells_shown}

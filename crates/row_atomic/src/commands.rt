@@ -7,9 +7,9 @@ ghost use Rattle.row_atomic.specs.Changes.{Holds};
 ghost use Rattle.row_atomic.specs.Commands.{AnswersAll, IsOutcome, IsUnderRow, done_of};
 
 use crate::cluster::Cluster;
-use crate::rows::Rows;
 use cell_key::{Edit, Family, Qualifier, Refusal, Row, Stamp};
 use file_store::Files;
+use rows::Rows;
 
 /// What a cluster may be asked for.
 #[derive(Drop)]

@@ -5,7 +5,7 @@ ghost use Rattle.std.specs.List.{AllByRecursion};
 ghost use Rattle.cell_key.specs.Cells.{IsEditOf};
 ghost use Rattle.commit_log.specs.Edits.{IsStoredEdit};
 ghost use Rattle.row_atomic.specs.Journals.{HasRoomFor, IsWithin, all_logged, empty_journal, with_waiting};
-ghost use Rattle.row_atomic.specs.Refusals.{IsApplyRefusal};
+ghost use Rattle.rows.specs.Refusals.{IsApplyRefusal};
 
 use cell_key::{Edit, Refusal, Row};
 use commit_log::push_edits;

@@ -1,18 +1,12 @@
-//! The cluster of tablets: rows of cells, each of which is read and changed alone, over one store of files. A plain map of
-//! rows in memory is its measure in tests.
+//! The cluster of tablets: rows of cells, each of which is read and changed alone, over one store of files.
 #![tactic(auto)]
 
 mod cluster;
 mod commands;
 mod fill;
 mod journal;
-mod laws;
-mod oldest_version;
 mod place_cache;
-mod plain;
 mod recorded;
-mod rows;
-mod slots;
 
 pub use cluster::Cluster;
 pub use cluster::laws::{
@@ -22,8 +16,5 @@ pub use cluster::laws::{
 pub use commands::{Command, Outcome};
 pub use fill::FlushLimits;
 pub use journal::Journal;
-pub use laws::{one_newest, one_next_cell};
-pub use oldest_version::oldest;
-pub use plain::PlainRows;
 pub use recorded::Recorded;
-pub use rows::Rows;
+pub use rows::{PlainRows, Rows, oldest, one_newest, one_next_cell};

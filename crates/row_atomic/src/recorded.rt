@@ -5,9 +5,9 @@ ghost use Rattle.std.specs.Prelude.{◌≡◌, OnErr, OnOk, option_map};
 use crate::cluster::Cluster;
 use crate::cluster::laws::root_is_stored;
 use crate::journal::Journal;
-use crate::rows::Rows;
 use cell_key::{Edit, Family, Qualifier, Refusal, Row, Stamp, replays};
 use file_store::Files;
+use rows::Rows;
 use tablet::{BatchLimits, VersionBatch};
 
 /// A cluster, and, if edits are recorded, the journal in which each is written down before an answer says that it was
@@ -122,10 +122,10 @@ impl<F: Files> Recorded<F> {
 }
 
 impl<F: Files> Rows for Recorded<F> {
-    ghost use Rattle.row_atomic.specs.Calls.{Applies, OnlyReads};
+    ghost use Rattle.rows.specs.Calls.{Applies, OnlyReads};
     ghost use Rattle.row_atomic.specs.Journals.{with_waiting};
     ghost use Rattle.row_atomic.specs.Recorded.{FitsMemtables, OverfillsRecorded, seen_recorded};
-    ghost use Rattle.row_atomic.specs.Refusals.{IsApplyRefusal};
+    ghost use Rattle.rows.specs.Refusals.{IsApplyRefusal};
     ghost use Rattle.std.specs.List.{AllByRecursion};
     ghost use Rattle.std.specs.Prelude.{IfErr, IsErrOf};
     ghost use Rattle.cell_key.specs.Cells.{IsEditOf};

@@ -4,7 +4,7 @@ use Rattle.cell_key.specs.Cells.{Cells, after_edits}
 use Rattle.cell_key.specs.declared.edits.Edit.{Edit}
 use Rattle.cell_key.specs.LockEdits.{IsErasing, IsRecording}
 use Rattle.cell_key.specs.declared.columns.WriteKind.{WriteKind}
-use Rattle.row_atomic.specs.Room.{AreAfter}
+use Rattle.rows.specs.Room.{AreAfter}
 use Rattle.si_model.specs.Collection.{ChangesCells, unchanged, locks_cell, records_commit, erases_lock}
 use Rattle.si_model.specs.Machine.{State, Phase, Open, Holding, Stamped, Finishing, Writes, Cleaner, InPhase, CommittedAt, IsReached}
 use Rattle.si_model.specs.ShowsCells.{kind_of_change, recorded_cells}

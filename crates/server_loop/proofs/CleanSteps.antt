@@ -2,7 +2,8 @@
 use Rattle.std.proofs.Common.{[], ◌≡◌, ◌≤◌, ℕ, List, map, ap, arith, refl}
 use Rattle.file_store.specs.Store.{Contents}
 use Rattle.row_atomic.specs.Recorded.{seen_recorded}
-use Rattle.row_atomic.specs.Clusters.{Spot, Storage, cells_in, spot_of}
+use Rattle.row_atomic.specs.Clusters.{Spot, cells_in, spot_of}
+use Rattle.rows.specs.Storage.{Storage}
 use Rattle.si_model.specs.Collection.{ChangesCells}
 use Rattle.si_model.specs.Kinds.{OfCleaners, kind_of}
 use Rattle.si_model.proofs.ChangedParts.{leaves_others}

@@ -2,47 +2,22 @@ mod Causes
 mod CellChanges
 mod CleanSteps
 mod CollectSteps
-mod CutBatches
-mod Filled
+pub mod Filled
 mod Following
-mod FrameHeads
-mod FromLogs
-mod JudgedCleaners
-mod JudgedActs
-mod JudgedCleanSteps
-mod JudgedCollectors
-mod JudgedRefusals
-mod JudgedScans
-mod JudgedSessions
-mod JudgedSteps
-mod JudgedTablets
-mod JudgedUpkeep
-mod Kept
-mod KeptLists
-mod KeptMaps
+pub mod FrameHeads
 mod Lengths
-mod Logged
 mod MachinePlaces
-mod Opened
-mod OpenedLogs
-mod OpenedRows
-mod OpensLogs
+pub mod Opened
 mod OthersShown
 mod RawReads
-mod ReachedRuns
-mod RefusedFirst
-mod Replayed
+pub mod ReachedRuns
 mod Rested
-mod Rooted
-mod SamePlaces
-mod Searches
-mod ServingLemmas
-mod SessionSteps
+pub mod SamePlaces
+pub mod ServingLemmas
+pub mod SessionSteps
 mod SplitSteps
-mod Stored
-mod StreamReads
+pub mod StreamReads
 mod Tended
 mod UpkeepRefusals
 mod UpkeepSteps
 mod Whole
-mod WriteIndexes

@@ -13,7 +13,7 @@ use Rattle.metadata_table.specs.Table.{IsListed}
 use Rattle.row_atomic.specs.Changes.{Holds, IsOutOfOrder, OfHolder}
 use Rattle.row_atomic.specs.Clusters.{ClusterState, storage_of}
 use Rattle.row_atomic.specs.Commands.{IsNoFuller, IsOutcome, cells_shown}
-use Rattle.row_atomic.specs.Refusals.{IsReadRefusal}
+use Rattle.rows.specs.Refusals.{IsReadRefusal}
 use Rattle.row_atomic.specs.declared.commands.Command.TheVariants as command
 use Rattle.row_atomic.specs.declared.commands.Outcome.TheVariants.{Newest, Refused}
 

@@ -12,7 +12,7 @@ use Rattle.metadata_table.specs.Table.{BarsSplit, HasTablet, IsTable, most_serve
 use Rattle.row_atomic.specs.Changes.{ComesTo, Holds, IsBadCount, IsCut, IsMerged, IsMoveRefusal, IsNumberedRefusal, IsRefusalOf as IsFlushRefusal, IsSplitRefusal, KeepsMap, Numbered, Remakes}
 use Rattle.row_atomic.specs.Clusters.{ClusterState, cells_in, spots_of}
 use Rattle.row_atomic.specs.Recorded.{Follows}
-use Rattle.row_atomic.specs.Refusals.{IsReadRefusal}
+use Rattle.rows.specs.Refusals.{IsReadRefusal}
 use Rattle.row_atomic.specs.Compactions as compaction
 use Rattle.tablet.specs.declared.tablet.Tablet.{Tablet}
 use Rattle.si_model.specs.Machine.{State, Request, Reply, Refused, Step, Refuses, Minor, MinorDone, Merge, MergeDone, Major, MajorDone, Split, SplitOff, Move, MoveDone, Sweep, Swept, Raw, RawFound, Checkpoint, CheckpointDone, accepts, tells, minors, merges, majors, sweeps, finds_raw, checkpoints}

@@ -13,7 +13,7 @@ use Rattle.request_codec.specs.declared.requests.Request.{Request}
 use Rattle.request_codec.specs.declared.requests.Request.TheVariants.{Begin, Get, Scan, Step, CleanBegin, CleanStep, CollectBegin, CollectStep, Sweep, Checkpoint, Split, Move}
 use Rattle.row_atomic.specs.Journals.{JournalView}
 use Rattle.row_atomic.specs.Recorded.{OverfillsRecorded, logged_of, seen_recorded}
-use Rattle.row_atomic.specs.Room.{HasNoRoom}
+use Rattle.rows.specs.Room.{HasNoRoom}
 use Rattle.row_atomic.specs.Roots.{Checkpoints, Rests, StaysOrRests}
 use Rattle.si_model.specs.Machine.{IsReached, State}
 use Rattle.si_model.specs.Reads.{cell_of}

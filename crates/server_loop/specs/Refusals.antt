@@ -4,7 +4,7 @@ use Rattle.cell_key.specs.declared.refusals.Refusal.{Refusal}
 use Rattle.cell_key.specs.declared.refusals.Refusal.TheVariants.{UnknownSession, BadRow, BadColumn, Device, NoMemory}
 use Rattle.row_atomic.specs.Changes as cluster
 use Rattle.row_atomic.specs.Changes.{IsNumberedRefusal, IsSplitRefusal, IsMoveRefusal}
-use Rattle.row_atomic.specs.Refusals.{IsReadRefusal}
+use Rattle.rows.specs.Refusals.{IsReadRefusal}
 use Rattle.row_atomic.specs.Compactions as compaction
 use Rattle.txn_client.specs.Refusals.{IsBeginRefusal, IsDeleteRefusal, IsGetRefusal, IsScanRefusal, IsSetRefusal, IsStepRefusal}
 use Rattle.clean_up.specs.Refusals as clean_up

@@ -6,7 +6,7 @@ use Rattle.cell_key.specs.declared.refusals.Refusal.TheVariants.{Device, Unknown
 use Rattle.file_store.specs.Store.{Contents}
 use Rattle.row_atomic.specs.Changes.{Holds}
 use Rattle.row_atomic.specs.Recorded.{OverfillsRecorded, seen_recorded}
-use Rattle.row_atomic.specs.Room.{TakesNoRoom}
+use Rattle.rows.specs.Room.{TakesNoRoom}
 use Rattle.si_model.specs.Collection.{Collects}
 use Rattle.si_model.specs.Machine.{IsReached, State}
 use Rattle.si_model.specs.Reads.{cell_of}

@@ -12,10 +12,10 @@ use std::io::Write;
 
 /// A write failed or took no byte.
 #[derive(Clone, Copy)]
-pub(crate) struct WriteFailed;
+pub struct WriteFailed;
 
 /// Writes all of the bytes, however few a write takes. After an `Err` not all of them were written.
-pub(crate) fn write_whole<W: Write>(writer: &mut W, bytes: &[u8]) -> Result<(), WriteFailed>
+pub fn write_whole<W: Write>(writer: &mut W, bytes: &[u8]) -> Result<(), WriteFailed>
     ensures ok { OnOk result (Appends (W.contents writer.old) (W.contents writer.new) bytes.now) }
     ensures err { OnErr result ((n : ℕ) × (n < length bytes.now)
         × Appends (W.contents writer.old) (W.contents writer.new) (take n bytes.now)) }
@@ -33,7 +33,7 @@ pub(crate) fn write_whole<W: Write>(writer: &mut W, bytes: &[u8]) -> Result<(), 
 
 /// Appends the frame of a reply to what the buffer holds.
 #[tactic(auto, using(crate::proofs::Lengths::fits_frame), unfolding(request_codec::specs::Stream::frame))]
-pub(crate) fn push_frame(reply: &Reply, out: &mut Vec<u8>)
+pub fn push_frame(reply: &Reply, out: &mut Vec<u8>)
     requires room { length out.old.items + LONGEST_REPLY ≤ vec_capacity out.old }
     requires limits { KeepsToLimits reply.now }
     ensures items { out.new.items ≡ out.old.items ++ frame (reply_body (replied reply.now)) }
@@ -76,7 +76,7 @@ pub(crate) fn send<W: Write>(
 }
 
 /// Has what was written leave the writer.
-pub(crate) fn flush<W: Write>(writer: &mut W) -> Result<(), ServeFault>
+pub fn flush<W: Write>(writer: &mut W) -> Result<(), ServeFault>
     ensures kept { Keeps (W.contents writer.old) (W.contents writer.new) }
     ensures fault { IfErr result (λ fault. fault ≡ ServeFault.Write) }
 {
@@ -87,7 +87,7 @@ pub(crate) fn flush<W: Write>(writer: &mut W) -> Result<(), ServeFault>
 }
 
 /// The end, after what was written has left the writer.
-pub(crate) fn finish<W: Write>(writer: &mut W, end: End) -> Result<End, ServeFault>
+pub fn finish<W: Write>(writer: &mut W, end: End) -> Result<End, ServeFault>
     ensures kept { Keeps (W.contents writer.old) (W.contents writer.new) }
     ensures end { IfOk result (λ is. is ≡ end) }
     ensures fault { IfErr result (λ fault. fault ≡ ServeFault.Write) }

@@ -1,38 +1,23 @@
 //! The server: a stream of framed requests is answered, reply by reply, as a run of the snapshot machine.
 #![tactic(auto)]
 
-mod audit;
-mod batches;
 mod cleaning;
 mod collecting;
-mod command_line;
-mod command_options;
 mod frames;
-mod lasting;
-mod lasting_opening;
-mod lasting_serving;
+mod journals;
 mod laws;
 mod opening;
-mod recorded_server;
-mod recording;
-mod replaying;
 mod scanning;
 mod server;
 mod serving;
 mod sessions;
 mod statuses;
 mod upkeep;
-mod whole_files;
 
 pub use audit::Audit;
-pub use command_line::options;
-pub use command_options::{
-    DEFAULT_FLUSH, LEAST_CACHE, LEAST_FLUSH_BYTES, LEAST_LOG_BYTES, MOST_CACHE, MOST_FLUSH,
-    MOST_FLUSH_BYTES, MOST_LOG_BYTES, MOST_MERGE, Options,
-};
-pub use lasting::LastingServer;
+pub use frames::{WriteFailed, finish, flush, push_frame, write_whole};
 pub use laws::{resting_is_kept, rests_between};
 pub use row_atomic::FlushLimits;
 pub use server::{Config, Server};
+pub use serving::{Answering, LONGEST_PIECE, Rest, reply_to_body, zeros};
 pub use statuses::{End, ServeFault, end_status, open_status};
-pub use whole_files::WholeFiles;

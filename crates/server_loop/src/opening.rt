@@ -2,7 +2,8 @@
 
 ghost use Rattle.std.specs.Prelude.{◌≡◌, ◌≢◌, ◌≤◌, ◌⊎◌, IfErr, IfOk, IfSome, MatchResult};
 ghost use Rattle.cell_key.specs.Faults.{HasRisen};
-ghost use Rattle.row_atomic.specs.Refusals.{IsReadRefusal};
+ghost use Rattle.oracle.specs.Marks.{IsWithinMark};
+ghost use Rattle.rows.specs.Refusals.{IsReadRefusal};
 ghost use Rattle.si_model.specs.Machine.{State, new_machine, reopened};
 
 use crate::server::{Config, Server};
@@ -83,5 +84,17 @@ impl<F: Files + Drop, M: MarkStore + Drop> Server<F, M> {
         }
         let rows = Recorded::new(cluster);
         Ok(Server::without_sessions(alloc, rows, oracle, top, floor, config))
+    }
+
+    /// Its files and its mark store, as they are. No stamp that was drawn is above the mark.
+    pub fn into_devices(self) -> (F, M)
+        ensures files { result.0 ≡ (cluster_of self).files }
+        ensures marks { result.1 ≡ marks_of self }
+        ensures within { IsWithinMark (last_of self) (M.mark (marks_of self)) }
+    {
+        let Server { rows, oracle, .. } = self;
+        // This call shows that the last stamp is within the mark.
+        let _last = oracle.last();
+        (rows.into_files(), oracle.into_mark())
     }
 }

@@ -71,7 +71,7 @@ impl<F: Files + Drop, M: MarkStore + Drop> Server<F, M> {
 
     /// A server with no session, cleaner or collector. `top` is the greatest stamp that was answered, and `floor` the
     /// greatest floor that a collector began with.
-    pub(crate) fn without_sessions(
+    pub fn without_sessions(
         alloc: Global,
         rows: Recorded<F>,
         oracle: Oracle<M>,

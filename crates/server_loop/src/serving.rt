@@ -18,11 +18,11 @@ use std::alloc::{AllocError, Global};
 use std::io::{Read, Write};
 
 /// The most bytes that one read asks for.
-pub(crate) const LONGEST_PIECE: usize = 65_536;
+pub const LONGEST_PIECE: usize = 65_536;
 
 /// What is left of bytes whose whole frames were answered.
 #[derive(Clone, Copy)]
-pub(crate) enum Rest {
+pub enum Rest {
     /// Less than a frame.
     Partial,
     /// A length past the limit. It was refused.
@@ -30,7 +30,7 @@ pub(crate) enum Rest {
 }
 
 /// What answers requests as the snapshot machine does.
-pub(crate) trait Answering {
+pub trait Answering {
     /// It shows this state of the machine.
     ghost shows: { Self → State → Type 0 };
 
@@ -53,14 +53,14 @@ pub(crate) trait Answering {
 }
 
 /// A vector of zeros. The size is a parameter, so that no proof computes a list of a million.
-pub(crate) fn zeros(alloc: Global, size: usize) -> Result<Vec<u8>, AllocError>
+pub fn zeros(alloc: Global, size: usize) -> Result<Vec<u8>, AllocError>
     ensures { IfOk result (λ v. length v.items ≡ size) }
 {
     vec![in alloc; 0u8; size]
 }
 
 /// The reply to a body, whatever is in it.
-pub(crate) fn reply_to_body<A: Answering>(server: &mut A, body: &[u8]) -> Reply
+pub fn reply_to_body<A: Answering>(server: &mut A, body: &[u8]) -> Reply
     ensures run { RunsAs A.shows server.old server.new (Body body.now ∷ []) (replied result ∷ []) }
     ensures says { SaysOf A.says server.old (Body body.now) (replied result) server.new }
     ensures limits { KeepsToLimits result }

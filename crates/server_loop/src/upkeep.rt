@@ -78,7 +78,7 @@ impl<F: Files + Drop, M: MarkStore + Drop> Server<F, M> {
     }
 
     /// Removes the files that no tablet has. What is written down stays: no root may name a file that no tablet has.
-    pub(crate) fn sweep_files(&mut self) -> Reply
+    pub fn sweep_files(&mut self) -> Reply
         ensures plain { IsPlainAnswer F.Files M.MarkStore self.old Request.Sweep result
             (forgets self.new) }
         ensures spots { spots_of (cluster_of self.new) ≡ spots_of (cluster_of self.old) }
@@ -108,7 +108,7 @@ impl<F: Files + Drop, M: MarkStore + Drop> Server<F, M> {
     /// # Errors
     ///
     /// Those of a checkpoint.
-    pub(crate) fn put_root(&mut self) -> Result<(), Refusal>
+    pub fn put_root(&mut self) -> Result<(), Refusal>
         ensures plain { IsPlainAnswer F.Files M.MarkStore self.old Request.Checkpoint
             (checkpointed result) (forgets self.new) }
         ensures shown { (st : State) → Shows F.contents self.old st

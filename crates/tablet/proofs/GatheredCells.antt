@@ -23,16 +23,16 @@ use Rattle.cell_key.proofs.EntryLaws.{get-cells_of, stored_key}
 use Rattle.cell_key.proofs.EntryLists.{total}
 use Rattle.cell_key.proofs.Order.{after_place, one_place, plain_family, stored_plain, text_exact, text_of_place, text_order}
 use Rattle.cell_key.proofs.TextPlaces.{one_text}
-use Rattle.tablet.specs.Batches.{HasNewest, Keeps, of_column, place_in, places_in}
+use Rattle.rows.specs.Batches.{HasNewest, Keeps, of_column, place_in, places_in}
 use Rattle.tablet.specs.Gathering.{before_last, last_of, AreVersionsIn, Begins, BeginsWith, Gathers, HasPlaceText, IsShown, IsShownSoFar, IsWhole}
 use Rattle.tablet.specs.Reads.{IsNextIn, IsOfPlace, IsStoredPlace, first_value, past_place}
-use Rattle.tablet.specs.declared.batches.CellVersions.{CellVersions}
+use Rattle.rows.specs.declared.batches.CellVersions.{CellVersions}
 use Rattle.tablet.specs.declared.gathering.Gathering.{Gathering}
 use Rattle.tablet.proofs.Filters.{find-filter}
 use Rattle.tablet.proofs.FirstValues.{first_none}
 use Rattle.tablet.proofs.GatheredEntries.{get_added, get_erased, get_unnamed, list_back, list_front, lower_text, newest_above, newest_beside, newest_kept, newest_same, none_behind}
 use Rattle.tablet.proofs.NextCells.{after_past, below_past, from_none, past_after}
-use Rattle.tablet.proofs.NextLists.{last_append, next_append, next_one}
+use Rattle.rows.proofs.NextLists.{last_append, next_append, next_one}
 use Rattle.tablet.proofs.ReadPlaces.{left_after, none_below, none_erased, some_from}
 use Rattle.tablet.proofs.Shown.{stored_or_none}
 

@@ -14,7 +14,6 @@ pub mod MadeTablets
 pub mod Newer
 pub mod NewestVersions
 pub mod NextCells
-pub mod NextLists
 pub mod NextPlaces
 pub mod NextVersions
 pub mod OpenFiles

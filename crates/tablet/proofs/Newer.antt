@@ -15,7 +15,8 @@ use Rattle.file_store.specs.Store.{Contents}
 use Rattle.sorted_file.specs.File.{listed}
 use Rattle.tablet.specs.Ranges.{has_row, seen}
 use Rattle.sorted_file.specs.Newest.{IsAfterStamp}
-use Rattle.tablet.specs.Reads.{AreNewestFirst, HasNoLater}
+use Rattle.rows.specs.Reads.{AreNewestFirst}
+use Rattle.tablet.specs.Reads.{HasNoLater}
 use Rattle.tablet.specs.Views.{range_of, memory_of, files_of, lists_of, cells_at, Holds, IsSameTablet}
 use Rattle.tablet.specs.declared.tablet.Tablet.{Tablet}
 use Rattle.tablet.specs.declared.ranges.RowRange.{RowRange}

@@ -25,7 +25,8 @@ use Rattle.file_store.specs.Store.{Contents}
 use Rattle.sorted_file.specs.File.{IsOpen, listed}
 use Rattle.sorted_file.specs.declared.file.SortedFile.{SortedFile}
 use Rattle.tablet.specs.Ranges.{has_row}
-use Rattle.tablet.specs.Reads.{AreNewestFirst, stamped_values}
+use Rattle.rows.specs.Reads.{AreNewestFirst}
+use Rattle.tablet.specs.Reads.{stamped_values}
 use Rattle.tablet.specs.Sources.{part}
 use Rattle.tablet.specs.Views.{range_of, memory_of, files_of, lists_of, cells_at, Holds}
 use Rattle.tablet.specs.declared.ranges.RowRange.{RowRange}

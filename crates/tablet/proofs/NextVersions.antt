@@ -14,14 +14,14 @@ use Rattle.cell_key.proofs.EntryLaws.{get-cells_of}
 use Rattle.file_store.specs.Store.{Contents}
 use Rattle.sorted_file.specs.File.{IsOpen, listed}
 use Rattle.sorted_file.specs.declared.file.SortedFile.{SortedFile}
-use Rattle.tablet.specs.Batches.{AreNextVersions, HasNewest, of_column, place_in, places_in}
+use Rattle.rows.specs.Batches.{AreNextVersions, HasNewest, of_column, place_in, places_in}
 use Rattle.tablet.specs.Gathering.{AreVersionsIn, Gathers, IsShown}
 use Rattle.tablet.specs.Ranges.{has_row, upper_fence}
 use Rattle.tablet.specs.Reads.{IsNextIn, IsPlaceOrNone, start_of}
 use Rattle.tablet.specs.Sources.{part}
 use Rattle.tablet.specs.Views.{range_of, memory_of, files_of, lists_of, cells_at, Holds}
-use Rattle.tablet.specs.declared.batches.CellVersions.{CellVersions}
-use Rattle.tablet.specs.declared.batches.VersionBatch.{VersionBatch}
+use Rattle.rows.specs.declared.batches.CellVersions.{CellVersions}
+use Rattle.rows.specs.declared.batches.VersionBatch.{VersionBatch}
 use Rattle.tablet.specs.declared.gathering.Gathering.{Gathering}
 use Rattle.tablet.specs.declared.ranges.RowRange.{RowRange}
 use Rattle.tablet.specs.declared.tablet.Tablet.{Tablet}
@@ -29,7 +29,7 @@ use Rattle.tablet.proofs.Filters.{is_between}
 use Rattle.tablet.proofs.GatheredEntries.{list_front, newest_same}
 use Rattle.tablet.proofs.Held.{held_lists}
 use Rattle.tablet.proofs.NextCells.{both_inside, inside_both}
-use Rattle.tablet.proofs.NextLists.{next_all}
+use Rattle.rows.proofs.NextLists.{next_all}
 use Rattle.tablet.proofs.NextPlaces.{next_cells}
 use Rattle.tablet.proofs.Shown.{first_at, part_at, part_list, shown, stored_or_hidden, stored_or_none, view}
 

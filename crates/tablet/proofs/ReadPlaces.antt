@@ -13,7 +13,7 @@ use Rattle.cell_key.proofs.EntryLists.{rest-list, total}
 use Rattle.cell_key.proofs.TextPlaces.{first, less, second}
 use Rattle.sorted_file.specs.Source.{pending}
 use Rattle.std.proofs.lemmas.List.{length-append}
-use Rattle.tablet.proofs.NextLists.{last_append, next_all, next_append, next_one}
+use Rattle.rows.proofs.NextLists.{last_append, next_all, next_append, next_one}
 use Rattle.tablet.specs.Reads.{HasLeft, IsNextIn, IsOfPlace, first_value, past_place}
 use Rattle.tablet.proofs.NextCells.{below_past, le_trans}
 

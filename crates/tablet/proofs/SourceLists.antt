@@ -17,6 +17,7 @@ use Rattle.compaction.specs.Inputs.{InputHolds, input_lent, input_remaining}
 use Rattle.compaction.specs.declared.input.Input.{Input}
 use Rattle.compaction.specs.declared.input.Input.TheVariants.{File}
 use Rattle.compaction.specs.declared.bounded.Bounded.{Bounded}
+use Rattle.rows.proofs.PushedLists.{each_push}
 use Rattle.tablet.specs.Sources.{entries_between, listed_in, lists_over, AreSourcesOf, Comes, HasSource, IsAtStart, IsOpenIn, IsReadThrough, IsSourceOf, remaining_of}
 
 -- the sources are those of the memtable and of the first files
@@ -25,11 +26,6 @@ pub record AreGathered (from : List ℕ) (end : Option (List ℕ)) (memtable : O
   pub of : AllByRecursion (HasSource from end sources) (take i files)
   pub each : AreSourcesOf from end memtable (take i files) sources
   pub lists : (told : Option Contents) → AllByRecursion (IsOpenIn told) files → map (remaining_of told) sources ≡ map (entries_between from end) (lists_over told memtable (take i files))
-
--- a property of each item holds of each after one more is pushed
-pub each_push : {A : Type 0} (P : A → Type 0) (xs : List A) (x : A) → AllByRecursion P xs → P x → AllByRecursion P (xs ++ x ∷ [])
-each_push P [] x all p = (p, tt)
-each_push P (y ∷ xs) x all p = (all.0, each_push P xs x all.1 p)
 
 map-push : {A B : Type 0} (f : A → B) (xs : List A) (x : A) → map f (xs ++ x ∷ []) ≡ map f xs ++ f x ∷ []
 map-push f [] x = refl

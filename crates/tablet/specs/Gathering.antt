@@ -6,9 +6,9 @@ use Rattle.cell_key.specs.Keys.{text, IsStored}
 use Rattle.cell_key.specs.Places.{AreNext, HasCell, Place, last_or, place_of}
 use Rattle.cell_key.specs.Texts.{place_text}
 use Rattle.cell_key.specs.declared.keys.CellKey.{CellKey}
-use Rattle.tablet.specs.Batches.{HasNewest, bytes_in, place_in, places_in}
+use Rattle.rows.specs.Batches.{HasNewest, bytes_in, place_in, places_in}
 use Rattle.tablet.specs.Reads.{IsNextIn, IsStoredPlace}
-use Rattle.tablet.specs.declared.batches.CellVersions.{CellVersions}
+use Rattle.rows.specs.declared.batches.CellVersions.{CellVersions}
 use Rattle.tablet.specs.declared.gathering.Gathering.{Gathering}
 
 -- entries have a key of the cell, and its versions are the newest at or below a stamp

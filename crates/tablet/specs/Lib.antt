@@ -1,4 +1,3 @@
-pub mod Batches
 pub mod Compactions
 pub mod Gathering
 pub mod Laws
@@ -9,5 +8,6 @@ pub mod Splits
 pub mod Views
 pub use Rattle.cell_key.specs.Cells
 pub use Rattle.cell_key.specs.Entries
+pub use Rattle.rows.specs.Batches
 pub use Rattle.sorted_file.specs.Limits
 pub use Rattle.sorted_file.specs.File

@@ -1,10 +1,10 @@
 -- What a read finds.
-use Rattle.std.specs.Prelude.{◌≡◌, ℕ, ◌≤◌, ◌<◌, ◌-◌, length, Bool, List, [], ◌∷◌, Option, Some, None, is_some, if◌then◌else◌, map}
+use Rattle.std.specs.Prelude.{◌≡◌, ℕ, ◌≤◌, ◌<◌, length, List, [], ◌∷◌, Option, Some, None, if◌then◌else◌, map}
 use Rattle.std.specs.List.{AllByRecursion}
 use Rattle.std.specs.Ordering.{is_le}
 use Rattle.cell_key.specs.Names.{IsRow, IsFamily}
 use Rattle.cell_key.specs.Keys.{byte_cmp, text, IsStored}
-use Rattle.cell_key.specs.Cells.{Cells, IsNewest, version}
+use Rattle.cell_key.specs.Cells.{version}
 use Rattle.cell_key.specs.Entries.{Entry, entries_from, first_naming, key_of_text, value_of}
 use Rattle.cell_key.specs.Places.{Place, place_of}
 use Rattle.cell_key.specs.declared.keys.CellKey.{CellKey}
@@ -56,25 +56,11 @@ abbrev pub IsLater : ℕ → ℕ → Option (ℕ × List ℕ) → Type 0
 IsLater s lo None = lo ≤ s
 IsLater s lo (Some found) = found.0 < s
 
--- whether there is a version with a stamp in lo..=hi, where at gives the keys by their stamps
-pub record HasVersion (cells : Cells) (at : ℕ → CellKey) (lo hi : ℕ) (has : Bool) : Type 0 where
-  pub found : Option (ℕ × List ℕ)
-  pub newest : IsNewest cells at lo hi found
-  pub is : has ≡ is_some found
-
 -- Up to that of the key, at no stamp after the one found do lists show a value of the key's column.
 abbrev pub HasNoLater : CellKey → ℕ → Option ℕ → List (List Entry) → Type 0
 HasNoLater key lo found lists =
     (s : ℕ) → IsAfterStamp s lo found → s ≤ key.stamp → IsStored (at_stamp key s)
     → value_of (first_naming lists (text (at_stamp key s))) ≡ None
-
--- The versions of a column with stamps up to hi, the newest first: as many as most says, or all, if they are
--- fewer. The key of each stamp is given by at.
-abbrev pub AreNewestFirst : Cells → (ℕ → CellKey) → ℕ → ℕ → List (ℕ × List ℕ) → Type 0
-AreNewestFirst cells at hi most [] = 1 ≤ most → IsNewest cells at 0 hi None
-AreNewestFirst cells at hi most (found ∷ rest) =
-    (1 ≤ most) × IsNewest cells at 0 hi (Some found) × (1 ≤ found.0)
-    × AreNewestFirst cells at (found.0 - 1) (most - 1) rest
 
 -- the values of entries, each with the stamp of its key
 abbrev pub stamped_values : List Entry → List (ℕ × List ℕ)

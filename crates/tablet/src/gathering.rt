@@ -6,11 +6,11 @@ ghost use Rattle.cell_key.specs.Entries.{Entry, IsEntry, IsEntryList, lent_entry
 ghost use Rattle.cell_key.specs.Keys.{qualifier_name, IsKeyText};
 ghost use Rattle.cell_key.specs.Texts.{ended, stamp_text};
 ghost use Rattle.cell_key.specs.declared.keys.Qualifier.{Qualifier as Names};
-ghost use Rattle.tablet.specs.Batches.{bytes_in, IsFull};
+ghost use Rattle.rows.specs.Batches.{bytes_in, IsFull};
 ghost use Rattle.tablet.specs.Gathering.{last_of, AreVersionsIn, Begins, BeginsWith, Gathers, IsWithin, KeepsLimits};
 
-use crate::batches::{BatchLimits, CellVersions, VersionBatch};
 use cell_key::{CellKey, EntryRef, Qualifier, Refusal, Stamp, stamp_of};
+use rows::{BatchLimits, CellVersions, VersionBatch};
 use std::alloc::Global;
 
 /// For how many cells, at most, there is room from the start.

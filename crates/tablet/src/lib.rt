@@ -2,9 +2,7 @@
 //! (Bigtable, tablet serving).
 #![tactic(auto)]
 
-mod batches;
 mod caches;
-mod cell_version;
 mod compactions;
 mod gathering;
 mod laws;
@@ -18,11 +16,10 @@ mod sources;
 mod split;
 mod tablet;
 
-pub use batches::{BatchLimits, CellVersions, VersionBatch};
-pub use cell_version::CellVersion;
 pub use compactions::Compaction;
 pub use laws::{
     files_are_there, others_stay, same_cells, shows_its_lists, stays_in_range, unnamed_may_go,
 };
 pub use ranges::RowRange;
+pub use rows::{BatchLimits, CellVersion, CellVersions, VersionBatch};
 pub use tablet::Tablet;

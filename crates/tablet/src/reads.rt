@@ -12,17 +12,18 @@ ghost use Rattle.sorted_file.specs.Newest.{at_stamp};
 ghost use Rattle.sorted_file.specs.Source.{IsReadRefusal};
 ghost use Rattle.std.specs.Bool.{OnFalse};
 ghost use Rattle.std.specs.List.{AllByRecursion};
-ghost use Rattle.tablet.specs.Batches.{AreNextVersions, IsFull};
+ghost use Rattle.rows.specs.Batches.{AreNextVersions, IsFull};
 ghost use Rattle.tablet.specs.Ranges.{has_row};
-ghost use Rattle.tablet.specs.Reads.{AreNewestFirst, HasNoLater, HasVersion, HaveNoValue, IsLater};
+ghost use Rattle.rows.specs.Reads.{AreNewestFirst, HasVersion};
+ghost use Rattle.tablet.specs.Reads.{HasNoLater, HaveNoValue, IsLater};
 
-use crate::batches::{BatchLimits, VersionBatch};
 use crate::lookup::lookup;
 use crate::scan::{later, merged_places, merged_values, merged_versions, past_place, version_text};
 use crate::sources::fences;
 use crate::tablet::Tablet;
 use cell_key::{CellKey, Family, MOST_STAMP, Qualifier, Refusal, Row, Stamp};
 use file_store::Files;
+use rows::{BatchLimits, VersionBatch};
 use sorted_file::LookupKey;
 use std::alloc::Global;
 

@@ -14,12 +14,11 @@ ghost use Rattle.cell_key.specs.Places.{AreNext, place_named};
 ghost use Rattle.cell_key.specs.Versions.{IsVersion, stamped};
 ghost use Rattle.sorted_file.specs.File.{IsOpen, listed};
 ghost use Rattle.sorted_file.specs.Source.{IsReadRefusal};
-ghost use Rattle.tablet.specs.Batches.{IsFull};
+ghost use Rattle.rows.specs.Batches.{IsFull};
 ghost use Rattle.tablet.specs.Gathering.{AreVersionsIn, Gathers, IsWithin, KeepsLimits};
 ghost use Rattle.tablet.specs.Reads.{first_value, later, past_place, stamped_values, HasLeft, IsNextIn, IsPlaceOrNone, NamesPlace};
 ghost use Rattle.tablet.specs.Sources.{part};
 
-use crate::batches::{BatchLimits, VersionBatch};
 use crate::gathering::Gathering;
 use crate::lookup::copy_value;
 use crate::sources::sources;
@@ -27,6 +26,7 @@ use cell_key::{CellKey, EntryRef, Family, Qualifier, Refusal, Row, Stamp, last_p
 use compaction::Merge;
 use file_store::Files;
 use memtable::Memtable;
+use rows::{BatchLimits, VersionBatch};
 use sorted_file::{SortedFile, Source};
 use std::alloc::Global;
 

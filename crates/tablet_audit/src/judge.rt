@@ -4,9 +4,9 @@ ghost use Rattle.std.specs.Prelude.{◌≤◌};
 
 use crate::frames::{Flaw, first_frame};
 use crate::words::{ReplyWords, RequestWords};
+use audit::Audit;
 use cell_key::Refusal;
 use request_codec::{Reply, Request, decode_reply, decode_request};
-use server_loop::Audit;
 use std::alloc::Global;
 use std::fmt;
 

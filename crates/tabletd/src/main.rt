@@ -7,13 +7,12 @@ ghost use Rattle.std.specs.Prelude.{◌≡◌, ◌≤◌, IfOk, IfSome};
 
 use cell_key::Refusal;
 use clap::error::ErrorKind;
+use command_line::{Options, options};
 use commit_log::{DirLog, Log, LogFault, make_log, open_log};
+use durable::{LastingServer, WholeFiles};
 use file_store::{DirFiles, FileFault, Files, MemFiles};
 use oracle::{DirMark, MarkStore, MemMark};
-use server_loop::{
-    Config, FlushLimits, LastingServer, Options, Server, WholeFiles, end_status, open_status,
-    options,
-};
+use server_loop::{Config, FlushLimits, Server, end_status, open_status};
 use std::alloc::{AllocError, Global};
 use std::fs::File;
 use std::io::BufWriter;

@@ -12,7 +12,7 @@ use Rattle.cell_key.specs.declared.refusals.Refusal.{Refusal}
 use Rattle.cell_key.specs.declared.refusals.Refusal.TheVariants.{EmptyCommit, MemtableFull, Exhausted, Device, NoMemory, Damaged}
 pub use Rattle.cell_key.proofs.Passed.{as_err, passed_err, passed_kept, passed_none, passed_on}
 use Rattle.cell_key.proofs.Reasons.{reason_kept}
-use Rattle.row_atomic.specs.Refusals.{IsApplyRefusal, IsRefusalOfRead}
+use Rattle.rows.specs.Refusals.{IsApplyRefusal, IsRefusalOfRead}
 use Rattle.si_model.specs.ShowsCells.{Touches}
 use Rattle.txn_client.specs.Refusals.{IsAdvanceRefusal, IsCellStepRefusal, IsRowRefusal, IsStepRefusal}
 

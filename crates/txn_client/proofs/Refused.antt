@@ -3,7 +3,7 @@ use Rattle.std.proofs.Common.{◌≡◌, ◌⊎◌, inl, inr, refl}
 use Rattle.cell_key.specs.declared.refusals.Refusal.{Refusal}
 use Rattle.cell_key.specs.declared.refusals.Refusal.TheVariants.{EmptyCommit, MemtableFull, Exhausted, Device, NoMemory, Damaged}
 use Rattle.oracle.specs.Ranges.{IsDrawRefusal}
-use Rattle.row_atomic.specs.Refusals.{IsReadRefusal}
+use Rattle.rows.specs.Refusals.{IsReadRefusal}
 use Rattle.si_model.specs.Machine.{State, Request, Refused, Step, refuses, IsStorageRefusal}
 use Rattle.si_model.specs.Refusing.Refuses.{gives_up}
 use Rattle.txn_client.specs.Refusals.{IsAdvanceRefusal, IsBeginRefusal}

@@ -4,9 +4,9 @@ use Rattle.std.specs.Ordering.{nat_cmp}
 use Rattle.std.specs.BTreeMap as btree
 use Rattle.cell_key.specs.Cells.{Cells, after_edits}
 use Rattle.cell_key.specs.declared.edits.Edit.{Edit}
-use Rattle.row_atomic.specs.Calls.{AppliesSuch, KeepsBelow, View}
-use Rattle.row_atomic.specs.Room.{HasNoRoom, TakesRoomOf}
-use Rattle.row_atomic.proofs.Calls.{applies_keep, reads_keep, reads_none, such_so}
+use Rattle.rows.specs.Calls.{AppliesSuch, KeepsBelow, View}
+use Rattle.rows.specs.Room.{HasNoRoom, TakesRoomOf}
+use Rattle.rows.proofs.Calls.{applies_keep, reads_keep, reads_none, such_so}
 use Rattle.si_model.specs.Machine as machine
 use Rattle.si_model.specs.Machine.{State, Change, InPhase, IsReached}
 use Rattle.si_model.specs.ShowsCells.{kind_of_change, ShowsCells, Touches, TouchesOneRow, held_cells}

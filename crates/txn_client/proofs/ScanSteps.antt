@@ -9,7 +9,7 @@ use Rattle.std.proofs.lemmas.Bool.{cases_lt}
 use Rattle.cell_key.specs.Cells.{Cells}
 use Rattle.cell_key.specs.declared.refusals.Refusal.{Refusal}
 use Rattle.cell_key.specs.declared.refusals.Refusal.TheVariants.{UnknownSession, WrongPhase, BadRow, BadColumn, BadCount, NoMemory, Damaged}
-use Rattle.row_atomic.specs.Refusals.{IsReadRefusal}
+use Rattle.rows.specs.Refusals.{IsReadRefusal}
 use Rattle.si_model.specs.Machine as machine
 use Rattle.si_model.specs.Machine.{Range, State, Step, IsReached, InPhase, Refused, refuses}
 use Rattle.si_model.specs.Replies.{item_of, reach_of, result_reply, scan_reply}

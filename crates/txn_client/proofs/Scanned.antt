@@ -13,8 +13,8 @@ use Rattle.cell_key.specs.Keys.{byte_cmp}
 use Rattle.cell_key.specs.Places.{Place, AreNextCells, HasCell, IsAfter, IsNextCell, place_cmp}
 use Rattle.cell_key.specs.declared.keys.Qualifier.{Qualifier}
 use Rattle.cell_key.specs.declared.keys.Qualifier.TheVariants.{Lock, Write}
-use Rattle.row_atomic.specs.Calls.{IsRowFrom}
-use Rattle.row_atomic.proofs.RowsFrom.{from_later, row_after}
+use Rattle.rows.specs.Calls.{IsRowFrom}
+use Rattle.rows.proofs.RowsFrom.{from_later, row_after}
 use Rattle.si_model.specs.Machine.{Range, Item, ToEnd, UpTo}
 use Rattle.si_model.specs.Reads.{cell_of}
 use Rattle.si_model.specs.Scans.{IsAfterCell, IsBetween, IsOfFamily, IsUpToRow, Rise, Says, place_at}

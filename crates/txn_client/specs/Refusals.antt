@@ -7,7 +7,7 @@ use Rattle.cell_key.specs.declared.refusals.Refusal.{Refusal}
 use Rattle.cell_key.specs.declared.refusals.Refusal.TheVariants.{UnknownSession, WrongPhase, BadRow, BadColumn, BadValue, TooManyWrites, TooManySessions, EmptyCommit, BadCount, MemtableFull, Exhausted, Device, NoMemory, Damaged}
 use Rattle.oracle.specs.Marks.{MayHold}
 use Rattle.oracle.specs.Ranges.{IsDrawRefusal, OracleState, next_range_end}
-use Rattle.row_atomic.specs.Calls.{OnlyReads, View}
+use Rattle.rows.specs.Calls.{OnlyReads, View}
 use Rattle.si_model.specs.Machine.{State}
 use Rattle.txn_client.specs.Shows.{IsAboutToDraw, IsInactive, IsUnwritten}
 use Rattle.txn_client.specs.declared.session.Phase.{Phase}

@@ -7,8 +7,8 @@ use Rattle.cell_key.specs.declared.edits.Edit.{Edit}
 use Rattle.cell_key.specs.declared.keys.Qualifier.TheVariants.{Data, Lock}
 use Rattle.cell_key.specs.Columns.{lock_text}
 use Rattle.cell_key.specs.LockEdits.{IsPut, IsRecording}
-use Rattle.row_atomic.specs.Calls.{AppliesSuch, OnlyReads, View}
-use Rattle.row_atomic.specs.Room.{AreAfter, TakesNoRoom, TakesRoomOf}
+use Rattle.rows.specs.Calls.{AppliesSuch, OnlyReads, View}
+use Rattle.rows.specs.Room.{AreAfter, TakesNoRoom, TakesRoomOf}
 use Rattle.si_model.specs.Machine as machine
 use Rattle.si_model.specs.Machine.{State, Change, Writes, InPhase, Wrote, Puts, Marked, Clashes}
 use Rattle.si_model.specs.Edits.{RecordsCell}

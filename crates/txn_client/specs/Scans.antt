@@ -5,7 +5,7 @@ use Rattle.cell_key.specs.Cells.{Cells}
 use Rattle.cell_key.specs.Names.{IsRow, IsFamily}
 use Rattle.cell_key.specs.Places.{HasCell, IsNextCell}
 use Rattle.cell_key.specs.declared.keys.Qualifier.TheVariants.{Lock}
-use Rattle.row_atomic.specs.Calls.{AreReadableFrom, View}
+use Rattle.rows.specs.Calls.{AreReadableFrom, View}
 use Rattle.si_model.specs.Machine.{Range, Item, Valued, Locked, Unsent, Reach, ToEnd, UpTo, most_scanned}
 use Rattle.si_model.specs.Scans.{Covers, IsAfterCell, IsBetween, IsOfFamily, IsUpToRow, Rise, Says, item_length, items_length, most_items, place_at}
 use Rattle.si_model.specs.Sets.{◌∈◌}

@@ -7,9 +7,9 @@ ghost use Rattle.cell_key.specs.Cells.{IsEditOf};
 ghost use Rattle.cell_key.specs.Faults.{HasReason};
 ghost use Rattle.cell_key.specs.Columns.{lock_text};
 ghost use Rattle.cell_key.specs.declared.columns.WriteKind.TheVariants as kind;
-ghost use Rattle.row_atomic.specs.Calls.{AppliesSuch, OnlyReads};
-ghost use Rattle.row_atomic.specs.Refusals.{IsApplyRefusal, IsReadRefusal, IsRefusalOfRead};
-ghost use Rattle.row_atomic.specs.Room.{HasNoRoom};
+ghost use Rattle.rows.specs.Calls.{AppliesSuch, OnlyReads};
+ghost use Rattle.rows.specs.Refusals.{IsApplyRefusal, IsReadRefusal, IsRefusalOfRead};
+ghost use Rattle.rows.specs.Room.{HasNoRoom};
 ghost use Rattle.si_model.specs.Edits.{RecordsCell};
 ghost use Rattle.si_model.specs.Reads.{IsGone};
 ghost use Rattle.si_model.specs.declared.replies.Cell.{Cell as CellOf};
@@ -21,7 +21,7 @@ use crate::writes::Write;
 use cell_key::{
     CellKey, Edit, Lock, Moment, Qualifier, Record, Refusal, Stamp, WriteKind, record_lock,
 };
-use row_atomic::Rows;
+use rows::Rows;
 use si_model::{Cell, Found};
 use std::alloc::Global;
 

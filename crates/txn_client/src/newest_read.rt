@@ -4,15 +4,14 @@ ghost use Rattle.std.specs.Prelude.{◌≡◌, ℕ, IfErr, IfOk, option_map};
 ghost use Rattle.cell_key.specs.Cells.{IsNewest};
 ghost use Rattle.cell_key.specs.Faults.{HasReason};
 ghost use Rattle.cell_key.specs.declared.keys.Qualifier.TheVariants.{Data};
-ghost use Rattle.row_atomic.specs.Calls.{OnlyReads};
-ghost use Rattle.row_atomic.specs.Refusals.{IsReadRefusal, IsRefusalOfRead};
+ghost use Rattle.rows.specs.Calls.{OnlyReads};
+ghost use Rattle.rows.specs.Refusals.{IsReadRefusal, IsRefusalOfRead};
 ghost use Rattle.si_model.specs.ShowsCells.{at, key_of};
 ghost use Rattle.txn_client.specs.Reads.{AreNewest, IsDamaged, IsFound};
 
 use cell_key::{Qualifier, Record, Refusal, Stamp, WriteKind};
-use row_atomic::Rows;
+use rows::{CellVersion, Rows};
 use si_model::{Cell, Found};
-use tablet::CellVersion;
 
 /// The newest versions of a cell's columns at or below a stamp.
 #[derive(Drop)]

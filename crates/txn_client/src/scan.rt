@@ -5,13 +5,13 @@ ghost use Rattle.std.specs.Bool.{OnFalse, OnTrue};
 ghost use Rattle.cell_key.specs.Cells.{Cells};
 ghost use Rattle.cell_key.specs.Faults.{HasReason};
 ghost use Rattle.cell_key.specs.Places.{Place};
-ghost use Rattle.row_atomic.specs.Calls.{AreReadableFrom, OnlyReads};
-ghost use Rattle.row_atomic.specs.Refusals.{IsReadRefusal, IsRefusalOfRead};
+ghost use Rattle.rows.specs.Calls.{AreReadableFrom, OnlyReads};
+ghost use Rattle.rows.specs.Refusals.{IsReadRefusal, IsRefusalOfRead};
 ghost use Rattle.si_model.specs.Machine as machine;
 ghost use Rattle.si_model.specs.declared.replies.Cell.{Cell as CellOf};
 ghost use Rattle.si_model.specs.Replies.{found_item, item_of, reach_of};
 ghost use Rattle.si_model.specs.Scans.{HasFamilies, HasRows, item_length, items_length, most_items, place_at};
-ghost use Rattle.tablet.specs.Batches.{AreNextVersions, IsFull};
+ghost use Rattle.rows.specs.Batches.{AreNextVersions, IsFull};
 ghost use Rattle.txn_client.specs.Gathering.{Gathers, HasCome, IsInLimits, IsNextIn, items_in, last_of};
 ghost use Rattle.txn_client.specs.Ranges.{range_named};
 ghost use Rattle.txn_client.specs.Reads.{AreNewest, IsFound, ReadsValue};
@@ -20,10 +20,9 @@ ghost use Rattle.txn_client.specs.Scans.{DoesNotFit, IsInScanLimits, IsNamed, Is
 use crate::newest_read::{Newest, read_newest};
 use crate::range::Range;
 use cell_key::{Refusal, Stamp};
-use row_atomic::Rows;
+use rows::{BatchLimits, CellVersions, Rows, VersionBatch};
 use si_model::{Cell, Found, ScanFound, ScanItem, ScanReach, ScanReply};
 use std::alloc::Global;
-use tablet::{BatchLimits, CellVersions, VersionBatch};
 
 /// How many cells are asked for at first: a short range has no more.
 const LEAST_CELLS: usize = 16;

@@ -16,9 +16,9 @@ use Rattle.cell_key.specs.declared.keys.CellKey.{CellKey}
 use Rattle.cell_key.specs.declared.keys.Qualifier.{Qualifier}
 use Rattle.cell_key.specs.declared.keys.Qualifier.TheVariants.{Data, Write}
 use Rattle.cell_key.proofs.KeyLaws.{both_Equal}
-use Rattle.row_atomic.specs.Laws.{OneNextCell}
+use Rattle.rows.specs.Laws.{OneNextCell}
 use Rattle.si_model.specs.Collection.{place_at}
-use Rattle.tablet.specs.Reads.{HasVersion}
+use Rattle.rows.specs.Reads.{HasVersion}
 use Rattle.si_model.specs.ShowsCells.{key_of}
 use Rattle.si_model.specs.declared.replies.Cell.{Cell}
 use Rattle.si_model.proofs.ShownAt.{cases_key, erased_at, erased_off}

@@ -19,7 +19,7 @@ use Rattle.cell_key.specs.declared.refusals.Refusal.TheVariants.{Damaged, Device
 use Rattle.cell_key.specs.Columns.{IsRecordText, record_text, start_text}
 use Rattle.cell_key.specs.declared.columns.WriteKind.{WriteKind}
 use Rattle.cell_key.specs.declared.columns.WriteKind.TheVariants as write
-use Rattle.row_atomic.specs.Refusals.{IsApplyRefusal, IsRefusalOfRead}
+use Rattle.rows.specs.Refusals.{IsApplyRefusal, IsRefusalOfRead}
 use Rattle.si_model.specs.Collection.{IsNamed, IsTidy}
 use Rattle.si_model.specs.ShowsCells.{IsThere, NamesAt, NamesCommit, at, key_of}
 use Rattle.si_model.specs.declared.replies.Cell.{Cell}

@@ -3,9 +3,9 @@ use Rattle.std.proofs.Common.{◌≡◌, ◌≢◌, ◌∙◌, ℕ, List, Result
 use Rattle.std.specs.Result.{IsErrAnd}
 use Rattle.cell_key.specs.declared.refusals.Refusal.{Refusal}
 use Rattle.cell_key.specs.declared.refusals.Refusal.TheVariants.{Damaged, Device}
-use Rattle.row_atomic.specs.Calls.{OnlyReads, View}
-use Rattle.row_atomic.specs.Refusals.{IsRefusalOfRead}
-use Rattle.row_atomic.proofs.Calls.{read_undamaged}
+use Rattle.rows.specs.Calls.{OnlyReads, View}
+use Rattle.rows.specs.Refusals.{IsRefusalOfRead}
+use Rattle.rows.proofs.Calls.{read_undamaged}
 use Rattle.cell_key.proofs.Reasons.{not_refused}
 use Rattle.version_collector.specs.Versions.{AreShown}
 

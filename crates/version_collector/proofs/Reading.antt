@@ -2,8 +2,8 @@
 use Rattle.std.proofs.Common.{◌≡◌, ℕ, ◌⊎◌, List, Option, None, inl, inr, refl, sym, subst, ◌∙◌}
 use Rattle.cell_key.specs.Cells.{Cells}
 use Rattle.cell_key.specs.Places.{Place}
-use Rattle.row_atomic.specs.Calls.{AreReadableFrom, IsRowFrom, KeepsBelow, View}
-use Rattle.row_atomic.proofs.RowsFrom.{from_later}
+use Rattle.rows.specs.Calls.{AreReadableFrom, IsRowFrom, KeepsBelow, View}
+use Rattle.rows.proofs.RowsFrom.{from_later}
 use Rattle.si_model.specs.Collection as model
 use Rattle.si_model.specs.Collection.{FirstPass, SecondPass, place_at}
 use Rattle.si_model.specs.declared.replies.CollectReply.{CollectReply}

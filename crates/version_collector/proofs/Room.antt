@@ -2,8 +2,8 @@
 use Rattle.std.proofs.Common.{◌≡◌, ℕ, ◌+◌, ◌*◌, ◌≤◌, List, [], ◌∷◌, ◌++◌, length, Some, ◌⊎◌, inl, inr, refl, sym, ap, subst, arith}
 use Rattle.cell_key.specs.Cells.{Cells}
 use Rattle.cell_key.specs.declared.edits.Edit.{Edit}
-use Rattle.row_atomic.specs.Calls.{AppliesSuch, View}
-use Rattle.row_atomic.specs.Room.{HasNoRoom, TakesNoRoom}
+use Rattle.rows.specs.Calls.{AppliesSuch, View}
+use Rattle.rows.specs.Room.{HasNoRoom, TakesNoRoom}
 use Rattle.si_model.specs.Sets.{◌∈◌, here, there}
 use Rattle.si_model.specs.declared.replies.Cell.{Cell}
 use Rattle.version_collector.specs.Erasing.{CollectsCell, data_erasures, deletion_erasures, record_erasures}

@@ -17,9 +17,9 @@ use Rattle.cell_key.specs.Columns.{IsRecordText, NamesStart, NamesWrite, record_
 use Rattle.cell_key.proofs.RecordTexts.{names_of, one_write, same_write}
 use Rattle.cell_key.specs.declared.columns.WriteKind.{WriteKind}
 use Rattle.cell_key.specs.declared.columns.WriteKind.TheVariants as write
-use Rattle.row_atomic.specs.Calls.{OnlyReads, View}
-use Rattle.row_atomic.specs.Oldest.{IsOldest}
-use Rattle.row_atomic.proofs.Halves.{at_none, at_some}
+use Rattle.rows.specs.Calls.{OnlyReads, View}
+use Rattle.rows.specs.Oldest.{IsOldest}
+use Rattle.rows.proofs.Halves.{at_none, at_some}
 use Rattle.si_model.specs.Collection.{IsNamed, IsOld}
 use Rattle.si_model.specs.Sets.{◌∈◌}
 use Rattle.si_model.specs.ShowsCells.{IsThere, NamesAt, NamesCommit, at, key_of, kind_of_change}
@@ -27,7 +27,7 @@ use Rattle.si_model.specs.declared.replies.Cell.{Cell}
 use Rattle.si_model.proofs.Bounds.{reached_bounds}
 use Rattle.si_model.proofs.CleanerFates.{names_nearest}
 use Rattle.si_model.proofs.Steps.{reached_sound}
-use Rattle.tablet.specs.Reads.{AreNewestFirst}
+use Rattle.rows.specs.Reads.{AreNewestFirst}
 use Rattle.version_collector.specs.Versions.{AreFound, AreGreatest, AreNear, AreShown, AreUnnamed, HasOneRecord, IsAmong, IsLastDeletion, IsLastRecord, IsLatestBelow, IsLoneDeletion, IsNamedBy, IsUnnamed, NamesLast, NamesNext, NamesNone}
 use Rattle.version_collector.specs.declared.versions.NearStarts.{NearStarts}
 use Rattle.version_collector.proofs.Greatest.{AreAll, all_more, all_none, all_past, greatest_all, greatest_full, in_last, length-last}

@@ -12,7 +12,7 @@ use Rattle.cell_key.specs.Cells.{Cells}
 use Rattle.cell_key.specs.Places.{Place}
 use Rattle.cell_key.specs.declared.refusals.Refusal.{Refusal}
 use Rattle.cell_key.specs.declared.refusals.Refusal.TheVariants.{TooManySessions, UnknownCollector, BadCount, MemtableFull, Device, NoMemory, Damaged}
-use Rattle.row_atomic.specs.Calls.{OnlyReads, View}
+use Rattle.rows.specs.Calls.{OnlyReads, View}
 use Rattle.si_model.specs.Collection as model
 use Rattle.si_model.specs.Collection.{Collects, FirstPass, HasCome, SecondPass}
 use Rattle.si_model.specs.Machine as machine

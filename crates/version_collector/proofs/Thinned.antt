@@ -6,7 +6,7 @@ use Rattle.cell_key.specs.declared.edits.Edit.{Edit}
 use Rattle.cell_key.specs.declared.keys.CellKey.{CellKey}
 use Rattle.cell_key.specs.declared.keys.Qualifier.{Qualifier}
 use Rattle.cell_key.specs.declared.keys.Qualifier.TheVariants.{Data, Lock, Write}
-use Rattle.row_atomic.specs.Calls.{AppliesSuch, View}
+use Rattle.rows.specs.Calls.{AppliesSuch, View}
 use Rattle.si_model.specs.Sets.{◌∈◌, here}
 use Rattle.si_model.specs.ShowsCells.{key_of}
 use Rattle.si_model.specs.declared.replies.Cell.{Cell}

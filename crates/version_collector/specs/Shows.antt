@@ -6,7 +6,7 @@ use Rattle.std.specs.FinMap as finmap
 use Rattle.cell_key.specs.Cells.{Cells}
 use Rattle.cell_key.specs.declared.refusals.Refusal.{Refusal}
 use Rattle.cell_key.specs.declared.refusals.Refusal.TheVariants.{UnknownCollector, BadCount}
-use Rattle.row_atomic.specs.Calls.{AreReadableFrom, OnlyReads, View}
+use Rattle.rows.specs.Calls.{AreReadableFrom, OnlyReads, View}
 use Rattle.si_model.specs.Collection.{ChangesCells}
 use Rattle.si_model.specs.Kinds.{OfCollectors, kind_of}
 use Rattle.si_model.specs.Machine.{State, Request, Reply, CollectBegin, Step, IsReached, end_of_stamps, most_visits}

@@ -6,7 +6,7 @@ use Rattle.cell_key.specs.declared.keys.Qualifier.{Qualifier}
 use Rattle.cell_key.specs.declared.keys.Qualifier.TheVariants.{Data, Write}
 use Rattle.cell_key.specs.Columns.{NamesStart, record_text}
 use Rattle.cell_key.specs.declared.columns.WriteKind.TheVariants as write
-use Rattle.row_atomic.specs.Oldest.{IsOldest}
+use Rattle.rows.specs.Oldest.{IsOldest}
 use Rattle.si_model.specs.Collection.{IsNamed, IsOld, IsOldestDeletion}
 use Rattle.si_model.specs.Machine.{State, IsReached}
 use Rattle.si_model.specs.Sets.{◌∈◌}

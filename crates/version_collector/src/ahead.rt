@@ -5,14 +5,14 @@ ghost use Rattle.std.specs.Vec.Iter.{into_iter_items};
 ghost use Rattle.cell_key.specs.Cells.{Cells};
 ghost use Rattle.cell_key.specs.Faults.{HasReason};
 ghost use Rattle.cell_key.specs.Places.{HasCell, IsAfter, IsNextCell, Place, place_named};
-ghost use Rattle.row_atomic.specs.Calls.{AreReadableFrom, OnlyReads};
-ghost use Rattle.row_atomic.specs.Refusals.{IsRefusalOfRead};
+ghost use Rattle.rows.specs.Calls.{AreReadableFrom, OnlyReads};
+ghost use Rattle.rows.specs.Refusals.{IsRefusalOfRead};
 ghost use Rattle.si_model.specs.Collection.{place_at};
 ghost use Rattle.version_collector.specs.Ahead.{Follow, IsAhead, IsFirst, IsStill};
 ghost use Rattle.version_collector.specs.Visits.{position_of};
 
 use cell_key::{Family, Qualifier, Refusal, Row, Stamp};
-use row_atomic::{Rows, one_next_cell};
+use rows::{Rows, one_next_cell};
 use si_model::Cell;
 use std::alloc::Global;
 use std::vec::IntoIter;

@@ -5,9 +5,9 @@ ghost use Rattle.std.specs.Vec.Iter.{into_iter_items};
 ghost use Rattle.cell_key.specs.Cells.{Cells};
 ghost use Rattle.cell_key.specs.Faults.{HasReason};
 ghost use Rattle.cell_key.specs.Places.{IsNextCell};
-ghost use Rattle.row_atomic.specs.Calls.{AreReadableFrom, KeepsBelow, OnlyReads};
-ghost use Rattle.row_atomic.specs.Refusals.{IsRefusalOfRead};
-ghost use Rattle.row_atomic.specs.Room.{HasNoRoom};
+ghost use Rattle.rows.specs.Calls.{AreReadableFrom, KeepsBelow, OnlyReads};
+ghost use Rattle.rows.specs.Refusals.{IsRefusalOfRead};
+ghost use Rattle.rows.specs.Room.{HasNoRoom};
 ghost use Rattle.si_model.specs.Collection.{place_at};
 ghost use Rattle.si_model.specs.Machine.{State};
 ghost use Rattle.version_collector.specs.Ahead.{Follow, IsAhead};
@@ -20,7 +20,7 @@ ghost use Rattle.version_collector.specs.Visits.{GoesOn, HasVisited, Thins, Visi
 use crate::ahead::Ahead;
 use crate::erasing::erase_old;
 use cell_key::{Qualifier, Refusal, Stamp};
-use row_atomic::Rows;
+use rows::Rows;
 use si_model::{Cell, CollectReply};
 use std::alloc::Global;
 

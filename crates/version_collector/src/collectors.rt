@@ -4,8 +4,8 @@ ghost use Rattle.std.specs.Prelude.{◌≡◌, ◌⊎◌, IfErr, IfOk, IsErrOf, 
 ghost use Rattle.std.specs.FinMap.{empty, get};
 ghost use Rattle.cell_key.specs.Cells.{Cells};
 ghost use Rattle.cell_key.specs.Faults.{HasReason};
-ghost use Rattle.row_atomic.specs.Calls.{KeepsBelow};
-ghost use Rattle.row_atomic.specs.Room.{HasNoRoom};
+ghost use Rattle.rows.specs.Calls.{KeepsBelow};
+ghost use Rattle.rows.specs.Room.{HasNoRoom};
 ghost use Rattle.si_model.specs.Machine as machine;
 ghost use Rattle.si_model.specs.Machine.{IsFloor, IsReached, State};
 ghost use Rattle.si_model.specs.Replies.{collect_reply, result_reply};
@@ -18,7 +18,7 @@ ghost use Rattle.si_model.specs.Collection.{Collects};
 
 use crate::collector::{Collector, Pass};
 use cell_key::{Refusal, Stamp};
-use row_atomic::Rows;
+use rows::Rows;
 use si_model::CollectReply;
 use std::alloc::Global;
 use std::collections::BTreeMap;

@@ -5,9 +5,9 @@ ghost use Rattle.std.specs.Bool.{OnFalse, OnTrue};
 ghost use Rattle.std.specs.List.{AllByRecursion};
 ghost use Rattle.cell_key.specs.Cells.{IsEditOf};
 ghost use Rattle.cell_key.specs.Faults.{HasReason};
-ghost use Rattle.row_atomic.specs.Calls.{AppliesSuch, OnlyReads};
-ghost use Rattle.row_atomic.specs.Refusals.{IsRefusalOfRead};
-ghost use Rattle.row_atomic.specs.Room.{HasNoRoom};
+ghost use Rattle.rows.specs.Calls.{AppliesSuch, OnlyReads};
+ghost use Rattle.rows.specs.Refusals.{IsRefusalOfRead};
+ghost use Rattle.rows.specs.Room.{HasNoRoom};
 ghost use Rattle.si_model.specs.Collection.{IsTidy};
 ghost use Rattle.version_collector.specs.Erasing.{CollectsCell, ErasesOrIsTidy, data_erasures, deletion_erasures, record_erasures};
 ghost use Rattle.version_collector.specs.Refusals.{IsVisitRefusal};
@@ -15,7 +15,7 @@ ghost use Rattle.version_collector.specs.Versions.{AreShown};
 
 use crate::versions::{near_records, old_records, unnamed_data};
 use cell_key::{CellKey, Edit, Moment, Qualifier, Refusal, Stamp};
-use row_atomic::Rows;
+use rows::Rows;
 use si_model::Cell;
 use std::alloc::Global;
 

@@ -8,14 +8,14 @@ ghost use Rattle.cell_key.specs.Versions.{IsVersion, stamped};
 ghost use Rattle.cell_key.specs.Columns.{NamesStart, NamesWrite};
 ghost use Rattle.cell_key.specs.declared.columns.WriteKind.TheVariants as Kind;
 ghost use Rattle.cell_key.specs.declared.keys.Qualifier.TheVariants.{Write};
-ghost use Rattle.row_atomic.specs.Calls.{OnlyReads};
-ghost use Rattle.row_atomic.specs.Refusals.{IsRefusalOfRead};
+ghost use Rattle.rows.specs.Calls.{OnlyReads};
+ghost use Rattle.rows.specs.Refusals.{IsRefusalOfRead};
 ghost use Rattle.si_model.specs.ShowsCells.{key_of};
-ghost use Rattle.tablet.specs.Reads.{AreNewestFirst};
+ghost use Rattle.rows.specs.Reads.{AreNewestFirst};
 ghost use Rattle.version_collector.specs.Versions.{AreFound, AreNear, AreShown, AreUnnamed, HasOneRecord, IsAmong, IsLastDeletion, IsLatestBelow, IsNamedBy, NamesNext, NamesNone};
 
 use cell_key::{MOST_STAMP, Moment, Qualifier, Record, Refusal, Stamp, WriteKind};
-use row_atomic::{Rows, oldest};
+use rows::{Rows, oldest};
 use si_model::Cell;
 use std::alloc::Global;
 

@@ -5,9 +5,10 @@ use crate::tests::lasting::{Devices, ON_REQUEST, StoppingServer, Upkeep, reads, 
 use crate::tests::stopping::Written;
 use cell_key::Refusal;
 use commit_log::{HEAD, MemLog};
+use durable::LastingServer;
 use file_store::MemFiles;
 use oracle::MemMark;
-use server_loop::{Config, End, LastingServer, ServeFault, Server, end_status};
+use server_loop::{Config, End, ServeFault, Server, end_status};
 use std::alloc::Global;
 use std::num::NonZeroUsize;
 use std::test::Fail;

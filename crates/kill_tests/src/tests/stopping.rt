@@ -8,9 +8,9 @@ ghost use Rattle.file_store.specs.Store.{HasFaultCause};
 
 use cell_key::Stamp;
 use commit_log::{Log, LogFault};
+use durable::WholeFiles;
 use file_store::{FileFault, Files};
 use oracle::{MarkFault, MarkStore};
-use server_loop::WholeFiles;
 use std::cell::Cell;
 use std::io;
 use std::io::Write;

@@ -11,21 +11,22 @@ ghost use Rattle.sorted_file.specs.Source.{IsReadRefusal};
 ghost use Rattle.std.specs.Bool.{OnFalse};
 ghost use Rattle.std.specs.List.{AllByRecursion};
 ghost use Rattle.cell_key.specs.Faults.{HasReason};
-ghost use Rattle.tablet.specs.Batches.{AreNextVersions, IsFull};
-ghost use Rattle.tablet.specs.Reads.{AreNewestFirst, HasVersion};
-ghost use Rattle.row_atomic.specs.Calls.{AreReadableFrom, OnlyReads, seen_of};
+ghost use Rattle.rows.specs.Batches.{AreNextVersions, IsFull};
+ghost use Rattle.rows.specs.Reads.{AreNewestFirst, HasVersion};
+ghost use Rattle.rows.specs.Calls.{AreReadableFrom, OnlyReads};
+ghost use Rattle.row_atomic.specs.Seen.{seen_of};
 ghost use Rattle.row_atomic.specs.Changes.{IsOutOfOrder, MeetsDamage, OfHolder};
 ghost use Rattle.row_atomic.specs.Commands.{cells_shown};
-ghost use Rattle.row_atomic.specs.Refusals.{IsRefusalOfRead};
+ghost use Rattle.rows.specs.Refusals.{IsRefusalOfRead};
 ghost use Rattle.row_atomic.specs.Clusters.{ArePlaced, AreOpenFrom, IsReadable, PrecedesCell, cells_in};
 
 use crate::cluster::Cluster;
 use crate::fill::Fill;
 use crate::place_cache::index_of;
-use crate::rows::Rows;
 use cell_key::{Edit, Family, Qualifier, Refusal, Row, Stamp};
 use file_store::Files;
 use metadata_table::Place;
+use rows::Rows;
 use std::alloc::Global;
 use tablet::{BatchLimits, CellVersions, Tablet, VersionBatch};
 

@@ -1,8 +1,9 @@
 //! Exit statuses, the command line, and the texts of refusals and faults.
 
 use cell_key::Refusal;
+use command_line::{Options, options};
 use file_store::FileFault;
-use server_loop::{End, Options, ServeFault, end_status, open_status, options};
+use server_loop::{End, ServeFault, end_status, open_status};
 use std::alloc::Global;
 use std::fmt::Display;
 use std::test::Fail;

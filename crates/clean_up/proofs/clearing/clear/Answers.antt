@@ -8,7 +8,7 @@ use Rattle.cell_key.specs.declared.keys.Qualifier.TheVariants.{Lock}
 use Rattle.cell_key.specs.Columns.{IsParted}
 use Rattle.cell_key.specs.declared.columns.WriteKind.{WriteKind}
 use Rattle.cell_key.proofs.Passed.{passed_on}
-use Rattle.row_atomic.proofs.Calls.{applies_after}
+use Rattle.rows.proofs.Calls.{applies_after}
 use Rattle.si_model.specs.ShowsCells.{at, key_of}
 use Rattle.si_model.specs.declared.replies.Cell.{Cell}
 use Rattle.clean_up.specs.Room.{ClearsCell, IsClearing}

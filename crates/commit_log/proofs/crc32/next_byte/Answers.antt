@@ -1,7 +1,7 @@
-use Rattle.std.proofs.Common.{sym, ap, ◌∙◌}
-use Rattle.commit_log.specs.Crc32.{next_bit}
-use Rattle.commit_log.proofs.Bits.{one_more_bit}
+use Rattle.std.proofs.Common.{◌∙◌, ◌/◌, arith, ap}
+use Rattle.std.specs.Prelude.{bit_xor}
+use Rattle.commit_log.proofs.Tables.{byte_at_once}
 use Rattle.commit_log.proofs.crc32.next_byte.Goals as goal
 
-pub loop-preserved : goal.loop-preserved
-loop-preserved c = c.next_bit-next.ensures ∙ ap next_bit c.loop.invariant ∙ sym (one_more_bit c.loop.counter _)
+pub returns : goal.returns
+returns c = ap (bit_xor (c.args.sum / 256)) c.shifted.ensures ∙ byte_at_once c.args.sum c.args.byte (omega arith)

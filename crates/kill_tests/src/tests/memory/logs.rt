@@ -3,9 +3,10 @@
 use crate::tests::FLUSH;
 use cell_key::Refusal;
 use commit_log::MemLog;
+use durable::LastingServer;
 use file_store::MemFiles;
 use oracle::MemMark;
-use server_loop::{Config, End, LastingServer, ServeFault, Server};
+use server_loop::{Config, End, ServeFault, Server};
 use std::alloc::Global;
 use testing::FILE_LIMIT;
 use testing::frames::stream_of;

@@ -5,10 +5,10 @@ use Rattle.cell_key.specs.Entries.{Entry, IsEntry, IsEntryList, Takes}
 use Rattle.cell_key.specs.declared.refusals.Refusal.TheVariants.{Device}
 use Rattle.file_store.specs.Store.{Contents}
 use Rattle.sorted_file.specs.Source.{pending}
-use Rattle.tablet.specs.Batches.{IsFull}
+use Rattle.rows.specs.Batches.{IsFull}
 use Rattle.tablet.specs.Gathering.{AreVersionsIn}
-use Rattle.tablet.specs.declared.batches.BatchLimits.{BatchLimits}
-use Rattle.tablet.specs.declared.batches.CellVersions.{CellVersions}
+use Rattle.rows.specs.declared.batches.BatchLimits.{BatchLimits}
+use Rattle.rows.specs.declared.batches.CellVersions.{CellVersions}
 use Rattle.tablet.proofs.GatheredCells.{on_false}
 use Rattle.tablet.proofs.NextVersions.{gone_all, gone_more, gone_none, gone_stops}
 use Rattle.tablet.proofs.ReadPlaces.{rest_of}

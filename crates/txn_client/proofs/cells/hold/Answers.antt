@@ -1,7 +1,7 @@
 use Rattle.std.proofs.Common.{refl, sym, subst}
 use Rattle.cell_key.proofs.Reasons.{not_refused}
-use Rattle.row_atomic.specs.Refusals.{IsApplyRefusal}
-use Rattle.row_atomic.proofs.Calls.{reads_none}
+use Rattle.rows.specs.Refusals.{IsApplyRefusal}
+use Rattle.rows.proofs.Calls.{reads_none}
 use Rattle.txn_client.proofs.Passed.{passed_on, passed_err, passed_kept, passed_kept_not, no_memory_only, full_not}
 use Rattle.txn_client.proofs.cells.hold.Goals as goal
 

@@ -6,10 +6,10 @@ use Rattle.cell_key.specs.Cells.{Cells, IsNewest}
 use Rattle.cell_key.specs.declared.keys.CellKey.{CellKey}
 use Rattle.cell_key.specs.declared.keys.Qualifier.TheVariants.{Write}
 use Rattle.cell_key.specs.declared.refusals.Refusal.{Refusal}
-use Rattle.tablet.specs.Reads.{HasVersion}
+use Rattle.rows.specs.Reads.{HasVersion}
 use Rattle.si_model.specs.ShowsCells.{IsThere, key_of}
 use Rattle.cell_key.proofs.Reasons.{not_refused, reason_kept, reason_passed, reason_then}
-use Rattle.row_atomic.proofs.Calls.{reads_then, refusal_after}
+use Rattle.rows.proofs.Calls.{reads_then, refusal_after}
 use Rattle.txn_client.proofs.Passed.{passed_err, passed_none}
 use Rattle.txn_client.proofs.cells.is_taken.Goals as goal
 

@@ -13,7 +13,7 @@ use Rattle.cell_key.specs.declared.columns.WriteKind.{WriteKind}
 use Rattle.cell_key.specs.declared.columns.WriteKind.TheVariants as write
 use Rattle.cell_key.specs.Columns.{NamesWrite}
 use Rattle.cell_key.proofs.Reasons.{not_refused, reason_kept, reason_passed, reason_then}
-use Rattle.row_atomic.proofs.Calls.{is_read_refusal, read_undamaged, reads_then}
+use Rattle.rows.proofs.Calls.{is_read_refusal, read_undamaged, reads_then}
 use Rattle.txn_client.proofs.Passed.{passed_err, passed_none, damaged_no_device}
 use Rattle.txn_client.proofs.ReadCells.{deletion_found, last_written, locked, no_data, nothing}
 use Rattle.txn_client.proofs.cells.read_cell.Goals as goal

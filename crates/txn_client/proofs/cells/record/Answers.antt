@@ -3,8 +3,8 @@ use Rattle.std.specs.Prelude.{is_some}
 use Rattle.cell_key.specs.Cells.{Cells, IsNewest}
 use Rattle.cell_key.specs.declared.keys.Qualifier.TheVariants.{Lock}
 use Rattle.cell_key.proofs.Reasons.{not_refused, reason_kept, reason_passed}
-use Rattle.tablet.specs.Reads.{HasVersion}
-use Rattle.row_atomic.proofs.Calls.{applies_after, reads_then}
+use Rattle.rows.specs.Reads.{HasVersion}
+use Rattle.rows.proofs.Calls.{applies_after, reads_then}
 use Rattle.si_model.specs.ShowsCells.{IsThere, key_of}
 use Rattle.si_model.specs.declared.replies.Cell.{Cell}
 use Rattle.si_model.specs.Reads.{IsGone}

@@ -3,12 +3,12 @@ use Rattle.std.specs.Prelude.{IsTrue}
 use Rattle.cell_key.specs.Cells.{Cells}
 use Rattle.cell_key.specs.Places.{HasCell, IsNextCell, Place}
 use Rattle.cell_key.specs.declared.keys.Qualifier.TheVariants.{Write}
-use Rattle.row_atomic.specs.Calls.{AreReadableFrom}
-use Rattle.row_atomic.proofs.Calls.{refused_later}
-use Rattle.row_atomic.proofs.RowsFrom.{row_after}
+use Rattle.rows.specs.Calls.{AreReadableFrom}
+use Rattle.rows.proofs.Calls.{refused_later}
+use Rattle.rows.proofs.RowsFrom.{row_after}
 use Rattle.si_model.specs.Collection.{place_at}
 use Rattle.si_model.specs.ShowsCells.{key_of}
-use Rattle.tablet.specs.Reads.{HasVersion}
+use Rattle.rows.specs.Reads.{HasVersion}
 use Rattle.version_collector.specs.Visits.{position_of}
 use Rattle.version_collector.proofs.AheadCells.{has_of_version, is_next, same_cell}
 use Rattle.version_collector.proofs.ahead.has_key.Goals as goal

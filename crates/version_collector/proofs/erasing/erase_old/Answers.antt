@@ -1,6 +1,6 @@
 use Rattle.std.proofs.Common.{refl}
 use Rattle.cell_key.specs.declared.refusals.Refusal.TheVariants.{Damaged, MemtableFull}
-use Rattle.row_atomic.proofs.Calls.{applies_after, read_undamaged}
+use Rattle.rows.proofs.Calls.{applies_after, read_undamaged}
 use Rattle.version_collector.specs.Versions.{AreShown}
 use Rattle.cell_key.proofs.Passed.{passed as passed_on, same_refusal}
 use Rattle.version_collector.proofs.Erasures.{apply_refused, apply_undamaged, empty_list, erases_some, not_full, read_refused, some_list, tidy_where_empty}

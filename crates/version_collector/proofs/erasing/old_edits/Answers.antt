@@ -1,6 +1,6 @@
 use Rattle.std.proofs.Common.{subst}
 use Rattle.cell_key.specs.Cells.{Cells}
-use Rattle.row_atomic.proofs.Calls.{reads_then, refused_later}
+use Rattle.rows.proofs.Calls.{reads_then, refused_later}
 use Rattle.version_collector.specs.Versions.{AreNear, AreShown}
 use Rattle.version_collector.proofs.Erasures.{data_answered, deletion_answered, empty_list, found_after, last_after, records_answered, some_list, unnamed_where_none}
 use Rattle.version_collector.proofs.PassedRefusals.{shown_later}

@@ -9,10 +9,10 @@ use Rattle.cell_key.specs.Versions.{IsVersion, IsVersionIn, stamped}
 use Rattle.cell_key.specs.declared.keys.Qualifier.TheVariants.{Write}
 use Rattle.cell_key.specs.declared.refusals.Refusal.TheVariants.{Device}
 use Rattle.cell_key.proofs.Reasons.{not_refused}
-use Rattle.tablet.proofs.SourceLists.{each_push}
-use Rattle.row_atomic.proofs.Calls.{reads_none, reads_then}
-use Rattle.row_atomic.proofs.Halves.{at_none, at_some}
-use Rattle.row_atomic.proofs.NewestLists.{AreFollowed, newest_end, newest_more}
+use Rattle.rows.proofs.PushedLists.{each_push}
+use Rattle.rows.proofs.Calls.{reads_none, reads_then}
+use Rattle.rows.proofs.Halves.{at_none, at_some}
+use Rattle.rows.proofs.NewestLists.{AreFollowed, newest_end, newest_more}
 use Rattle.si_model.specs.ShowsCells.{key_of}
 use Rattle.version_collector.proofs.versions.look_up_records.Goals as goal
 

@@ -2,8 +2,8 @@ use Rattle.std.proofs.Common.{◌≡◌, ◌≤◌, ◌-◌, length, map}
 use Rattle.std.specs.List.{AllByRecursion}
 use Rattle.cell_key.specs.Versions.{IsVersion, stamped}
 use Rattle.cell_key.specs.declared.keys.Qualifier.TheVariants.{Write}
-use Rattle.row_atomic.specs.Calls.{OnlyReads}
-use Rattle.row_atomic.proofs.NewestLists.{AreFollowed}
+use Rattle.rows.specs.Calls.{OnlyReads}
+use Rattle.rows.proofs.NewestLists.{AreFollowed}
 use Rattle.si_model.specs.ShowsCells.{key_of}
 use Rattle.version_collector.proofs.versions.look_up_records.Given as goal
 

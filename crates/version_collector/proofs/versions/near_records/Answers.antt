@@ -2,8 +2,8 @@ use Rattle.std.proofs.Common.{◌≡◌, ℕ, List, Some, sym, subst}
 use Rattle.cell_key.specs.Cells.{Cells, IsNewest}
 use Rattle.cell_key.specs.declared.keys.Qualifier.TheVariants.{Write}
 use Rattle.cell_key.specs.Columns.{NamesStart, NamesWrite}
-use Rattle.row_atomic.proofs.Calls.{refused_later}
-use Rattle.row_atomic.proofs.Halves.{at_some}
+use Rattle.rows.proofs.Calls.{refused_later}
+use Rattle.rows.proofs.Halves.{at_some}
 use Rattle.si_model.specs.ShowsCells.{key_of}
 use Rattle.version_collector.specs.Versions.{AreNear, AreShown, NamesNext}
 use Rattle.version_collector.proofs.PassedRefusals.{refused_damaged, shown_later}

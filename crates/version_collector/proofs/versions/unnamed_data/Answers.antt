@@ -2,7 +2,7 @@ use Rattle.std.proofs.Common.{◌≡◌, ◌<◌, ◌∙◌, ◌+◌, ◌^◌, �
 use Rattle.cell_key.specs.declared.keys.Qualifier.TheVariants.{Data}
 use Rattle.cell_key.specs.declared.refusals.Refusal.TheVariants.{Device}
 use Rattle.cell_key.proofs.Reasons.{not_refused}
-use Rattle.row_atomic.proofs.Calls.{reads_none, reads_then}
+use Rattle.rows.proofs.Calls.{reads_none, reads_then}
 use Rattle.version_collector.specs.Versions.{IsUnnamed}
 use Rattle.version_collector.proofs.Greatest.{AreAll, length-last}
 use Rattle.version_collector.proofs.Starts.{among_named, data_all, data_begin, data_full, data_more, data_past, latest_none, latest_some, lower_some, moment_some, named_among}

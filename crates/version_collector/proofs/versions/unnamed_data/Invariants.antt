@@ -1,5 +1,5 @@
 use Rattle.std.proofs.Common.{◌≡◌, ◌≤◌, length, vec_len}
-use Rattle.row_atomic.specs.Calls.{OnlyReads}
+use Rattle.rows.specs.Calls.{OnlyReads}
 use Rattle.version_collector.specs.Versions.{AreNear, AreShown, HasOneRecord, IsUnnamed}
 use Rattle.version_collector.proofs.Greatest.{AreAll}
 use Rattle.version_collector.proofs.versions.unnamed_data.Given as goal

@@ -3,7 +3,7 @@ use Rattle.std.proofs.Common.{◌∙◌, subst}
 use Rattle.cell_key.specs.declared.refusals.Refusal.TheVariants.{Damaged}
 use Rattle.std.proofs.lemmas.Result.{on_err_weaker, on_ok_weaker}
 use Rattle.cell_key.specs.Places.{IsNextCell}
-use Rattle.row_atomic.proofs.Calls.{either_way, is_read_refusal, read_undamaged}
+use Rattle.rows.proofs.Calls.{either_way, is_read_refusal, read_undamaged}
 use Rattle.row_atomic.proofs.ListedFiles.{stored_lists}
 use Rattle.row_atomic.proofs.Outcomes.{applied, err_of, of_done, read_refused, tells_read}
 use Rattle.row_atomic.specs.Changes.{MeetsDamage}

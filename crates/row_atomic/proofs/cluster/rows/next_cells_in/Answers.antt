@@ -15,7 +15,7 @@ use Rattle.row_atomic.proofs.PassedRefusals.{not_both}
 use Rattle.row_atomic.proofs.Shares.{at_told, each_map}
 use Rattle.row_atomic.proofs.Scans.{at_item, parted_at, passed_more, place_numbered, scan_ends, scan_goes_on, scan_skips}
 use Rattle.row_atomic.proofs.ManyNexts.{HasScanned, asked_begins, asked_ended, asked_next, asked_passed, asked_passes, begin_fewer, dropped_at, later_none, passes_more}
-use Rattle.row_atomic.proofs.NextLists.{next_all}
+use Rattle.rows.proofs.NextLists.{next_all}
 use Rattle.row_atomic.proofs.Nexts.{NoneAfter}
 use Rattle.row_atomic.proofs.cluster.rows.next_cells_in.Goals as goal
 use Rattle.row_atomic.proofs.cluster.rows.next_cells_in.Goals.{then-len-most+then-not-precedes+in_ok-more+in_ok-append, else-len-most, else-len-most-via-then-len-most+else-not-precedes, else-len-most-via-else-len-most}

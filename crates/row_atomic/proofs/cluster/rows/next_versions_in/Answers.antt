@@ -9,10 +9,10 @@ use Rattle.cell_key.specs.declared.refusals.Refusal.TheVariants.{Damaged}
 use Rattle.file_store.specs.Store.{Contents}
 use Rattle.metadata_table.specs.Places.{PlaceView, view_of, views}
 use Rattle.metadata_table.specs.Table.{IsTable}
-use Rattle.tablet.specs.Batches.{AreNextVersions, IsFull, bytes_in, bytes_of, places_in}
+use Rattle.rows.specs.Batches.{AreNextVersions, IsFull, bytes_in, bytes_of, places_in}
 use Rattle.tablet.specs.Views.{Holds, cells_at}
-use Rattle.tablet.specs.declared.batches.BatchLimits.{BatchLimits}
-use Rattle.tablet.specs.declared.batches.CellVersions.{CellVersions}
+use Rattle.rows.specs.declared.batches.BatchLimits.{BatchLimits}
+use Rattle.rows.specs.declared.batches.CellVersions.{CellVersions}
 use Rattle.tablet.specs.declared.tablet.Tablet.{Tablet}
 use Rattle.row_atomic.specs.Clusters.{ArePlaced, PrecedesCell, cells_in, tablet_numbered}
 use Rattle.row_atomic.proofs.PassedRefusals.{not_both}

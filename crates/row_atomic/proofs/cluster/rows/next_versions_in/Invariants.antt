@@ -5,7 +5,7 @@ use Rattle.std.specs.Bool.{OnFalse}
 use Rattle.cell_key.specs.Places.{place_named}
 use Rattle.file_store.specs.Store.{Contents}
 use Rattle.metadata_table.specs.Places.{views}
-use Rattle.tablet.specs.Batches.{IsFull}
+use Rattle.rows.specs.Batches.{IsFull}
 use Rattle.row_atomic.specs.Clusters.{AreOpenFrom}
 use Rattle.row_atomic.proofs.ManyVersions.{HasFound}
 use Rattle.row_atomic.proofs.cluster.rows.next_versions_in.Given as goal

@@ -8,7 +8,7 @@ use Rattle.cell_key.specs.declared.refusals.Refusal.{Refusal}
 use Rattle.si_model.specs.Machine.{refuses}
 use Rattle.request_codec.specs.declared.replies.Reply.TheVariants as codec
 use Rattle.row_atomic.specs.ReadableLaw.{all_readable}
-use Rattle.row_atomic.proofs.Calls.{is_read_refusal, read_undamaged}
+use Rattle.rows.proofs.Calls.{is_read_refusal, read_undamaged}
 use Rattle.server_loop.specs.Runs.{KeepsToLimits}
 use Rattle.server_loop.proofs.Causes.{unmet_causes}
 use Rattle.server_loop.proofs.RawReads.{found_outcome, refused_outcome}

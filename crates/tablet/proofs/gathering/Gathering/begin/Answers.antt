@@ -1,5 +1,5 @@
 use Rattle.std.proofs.Common.{◌≡◌, ◌++◌, ◌∷◌, ◌∙◌, [], subst}
-use Rattle.tablet.specs.declared.batches.CellVersions.{CellVersions}
+use Rattle.rows.specs.declared.batches.CellVersions.{CellVersions}
 use Rattle.tablet.proofs.GatheredCells.{begins_above, begins_kept, place_part}
 use Rattle.tablet.proofs.gathering.Gathering.begin.Goals as goal
 use Rattle.tablet.proofs.gathering.Gathering.begin.Goals.{then-key-self+in_ok-keep, else-key-self}

@@ -2,7 +2,7 @@ use Rattle.std.proofs.Common.{◌≡◌, ◌∷◌, ◌++◌, ◌∙◌, ℕ, Li
 use Rattle.std.specs.Option.{option_copied}
 use Rattle.cell_key.specs.Entries.{IsEntryList}
 use Rattle.tablet.specs.Gathering.{AreVersionsIn, Begins, Gathers}
-use Rattle.tablet.specs.declared.batches.CellVersions.{CellVersions}
+use Rattle.rows.specs.declared.batches.CellVersions.{CellVersions}
 use Rattle.tablet.specs.declared.gathering.Gathering.{Gathering}
 use Rattle.tablet.proofs.GatheredCells.{begun_named, gathers_erased, on_false, stopped_named}
 use Rattle.tablet.proofs.gathering.Gathering.take.Goals as goal

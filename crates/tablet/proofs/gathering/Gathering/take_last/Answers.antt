@@ -4,9 +4,9 @@ use Rattle.std.specs.Vec.{with_item}
 use Rattle.std.proofs.lemmas.Bool.Decides.{Decides-eqb}
 use Rattle.std.proofs.lemmas.Slice.Eq.{strip_prefix_is}
 use Rattle.cell_key.specs.Entries.{cells_of}
-use Rattle.tablet.specs.Batches.{place_in, HasNewest}
+use Rattle.rows.specs.Batches.{place_in, HasNewest}
 use Rattle.tablet.specs.Gathering.{last_of, HasPlaceText}
-use Rattle.tablet.specs.declared.batches.CellVersions.{CellVersions}
+use Rattle.rows.specs.declared.batches.CellVersions.{CellVersions}
 use Rattle.tablet.proofs.GatheredCells.{above_newest, has_last, kept_newest, not_key, read_last, taken_named, was_last, write_last}
 use Rattle.tablet.proofs.gathering.Gathering.take_last.Goals as goal
 

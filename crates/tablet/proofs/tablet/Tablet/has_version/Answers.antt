@@ -12,7 +12,7 @@ use Rattle.cell_key.specs.declared.keys.Qualifier.{Qualifier}
 use Rattle.file_store.specs.Store.{Contents}
 use Rattle.memtable.specs.Slots.{lent_version}
 use Rattle.tablet.specs.Ranges.{has_row}
-use Rattle.tablet.specs.Reads.{HasVersion}
+use Rattle.rows.specs.Reads.{HasVersion}
 use Rattle.tablet.specs.Views.{range_of, memory_of, cells_at, Holds, IsSameTablet}
 use Rattle.tablet.specs.declared.tablet.Tablet.{Tablet}
 use Rattle.tablet.proofs.InMemory.{by_files, by_memory, still_there, with_equal}

@@ -1,9 +1,9 @@
 use Rattle.std.proofs.Common.{◌≡◌, ◌∙◌, Option, ap, sym, subst}
 use Rattle.std.specs.Prelude.{option_copied, option_map}
 use Rattle.cell_key.specs.Places.{Place, place_named}
-use Rattle.row_atomic.specs.Calls.{AreReadableFrom}
+use Rattle.rows.specs.Calls.{AreReadableFrom}
 use Rattle.si_model.specs.Scans.{place_at}
-use Rattle.tablet.specs.Batches.{AreNextVersions}
+use Rattle.rows.specs.Batches.{AreNextVersions}
 use Rattle.txn_client.specs.Gathering.{last_of}
 use Rattle.txn_client.proofs.scan.Gathered.next_versions.Goals as goal
 use Rattle.txn_client.proofs.scan.Gathered.next_versions.Goals.{in-Some, in-None}

@@ -11,13 +11,13 @@ use Rattle.cell_key.specs.declared.refusals.Refusal.{Refusal}
 use Rattle.cell_key.specs.declared.refusals.Refusal.TheVariants.{Damaged, Device}
 use Rattle.cell_key.proofs.Passed.{passed_err}
 use Rattle.cell_key.proofs.Reasons.{not_refused}
-use Rattle.row_atomic.specs.Calls.{AreReadableFrom, View}
-use Rattle.row_atomic.proofs.Calls.{read_undamaged, reads_then}
+use Rattle.rows.specs.Calls.{AreReadableFrom, View}
+use Rattle.rows.proofs.Calls.{read_undamaged, reads_then}
 use Rattle.si_model.specs.Reads.{cell_of}
 use Rattle.si_model.specs.Scans.{place_at}
 use Rattle.si_model.specs.declared.replies.Cell.{Cell}
-use Rattle.tablet.specs.Batches.{HasNewest, place_in, places_in}
-use Rattle.tablet.specs.declared.batches.CellVersions.{CellVersions}
+use Rattle.rows.specs.Batches.{HasNewest, place_in, places_in}
+use Rattle.rows.specs.declared.batches.CellVersions.{CellVersions}
 use Rattle.txn_client.specs.Gathering.{Gathers, IsNextIn, items_in, last_of}
 use Rattle.txn_client.specs.Ranges.{range_named}
 use Rattle.txn_client.specs.Reads.{AreNewest}

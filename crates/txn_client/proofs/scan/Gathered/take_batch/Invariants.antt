@@ -3,9 +3,9 @@ use Rattle.std.specs.Prelude.{option_map}
 use Rattle.std.specs.List.{AllByRecursion}
 use Rattle.std.specs.Vec.Iter.{into_iter_items}
 use Rattle.cell_key.specs.Places.{AreNextCells, IsNextCell, last_or}
-use Rattle.row_atomic.specs.Calls.{OnlyReads}
+use Rattle.rows.specs.Calls.{OnlyReads}
 use Rattle.si_model.specs.Scans.{place_at}
-use Rattle.tablet.specs.Batches.{HasNewest, places_in}
+use Rattle.rows.specs.Batches.{HasNewest, places_in}
 use Rattle.txn_client.specs.Gathering.{Gathers, IsInLimits, last_of}
 use Rattle.txn_client.specs.Ranges.{range_named}
 use Rattle.txn_client.specs.Scans.{IsScanReadable}

@@ -1,5 +1,5 @@
 use Rattle.std.proofs.Common.{inl, inr, refl, ◌∙◌, arith}
-use Rattle.row_atomic.proofs.Calls.{reads_none}
+use Rattle.rows.proofs.Calls.{reads_none}
 use Rattle.txn_client.specs.declared.scan.Batch.TheVariants.{End, Full}
 use Rattle.txn_client.proofs.GatheredItems.{come_at, ended_found, stopped_ok}
 use Rattle.txn_client.proofs.scan.Scan.run.Goals as goal

@@ -1,5 +1,5 @@
 use Rattle.std.proofs.Common.{◌≡◌, ◌-◌}
-use Rattle.row_atomic.specs.Calls.{OnlyReads}
+use Rattle.rows.specs.Calls.{OnlyReads}
 use Rattle.txn_client.specs.Gathering.{Gathers, IsInLimits}
 use Rattle.txn_client.specs.Ranges.{range_named}
 use Rattle.txn_client.specs.Scans.{IsScanReadable}

@@ -10,8 +10,8 @@ use Rattle.cell_key.specs.declared.refusals.Refusal.TheVariants.{EmptyCommit, Me
 use Rattle.cell_key.proofs.Reasons.{not_refused}
 use Rattle.oracle.specs.Marks.{MayHold}
 use Rattle.oracle.specs.Ranges.{IsDrawRefusal, OracleState, next_range_end}
-use Rattle.row_atomic.specs.Calls.{OnlyReads, View}
-use Rattle.row_atomic.proofs.Calls.{reads_none}
+use Rattle.rows.specs.Calls.{OnlyReads, View}
+use Rattle.rows.proofs.Calls.{reads_none}
 use Rattle.txn_client.specs.Shows.{Advances, DrawsNext, HasNoNext, top_after}
 use Rattle.txn_client.specs.Refusals.{IsAdvanceRefusal, IsCellStepRefusal, IsReadableAt, StepLeaves, next_cell}
 use Rattle.txn_client.specs.declared.session.Phase.{Phase}

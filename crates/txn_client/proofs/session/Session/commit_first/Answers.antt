@@ -1,7 +1,7 @@
 use Rattle.std.proofs.Common.{◌∙◌, refl, ap}
 use Rattle.std.specs.Prelude.{nat_eq}
 use Rattle.cell_key.proofs.Reasons.{not_refused, reason_kept, reason_none, reason_passed}
-use Rattle.row_atomic.proofs.Calls.{reads_none, such_so}
+use Rattle.rows.proofs.Calls.{reads_none, such_so}
 use Rattle.txn_client.proofs.SessionSteps.{advance_lost, advance_committed}
 use Rattle.si_model.specs.ShowsCells.{kind_of_change}
 use Rattle.si_model.proofs.EditedCells.{make_cells}

@@ -2,7 +2,7 @@ use Rattle.std.proofs.Common.{◌∙◌, ◌+◌, ◌⊎◌, inl, inr, Bool, tru
 use Rattle.std.specs.Prelude.{nat_eq}
 use Rattle.std.specs.Bool.{OnTrue, OnFalse}
 use Rattle.cell_key.proofs.Reasons.{not_refused, reason_kept, reason_none, reason_passed}
-use Rattle.row_atomic.proofs.Calls.{reads_none, such_so}
+use Rattle.rows.proofs.Calls.{reads_none, such_so}
 use Rattle.txn_client.proofs.SessionSteps.{advance_finished}
 use Rattle.si_model.specs.ShowsCells.{kind_of_change}
 use Rattle.si_model.proofs.EditedCells.{make_cells}

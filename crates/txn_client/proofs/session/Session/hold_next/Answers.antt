@@ -1,7 +1,7 @@
 use Rattle.std.proofs.Common.{◌∙◌, ℕ, refl, ap, subst}
 use Rattle.cell_key.specs.Cells.{Cells, after_edits}
 use Rattle.cell_key.proofs.Reasons.{not_refused, reason_kept, reason_none, reason_passed}
-use Rattle.row_atomic.proofs.Calls.{reads_none, reads_then, such_after, such_so}
+use Rattle.rows.proofs.Calls.{reads_none, reads_then, such_after, such_so}
 use Rattle.txn_client.specs.Reads.{IsTaken, IsFree}
 use Rattle.txn_client.proofs.SessionSteps.{advance_conflict, advance_held}
 use Rattle.txn_client.proofs.Room.{holding_makes}

@@ -9,7 +9,7 @@ use Rattle.si_model.specs.Machine as machine
 use Rattle.si_model.specs.Replies.{found_reply, result_reply}
 use Rattle.si_model.specs.Reads.{cell_of}
 use Rattle.cell_key.proofs.Reasons.{reason_none}
-use Rattle.row_atomic.proofs.Calls.{reads_none}
+use Rattle.rows.proofs.Calls.{reads_none}
 use Rattle.txn_client.specs.Reads.{IsDamaged, IsFound}
 use Rattle.txn_client.specs.Shows.{IsCellRefusal, Steps}
 use Rattle.txn_client.proofs.Passed.{as_err, passed_err, passed_none, refused_not}

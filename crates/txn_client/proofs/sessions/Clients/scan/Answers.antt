@@ -3,7 +3,7 @@ use Rattle.std.specs.declared.result.Result.TheVariants.{Err}
 use Rattle.cell_key.specs.declared.refusals.Refusal.{Refusal}
 use Rattle.cell_key.specs.declared.refusals.Refusal.TheVariants.{Damaged}
 use Rattle.cell_key.proofs.Reasons.{reason_none}
-use Rattle.row_atomic.proofs.Calls.{reads_none}
+use Rattle.rows.proofs.Calls.{reads_none}
 use Rattle.si_model.specs.Machine.{Range}
 use Rattle.si_model.specs.Replies.{item_of, range_of, reach_of}
 use Rattle.si_model.specs.Scans.{HasFamilies, HasRows}

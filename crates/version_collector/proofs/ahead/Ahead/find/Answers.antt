@@ -1,7 +1,7 @@
 use Rattle.std.proofs.Common.{Option, List, nat_lt, sym, subst, arith}
 use Rattle.std.proofs.lemmas.Bool.{ltb-true}
 use Rattle.cell_key.specs.Places.{AreNextCells, Place}
-use Rattle.row_atomic.specs.Calls.{AreReadableFrom}
+use Rattle.rows.specs.Calls.{AreReadableFrom}
 use Rattle.version_collector.specs.Ahead.{Follow}
 use Rattle.version_collector.specs.Visits.{position_of}
 use Rattle.version_collector.proofs.AheadCells.{follow_found}

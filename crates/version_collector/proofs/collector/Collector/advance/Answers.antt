@@ -1,13 +1,13 @@
 use Rattle.std.proofs.Common.{◌+◌, ◌≡◌, ◌≢◌, ◌≤◌, ◌<◌, ℕ, ◌∙◌, refl, subst, arith}
 use Rattle.cell_key.specs.declared.refusals.Refusal.TheVariants.{Damaged, Device, MemtableFull}
 use Rattle.cell_key.proofs.Reasons.{not_refused}
-use Rattle.row_atomic.proofs.Calls.{keeps_then}
+use Rattle.rows.proofs.Calls.{keeps_then}
 use Rattle.si_model.specs.declared.replies.CollectReply.{CollectReply}
 use Rattle.version_collector.specs.Visits.{Visits, none, position_of, read_from, then}
 use Rattle.version_collector.specs.declared.collector.Collector.{Collector}
 use Rattle.version_collector.proofs.Reading.{from_earlier, readable_now}
 use Rattle.version_collector.proofs.Room.{no_room_then, room_few, room_same, room_then}
-use Rattle.row_atomic.specs.Calls.{AreReadableFrom, OnlyReads, View}
+use Rattle.rows.specs.Calls.{AreReadableFrom, OnlyReads, View}
 use Rattle.cell_key.proofs.Passed.{as_err, passed as passed_on}
 use Rattle.version_collector.proofs.VisitedCells.{still_shown, thins_few, thins_none, thins_then}
 use Rattle.version_collector.proofs.collector.Collector.advance.Goals as goal

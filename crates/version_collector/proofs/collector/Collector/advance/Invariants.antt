@@ -1,5 +1,5 @@
 use Rattle.std.proofs.Common.{◌≡◌}
-use Rattle.row_atomic.specs.Calls.{AreReadableFrom, KeepsBelow}
+use Rattle.rows.specs.Calls.{AreReadableFrom, KeepsBelow}
 use Rattle.si_model.specs.Machine.{State}
 use Rattle.version_collector.specs.Room.{TakesRoomOfVisits}
 use Rattle.version_collector.specs.Ahead.{IsAhead}

@@ -9,7 +9,7 @@ use Rattle.si_model.specs.declared.replies.CollectReply.{CollectReply}
 use Rattle.version_collector.specs.Ahead.{AreAhead, Follow}
 use Rattle.version_collector.specs.Versions.{AreShown}
 use Rattle.version_collector.specs.Visits.{Thins, Visits, position_of}
-use Rattle.row_atomic.proofs.RowsFrom.{row_after}
+use Rattle.rows.proofs.RowsFrom.{row_after}
 use Rattle.version_collector.proofs.PassedRefusals.{read_not_damaged}
 use Rattle.version_collector.proofs.Room.{room_none}
 use Rattle.version_collector.proofs.Thinned.{thins_kept}

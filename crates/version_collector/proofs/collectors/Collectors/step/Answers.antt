@@ -4,7 +4,7 @@ use Rattle.std.specs.Ordering.{nat_cmp, is_eq}
 use Rattle.std.specs.BTreeMap as btree
 use Rattle.cell_key.specs.declared.refusals.Refusal.TheVariants.{Damaged}
 use Rattle.version_collector.specs.declared.collector.Collector.{Collector}
-use Rattle.row_atomic.proofs.Calls.{reads_none}
+use Rattle.rows.proofs.Calls.{reads_none}
 use Rattle.version_collector.proofs.Room.{room_same}
 use Rattle.cell_key.proofs.Passed.{as_err, passed as passed_on}
 use Rattle.version_collector.proofs.Table.{is_count, kept_is, leaves_at, many_at, none_at, now_at, one_at, refused_leaves, same_entries, same_leaves, same_lent, shown_low, shown_some, steps_at, tells_at, twice, unknown_at, visits_at, with_none}

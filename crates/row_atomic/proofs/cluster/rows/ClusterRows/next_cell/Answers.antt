@@ -1,7 +1,7 @@
 use Rattle.std.proofs.Common.{◌≡◌, ◌<◌, ◌-◌, ℕ, Some, slice_index_or, option_map, sym, subst}
 use Rattle.cell_key.specs.Places.{IsNextCell, place_named}
 use Rattle.row_atomic.specs.Commands.{cells_shown}
-use Rattle.row_atomic.proofs.NextLists.{next_single}
+use Rattle.rows.proofs.NextLists.{next_single}
 use Rattle.row_atomic.proofs.cluster.rows.ClusterRows.next_cell.Goals as goal
 
 pub returns-clause-found : goal.returns-clause-found

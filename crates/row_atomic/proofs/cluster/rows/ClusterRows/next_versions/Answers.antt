@@ -3,7 +3,7 @@ use Rattle.std.proofs.Common.{option_map}
 use Rattle.cell_key.specs.Cells.{Cells}
 use Rattle.cell_key.specs.Places.{place_named}
 use Rattle.metadata_table.specs.Places.{views}
-use Rattle.tablet.specs.Batches.{AreNextVersions}
+use Rattle.rows.specs.Batches.{AreNextVersions}
 use Rattle.row_atomic.proofs.Calls.{files_read}
 use Rattle.row_atomic.proofs.ManyVersions.{read_found, read_refused}
 use Rattle.row_atomic.proofs.cluster.rows.ClusterRows.next_versions.Goals as goal

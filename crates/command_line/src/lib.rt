@@ -1,0 +1,182 @@
+//! The command line of `tabletd`: what it can say, and its reading.
+#![tactic(auto)]
+
+mod command_options;
+
+pub use command_options::{
+    DEFAULT_FLUSH, LEAST_CACHE, LEAST_FLUSH_BYTES, LEAST_LOG_BYTES, MOST_CACHE, MOST_FLUSH,
+    MOST_FLUSH_BYTES, MOST_LOG_BYTES, MOST_MERGE, Options,
+};
+
+ghost use Rattle.std.specs.Prelude.{◌≡◌, ◌≤◌, IfOk, IfSome, IsTrue, is_some, true};
+
+use clap::builder::ValueParser;
+use clap::{Arg, ArgAction, Command, Error};
+use std::alloc::{AllocError, Global};
+
+/// What the program is, where it reads and writes, and how long its data last.
+const ABOUT: &str =
+    "A wide-column tablet store with snapshot-isolated transactions over many rows. It reads framed \
+    requests from the standard input and writes a framed reply to each to the standard output, until the input ends. \
+    The store is in memory and ends with the program, or in a folder, where it lasts as of its last checkpoint, and \
+    with a log as of the last reply.";
+
+const DIR_HELP: &str =
+    "A folder that keeps the store, and no other program has: opened as its last checkpoint left it, and new \
+    where it is empty [default: memory]";
+
+const LOG_HELP: &str =
+    "Make a log in the folder, if it has none: no reply leaves before the disk has what it says. A folder that has a log \
+    is always opened with it [default: none is made]";
+
+const LOG_BYTES_HELP: &str =
+    "Bytes of a log's edits at which a checkpoint empties it: 4096 to 33554432 [default: 33554432]";
+
+const FLUSH_HELP: &str =
+    "Entries of a memtable at which it is compacted: 1 to 100000. From 99746 on one can be too full for a collector's \
+    step and stay so, and at 100000 for a commit's too [default: 10000]";
+
+const FLUSH_BYTES_HELP: &str =
+    "Bytes of its entries at which it is compacted too: 1048576 to 67108864. From 65038466 on one can be too full for a \
+    collector's step and stay so, and from 67019079 on for a commit's too [default: bytes don't count]";
+
+const MERGE_HELP: &str =
+    "Files of a tablet at which the newest ones are merged after a file was written: 2 to 64 [default: never]";
+
+const CACHE_HELP: &str =
+    "Blocks of each file that stay in memory, those that were read last: 8 to 4096 [default: 8]";
+
+/// An option that takes a number from `least` to `most`.
+fn number<'a>(
+    alloc: Global,
+    long: &'a str,
+    letter: &'a str,
+    help: &'a str,
+    least: u32,
+    most: u32,
+) -> Arg<'a> {
+    Arg::new(alloc, long)
+        .long(long)
+        .value_name(letter)
+        .help(help)
+        .action(ArgAction::Set)
+        .value_parser(ValueParser::unsigned(least as u64, most as u64))
+}
+
+/// The command with its options.
+fn command<'a>(alloc: Global) -> Result<Command<'a>, AllocError> {
+    let dir = Arg::new(alloc, "dir")
+        .long("dir")
+        .value_name("DIR")
+        .help(DIR_HELP)
+        .action(ArgAction::Set);
+    let log = Arg::new(alloc, "log")
+        .long("log")
+        .help(LOG_HELP)
+        .action(ArgAction::SetTrue)
+        .requires_arg("dir")?;
+    let log_bytes = number(
+        alloc,
+        "log-bytes",
+        "L",
+        LOG_BYTES_HELP,
+        LEAST_LOG_BYTES,
+        MOST_LOG_BYTES,
+    );
+    let flush = number(alloc, "flush", "N", FLUSH_HELP, 1, MOST_FLUSH);
+    let flush_bytes = number(
+        alloc,
+        "flush-bytes",
+        "B",
+        FLUSH_BYTES_HELP,
+        LEAST_FLUSH_BYTES,
+        MOST_FLUSH_BYTES,
+    );
+    let merge = number(alloc, "merge", "M", MERGE_HELP, 2, MOST_MERGE);
+    let cache = number(alloc, "cache", "C", CACHE_HELP, LEAST_CACHE, MOST_CACHE);
+    Command::new(alloc, "tabletd")
+        .about(ABOUT)
+        .arg(dir)?
+        .arg(log)?
+        .arg(log_bytes)?
+        .arg(flush)?
+        .arg(flush_bytes)?
+        .arg(merge)?
+        .arg(cache)
+}
+
+/// Reads the words of the command line, the program's name first: `tabletd [--dir DIR [--log]] [--log-bytes L] [--flush N]
+/// [--flush-bytes B] [--merge M] [--cache C]`, where L is 4,096 to 33,554,432, N is 1 to 100,000, B is 1,048,576 to
+/// 67,108,864, M is 2 to 64 and C is 8 to 4,096. An error has the parser's text, that of a request for help too.
+pub fn options<'a>(alloc: Global, words: &'a [&'a str]) -> Result<Options<'a>, Error>
+    ensures log { IfOk result (λ options. options.log ≡ true → is_some options.dir ≡ true) }
+    ensures log_bytes { IfOk result (λ options.
+        (LEAST_LOG_BYTES ≤ options.log_bytes) × (options.log_bytes ≤ MOST_LOG_BYTES)) }
+    ensures flush { IfOk result (λ options. (1 ≤ options.flush) × (options.flush ≤ MOST_FLUSH)) }
+    ensures flush_bytes { IfOk result (λ options. IfSome options.flush_bytes (λ bytes.
+        (LEAST_FLUSH_BYTES ≤ bytes) × (bytes ≤ MOST_FLUSH_BYTES))) }
+    ensures merge { IfOk result (λ options.
+        IfSome options.merge (λ most. (2 ≤ most) × (most ≤ MOST_MERGE))) }
+    ensures cache { IfOk result (λ options.
+        (LEAST_CACHE ≤ options.cache) × (options.cache ≤ MOST_CACHE)) }
+{
+    let matches = command(alloc)?.try_get_matches_from(words)?;
+    let dir = matches.get_str("dir");
+    Ok(Options {
+        dir,
+        // The parser has refused a log without a folder.
+        log: dir.is_some() && matches.get_flag("log"),
+        log_bytes: log_bytes_of(matches.get_one::<u32>("log-bytes")),
+        flush: flush_of(matches.get_one::<u32>("flush")),
+        flush_bytes: within(
+            matches.get_one::<u32>("flush-bytes"),
+            LEAST_FLUSH_BYTES,
+            MOST_FLUSH_BYTES,
+        ),
+        merge: within(matches.get_one::<u32>("merge"), 2, MOST_MERGE),
+        cache: cache_of(matches.get_one::<u32>("cache")),
+    })
+}
+
+/// The number that was given, if one was. The parser has refused a number outside the limits.
+fn within(given: Option<u32>, least: u32, most: u32) -> Option<u32>
+    ensures { IfSome result (λ number. (least ≤ number) × (number ≤ most)) }
+{
+    match given {
+        Some(number) if least <= number && number <= most => Some(number),
+        _ => None,
+    }
+}
+
+/// The number of a log's bytes that was given, or the default.
+fn log_bytes_of(given: Option<u32>) -> u32
+    ensures least { LEAST_LOG_BYTES ≤ result }
+    ensures most { result ≤ MOST_LOG_BYTES }
+{
+    match within(given, LEAST_LOG_BYTES, MOST_LOG_BYTES) {
+        Some(number) => number,
+        None => MOST_LOG_BYTES,
+    }
+}
+
+/// The number of entries that was given, or the default.
+fn flush_of(given: Option<u32>) -> u32
+    ensures least { 1 ≤ result }
+    ensures most { result ≤ MOST_FLUSH }
+{
+    match within(given, 1, MOST_FLUSH) {
+        Some(number) => number,
+        None => DEFAULT_FLUSH,
+    }
+}
+
+/// The number of blocks that was given, or the default.
+fn cache_of(given: Option<u32>) -> u32
+    ensures least { LEAST_CACHE ≤ result }
+    ensures most { result ≤ MOST_CACHE }
+{
+    match within(given, LEAST_CACHE, MOST_CACHE) {
+        Some(number) => number,
+        None => LEAST_CACHE,
+    }
+}

@@ -1,0 +1,10 @@
+mod CutBatches
+mod FromLogs
+mod Kept
+mod Logged
+mod OpenedLogs
+mod OpenedRows
+mod OpensLogs
+mod Replayed
+mod Rooted
+mod Stored

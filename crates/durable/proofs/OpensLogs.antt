@@ -1,0 +1,118 @@
+-- A server with a log that an opening makes.
+use Rattle.std.proofs.Common.{◌≡◌, ◌⊎◌, ◌+◌, ℕ, true, List, [], ◌∷◌, length, Option, None, Some, inl, inr, refl, sym, ap, ◌∙◌, subst, arith}
+use Rattle.std.specs.Prelude.{IfSome, flat_map, is_some}
+use Rattle.std.specs.List.{AllByRecursion}
+use Rattle.std.specs.FinMap.{get}
+use Rattle.cell_key.specs.Cells.{Cells, after_edits}
+use Rattle.cell_key.specs.declared.edits.Edit.{Edit}
+use Rattle.commit_log.specs.Edits.{HoldEdits, IsStoredEdit, LogsEdits, spelled_edits}
+use Rattle.commit_log.specs.declared.logs.Log.{Ghosts as Log}
+use Rattle.file_store.specs.Store.{Contents}
+use Rattle.file_store.specs.declared.files.Files.{Ghosts as Files}
+use Rattle.oracle.specs.declared.marks.MarkStore.{Ghosts as MarkStore}
+use Rattle.row_atomic.specs.Journals.{HasRoomFor, empty_journal}
+use Rattle.row_atomic.specs.Recorded.{logged_of, waiting_of}
+use Rattle.row_atomic.specs.Roots.{root_name}
+use Rattle.si_model.specs.Machine.{Place, State, reopened}
+use Rattle.si_model.specs.ShowsCells.{ShowsCells}
+use Rattle.durable.specs.Devices.{Covers, KeepsUnder, Lasts}
+use Rattle.durable.specs.LastingOpening.{HasRootFile, LacksBase, OpensFrom, ServesFrom}
+use Rattle.durable.specs.Lasts.{HoldsLogged}
+use Rattle.server_loop.specs.Opening.{IsLost}
+use Rattle.server_loop.specs.Server.{Shows, cluster_of, journal_of, last_of, marks_of}
+use Rattle.durable.specs.ServesLogged.{IsSettledOver}
+use Rattle.durable.specs.Stored.{IsRooted, StoresCells}
+use Rattle.durable.specs.declared.lasting.LastingServer.{LastingServer}
+use Rattle.server_loop.specs.declared.server.Server.{Server}
+use Rattle.durable.proofs.Logged.{AsManyEdits}
+
+-- edits of the same records are of one spelling
+pub one_spelling : LogsEdits → (records : List (List ℕ)) (a b : List Edit) → HoldEdits records a → HoldEdits records b → spelled_edits a ≡ spelled_edits b
+one_spelling laws records a b p q = sym (laws.whole records a p) ∙ laws.whole records b q
+
+pub same_shown : LogsEdits → (records : List (List ℕ)) (a b : List Edit) → HoldEdits records a → HoldEdits records b → AllByRecursion IsStoredEdit a → AllByRecursion IsStoredEdit b → (base : Cells) (st : State) → ShowsCells (after_edits base a) st → ShowsCells (after_edits base b) st
+same_shown laws records a b p q stored_a stored_b base st shows = subst (λ (cells : Cells). ShowsCells cells st) (laws.one a b stored_a stored_b (one_spelling laws records a b p q) base) shows
+
+pub same_room : LogsEdits → AsManyEdits → (records : List (List ℕ)) (a b : List Edit) → HoldEdits records a → HoldEdits records b → AllByRecursion IsStoredEdit a → AllByRecursion IsStoredEdit b → HasRoomFor empty_journal a → HasRoomFor empty_journal b
+same_room laws as_many records a b p q stored_a stored_b room =
+    let spelled = one_spelling laws records a b p q in
+    let count = as_many a b stored_a stored_b spelled in
+    let size = ap length spelled in
+    let edits = room.edits in
+    let bytes = room.bytes in
+    record { edits = omega (arith, count, edits); bytes = omega (arith, size, bytes) }
+
+-- no records of these edits are of none
+pub holds_none : LogsEdits → AsManyEdits → (records : List (List ℕ)) (edits : List Edit) → HoldEdits records edits → AllByRecursion IsStoredEdit edits → HoldEdits records [] → edits ≡ []
+holds_none laws as_many records [] held stored none = refl
+holds_none laws as_many records (e ∷ edits) held stored none = let count = as_many (e ∷ edits) [] stored tt (one_spelling laws records (e ∷ edits) [] held none) in absurd (omega (arith, count))
+
+pub no_room_lost : (edits : List Edit) → edits ≡ [] → HasRoomFor empty_journal edits
+no_room_lost [] none = record { edits = omega arith; bytes = omega arith }
+no_room_lost (e ∷ edits) none = cc
+
+-- what lasts does so over a log that holds the records too
+pub lasts_on_log : (keeps : Cells → List Place → Type 0) (old new : List (List ℕ) → Type 0) (covers : ℕ → Type 0) (st : State) → ((records : List (List ℕ)) → old records → new records) → Lasts keeps old covers st → Lasts keeps new covers st
+lasts_on_log keeps old new covers st same lasts = record {
+  base = lasts.base;
+  kept = lasts.kept;
+  records = lasts.records;
+  in_log = same lasts.records lasts.in_log;
+  edits = lasts.edits;
+  held = lasts.held;
+  stored = lasts.stored;
+  room = lasts.room;
+  shows = lasts.shows;
+  next = lasts.next;
+  top = lasts.top;
+}
+
+pub has_root_file : (disk : Option Contents) (mark : Option ℕ) (base : Cells) (places : List Place) → KeepsUnder disk mark base places → HasRootFile disk
+has_root_file disk mark base places keeps = subst HasRootFile (sym keeps.on_disk) (λ none. some_none keeps.keeps.image (sym keeps.keeps.there ∙ none))
+  where
+    some_none : (image : List ℕ) → Some image ≡ None → ⊥
+    some_none image is = cc
+
+pub damage_of_log : LogsEdits → AsManyEdits → (holds : List (List ℕ) → Type 0) (told : Option Contents) (mark : Option ℕ) (edits : List Edit) → ((records : List (List ℕ)) → holds records → HoldEdits records edits) → AllByRecursion IsStoredEdit edits
+    → IfSome told (λ m. IfSome mark (λ n. IsLost m n ⊎ LacksBase m edits)) → IfSome told (λ m. IfSome mark (λ n. IsLost m n ⊎ ((get m root_name ≡ None) × ((records : List (List ℕ)) → holds records → ¬ HoldEdits records []))))
+damage_of_log laws as_many holds None mark edits held stored is = tt
+damage_of_log laws as_many holds (Some m) None edits held stored is = tt
+damage_of_log laws as_many holds (Some m) (Some n) edits held stored (inl is) = inl is
+damage_of_log laws as_many holds (Some m) (Some n) edits held stored (inr is) = inr (is.0, λ records in_log none. is.1 (holds_none laws as_many records edits (held records in_log) stored none))
+
+module _ {F M L : Type 0} (files : Files F) (marks : MarkStore M) (log : Log L) where
+  pub opens_from : LogsEdits → (st : State) (server : Server F M) (kept : L) (opened : LastingServer (Server F M) L) → opened.server ≡ server → opened.log ≡ kept → (base : Cells) (edits given : List Edit) (records : List (List ℕ)) → ServesFrom files marks base edits st server
+      → HoldEdits records edits → AllByRecursion IsStoredEdit edits → log.holds kept records → HoldEdits records given → AllByRecursion IsStoredEdit given → HasRoomFor empty_journal given → st.next_tablet ≡ length st.places + 1
+      → (is_some (journal_of server) ≡ true → IsRooted files.contents server → waiting_of (journal_of server) ≡ [] → HoldsLogged (StoresCells files.contents) (λ s. logged_of (journal_of s)) last_of log.holds opened → IsSettledOver files log opened) → OpensFrom files marks log st opened
+  opens_from laws st server kept opened same_server same_log base edits given records s held stored in_log held_given stored_given room next settle =
+      let now = s.next in
+      let in_log_now : log.holds opened.log records = subst (λ (l : L). log.holds l records) (sym same_log) in_log in
+      let bytes : flat_map (λ bytes. bytes) records ≡ logged_of (journal_of opened.server) = laws.whole records edits held ∙ (ap logged_of (sym s.journal) ∙ ap (λ (x : Server F M). logged_of (journal_of x)) (sym same_server)) in
+      record {
+        next = now;
+        reached = s.reached;
+        recovered = rw same_server s.recovered;
+        shown = subst (λ (x : Server F M). Shows files.contents x now) (sym same_server) s.shown;
+        settled = settle (ap is_some s.journal) s.rooted (ap waiting_of s.journal) (record {
+          records = records;
+          in_log = in_log_now;
+          edits = given;
+          held = held_given;
+          stored = stored_given;
+          room = room;
+          bytes = bytes;
+        });
+        lasts = record {
+          base = base;
+          kept = subst (λ (x : Server F M). KeepsUnder (files.contents (cluster_of x).files) (marks.mark (marks_of x)) base now.places) (sym same_server) s.keeps;
+          records = records;
+          in_log = in_log_now;
+          edits = given;
+          held = held_given;
+          stored = stored_given;
+          room = room;
+          shows = same_shown laws records edits given held held_given stored stored_given base (reopened now) s.shows;
+          next = s.recovered.next_tablet ∙ (next ∙ ap (λ (p : List Place). length p + 1) (sym s.recovered.places));
+          top = subst (λ (x : Server F M). Covers (marks.mark (marks_of x)) now.top) (sym same_server) s.covered;
+        };
+      }

@@ -1,0 +1,294 @@
+-- What a server's files keep under their root, and what leaves it.
+use Rattle.std.proofs.Common.{◌≡◌, ◌≢◌, ◌≤◌, ◌⊎◌, ℕ, Bool, true, false, List, [], ◌++◌, length, map, Option, None, Some, Result, Ok, Err, OnErr, OnOk, append-nil, inl, inr, refl, sym, ap, ◌∙◌, subst, arith}
+use Rattle.std.specs.Prelude.{is_some, option_map}
+use Rattle.std.specs.List.{AllByRecursion}
+use Rattle.std.specs.FinMap.{get}
+use Rattle.cell_key.specs.Cells.{Cells}
+use Rattle.cell_key.specs.declared.edits.Edit.{Edit}
+use Rattle.cell_key.specs.declared.refusals.Refusal.{Refusal}
+use Rattle.commit_log.specs.Edits.{IsStoredEdit, LogsEdits, spelled_edits}
+use Rattle.file_store.specs.Store.{Contents}
+use Rattle.file_store.specs.declared.files.Files.{Ghosts as Files}
+use Rattle.metadata_table.specs.Places.{PlaceView}
+use Rattle.metadata_table.specs.Roots.{IsRoot, OneRoot, RootView}
+use Rattle.oracle.specs.declared.marks.MarkStore.{Ghosts as MarkStore}
+use Rattle.request_codec.specs.Replies.{replied}
+use Rattle.request_codec.specs.Requests.{asked}
+use Rattle.request_codec.specs.declared.replies.Reply.{Reply as CodecReply}
+use Rattle.request_codec.specs.declared.requests.Request.{Request as Lent}
+use Rattle.request_codec.specs.declared.requests.Request.TheVariants as lent
+use Rattle.row_atomic.specs.Changes.{Holds, ListsAll}
+use Rattle.row_atomic.specs.Clusters.{ClusterState, Spot, spot_of, spots_of}
+use Rattle.row_atomic.specs.Commands.{cells_shown}
+use Rattle.row_atomic.specs.Journals.{JournalView, all_logged}
+use Rattle.row_atomic.specs.Recorded.{Follows, FollowsListed, Tracks, edits_written, logged_of, waiting_of}
+use Rattle.row_atomic.specs.declared.recorded.Recorded.{Recorded}
+use Rattle.row_atomic.specs.Roots.{HasRoot, RootIsStored, RootOutlastsFlushes, RootOutlastsMerges, Rests, RootStays, root_at, root_name}
+use Rattle.row_atomic.specs.declared.commands.Command.{Command}
+use Rattle.row_atomic.specs.declared.commands.Command.TheVariants as command
+use Rattle.si_model.specs.Machine as machine
+use Rattle.si_model.specs.Machine.{IsReached, State, reopened}
+use Rattle.si_model.specs.ShowsCells.{ShowsCells}
+use Rattle.server_loop.specs.Answer.{IsAnswer, IsPlainAnswer, KeepsLogged, TendsTablets}
+use Rattle.server_loop.specs.Commands.{HasOutcome, checkpointed, command_of, outcome_of}
+use Rattle.durable.specs.Lasts as lasts
+use Rattle.durable.specs.Lasts.{HasNewRoot, KeepsRecording, MovesTablets, NeedsRoot, StaysRooted, StaysStored}
+use Rattle.server_loop.specs.Runs.{StampsGoOn}
+use Rattle.server_loop.specs.Server.{Shows, cluster_of, floor_of, forgets, journal_of, last_of, machine_place, machine_places, top_of}
+use Rattle.durable.specs.Stored.{IsClean, IsRooted, StoresCells}
+use Rattle.server_loop.specs.Tending.{IsTended, MergesWhere}
+use Rattle.server_loop.specs.declared.server.Server.{Server}
+use Rattle.server_loop.proofs.SamePlaces.{KeepsPlaces, keeps_places}
+
+-- ---- one root
+
+module _ {F : Type 0} (contents : F → Option Contents) where
+  pub same_root : OneRoot → (a b : RootView) (first second : Cells) (state : ClusterState F) → HasRoot contents a first state → HasRoot contents b second state → a ≡ b
+  same_root one a b first second state p q =
+      let kept : p.kept ≡ q.kept = some_same p.kept q.kept (sym p.on_disk ∙ q.on_disk) in
+      let image : p.keeps.image ≡ q.keeps.image = some_same p.keeps.image q.keeps.image (sym p.keeps.there ∙ (ap (λ (m : Contents). get m root_name) kept ∙ q.keeps.there)) in
+      one a b q.keeps.image (subst (λ (bytes : List ℕ). IsRoot a bytes) image p.keeps.form) q.keeps.form
+    where
+      some_same : {A : Type 0} (x y : A) → Some x ≡ Some y → x ≡ y
+      some_same x y is = cc
+
+-- ---- places
+
+pub same_machine_places : (old new : List PlaceView) → map spot_of new ≡ map spot_of old → machine_places new ≡ machine_places old
+same_machine_places old new is = ap (λ (spots : List Spot). map machine_place spots) is
+
+-- ---- a server
+
+module _ {F M : Type 0} (contents : F → Option Contents) where
+  -- what is written down follows what is shown
+  pub follows_in : OneRoot → ((cells : Cells) (st : State) → ShowsCells cells st → ShowsCells cells (reopened st)) → (server : Server F M) (st : State) (journal : Option JournalView) → is_some journal ≡ true → Follows contents (cluster_of server) journal
+      → IsRooted contents server → Shows contents server st → lasts.Follows (StoresCells contents server) (logged_of journal) (waiting_of journal) (edits_written journal) (last_of server) st
+  follows_in one reopens server st None is follows rooted shown = cc
+  follows_in one reopens server st (Some journal) is follows rooted shown =
+      let same = same_root contents one rooted.root follows.such.root rooted.base follows.such.base (cluster_of server) rooted.has follows.such.has in
+      record {
+        base = follows.such.base;
+        kept = record {
+          root = follows.such.root;
+          has = follows.such.has;
+          placed = ap (λ (root : RootView). machine_places root.places) (sym same) ∙ (rooted.placed ∙ shown.places);
+          low = subst (λ (root : RootView). root.top ≤ last_of server) same rooted.low;
+        };
+        first = follows.logged;
+        then = follows.waiting;
+        logged_bytes = follows.logged_bytes;
+        waiting_bytes = follows.waiting_bytes;
+        counted = follows.counted;
+        stored = follows.stored;
+        shows = subst (λ (cells : Cells). ShowsCells cells (reopened st)) (sym follows.such.replay) (reopens _ st shown.shows.store);
+        next = shown.next;
+        top = shown.shows.top;
+      }
+
+  -- ---- what stays
+
+  pub stays_rooted : (old new : Server F M) → ((root : RootView) (cells : Cells) → HasRoot contents root cells (cluster_of old) → HasRoot contents root cells (cluster_of new)) → last_of old ≤ last_of new → machine_places (cluster_of new).places ≡ machine_places (cluster_of old).places
+      → StaysRooted (StoresCells contents) (IsRooted contents) last_of old new
+  stays_rooted old new stays later places = record {
+    stored = record { kept = λ base ps s. record { root = s.root; has = stays s.root base s.has; placed = s.placed; low = let low = s.low in omega (arith, low, later) }; later = later };
+    rooted = λ r. record { root = r.root; base = r.base; has = stays r.root r.base r.has; placed = r.placed ∙ sym places; low = let low = r.low in omega (arith, low, later) };
+  }
+
+  -- ---- a new root
+
+  pub new_root : ((cells : Cells) (st : State) → ShowsCells cells st → ShowsCells cells (reopened st)) → (old new : Server F M) (st : State) → Rests contents (top_of old) (floor_of old) (cluster_of old) (cluster_of new) → machine_places (cluster_of new).places ≡ machine_places (cluster_of old).places → last_of new ≡ last_of old
+      → Shows contents old st → HasNewRoot (StoresCells contents) (IsRooted contents) last_of new st
+  new_root reopens old new st rests places last shown =
+      let keeps = rests shown.in_order.0 in
+      let top : st.top ≤ last_of new = let below = shown.shows.top in omega (arith, below, last) in
+      let low : top_of old ≤ last_of new = let is = shown.shows.sessions.top in omega (arith, is, top) in
+      record {
+        rooted = record { root = root_at (top_of old) (floor_of old) (cluster_of new); base = cells_shown contents (cluster_of old); has = keeps.has; placed = refl; low = low };
+        base = cells_shown contents (cluster_of old);
+        kept = record { root = root_at (top_of old) (floor_of old) (cluster_of new); has = keeps.has; placed = places ∙ shown.places; low = low };
+        shows = reopens _ st shown.shows.store;
+        next = shown.next;
+        top = top;
+      }
+
+  -- ---- sweeps
+
+  pub clean_lists : OneRoot → (server : Server F M) (journal : Option JournalView) → IsClean contents server → Follows contents (cluster_of server) journal → FollowsListed contents (cluster_of server) journal
+  clean_lists one server None clean follows = tt
+  clean_lists one server (Some journal) clean follows =
+      let same = same_root contents one clean.tracks.root follows.such.root clean.tracks.base follows.such.base (cluster_of server) clean.tracks.has follows.such.has in
+      record {
+        logged = follows.logged;
+        waiting = follows.waiting;
+        logged_bytes = follows.logged_bytes;
+        waiting_bytes = follows.waiting_bytes;
+        counted = follows.counted;
+        stored = follows.stored;
+        such = record { tracks = follows.such; lists = subst (λ (root : RootView). ListsAll root.places (cluster_of server).places) same clean.lists };
+      }
+
+-- ---- answers
+
+pub stamps_rise : (reply : machine.Reply) (old new : ℕ) → StampsGoOn reply old new → old ≤ new
+stamps_rise (machine.Begun start) old new p = let first = p.0 in let then = p.1 in omega (arith, first, then)
+stamps_rise (machine.Drawn stamp) old new p = let first = p.0 in let then = p.1 in omega (arith, first, then)
+stamps_rise machine.RestartDone old new p = p
+stamps_rise reply old new p = let is : new ≡ old = p in omega (arith, is)
+
+plain_keeps : (request : Lent) → ¬ NeedsRoot request → KeepsPlaces (asked request)
+plain_keeps (lent.Split row) other = absurd (other tt)
+plain_keeps (lent.Move tablet server) other = absurd (other tt)
+plain_keeps request other = tt
+
+plain_not_sweep : (request : Lent) → ¬ NeedsRoot request → command_of request ≢ Some command.Sweep
+plain_not_sweep lent.Sweep other = λ is. other tt
+plain_not_sweep request other = λ is. cc
+
+moves_not_sweep : (request : Lent) → MovesTablets request → command_of request ≢ Some command.Sweep
+moves_not_sweep (lent.Split row) of = λ is. cc
+moves_not_sweep (lent.Move tablet server) of = λ is. cc
+moves_not_sweep request of = absurd of
+
+plain_not_checkpoint : (request : Lent) → ¬ NeedsRoot request → request ≢ lent.Checkpoint
+plain_not_checkpoint request other is = other (subst NeedsRoot (sym is) tt)
+
+moves_not_checkpoint : (request : Lent) → MovesTablets request → request ≢ lent.Checkpoint
+moves_not_checkpoint request of is = subst MovesTablets is of
+
+plain_logged : (request : Lent) (old new : Option JournalView) → ¬ NeedsRoot request → KeepsLogged request old new → logged_of new ≡ logged_of old
+plain_logged (lent.Split row) old new other p = absurd (other tt)
+plain_logged (lent.Move tablet server) old new other p = absurd (other tt)
+plain_logged lent.Sweep old new other p = absurd (other tt)
+plain_logged lent.Checkpoint old new other p = absurd (other tt)
+plain_logged request old new other p = p
+
+moved_journal : (request : Lent) (old new : Option JournalView) → MovesTablets request → KeepsLogged request old new → new ≡ old
+moved_journal (lent.Split row) old new of p = p
+moved_journal (lent.Move tablet server) old new of p = p
+moved_journal request old new of p = absurd of
+
+module _ {F M : Type 0} (files : Files F) (marks : MarkStore M) (stored : RootIsStored files.contents) (stays : RootStays files.contents files.faults) where
+  by_has : (made : Option Command) (request : Lent) (reply : CodecReply) (old new : ClusterState F) → made ≢ Some command.Sweep → HasOutcome files.contents files.faults made request reply old new → (root : RootView) (cells : Cells) → HasRoot files.contents root cells old → HasRoot files.contents root cells new
+  by_has None request reply old new other same root cells has = (stored root cells old new same).0 has
+  by_has (Some made) request reply old new other (inl is) root cells has = (stays made (outcome_of reply) root cells old new is).0 (λ sweep. absurd (other (ap (λ (c : Command). Some c) sweep))) has
+  by_has (Some made) request reply old new other (inr none) root cells has = subst (λ (state : ClusterState F). HasRoot files.contents root cells state) (sym none.1) has
+
+  answer_root : (request : Lent) (reply : CodecReply) (old new : Server F M) → request ≢ lent.Checkpoint → command_of request ≢ Some command.Sweep → TendsTablets files request reply old new
+      → (root : RootView) (cells : Cells) → HasRoot files.contents root cells (cluster_of old) → HasRoot files.contents root cells (cluster_of new)
+  answer_root lent.Checkpoint reply old new first other tends = absurd (first refl)
+  answer_root request reply old new first other tends = by_has (command_of request) request reply (cluster_of old) (cluster_of new) other tends
+
+  pub answer_leaves : (old new : Server F M) (request : Lent) (reply : CodecReply) → ¬ NeedsRoot request → IsAnswer files marks old request reply new → (now : State) → IsReached now → Shows files.contents old now
+      → StaysRooted (StoresCells files.contents) (IsRooted files.contents) last_of old new × (logged_of (journal_of new) ≡ logged_of (journal_of old))
+  answer_leaves old new request reply other answer now reached shown =
+      let plain = answer.plain in
+      let (next, step, shows, whole) = plain.step.step now reached shown in
+      let places : machine_places (cluster_of new).places ≡ machine_places (cluster_of old).places = shows.places ∙ ((keeps_places now (asked request) (replied reply) next step (plain_keeps request other)).0 ∙ sym shown.places) in (
+        stays_rooted files.contents old new (answer_root request reply old new (plain_not_checkpoint request other) (plain_not_sweep request other) plain.tablets) (stamps_rise (replied reply) (last_of old) (last_of new) plain.stamps.last) places,
+        plain_logged request (journal_of old) (journal_of new) other plain.logged,
+      )
+
+  pub answer_moves : (old new : Server F M) (request : Lent) (reply : CodecReply) → MovesTablets request → IsAnswer files marks old request reply new
+      → StaysStored (StoresCells files.contents) last_of old new × KeepsRecording (λ server. is_some (journal_of server)) (λ server. logged_of (journal_of server)) (λ server. waiting_of (journal_of server)) last_of old new
+  answer_moves old new request reply of answer =
+      let plain = answer.plain in
+      let later = stamps_rise (replied reply) (last_of old) (last_of new) plain.stamps.last in
+      let roots = answer_root request reply old new (moves_not_checkpoint request of) (moves_not_sweep request of) plain.tablets in
+      let same = moved_journal request (journal_of old) (journal_of new) of plain.logged in (
+        record { kept = λ base ps s. record { root = s.root; has = roots s.root base s.has; placed = s.placed; low = let low = s.low in omega (arith, low, later) }; later = later },
+        record { goes_on = ap (λ (j : Option JournalView). is_some j) same; has = ap (λ (j : Option JournalView). logged_of j) same; waits = ap (λ (j : Option JournalView). waiting_of j) same; later = later },
+      )
+
+-- ---- between two answers
+
+module _ {F : Type 0} (contents : F → Option Contents) (faults : F → ℕ) (flushes : RootOutlastsFlushes contents faults) (merge : RootOutlastsMerges contents faults) where
+  merges_root : (due : Bool) (most : Option ℕ) (old new : ClusterState F) → MergesWhere due contents faults most old new → (root : RootView) (cells : Cells) → HasRoot contents root cells old → HasRoot contents root cells new
+  merges_root false most old new same root cells has = subst (λ (state : ClusterState F). HasRoot contents root cells state) (sym same) has
+  merges_root true None old new same root cells has = subst (λ (state : ClusterState F). HasRoot contents root cells state) (sym same) has
+  merges_root true (Some most) old new made root cells has = merge root cells old new most made has
+
+  pub tended_leaves : {M : Type 0} (old new : Server F M) → IsTended contents faults old new
+      → StaysRooted (StoresCells contents) (IsRooted contents) last_of old new × (logged_of (journal_of new) ≡ logged_of (journal_of old)) × ((st : State) → Shows contents old st → Shows contents new st)
+  tended_leaves old new tended =
+      let last : last_of new ≡ last_of old = ap (λ o. o.last) tended.oracle in (
+        stays_rooted contents old new
+            (λ root cells has. merges_root _ _ tended.compacted (cluster_of new) tended.merges root cells (((flushes root cells (cluster_of old) tended.compacted).0 _ tended.compacts).0 has))
+            (omega (arith, last)) (same_machine_places (cluster_of old).places (cluster_of new).places tended.keeps.spots),
+        ap (λ (j : Option JournalView). logged_of j) tended.journal,
+        tended.shown,
+      )
+
+-- ---- what is logged
+
+module _ {F : Type 0} (contents : F → Option Contents) (laws : LogsEdits) where
+  -- what waited is logged
+  pub follows_logged : (state : ClusterState F) (journal : Option JournalView) → Follows contents state journal → Follows contents state (option_map all_logged journal)
+  follows_logged state None follows = tt
+  follows_logged state (Some journal) follows =
+      let edits = follows.logged ++ follows.waiting in
+      let same = sym (append-nil edits) in
+      record {
+        logged = edits;
+        waiting = [];
+        logged_bytes = ap (λ (x : List ℕ). x ++ journal.waiting) follows.logged_bytes ∙ (ap (λ (x : List ℕ). spelled_edits follows.logged ++ x) follows.waiting_bytes ∙ sym (laws.after follows.logged follows.waiting));
+        waiting_bytes = refl;
+        counted = follows.counted ∙ ap (λ (es : List Edit). length es) same;
+        stored = subst (λ (es : List Edit). AllByRecursion IsStoredEdit es) same follows.stored;
+        such = subst (λ (es : List Edit). Tracks contents state es) same follows.such;
+      }
+
+module _ {F M : Type 0} (contents : F → Option Contents) where
+  -- the same server with other rows, of the same cluster
+  pub same_cluster : (old : Server F M) (rows : Recorded F) → rows.cluster ≡ cluster_of old → StaysRooted (StoresCells contents) (IsRooted contents) last_of old (record old { rows = rows })
+  same_cluster old rows is = stays_rooted contents old (record old { rows = rows }) (λ root cells has. subst (λ (state : ClusterState F). HasRoot contents root cells state) (sym is) has) (omega arith) (ap (λ (state : ClusterState F). machine_places state.places) is)
+
+  -- what is shown without a journal is shown with one that follows
+  pub remembers : (server : Server F M) (st : State) → Shows contents (forgets server) st → Follows contents (cluster_of server) (journal_of server) → Shows contents server st
+  remembers server st shown follows = record { in_order = (shown.in_order.0, follows); shows = shown.shows; cleaners = shown.cleaners; collectors = shown.collectors; places = shown.places; next = shown.next }
+
+  pub logged_shows : LogsEdits → (server : Server F M) (st : State) (rows : Recorded F) → rows ≡ record { cluster = cluster_of server; journal = option_map all_logged (journal_of server) } → Shows contents server st → Shows contents (record server { rows = rows }) st
+  logged_shows laws server st rows is shown = subst (λ (r : Recorded F). Shows contents (record server { rows = r }) st) (sym is) (record {
+    in_order = (shown.in_order.0, follows_logged contents laws (cluster_of server) (journal_of server) shown.in_order.1);
+    shows = shown.shows;
+    cleaners = shown.cleaners;
+    collectors = shown.collectors;
+    places = shown.places;
+    next = shown.next;
+  })
+
+-- ---- checkpoints
+
+module _ {F M : Type 0} (files : Files F) (marks : MarkStore M) (reopens : (cells : Cells) (st : State) → ShowsCells cells st → ShowsCells cells (reopened st)) (old new : Server F M) (spots : spots_of (cluster_of new) ≡ spots_of (cluster_of old)) where
+  abbrev Checked : Result (Unit {0}) Refusal → Type 0
+  Checked result = IsPlainAnswer files marks old lent.Checkpoint (checkpointed result) (forgets new)
+
+  pub checkpoint_done : (result : Result (Unit {0}) Refusal) → Checked result → OnOk result (Holds files.contents (cluster_of old) → IsClean files.contents new)
+      → OnOk result ((st : State) → Shows files.contents old st → HasNewRoot (StoresCells files.contents) (IsRooted files.contents) last_of new st × IsClean files.contents new)
+  checkpoint_done (Ok done) plain clean = λ st shown. (new_root files.contents reopens old new st (plain.tablets.1 refl) (same_machine_places (cluster_of old).places (cluster_of new).places spots) (ap (λ o. o.last) plain.sessions.oracle) shown, clean shown.in_order.0)
+  checkpoint_done (Err refusal) plain clean = tt
+
+  pub checkpoint_undone : files.replaces → (result : Result (Unit {0}) Refusal) → Checked result
+      → OnErr result (StaysRooted (StoresCells files.contents) (IsRooted files.contents) last_of old new ⊎ ((st : State) → Shows files.contents old st → HasNewRoot (StoresCells files.contents) (IsRooted files.contents) last_of new st))
+  checkpoint_undone replaces (Ok done) plain = tt
+  checkpoint_undone replaces (Err refusal) plain =
+      let places = same_machine_places (cluster_of old).places (cluster_of new).places spots in
+      let last : last_of new ≡ last_of old = ap (λ o. o.last) plain.sessions.oracle in
+      elim (plain.tablets.2 replaces refusal refl) [
+        | inl stays ↦ inl (stays_rooted files.contents old new (λ root cells. (stays root cells).0) (omega (arith, last)) places)
+        | inr rests ↦ inr (λ st shown. new_root files.contents reopens old new st rests places last shown)
+      ]
+
+-- ---- sweeps
+
+module _ {F M : Type 0} (files : Files F) (marks : MarkStore M) (one : OneRoot) (stays : RootStays files.contents files.faults) where
+  pub sweep_stays : (old new : Server F M) (reply : CodecReply) → IsPlainAnswer files marks old lent.Sweep reply (forgets new) → spots_of (cluster_of new) ≡ spots_of (cluster_of old) → IsClean files.contents old
+      → StaysRooted (StoresCells files.contents) (IsRooted files.contents) last_of old new
+  sweep_stays old new reply plain spots clean =
+      let last : last_of new ≡ last_of old = ap (λ o. o.last) plain.sessions.oracle in
+      stays_rooted files.contents old new (λ root cells has. by_sweep plain.tablets root cells has) (omega (arith, last)) (same_machine_places (cluster_of old).places (cluster_of new).places spots)
+    where
+      by_sweep : TendsTablets files lent.Sweep reply old (forgets new) → (root : RootView) (cells : Cells) → HasRoot files.contents root cells (cluster_of old) → HasRoot files.contents root cells (cluster_of new)
+      by_sweep (inl is) root cells has =
+          let same = same_root files.contents one clean.tracks.root root clean.tracks.base cells (cluster_of old) clean.tracks.has has in
+          (stays command.Sweep (outcome_of reply) root cells (cluster_of old) (cluster_of new) is).0 (λ sweep. subst (λ (r : RootView). ListsAll r.places (cluster_of old).places) same clean.lists) has
+      by_sweep (inr none) root cells has = absurd none.0

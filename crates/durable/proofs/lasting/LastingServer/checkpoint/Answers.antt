@@ -1,0 +1,32 @@
+use Rattle.std.proofs.Common.{inl, inr}
+use Rattle.durable.proofs.lasting.LastingServer.checkpoint.Goals as goal
+
+pub returns-in-Ok-clause-says : goal.returns-in-Ok-clause-says
+returns-in-Ok-clause-says g c = record {
+  answered = c.in-Ok.ensures.answered;
+  goes_on = λ now reached shown.
+      let (next, step, shows, whole) = c.in-Ok.ensures.step now reached shown in
+      record {
+        next = next;
+        step = step;
+        shown = shows;
+        whole = whole;
+        logged = c.root.ensures.settles.logged now reached shown;
+        lasting = λ logs st lasts. elim (c.root.ensures.settles.lasting now reached shown logs st lasts) [ inl same ↦ inl same | inr is ↦ inr (inl is) ];
+      };
+}
+
+pub returns-in-Err-clause-says : goal.returns-in-Err-clause-says
+returns-in-Err-clause-says g c = record {
+  answered = c.in-Err.ensures.answered;
+  goes_on = λ now reached shown.
+      let (next, step, shows, whole) = c.in-Err.ensures.step now reached shown in
+      record {
+        next = next;
+        step = step;
+        shown = shows;
+        whole = whole;
+        logged = c.root.ensures.settles.logged now reached shown;
+        lasting = λ logs st lasts. elim (c.root.ensures.settles.lasting now reached shown logs st lasts) [ inl same ↦ inl same | inr is ↦ inr (inl is) ];
+      };
+}

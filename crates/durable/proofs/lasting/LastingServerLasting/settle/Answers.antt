@@ -1,0 +1,36 @@
+use Rattle.std.proofs.Common.{inl, inr}
+use Rattle.durable.proofs.Rooted.{puts_more, settles_then}
+use Rattle.durable.proofs.lasting.LastingServerLasting.settle.Goals as goal
+
+pub returns-then-log_waiting-clause-between : goal.returns-then-log_waiting-clause-between
+returns-then-log_waiting-clause-between g c = λ first b.
+    let w = c.log_waiting.ensures in
+    let is = c.if-log_waiting.true in
+    record {
+      mid = b.mid;
+      tended = b.tended;
+      rooted = elim b.rooted [ inl same ↦ inl (g.met.S.Recording.same_then b.mid _ _ same w.same) | inr put ↦ inr (put.0, puts_more g.S.Recording.same g.S.Recording.checkpoints g.met.S.Recording.same_then b.mid c.args.self.now.server c.log_waiting.new.self.server put.0 put.1 w.same) ];
+      settles = settles_then _ _ _ first c.args.self.now _ b.settles (record {
+        shown = w.shown;
+        logged = λ now reached shown logs. inr (w.ok is now shown logs).0;
+        lasting = λ now reached shown logs st lasts. inr ((w.ok is now shown logs).1 now (w.shown now shown));
+      });
+    }
+
+pub returns-then-log_waiting-clause-ok : goal.returns-then-log_waiting-clause-ok
+returns-then-log_waiting-clause-ok g c = λ now reached shown logs. let held = c.log_waiting.ensures.ok c.if-log_waiting.true now shown logs in (inr held.0, held.1)
+
+pub returns-else-log_waiting-clause-between : goal.returns-else-log_waiting-clause-between
+returns-else-log_waiting-clause-between g c = λ first b.
+    let w = c.log_waiting.ensures in
+    let is = c.if-log_waiting.false in
+    record {
+      mid = b.mid;
+      tended = b.tended;
+      rooted = elim b.rooted [ inl same ↦ inl (g.met.S.Recording.same_then b.mid _ _ same w.same) | inr put ↦ inr (put.0, puts_more g.S.Recording.same g.S.Recording.checkpoints g.met.S.Recording.same_then b.mid c.args.self.now.server c.log_waiting.new.self.server put.0 put.1 w.same) ];
+      settles = settles_then _ _ _ first c.args.self.now _ b.settles (record {
+        shown = w.shown;
+        logged = λ now reached shown logs. inl (w.stopped is);
+        lasting = λ now reached shown logs. w.err is now shown logs;
+      });
+    }

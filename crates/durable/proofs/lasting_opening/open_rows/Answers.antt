@@ -1,0 +1,43 @@
+use Rattle.std.proofs.Common.{◌≡◌, ◌∙◌, [], None, sym, ap, subst}
+use Rattle.metadata_table.specs.Roots.{RootView}
+use Rattle.row_atomic.specs.Changes.{Holds}
+use Rattle.row_atomic.specs.Clusters.{ClusterState, spots_of}
+use Rattle.row_atomic.specs.Commands.{cells_shown}
+use Rattle.row_atomic.specs.Open.{IsNewStore}
+use Rattle.row_atomic.specs.Roots.{root_at}
+use Rattle.row_atomic.specs.declared.recorded.Recorded.{Recorded}
+use Rattle.server_loop.specs.Opening.{LacksRoot}
+use Rattle.durable.specs.Replaying.{FollowsLog}
+use Rattle.server_loop.proofs.Opened.{new_store, where_told}
+use Rattle.durable.proofs.OpenedRows.{damage_or, lacks_new, never_full, never_new, no_edits, not_new, opens_new, shows_root}
+use Rattle.durable.proofs.lasting_opening.open_rows.Goals.{else-is_new-via-then-is_new+else-not-is_empty, else-is_new-via-else-is_new}
+use Rattle.durable.proofs.lasting_opening.open_rows.Goals as goal
+
+pub returns-in-Err-open-clause-kept : goal.returns-in-Err-open-clause-kept
+returns-in-Err-open-clause-kept g c = λ m root base disk keeps. (
+  c.in-Err-open.ensures.kept m root base (c.in-Ok.ensures.same ∙ disk) keeps,
+  λ full. never_full _ c.in-Err-open.ensures.refusal full,
+)
+
+pub returns-in-Err-open-clause-damaged : goal.returns-in-Err-open-clause-damaged
+returns-in-Err-open-clause-damaged g c = λ is. damage_or (g.F.Files.contents c.args.files) (g.F.Files.contents c.has_root.new.files) c.args.edits.items c.in-Ok.ensures.same (c.in-Err-open.ensures.damaged is)
+
+pub returns-in-Ok-fill_rows-clause-kept : goal.returns-in-Ok-fill_rows-clause-kept
+returns-in-Ok-fill_rows-clause-kept g c = λ m root base disk keeps.
+    let o = c.in-Ok-open.ensures.kept m root base (c.in-Ok.ensures.same ∙ disk) keeps in
+    let shows = shows_root g.F.Files.contents root base _ _ c.in-Ok-open.opened.0 o in (
+      c.in-Ok-fill_rows.ensures.ok (not_new (g.F.Files.contents c.args.files) c.in-Ok.is_there m root base c.in-Ok.ensures.ok disk keeps) root base (rw c.new-rows.ensures shows),
+      ap (λ (r : RootView). r.top) o.tells,
+    )
+
+pub returns-in-Ok-fill_rows-clause-new : goal.returns-in-Ok-fill_rows-clause-new
+returns-in-Ok-fill_rows-clause-new g c = λ lacks.
+    let is_new = lacks_new (g.F.Files.contents c.args.files) c.in-Ok.is_there c.in-Ok.ensures.ok lacks in
+    let lacks_now : LacksRoot (g.F.Files.contents c.has_root.new.files) = subst LacksRoot (sym c.in-Ok.ensures.same) lacks in
+    let s : IsNewStore c.in-Ok-open.opened.1 c.in-Ok-open.opened.2 c.in-Ok-open.opened.0 = new_store (g.F.Files.contents c.has_root.new.files) None c.in-Ok-open.opened.1 c.in-Ok-open.opened.2 0 c.in-Ok-open.opened.0 lacks_now c.in-Ok-open.ensures.store in
+    let holds : Holds g.F.Files.contents c.in-Ok-open.opened.0 = where_told (g.F.Files.contents c.has_root.new.files) (Holds g.F.Files.contents c.in-Ok-open.opened.0) lacks_now c.in-Ok-open.ensures.holds in
+    let cluster : c.new-rows.result.cluster ≡ c.in-Ok-open.opened.0 = ap (λ (r : Recorded g.row.F.Denot). r.cluster) c.new-rows.ensures in
+    let follows = c.in-Ok-fill_rows.ensures.new is_new (subst (Holds g.F.Files.contents) (sym cluster) holds) in
+    let none : c.args.edits.items ≡ [] = elim c.else-is_new.branch [ else-is_new-via-then-is_new+else-not-is_empty w ↦ no_edits w.is_empty.result c.args.edits.len c.args.edits.items c.args.edits.ok.0 w.is_empty.ensures w.if-not-is_empty.false | else-is_new-via-else-is_new w ↦ never_new c.in-Ok.is_there is_new w.if-is_new.false ] in
+    opens_new g.F.Files.contents c.in-Ok-open.opened.0 c.fill_rows.new.rows c.in-Ok-open.opened.1 c.in-Ok-open.opened.2 c.args.edits.items s none (c.in-Ok-fill_rows.ensures.spots ∙ ap (λ (x : ClusterState g.row.F.Denot). spots_of x) cluster)
+    (subst (λ (x : ClusterState g.row.F.Denot). FollowsLog g.F.Files.contents (root_at 0 0 c.fill_rows.new.rows.cluster) (cells_shown g.F.Files.contents x) c.args.edits.items c.fill_rows.new.rows) cluster follows)

@@ -1,0 +1,95 @@
+-- What a server with a log opens of its devices.
+use Rattle.std.specs.Prelude.{◌≡◌, ◌≢◌, ℕ, List, [], Option, None, Some, Result, Err, IsSomeAnd}
+use Rattle.std.specs.FinMap.{get, empty}
+use Rattle.std.specs.List.{AllByRecursion}
+use Rattle.cell_key.specs.Cells.{Cells, after_edits}
+use Rattle.cell_key.specs.declared.edits.Edit.{Edit}
+use Rattle.cell_key.specs.declared.refusals.Refusal.{Refusal}
+use Rattle.cell_key.specs.declared.refusals.Refusal.TheVariants.{Damaged, Device, NoMemory}
+use Rattle.commit_log.specs.Edits.{HoldEdits, IsStoredEdit}
+use Rattle.commit_log.specs.declared.faults.LogFault.{LogFault}
+use Rattle.commit_log.specs.declared.faults.LogFault.TheVariants as log
+use Rattle.commit_log.specs.declared.logs.Log.{Ghosts as Log}
+use Rattle.file_store.specs.Store.{Contents}
+use Rattle.file_store.specs.declared.files.Files.{Ghosts as Files}
+use Rattle.metadata_table.specs.Roots.{IsRoot, RootView}
+use Rattle.oracle.specs.declared.marks.MarkStore.{Ghosts as MarkStore}
+use Rattle.row_atomic.specs.Roots.{root_name}
+use Rattle.row_atomic.specs.declared.recorded.Recorded.{Recorded}
+use Rattle.si_model.specs.Machine.{IsReached, State, new_machine, reopened}
+use Rattle.si_model.specs.Recovered.{IsRecovered}
+use Rattle.si_model.specs.ShowsCells.{ShowsCells}
+use Rattle.durable.specs.Devices.{Covers, KeepsUnder, LastsOn}
+use Rattle.durable.specs.Replaying.{FollowsLog, logged_journal}
+use Rattle.server_loop.specs.Server.{Shows, cluster_of, journal_of, last_of, machine_places, marks_of}
+use Rattle.durable.specs.ServesLogged.{IsSettledOver}
+use Rattle.durable.specs.Stored.{IsRooted}
+use Rattle.durable.specs.declared.lasting.LastingServer.{LastingServer}
+use Rattle.server_loop.specs.declared.server.Server.{Server}
+
+-- the refusal of a fault of a log
+abbrev pub log_refusal : LogFault → Refusal
+log_refusal log.Device = Device
+log_refusal log.Memory = NoMemory
+log_refusal log.Damaged = Damaged
+
+-- a refusal by itself, without what comes back with it
+abbrev pub refused_with : Refusal → Result (Unit {0}) Refusal
+refused_with refusal = Err refusal
+
+-- whatever a log holds, it is no spelling of edits within the limits
+abbrev pub IsLostLog : (List (List ℕ) → Type 0) → Type 0
+IsLostLog holds =
+    (records : List (List ℕ)) (edits : List Edit) → holds records
+    → AllByRecursion IsStoredEdit edits → ¬ HoldEdits records edits
+
+-- a root file is there
+abbrev pub HasRootFile : Option Contents → Type 0
+HasRootFile disk = IsSomeAnd disk (λ m. get m root_name ≢ None)
+
+-- there are edits of a store whose root file isn't there
+abbrev pub LacksBase : Contents → List Edit → Type 0
+LacksBase m edits = (get m root_name ≡ None) × (edits ≢ [])
+
+-- the greatest stamp that a root file names, and 0 without one
+abbrev pub NamesTop : Option (List ℕ) → ℕ → Type 0
+NamesTop None top = top ≡ 0
+NamesTop (Some image) top = (root : RootView) × IsRoot root image × (root.top ≡ top)
+
+-- The rows of a new store, with its root put.
+pub record OpensNew {F : Type 0} (contents : F → Option Contents) (top : ℕ) (edits : List Edit)
+    (rows : Recorded F) : Type 0 where
+  pub root : RootView
+  pub follows : FollowsLog contents root empty edits rows
+  pub places : machine_places root.places ≡ new_machine.places
+  pub no_top : root.top ≡ top
+  pub none : top ≡ 0
+  pub no_edits : edits ≡ []
+
+module _ {F M : Type 0} (files : Files F) (marks : MarkStore M) where
+  -- A server over such cells and edits shows a state to which the machine can come by itself from the
+  -- one that they show. The edits are logged, and its files and its mark keep the cells.
+  pub record ServesFrom (base : Cells) (edits : List Edit) (st : State) (server : Server F M)
+      : Type 0 where
+    pub next : State
+    pub reached : IsReached next
+    pub recovered : IsRecovered (last_of server) st next
+    pub shown : Shows files.contents server next
+    pub rooted : IsRooted files.contents server
+    pub journal : journal_of server ≡ Some (logged_journal edits)
+    pub keeps : KeepsUnder (files.contents (cluster_of server).files) (marks.mark (marks_of server))
+        base next.places
+    pub shows : ShowsCells (after_edits base edits) (reopened next)
+    pub covered : Covers (marks.mark (marks_of server)) next.top
+
+module _ {F M L : Type 0} (files : Files F) (marks : MarkStore M) (log : Log L) where
+  -- A server that was opened shows a state to which the machine can come by itself from the one that
+  -- was kept. What it answers from then on lasts, and its devices keep what it shows.
+  pub record OpensFrom (st : State) (opened : LastingServer (Server F M) L) : Type 0 where
+    pub next : State
+    pub reached : IsReached next
+    pub recovered : IsRecovered (last_of opened.server) st next
+    pub shown : Shows files.contents opened.server next
+    pub settled : IsSettledOver files log opened
+    pub lasts : LastsOn (files.contents (cluster_of opened.server).files)
+        (marks.mark (marks_of opened.server)) (log.holds opened.log) next

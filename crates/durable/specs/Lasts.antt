@@ -1,0 +1,165 @@
+-- What a server with a log keeps over a kill.
+use Rattle.std.specs.Prelude.{◌≡◌, ◌≤◌, ◌+◌, ◌⊎◌, ℕ, List, ◌++◌, length, Bool, true, flat_map, ⊤}
+use Rattle.std.specs.List.{AllByRecursion}
+use Rattle.cell_key.specs.Cells.{Cells, after_edits}
+use Rattle.cell_key.specs.declared.edits.Edit.{Edit}
+use Rattle.cell_key.specs.declared.refusals.Refusal.{Refusal}
+use Rattle.cell_key.specs.declared.refusals.Refusal.TheVariants.{Device}
+use Rattle.commit_log.specs.Edits.{HoldEdits, IsStoredEdit, spelled_edits}
+use Rattle.row_atomic.specs.Journals.{HasRoomFor, empty_journal}
+use Rattle.request_codec.specs.Replies.{replied}
+use Rattle.request_codec.specs.Requests.{asked}
+use Rattle.request_codec.specs.declared.replies.Reply.{Reply}
+use Rattle.request_codec.specs.declared.replies.Reply.TheVariants as codec
+use Rattle.request_codec.specs.declared.requests.Request.{Request}
+use Rattle.request_codec.specs.declared.requests.Request.TheVariants.{Split, Move, Sweep, Checkpoint}
+use Rattle.si_model.specs.Machine.{Place, State, reopened}
+use Rattle.si_model.specs.ShowsCells.{ShowsCells}
+use Rattle.durable.specs.Devices.{Lasts}
+use Rattle.durable.specs.Lasting.{GoesOn, Settles}
+use Rattle.durable.specs.declared.lasting.LastingServer.{LastingServer}
+
+-- requests around which roots are put
+abbrev pub MovesTablets : Request → Type 0
+MovesTablets (Split row) = ⊤
+MovesTablets (Move tablet server) = ⊤
+MovesTablets request = ⊥
+
+abbrev pub NeedsRoot : Request → Type 0
+NeedsRoot (Split row) = ⊤
+NeedsRoot (Move tablet server) = ⊤
+NeedsRoot Sweep = ⊤
+NeedsRoot Checkpoint = ⊤
+NeedsRoot request = ⊥
+
+-- ---- what is written down
+
+-- Files keep cells under a root with the places of a state's tablets. The edits that a log has, and
+-- those that wait for it, make cells of them that show the state after a clean restart.
+pub record Follows (stores : Cells → List Place → Type 0) (logged waiting : List ℕ)
+    (count last : ℕ) (st : State) : Type 0 where
+  pub base : Cells
+  pub kept : stores base st.places
+  pub first : List Edit
+  pub then : List Edit
+  pub logged_bytes : logged ≡ spelled_edits first
+  pub waiting_bytes : waiting ≡ spelled_edits then
+  pub counted : count ≡ length (first ++ then)
+  pub stored : AllByRecursion IsStoredEdit (first ++ then)
+  pub shows : ShowsCells (after_edits base (first ++ then)) (reopened st)
+  pub next : st.next_tablet ≡ length st.places + 1
+  pub top : st.top ≤ last
+
+-- what is stored stays, and the last stamp doesn't fall
+pub record StaysStored {S : Type 0} (stores : S → Cells → List Place → Type 0) (last : S → ℕ)
+    (old new : S) : Type 0 where
+  pub kept : (base : Cells) (places : List Place) → stores old base places
+      → stores new base places
+  pub later : last old ≤ last new
+
+-- and the root has the places of the tablets still
+pub record StaysRooted {S : Type 0} (stores : S → Cells → List Place → Type 0)
+    (is_rooted : S → Type 0) (last : S → ℕ) (old new : S) : Type 0 where
+  pub stored : StaysStored stores last old new
+  pub rooted : is_rooted old → is_rooted new
+
+-- a root was put that keeps cells which show the state after a clean restart
+pub record HasNewRoot {S : Type 0} (stores : S → Cells → List Place → Type 0)
+    (is_rooted : S → Type 0) (last : S → ℕ) (new : S) (st : State) : Type 0 where
+  pub rooted : is_rooted new
+  pub base : Cells
+  pub kept : stores new base st.places
+  pub shows : ShowsCells base (reopened st)
+  pub next : st.next_tablet ≡ length st.places + 1
+  pub top : st.top ≤ last new
+
+-- what is written down stays so
+pub record KeepsRecording {S : Type 0} (recording : S → Bool) (logged waiting : S → List ℕ)
+    (last : S → ℕ) (old new : S) : Type 0 where
+  pub goes_on : recording new ≡ recording old
+  pub has : logged new ≡ logged old
+  pub waits : waiting new ≡ waiting old
+  pub later : last old ≤ last new
+
+-- ---- a server with a log
+
+module _ {S L : Type 0} (stores : S → Cells → List Place → Type 0) (logged : S → List ℕ)
+    (last : S → ℕ) (holds : L → List (List ℕ) → Type 0) where
+  -- The log holds records. Unless it failed, they are those that the server takes to be there.
+  abbrev pub HoldsRecords : LastingServer S L → List (List ℕ) → Type 0
+  HoldsRecords server records =
+      holds server.log records
+      × ((server.is_stopped ≡ true)
+      ⊎ (flat_map (λ bytes. bytes) records ≡ logged server.server))
+
+  -- Its devices keep a state, whatever it shows itself by now.
+  pub record LastsIn (server : LastingServer S L) (st : State) : Type 0 where
+    pub kept : Lasts (stores server.server) (HoldsRecords server) (λ top. top ≤ last server.server) st
+
+  -- The log holds what the server takes it to have.
+  pub record HoldsLogged (server : LastingServer S L) : Type 0 where
+    pub records : List (List ℕ)
+    pub in_log : holds server.log records
+    pub edits : List Edit
+    pub held : HoldEdits records edits
+    pub stored : AllByRecursion IsStoredEdit edits
+    pub room : HasRoomFor empty_journal edits
+    pub bytes : flat_map (λ bytes. bytes) records ≡ logged server.server
+
+  -- So it does, and the root has the places of the tablets. Or the log failed: then no reply leaves the
+  -- server any more.
+  abbrev pub Logs : (S → Type 0) → LastingServer S L → Type 0
+  Logs is_rooted server =
+      (server.is_stopped ≡ true) ⊎ (is_rooted server.server × HoldsLogged server)
+
+-- a server with a log shows what its server does
+abbrev pub shown_by : {S L : Type 0} → (S → State → Type 0) → LastingServer S L → State → Type 0
+shown_by shows server st = shows server.server st
+
+-- ---- answers
+
+module _ {S : Type 0} (same : S → S → Type 0) (checkpoints : S → Reply → S → Type 0) where
+  -- A checkpoint was answered, after what waited was put on the log, or that failed.
+  abbrev pub PutsRoot : S → Reply → S → Type 0
+  PutsRoot old reply new =
+      ((reply ≡ codec.Refused Device) × same old new)
+      ⊎ ((mid next : S) × same old mid × checkpoints mid reply next × same next new)
+
+  -- It was refused as the checkpoint before it was. Or it was answered so after that, and then a
+  -- checkpoint may have come.
+  abbrev pub AnswersRooted : (S → Reply → S → Type 0) → S → Reply → S → Type 0
+  AnswersRooted answers old reply new =
+      ((refusal : Refusal) × (reply ≡ codec.Refused refusal) × PutsRoot old reply new)
+      ⊎ ((first next : S) × PutsRoot old codec.Checkpoint first × answers first reply next
+      × (same next new ⊎ ((second : Reply) × PutsRoot next second new)))
+
+  -- What is said of an answer of a server with a log: what is said of one without, but that
+  -- checkpoints come with splits, moves and sweeps.
+  abbrev pub AnswersLasting : (S → Request → Reply → S → Type 0) → (S → Reply → S → Type 0) → S
+      → Request → Reply → S → Type 0
+  AnswersLasting says sweeps old (Split row) reply new =
+      AnswersRooted (λ a r b. says a (Split row) r b) old reply new
+  AnswersLasting says sweeps old (Move tablet server) reply new =
+      AnswersRooted (λ a r b. says a (Move tablet server) r b) old reply new
+  AnswersLasting says sweeps old Sweep reply new = AnswersRooted sweeps old reply new
+  AnswersLasting says sweeps old Checkpoint reply new = PutsRoot old reply new
+  AnswersLasting says sweeps old request reply new = says old request reply new
+
+-- What is said of an answer, and that what is kept over a kill goes on.
+pub record IsLastingAnswer {S L : Type 0} (shows : S → State → Type 0)
+    (lasts : LastingServer S L → State → Type 0) (logs : LastingServer S L → Type 0)
+    (answers : S → Request → Reply → S → Type 0)
+    (old : LastingServer S L) (request : Request) (reply : Reply) (new : LastingServer S L)
+    : Type 0 where
+  pub answered : answers old.server request reply new.server
+  pub goes_on : GoesOn (shown_by shows) lasts logs (asked request) (replied reply) old new
+
+-- What comes between one answer and the next: what comes without a log, and perhaps a checkpoint.
+pub record IsLastingTended {S L : Type 0} (shows : S → State → Type 0)
+    (lasts : LastingServer S L → State → Type 0) (logs : LastingServer S L → Type 0)
+    (between same : S → S → Type 0) (roots : S → Reply → S → Type 0)
+    (old new : LastingServer S L) : Type 0 where
+  pub mid : S
+  pub tended : between old.server mid
+  pub rooted : same mid new.server ⊎ ((reply : Reply) × roots mid reply new.server)
+  pub settles : Settles (shown_by shows) lasts logs old new

@@ -1,0 +1,7 @@
+pub mod Lasting
+pub mod Devices
+pub mod Lasts
+pub mod Stored
+pub mod ServesLogged
+pub mod Replaying
+pub mod LastingOpening

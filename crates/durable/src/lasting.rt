@@ -1,0 +1,298 @@
+//! A server whose answers outlast a kill: what it answers is on a log before a reply leaves.
+
+ghost use Rattle.std.specs.Prelude.{◌≡◌, ◌⊎◌, [], true, false, IfErr, OnOk};
+ghost use Rattle.cell_key.specs.Cells.{Cells};
+ghost use Rattle.commit_log.specs.Edits.{LogsEdits};
+ghost use Rattle.request_codec.specs.Replies.{replied};
+ghost use Rattle.request_codec.specs.declared.replies.Reply.{Reply as CodecReply};
+ghost use Rattle.request_codec.specs.declared.requests.Request.{Request as Lent};
+ghost use Rattle.durable.specs.Lasting.{GoesOn, IsSettled, Settles};
+ghost use Rattle.server_loop.specs.Commands.{checkpointed};
+ghost use Rattle.durable.specs.Lasts.{AnswersLasting, HasNewRoot, HoldsLogged, IsLastingAnswer, LastsIn, Logs, MovesTablets, NeedsRoot, PutsRoot, StaysRooted, shown_by};
+ghost use Rattle.server_loop.specs.Runs.{KeepsToLimits, StepsAs};
+ghost use Rattle.si_model.specs.Machine.{IsReached, IsStorageRefusal, State, Checkpoint as CheckpointAsked};
+
+use crate::batches::Lasting;
+use crate::recording::Recording;
+use cell_key::Refusal;
+use commit_log::Log;
+use commit_log::laws::{as_many_edits, logs_edits};
+use request_codec::{Reply, Request};
+use server_loop::{Answering, ServeFault};
+use std::alloc::Global;
+
+/// How many more bytes are written down before a root that was refused is tried again.
+const BETWEEN_TRIES: usize = 8_388_608;
+
+/// A server with a log.
+#[derive(Drop)]
+pub struct LastingServer<S, L> {
+    pub(crate) alloc: Global,
+    pub(crate) server: S,
+    pub(crate) log: L,
+    /// The log failed, or what it has isn't known any more. No reply leaves from then on.
+    pub(crate) is_stopped: bool,
+    /// How much is written down before a root is put without a request.
+    pub(crate) root_bytes: usize,
+    /// How much was when one was refused, and 0 since one was put.
+    pub(crate) tried_bytes: usize,
+}
+
+/// How much was written down when a root was refused, and 0 after one that was put.
+fn tried_after(done: &Result<(), Refusal>, written: usize) -> usize {
+    match done {
+        Ok(()) => 0,
+        Err(_) => written,
+    }
+}
+
+impl<S: Recording, L: Log> LastingServer<S, L> {
+    /// Puts on the log what waits for it. Whether that was done.
+    fn log_waiting(&mut self) -> bool
+        ensures shown { (st : State) → S.shows self.old.server st → S.shows self.new.server st }
+        ensures same { S.same self.old.server self.new.server }
+        ensures stays { StaysRooted S.stores S.is_rooted S.last self.old.server self.new.server }
+        ensures recording { result ≡ true → S.recording self.new.server ≡ true }
+        ensures waiting { result ≡ true → S.waiting self.new.server ≡ [] }
+        ensures on { result ≡ true → self.new.is_stopped ≡ false }
+        ensures ok { result ≡ true → (now : State) → S.shows self.old.server now
+            → Logs S.stores S.logged S.last L.holds S.is_rooted self.old
+            → (S.is_rooted self.new.server × HoldsLogged S.stores S.logged S.last L.holds self.new)
+            × ((st : State) → S.shows self.new.server st
+            → LastsIn S.stores S.logged S.last L.holds self.new st) }
+        ensures stopped { result ≡ false → self.new.is_stopped ≡ true }
+        ensures err { result ≡ false → (now : State) → S.shows self.old.server now
+            → Logs S.stores S.logged S.last L.holds S.is_rooted self.old → (st : State)
+            → LastsIn S.stores S.logged S.last L.holds self.old st
+            → LastsIn S.stores S.logged S.last L.holds self.new st
+            ⊎ LastsIn S.stores S.logged S.last L.holds self.new now }
+    {
+        as_many_edits();
+        logs_edits();
+        S::recording_laws();
+        if self.is_stopped {
+            return false;
+        }
+        if !self.server.is_recording() {
+            self.is_stopped = true;
+            return false;
+        }
+        if self.server.waiting().is_empty() {
+            return true;
+        }
+        match self.log.append(self.server.waiting()) {
+            Ok(()) => {
+                self.server.settled();
+                true
+            }
+            Err(_) => {
+                self.is_stopped = true;
+                false
+            }
+        }
+    }
+
+    /// Takes out of the log what a new root has.
+    fn empty_log(&mut self)
+        ensures shown { S.is_clean self.old.server → (st : State) → S.shows self.old.server st
+            → S.shows self.new.server st }
+        ensures same { S.same self.old.server self.new.server }
+        ensures stays { StaysRooted S.stores S.is_rooted S.last self.old.server self.new.server }
+        ensures clean { S.is_clean self.old.server → S.is_clean self.new.server }
+        ensures recording { S.recording self.new.server ≡ S.recording self.old.server }
+        ensures waiting { S.waiting self.old.server ≡ [] → S.waiting self.new.server ≡ [] }
+        ensures kept { (st : State) → HasNewRoot S.stores S.is_rooted S.last self.old.server st
+            → LastsIn S.stores S.logged S.last L.holds self.old st
+            → LastsIn S.stores S.logged S.last L.holds self.new st
+            × Logs S.stores S.logged S.last L.holds S.is_rooted self.new }
+    {
+        logs_edits();
+        S::recording_laws();
+        match self.log.reset() {
+            Ok(()) => self.server.emptied(),
+            Err(_) => self.is_stopped = true,
+        }
+    }
+
+    /// Puts what waits on the log, then a root that keeps what is shown, and takes out of the log what the root has.
+    ///
+    /// # Errors
+    ///
+    /// Those of a checkpoint, and `Device` if the log failed.
+    fn root(&mut self) -> Result<(), Refusal>
+        ensures step { StepsAs (shown_by S.shows) self.old self.new CheckpointAsked
+            (replied (checkpointed result)) }
+        ensures refusal { IfErr result IsStorageRefusal }
+        ensures settles { Settles (shown_by S.shows) (LastsIn S.stores S.logged S.last L.holds)
+            (Logs S.stores S.logged S.last L.holds S.is_rooted) self.old self.new }
+        ensures answered { PutsRoot S.same S.checkpoints self.old.server (checkpointed result)
+            self.new.server }
+        ensures clean { OnOk result ((now : State) → S.shows self.old.server now
+            → S.is_clean self.new.server) }
+        ensures kept { OnOk result ((now : State) → S.shows self.old.server now
+            → Logs S.stores S.logged S.last L.holds S.is_rooted self.old
+            → LastsIn S.stores S.logged S.last L.holds self.new now
+            × (S.recording self.new.server ≡ true) × (S.waiting self.new.server ≡ [])) }
+    {
+        logs_edits();
+        S::recording_laws();
+        if !self.log_waiting() {
+            return Err(Refusal::Device);
+        }
+        match self.server.checkpoint_now() {
+            Ok(()) => {
+                self.empty_log();
+                Ok(())
+            }
+            Err(refusal) => Err(refusal),
+        }
+    }
+
+    /// Puts a root once tablets were moved, with nothing that waits. If it is refused, no reply leaves any more.
+    fn root_moved(&mut self)
+        ensures shown { (st : State) → S.shows self.old.server st → S.shows self.new.server st }
+        ensures answered { (reply : CodecReply)
+            × PutsRoot S.same S.checkpoints self.old.server reply self.new.server }
+        ensures kept { (before after : State) → S.shows self.old.server after
+            → HoldsLogged S.stores S.logged S.last L.holds self.old
+            → S.waiting self.old.server ≡ [] → S.recording self.old.server ≡ true
+            → LastsIn S.stores S.logged S.last L.holds self.old before
+            → (LastsIn S.stores S.logged S.last L.holds self.new before
+            ⊎ LastsIn S.stores S.logged S.last L.holds self.new after)
+            × Logs S.stores S.logged S.last L.holds S.is_rooted self.new }
+    {
+        logs_edits();
+        S::recording_laws();
+        match self.server.checkpoint_now() {
+            Ok(()) => self.empty_log(),
+            Err(_) => self.is_stopped = true,
+        }
+    }
+
+    /// Removes the files that no tablet has, after a root that names none of them.
+    fn sweep(&mut self) -> Reply
+        ensures limits { KeepsToLimits result }
+        ensures says { IsLastingAnswer S.shows (LastsIn S.stores S.logged S.last L.holds)
+            (Logs S.stores S.logged S.last L.holds S.is_rooted)
+            (AnswersLasting S.same S.checkpoints S.says S.sweeps) self.old Request.Sweep result
+            self.new }
+    {
+        logs_edits();
+        S::recording_laws();
+        match self.root() {
+            Ok(()) => self.server.sweep_now(),
+            Err(refusal) => Reply::Refused(refusal),
+        }
+    }
+
+    /// Splits or moves a tablet, between two roots.
+    fn rearrange(&mut self, request: Request<'_>) -> Reply
+        requires { MovesTablets request }
+        ensures limits { KeepsToLimits result }
+        ensures says { IsLastingAnswer S.shows (LastsIn S.stores S.logged S.last L.holds)
+            (Logs S.stores S.logged S.last L.holds S.is_rooted)
+            (AnswersLasting S.same S.checkpoints S.says S.sweeps) self.old request.entry result
+            self.new }
+    {
+        logs_edits();
+        S::recording_laws();
+        match self.root() {
+            Ok(()) => {
+                let reply = self.server.reply_to(request);
+                if !self.is_stopped {
+                    self.root_moved();
+                }
+                reply
+            }
+            Err(refusal) => Reply::Refused(refusal),
+        }
+    }
+
+    /// Answers a checkpoint.
+    fn checkpoint(&mut self) -> Reply
+        ensures limits { KeepsToLimits result }
+        ensures says { IsLastingAnswer S.shows (LastsIn S.stores S.logged S.last L.holds)
+            (Logs S.stores S.logged S.last L.holds S.is_rooted)
+            (AnswersLasting S.same S.checkpoints S.says S.sweeps) self.old Request.Checkpoint result
+            self.new }
+    {
+        match self.root() {
+            Ok(()) => Reply::Checkpoint,
+            Err(refusal) => Reply::Refused(refusal),
+        }
+    }
+
+    /// Whether it is time for a root that nobody asks for. One that was refused is tried again once much more is written down.
+    fn is_root_due(&self, written: usize) -> bool {
+        written >= self.root_bytes
+            && (self.tried_bytes == 0 || written >= self.tried_bytes.saturating_add(BETWEEN_TRIES))
+    }
+
+    /// Answers a request that needs no root.
+    fn answer_plainly(&mut self, request: Request<'_>) -> Reply
+        requires { ¬ NeedsRoot request }
+        ensures limits { KeepsToLimits result }
+        ensures says { IsLastingAnswer S.shows (LastsIn S.stores S.logged S.last L.holds)
+            (Logs S.stores S.logged S.last L.holds S.is_rooted)
+            (AnswersLasting S.same S.checkpoints S.says S.sweeps) self.old request.entry result
+            self.new }
+    {
+        logs_edits();
+        S::recording_laws();
+        self.server.reply_to(request)
+    }
+}
+
+impl<S: Recording, L: Log> Answering for LastingServer<S, L> {
+    ghost use Rattle.durable.specs.Lasts.{AnswersLasting, IsLastingAnswer, IsLastingTended, LastsIn, Logs, PutsRoot, shown_by};
+
+    ghost shows = { shown_by S.shows };
+
+    ghost says = { IsLastingAnswer S.shows (LastsIn S.stores S.logged S.last L.holds)
+        (Logs S.stores S.logged S.last L.holds S.is_rooted)
+        (AnswersLasting S.same S.checkpoints S.says S.sweeps) };
+
+    ghost between = { IsLastingTended S.shows (LastsIn S.stores S.logged S.last L.holds)
+        (Logs S.stores S.logged S.last L.holds S.is_rooted) S.between S.same
+        (PutsRoot S.same S.checkpoints) };
+
+    fn reply_to(&mut self, request: Request<'_>) -> Reply {
+        match request {
+            Request::Checkpoint => self.checkpoint(),
+            Request::Sweep => self.sweep(),
+            Request::Split { .. } | Request::Move { .. } => self.rearrange(request),
+            _ => self.answer_plainly(request),
+        }
+    }
+
+    fn tend(&mut self) {
+        logs_edits();
+        S::recording_laws();
+        self.server.tend();
+        let written = self.server.written();
+        if self.is_root_due(written) {
+            let done = self.root();
+            self.tried_bytes = tried_after(&done, written);
+        }
+    }
+}
+
+impl<S: Recording, L: Log> Lasting for LastingServer<S, L> {
+    ghost use Rattle.durable.specs.Lasts.{LastsIn, Logs};
+
+    ghost lasts = { LastsIn S.stores S.logged S.last L.holds };
+
+    ghost logs = { Logs S.stores S.logged S.last L.holds S.is_rooted };
+
+    fn settle(&mut self) -> Result<(), ServeFault> {
+        if self.log_waiting() {
+            Ok(())
+        } else {
+            Err(ServeFault::Log)
+        }
+    }
+
+    ghost answers = { λ old new request reply is. is.goes_on };
+
+    ghost tends = { λ old new is. is.settles };
+}

@@ -1,0 +1,362 @@
+//! Opening a server with a log on what a kill left.
+
+ghost use Rattle.std.specs.Prelude.{◌≡◌, ◌≢◌, ◌≤◌, ◌⊎◌, ◌+◌, ℕ, List, IfErr, IfOk, IfSome, IsErrOf, IsSome, MatchResult, None, OnOk, Some, false, is_some, length, true, []};
+ghost use Rattle.std.specs.FinMap.{empty, get};
+ghost use Rattle.std.specs.List.{AllByRecursion};
+ghost use Rattle.cell_key.specs.Cells.{Cells, after_edits};
+ghost use Rattle.cell_key.specs.Faults.{HasReason, HasRisen};
+ghost use Rattle.cell_key.specs.declared.edits.Edit.{Edit as CellEdit};
+ghost use Rattle.commit_log.specs.Edits.{HoldEdits, IsStoredEdit};
+ghost use Rattle.commit_log.specs.Held.{Keeps};
+ghost use Rattle.file_store.specs.Store.{Contents};
+ghost use Rattle.metadata_table.specs.Roots.{RootView};
+ghost use Rattle.row_atomic.specs.Changes.{Holds, IsEmptied};
+ghost use Rattle.row_atomic.specs.Clusters.{spots_of};
+ghost use Rattle.row_atomic.specs.Commands.{cells_shown};
+ghost use Rattle.row_atomic.specs.Journals.{HasRoomFor, empty_journal};
+ghost use Rattle.row_atomic.specs.Open.{IsDamaged};
+ghost use Rattle.rows.specs.Refusals.{IsReadRefusal};
+ghost use Rattle.row_atomic.specs.Roots.{KeepsCells, root_at, root_name};
+ghost use Rattle.si_model.specs.Machine.{IsReached, IsStorageRefusal, State, new_machine, reopened};
+ghost use Rattle.sorted_file.specs.Limits.{IsFileLimit};
+ghost use Rattle.si_model.specs.ShowsCells.{ShowsCells};
+ghost use Rattle.durable.specs.Devices.{Covers, KeepsUnder, LastsOn};
+ghost use Rattle.durable.specs.Lasting.{IsSettled};
+ghost use Rattle.durable.specs.LastingOpening.{HasRootFile, IsLostLog, LacksBase, NamesTop, OpensFrom, OpensNew, ServesFrom, log_refusal, refused_with};
+ghost use Rattle.durable.specs.Lasts.{HoldsLogged, LastsIn, Logs, shown_by};
+ghost use Rattle.server_loop.specs.Opening.{IsLost, LacksRoot};
+ghost use Rattle.durable.specs.Replaying.{FollowsLog, ShowsRoot};
+ghost use Rattle.server_loop.specs.Server.{IsConfig, cluster_of, last_of, machine_places, marks_of, rows_of, tending_of};
+
+use crate::lasting::LastingServer;
+use crate::recording::Recording;
+use crate::replaying::replay;
+use crate::whole_files::WholeFiles;
+use cell_key::{Edit, Refusal, Stamp};
+use commit_log::laws::{as_many_edits, logs_edits};
+use commit_log::{Log, LogFault, edits_in};
+use file_store::Files;
+use metadata_table::one_root;
+use oracle::{MarkStore, Oracle};
+use row_atomic::{Cluster, Recorded, keeps_following};
+use si_model::{recovers, shows_reopened};
+use server_loop::{Config, Server};
+use sorted_file::refusal_of;
+use std::alloc::Global;
+
+/// The name of the root file.
+const ROOT_NAME: u64 = 0;
+
+/// The bytes that are written down when a root is put without a request, if nothing else is asked for.
+const ROOT_BYTES: usize = 33_554_432;
+
+/// The refusal of a fault of a log.
+fn refused_by(fault: LogFault) -> Refusal
+    ensures { result ≡ log_refusal fault }
+{
+    match fault {
+        LogFault::Device => Refusal::Device,
+        LogFault::Memory => Refusal::NoMemory,
+        LogFault::Damaged => Refusal::Damaged,
+    }
+}
+
+/// The edits that a log holds.
+///
+/// # Errors
+///
+/// `Damaged` if what it holds are no edits within the limits; `Device` and `NoMemory`.
+fn edits_on<L: Log>(alloc: Global, log: &mut L) -> Result<Vec<Edit>, Refusal>
+    ensures held { IfOk result (λ edits. (records : List (List ℕ)) → L.holds log.old records
+        → HoldEdits records edits.items) }
+    ensures stored { IfOk result (λ edits. AllByRecursion IsStoredEdit edits.items) }
+    ensures same { Keeps (L.holds log.old) (L.holds log.new) }
+    ensures damaged { IsErrOf result Refusal.Damaged → IsLostLog (L.holds log.old) }
+    ensures refusal { IfErr result IsReadRefusal }
+    ensures reason { HasReason (L.faults log.old) (L.faults log.new) result }
+{
+    match log.records() {
+        Ok(records) => edits_in(alloc, &records),
+        Err(fault) => Err(refused_by(fault)),
+    }
+}
+
+/// Whether there is a root file.
+fn has_root<F: Files>(files: &mut F) -> Result<bool, Refusal>
+    ensures ok { IfOk result (λ found. IfSome (F.contents files.old) (λ m.
+        found ≡ is_some (get m root_name))) }
+    ensures same { F.contents files.new ≡ F.contents files.old }
+    ensures refusal { IfErr result (λ refusal.
+        (refusal ≡ Refusal.Device) ⊎ (refusal ≡ Refusal.NoMemory)) }
+    ensures reason { HasReason (F.faults files.old) (F.faults files.new) result }
+{
+    match files.size(ROOT_NAME) {
+        Ok(size) => Ok(size.is_some()),
+        Err(fault) => Err(refusal_of(fault)),
+    }
+}
+
+/// Makes the edits of a log over a cluster that was just opened, once the root of a new store was put.
+fn fill_rows<F: Files>(
+    alloc: Global,
+    rows: &mut Recorded<F>,
+    is_new: bool,
+    edits: Vec<Edit>,
+) -> Result<(), Refusal>
+    requires { AllByRecursion IsStoredEdit edits.items }
+    ensures ok { is_new ≡ false → OnOk result ((root : RootView) (base : Cells)
+        → ShowsRoot F.contents root base rows.old.cluster
+        → FollowsLog F.contents root base edits.items rows.new) }
+    ensures full { is_new ≡ false → IsErrOf result Refusal.MemtableFull
+        → AllByRecursion IsEmptied rows.old.cluster.tablets
+        → ¬ HasRoomFor empty_journal edits.items }
+    ensures new { is_new ≡ true → Holds F.contents rows.old.cluster → OnOk result
+        (FollowsLog F.contents (root_at 0 0 rows.new.cluster)
+        (cells_shown F.contents rows.old.cluster) edits.items rows.new) }
+    ensures undamaged { Holds F.contents rows.old.cluster → ¬ IsErrOf result Refusal.Damaged }
+    ensures same { is_new ≡ false
+        → F.contents rows.new.cluster.files ≡ F.contents rows.old.cluster.files }
+    ensures spots { spots_of rows.new.cluster ≡ spots_of rows.old.cluster }
+    ensures limit { rows.new.cluster.file_limit ≡ rows.old.cluster.file_limit }
+    ensures refusal { IfErr result IsStorageRefusal }
+    ensures reason { HasReason (F.faults rows.old.cluster.files)
+        (F.faults rows.new.cluster.files) result }
+{
+    if is_new {
+        rows.cluster.checkpoint(0, 0)?;
+    }
+    replay(alloc, rows, edits)
+}
+
+/// The rows that files keep, with the edits of a log, and the greatest stamp that their root names. Without a root file
+/// they are those of a new store, whose root is put.
+///
+/// # Errors
+///
+/// `Damaged` if `Cluster::open` answers it, or if there are edits and no root file; those of a checkpoint. The files
+/// come back.
+fn open_rows<F: Files>(
+    alloc: Global,
+    files: F,
+    edits: Vec<Edit>,
+    file_limit: u64,
+) -> Result<(Recorded<F>, Stamp), (Refusal, F)>
+    requires limit { IsFileLimit file_limit }
+    requires stored { AllByRecursion IsStoredEdit edits.items }
+    ensures kept { (m : Contents) (root : RootView) (base : Cells) → F.contents files ≡ Some m
+        → KeepsCells m root base
+        → MatchResult result
+        (λ opened. FollowsLog F.contents root base edits.items opened.0 × (opened.1 ≡ root.top))
+        (λ refused. (refused.0 ≢ Refusal.Damaged)
+        × (refused.0 ≡ Refusal.MemtableFull → ¬ HasRoomFor empty_journal edits.items)) }
+    ensures new { LacksRoot (F.contents files) → IfOk result (λ opened.
+        OpensNew F.contents opened.1 edits.items opened.0) }
+    ensures named { IfOk result (λ opened. IfSome (F.contents files) (λ m.
+        NamesTop (get m root_name) opened.1)) }
+    ensures damaged { IfErr result (λ refused. refused.0 ≡ Refusal.Damaged
+        → IfSome (F.contents files) (λ m. IsDamaged m ⊎ LacksBase m edits.items)) }
+    ensures rooted { HasRootFile (F.contents files) → MatchResult result
+        (λ opened. F.contents opened.0.cluster.files ≡ F.contents files)
+        (λ refused. F.contents refused.1 ≡ F.contents files) }
+    ensures limit { IfOk result (λ opened. opened.0.cluster.file_limit ≡ file_limit) }
+    ensures refusal { IfErr result (λ refused. IsStorageRefusal refused.0) }
+    ensures reason { MatchResult result
+        (λ opened. F.faults opened.0.cluster.files ≡ F.faults files)
+        (λ refused. HasReason
+        (F.faults files) (F.faults refused.1) (refused_with refused.0)) }
+{
+    let mut files = files;
+    let is_new = match has_root(&mut files) {
+        Ok(is_there) => !is_there,
+        Err(refusal) => return Err((refusal, files)),
+    };
+    if is_new && !edits.is_empty() {
+        return Err((Refusal::Damaged, files));
+    }
+    let (cluster, top, _floor) = match Cluster::open(alloc, files, file_limit) {
+        Ok(opened) => opened,
+        Err(refused) => return Err(refused),
+    };
+    let mut rows = Recorded::new(cluster);
+    match fill_rows(alloc, &mut rows, is_new, edits) {
+        Ok(()) => Ok((rows, top)),
+        Err(refusal) => Err((refusal, rows.into_files())),
+    }
+}
+
+/// A server over rows and an oracle. All stamps up to the oracle's last one count as answered.
+fn server_over<F: WholeFiles + Drop, M: MarkStore + Drop>(
+    alloc: Global,
+    rows: Recorded<F>,
+    oracle: Oracle<M>,
+    config: Config,
+) -> Server<F, M>
+    ensures from { (root : RootView) (base : Cells) (edits : List CellEdit) (st : State)
+        → FollowsLog F.contents root base edits rows → IsReached st
+        → machine_places root.places ≡ st.places → Covers (M.mark oracle.marks) root.top
+        → ShowsCells (after_edits base edits) (reopened st)
+        → st.next_tablet ≡ length st.places + 1 → Covers (M.mark oracle.marks) st.top
+        → IfSome (M.mark oracle.marks) (λ mark. oracle.last ≡ mark)
+        → ServesFrom F.Files M.MarkStore base edits st result }
+    ensures rows { rows_of result ≡ rows }
+    ensures last { last_of result ≡ oracle.last }
+    ensures marks { marks_of result ≡ oracle.marks }
+    ensures tending { tending_of result
+        ≡ record { flush = config.flush; merge = None; merged_to = 0 } }
+{
+    recovers();
+    shows_reopened();
+    let last = oracle.last();
+    Server::without_sessions(alloc, rows, oracle, last, last + 1, config)
+}
+
+/// A server over files, a mark store and the edits of a log.
+fn open_server<F: WholeFiles + Drop, M: MarkStore + Drop>(
+    alloc: Global,
+    files: F,
+    marks: M,
+    edits: Vec<Edit>,
+    config: Config,
+) -> Result<Server<F, M>, (Refusal, F, M)>
+    requires config { IsConfig config }
+    requires stored { AllByRecursion IsStoredEdit edits.items }
+    ensures kept { (base : Cells) (st : State) → IsReached st
+        → KeepsUnder (F.contents files) (M.mark marks) base st.places
+        → ShowsCells (after_edits base edits.items) (reopened st)
+        → st.next_tablet ≡ length st.places + 1 → Covers (M.mark marks) st.top
+        → MatchResult result (ServesFrom F.Files M.MarkStore base edits.items st)
+        (λ refused. (refused.0 ≢ Refusal.Damaged)
+        × (refused.0 ≡ Refusal.MemtableFull → ¬ HasRoomFor empty_journal edits.items)) }
+    ensures new { LacksRoot (F.contents files) → IsSome (M.mark marks)
+        → IfOk result (λ server. (edits.items ≡ [])
+        × ServesFrom F.Files M.MarkStore empty edits.items new_machine server) }
+    ensures damaged { IfErr result (λ refused. refused.0 ≡ Refusal.Damaged
+        → IfSome (F.contents files) (λ m. IfSome (M.mark marks) (λ mark.
+        IsLost m mark ⊎ LacksBase m edits.items))) }
+    ensures rooted { HasRootFile (F.contents files) → MatchResult result
+        (λ server. F.contents (cluster_of server).files ≡ F.contents files)
+        (λ refused. F.contents refused.1 ≡ F.contents files) }
+    ensures mark { MatchResult result (λ server. M.mark (marks_of server) ≡ M.mark marks)
+        (λ refused. M.mark refused.2 ≡ M.mark marks) }
+    ensures last { IfOk result (λ server.
+        IfSome (M.mark marks) (λ mark. last_of server ≡ mark)) }
+    ensures limit { IfOk result (λ server. (cluster_of server).file_limit ≡ config.file_limit) }
+    ensures tending { IfOk result (λ server.
+        tending_of server ≡ record { flush = config.flush; merge = None; merged_to = 0 }) }
+    ensures refusal { IfErr result (λ refused. IsStorageRefusal refused.0) }
+    ensures told { MatchResult result
+        (λ server. (F.faults (cluster_of server).files ≡ F.faults files)
+        × (M.faults (marks_of server) ≡ M.faults marks))
+        (λ refused. refused.0 ≢ Refusal.Device
+        → (F.faults refused.1 ≡ F.faults files) × (M.faults refused.2 ≡ M.faults marks)) }
+    ensures device { IfErr result (λ refused. refused.0 ≡ Refusal.Device
+        → HasRisen (F.faults files) (F.faults refused.1)
+        ⊎ HasRisen (M.faults marks) (M.faults refused.2)) }
+{
+    one_root();
+    let (rows, top) = match open_rows(alloc, files, edits, config.file_limit) {
+        Ok(opened) => opened,
+        Err((refusal, files)) => return Err((refusal, files, marks)),
+    };
+    let oracle = match Oracle::open(marks) {
+        Ok(oracle) => oracle,
+        Err((refusal, marks)) => return Err((refusal, rows.into_files(), marks)),
+    };
+    if oracle.last() < top {
+        return Err((Refusal::Damaged, rows.into_files(), oracle.into_mark()));
+    }
+    Ok(server_over(alloc, rows, oracle, config))
+}
+
+impl<S: Recording, L: Log> LastingServer<S, L> {
+    /// A server with a log.
+    fn over(alloc: Global, server: S, log: L) -> LastingServer<S, L>
+        ensures server { result.server ≡ server }
+        ensures log { result.log ≡ log }
+        ensures root_bytes { result.root_bytes ≡ 33554432 }
+        ensures settled { S.recording server ≡ true → S.is_rooted server → S.waiting server ≡ []
+            → HoldsLogged S.stores S.logged S.last L.holds result
+            → IsSettled (shown_by S.shows) (LastsIn S.stores S.logged S.last L.holds)
+            (Logs S.stores S.logged S.last L.holds S.is_rooted) result }
+    {
+        logs_edits();
+        S::recording_laws();
+        LastingServer {
+            alloc,
+            server,
+            log,
+            is_stopped: false,
+            root_bytes: ROOT_BYTES,
+            tried_bytes: 0,
+        }
+    }
+}
+
+impl<F: WholeFiles + Drop, M: MarkStore + Drop, L: Log + Drop> LastingServer<Server<F, M>, L> {
+    /// A server over what a kill left in these files, this mark store and this log. Without a root file it is a new store,
+    /// whose root is put. The edits of the log are made over what the files keep. Sessions, cleaners and collectors are
+    /// forgotten, and stamps up to the mark count as answered.
+    ///
+    /// # Errors
+    ///
+    /// `Damaged` if the root file is out of form, if a file that it names is missing or out of form, if the mark is below
+    /// the greatest stamp that the root names, if what the log holds are no edits, or if it holds edits and there is no
+    /// root file; `Device` if the files, the mark or the log can't be read, `NoMemory`, `MemtableFull` if the log has more
+    /// edits than a server writes down, and of a new store the refusals of its first checkpoint. The files, the mark store
+    /// and the log are given back.
+    pub fn open(
+        alloc: Global,
+        files: F,
+        marks: M,
+        log: L,
+        config: Config,
+    ) -> Result<LastingServer<Server<F, M>, L>, (Refusal, F, M, L)>
+        requires config { IsConfig config }
+        // From a state that they keep. If it is refused, they keep it still.
+        ensures kept { (st : State) → IsReached st
+            → LastsOn (F.contents files) (M.mark marks) (L.holds log) st
+            → MatchResult result (OpensFrom F.Files M.MarkStore L.Log st)
+            (λ refused. (refused.0 ≢ Refusal.Damaged) × (refused.0 ≢ Refusal.MemtableFull)
+            × LastsOn (F.contents refused.1) (M.mark refused.2) (L.holds refused.3) st) }
+        ensures new { LacksRoot (F.contents files) → IsSome (M.mark marks)
+            → (records : List (List ℕ)) → L.holds log records
+            → IfOk result (OpensFrom F.Files M.MarkStore L.Log new_machine) }
+        // `Damaged` is answered only of damage, as far as files, mark and log are known.
+        ensures damaged { IfErr result (λ refused. refused.0 ≡ Refusal.Damaged
+            → IsLostLog (L.holds log)
+            ⊎ IfSome (F.contents files) (λ m. IfSome (M.mark marks) (λ mark.
+            IsLost m mark ⊎ ((get m root_name ≡ None)
+            × ((records : List (List ℕ)) → L.holds log records → ¬ HoldEdits records []))))) }
+        ensures last { IfOk result (λ opened.
+            IfSome (M.mark marks) (λ mark. last_of opened.server ≡ mark)) }
+        ensures limit { IfOk result (λ opened.
+            (cluster_of opened.server).file_limit ≡ config.file_limit) }
+        ensures tending { IfOk result (λ opened. tending_of opened.server
+            ≡ record { flush = config.flush; merge = None; merged_to = 0 }) }
+        ensures root_bytes { IfOk result (λ opened. opened.root_bytes ≡ 33554432) }
+        ensures refusal { IfErr result (λ refused. IsStorageRefusal refused.0) }
+        // If it is not refused with Device, the counts of faults are as before.
+        ensures told { MatchResult result
+            (λ opened. (F.faults (cluster_of opened.server).files ≡ F.faults files)
+            × (M.faults (marks_of opened.server) ≡ M.faults marks)
+            × (L.faults opened.log ≡ L.faults log))
+            (λ refused. refused.0 ≢ Refusal.Device → (F.faults refused.1 ≡ F.faults files)
+            × (M.faults refused.2 ≡ M.faults marks) × (L.faults refused.3 ≡ L.faults log)) }
+        ensures device { IfErr result (λ refused. refused.0 ≡ Refusal.Device
+            → HasRisen (F.faults files) (F.faults refused.1)
+            ⊎ (HasRisen (M.faults marks) (M.faults refused.2)
+            ⊎ HasRisen (L.faults log) (L.faults refused.3))) }
+    {
+        logs_edits();
+        as_many_edits();
+        let mut log = log;
+        let edits = match edits_on(alloc, &mut log) {
+            Ok(edits) => edits,
+            Err(refusal) => return Err((refusal, files, marks, log)),
+        };
+        match open_server(alloc, files, marks, edits, config) {
+            Ok(server) => Ok(LastingServer::over(alloc, server, log)),
+            Err((refusal, files, marks)) => Err((refusal, files, marks, log)),
+        }
+    }
+}

@@ -1,0 +1,88 @@
+//! What a server with a log is asked for.
+
+ghost use Rattle.std.specs.Prelude.{◌≡◌, IsSome, Some};
+ghost use Rattle.durable.specs.Devices.{LastsOn};
+ghost use Rattle.durable.specs.ServesLogged.{LastsOver, ServesOver};
+ghost use Rattle.server_loop.specs.Server.{cluster_of, marks_of, rows_of, tending_of};
+ghost use Rattle.row_atomic.specs.Commands.{IsOutcome};
+ghost use Rattle.si_model.specs.Machine.{State};
+
+use crate::batches::serve_batches;
+use crate::lasting::LastingServer;
+use crate::whole_files::WholeFiles;
+use commit_log::Log;
+use oracle::MarkStore;
+use row_atomic::{Command, Outcome};
+use server_loop::{End, ServeFault, Server};
+use std::io::{Read, Write};
+use std::num::NonZeroUsize;
+
+impl<F: WholeFiles + Drop, M: MarkStore + Drop, L: Log + Drop> LastingServer<Server<F, M>, L> {
+    /// From now on newest files are merged as `Server::merge_at` says.
+    pub fn merge_at(&mut self, most: u32)
+        ensures { self.new ≡ record self.old {
+          server = record self.old.server {
+            tending = record (tending_of self.old.server) { merge = Some most; merged_to = 0 };
+          };
+        } }
+    {
+        self.server.merge_at(most);
+    }
+
+    /// Lets each open file cache as many blocks at most as `Server::cache_blocks` does.
+    pub fn cache_blocks(&mut self, most_blocks: NonZeroUsize)
+        ensures outcome { IsOutcome F.contents F.faults Command.DropCaches Outcome.Done
+            (cluster_of self.old.server) (cluster_of self.new.server) }
+        ensures others { self.new ≡ record self.old {
+          server = record self.old.server {
+            rows = record (rows_of self.old.server) { cluster = cluster_of self.new.server };
+          };
+        } }
+    {
+        self.server.cache_blocks(most_blocks);
+    }
+
+    /// From now on a root is put, and the log emptied, after a reply when as many bytes are written down, or as many as 671
+    /// for each edit. One that is refused is not reported, and tried again when 8,388,608 more are.
+    pub fn checkpoint_at(&mut self, bytes: usize)
+        ensures { self.new ≡ record self.old { root_bytes = bytes; tried_bytes = 0 } }
+    {
+        self.root_bytes = bytes;
+        self.tried_bytes = 0;
+    }
+
+    /// Serves requests in frames as `Server::serve` does, but that replies wait: those to what one read gave are written
+    /// once all that they say is on the log, which is forced to the disk once for all of them. Before more than 1,048,576
+    /// bytes of replies wait, that is done as well. A split and a move come between two checkpoints, and a sweep after
+    /// one. If the log fails, no reply leaves any more, and `Log` is answered.
+    ///
+    /// Whatever the result, from a settled server the devices keep the machine after a beginning of what was taken, which
+    /// holds each request of whose reply a byte was written.
+    pub fn serve<I: Read, O: Write>(
+        &mut self,
+        reader: &mut I,
+        writer: &mut O,
+        most_reads: u64,
+    ) -> Result<End, ServeFault>
+        ensures { ServesOver F.Files M.MarkStore L.Log self.old self.new
+            (I.remaining reader.old) (I.remaining reader.new) (O.contents writer.old)
+            (O.contents writer.new) most_reads result }
+    {
+        serve_batches(self.alloc, self, reader, writer, most_reads)
+    }
+
+    /// Its files, its mark store and its log, as they are. If the mark is known, they keep each state that the server's
+    /// devices kept.
+    pub fn into_devices(self) -> (F, M, L)
+        ensures files { result.0 ≡ (cluster_of self.server).files }
+        ensures marks { result.1 ≡ marks_of self.server }
+        ensures log { result.2 ≡ self.log }
+        ensures lasts { (st : State) → LastsOver F.Files L.Log self st
+            → IsSome (M.mark (marks_of self.server))
+            → LastsOn (F.contents result.0) (M.mark result.1) (L.holds result.2) st }
+    {
+        let LastingServer { server, log, .. } = self;
+        let (files, marks) = server.into_devices();
+        (files, marks, log)
+    }
+}

@@ -1,0 +1,14 @@
+//! A server with a log: what it answers outlasts a kill.
+#![tactic(auto)]
+
+mod batches;
+mod lasting;
+mod lasting_opening;
+mod lasting_serving;
+mod recorded_server;
+mod recording;
+mod replaying;
+mod whole_files;
+
+pub use lasting::LastingServer;
+pub use whole_files::WholeFiles;

@@ -1,0 +1,98 @@
+//! The server whose edits are written down, over files that a put replaces as a whole.
+
+ghost use Rattle.std.specs.Prelude.{◌≡◌, ◌≤◌};
+ghost use Rattle.row_atomic.specs.Journals.{IsWithin};
+
+use crate::recording::Recording;
+use crate::whole_files::WholeFiles;
+use cell_key::Refusal;
+use commit_log::laws::logs_edits;
+use metadata_table::one_root;
+use oracle::MarkStore;
+use request_codec::Reply;
+use row_atomic::{
+    keeps_following, root_is_stored, root_outlasts_flushes, root_outlasts_merges, root_stays,
+};
+use server_loop::Server;
+use si_model::shows_reopened;
+
+/// The bytes that are counted for an edit: of the most edits, as many as the most bytes.
+const BYTES_OF_EDIT: usize = 671;
+
+impl<F: WholeFiles + Drop, M: MarkStore + Drop> Recording for Server<F, M> {
+    ghost use Rattle.std.specs.Prelude.{is_some};
+    ghost use Rattle.row_atomic.specs.Recorded.{edits_written, logged_of, waiting_of};
+    ghost use Rattle.server_loop.specs.Server.{journal_of, last_of};
+    ghost use Rattle.durable.specs.Stored.{AnswersCheckpoint, AnswersSweep, IsClean, IsRooted, IsSame, StoresCells};
+    ghost use Rattle.std.proofs.Common.{refl, ◌∙◌};
+
+    ghost stores = { StoresCells F.contents };
+
+    ghost is_rooted = { IsRooted F.contents };
+
+    ghost is_clean = { IsClean F.contents };
+
+    ghost recording = { λ server. is_some (journal_of server) };
+
+    ghost logged = { λ server. logged_of (journal_of server) };
+
+    ghost waiting = { λ server. waiting_of (journal_of server) };
+
+    ghost count = { λ server. edits_written (journal_of server) };
+
+    ghost last = { last_of };
+
+    ghost same = { IsSame };
+
+    ghost checkpoints = { AnswersCheckpoint F.Files M.MarkStore };
+
+    ghost sweeps = { AnswersSweep F.Files M.MarkStore };
+
+    fn written(&self) -> usize {
+        let of_edits = self.written_edits().saturating_mul(BYTES_OF_EDIT);
+        self.written_bytes().max(of_edits)
+    }
+
+    fn is_recording(&self) -> bool {
+        self.is_recording()
+    }
+
+    fn waiting(&self) -> &[u8] {
+        self.waiting()
+    }
+
+    fn settled(&mut self) {
+        logs_edits();
+        self.settled();
+    }
+
+    fn checkpoint_now(&mut self) -> Result<(), Refusal> {
+        shows_reopened();
+        root_is_stored::<F>();
+        self.put_root()
+    }
+
+    fn emptied(&mut self) {
+        self.emptied();
+    }
+
+    fn sweep_now(&mut self) -> Reply {
+        one_root();
+        root_stays::<F>();
+        keeps_following::<F>();
+        self.sweep_files()
+    }
+
+    fn recording_laws() {
+        one_root();
+        shows_reopened();
+        root_is_stored::<F>();
+        root_stays::<F>();
+        root_outlasts_flushes::<F>();
+        root_outlasts_merges::<F>();
+    }
+
+    ghost same_self = { λ server. refl };
+
+    ghost same_then = { λ first mid last a b. a ∙ b };
+}

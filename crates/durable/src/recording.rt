@@ -1,0 +1,136 @@
+//! What a server with a log is made of: a server whose edits are written down.
+
+ghost use Rattle.std.specs.Prelude.{◌≡◌, ◌≢◌, ◌≤◌, ◌⊎◌, ◌++◌, ℕ, List, [], Bool, length, true, IfErr, OnErr, OnOk};
+ghost use Rattle.cell_key.specs.Cells.{Cells};
+ghost use Rattle.row_atomic.specs.Journals.{IsWithin};
+ghost use Rattle.request_codec.specs.Replies.{replied};
+ghost use Rattle.request_codec.specs.declared.replies.Reply.{Reply as CodecReply};
+ghost use Rattle.request_codec.specs.declared.requests.Request.{Request as Lent};
+ghost use Rattle.server_loop.specs.Commands.{checkpointed};
+ghost use Rattle.durable.specs.Lasts.{Follows, HasNewRoot, KeepsRecording, MovesTablets, NeedsRoot, StaysRooted, StaysStored};
+ghost use Rattle.server_loop.specs.Runs.{KeepsToLimits, StepsAs};
+ghost use Rattle.si_model.specs.Machine.{IsReached, IsStorageRefusal, Place, State, Checkpoint as CheckpointAsked, Sweep as SweepAsked, Step, Refused};
+ghost use Rattle.cell_key.specs.declared.refusals.Refusal.TheVariants.{Damaged};
+
+use cell_key::Refusal;
+use request_codec::Reply;
+use server_loop::Answering;
+
+/// A server whose edits are written down: those that a log has, and those that wait for it.
+pub(crate) trait Recording: Answering {
+    /// Its files keep these cells under a root whose tablets have these places, and whose stamps aren't above the oracle's.
+    ghost stores: { Self → Cells → List Place → Type 0 };
+
+    /// The root has the places of the tablets.
+    ghost is_rooted: { Self → Type 0 };
+
+    /// What it shows is what the files keep under their root.
+    ghost is_clean: { Self → Type 0 };
+
+    /// Edits are written down.
+    ghost recording: { Self → Bool };
+
+    /// The bytes of the edits that the log has.
+    ghost logged: { Self → List ℕ };
+
+    /// The bytes of those that wait for it.
+    ghost waiting: { Self → List ℕ };
+
+    /// How many edits that are in both.
+    ghost count: { Self → ℕ };
+
+    /// The oracle's last stamp.
+    ghost last: { Self → ℕ };
+
+    /// The same server, whatever is written down.
+    ghost same: { Self → Self → Type 0 };
+
+    /// What is said of a checkpoint, and of a sweep.
+    ghost checkpoints: { Self → CodecReply → Self → Type 0 };
+
+    ghost sweeps: { Self → CodecReply → Self → Type 0 };
+
+    /// How much is written down: as many bytes, or as many as as many edits may have.
+    fn written(&self) -> usize;
+
+    /// Whether edits are written down.
+    fn is_recording(&self) -> bool
+        ensures { result ≡ recording self.now };
+
+    /// What waits for the log.
+    fn waiting(&self) -> &[u8]
+        ensures bytes { result.now ≡ waiting self.now }
+        ensures short { length result.now ≤ 67108864 }
+        ensures within { IsWithin (record {
+          logged = logged self.now;
+          waiting = waiting self.now;
+          count = count self.now;
+        }) };
+
+    /// The log has what waited for it.
+    fn settled(&mut self)
+        ensures logged { logged self.new ≡ logged self.old ++ waiting self.old }
+        ensures waiting { waiting self.new ≡ [] }
+        ensures recording { recording self.new ≡ recording self.old }
+        ensures shown { (st : State) → Self.shows self.old st → Self.shows self.new st }
+        ensures stays { StaysRooted stores is_rooted last self.old self.new }
+        ensures same { same self.old self.new };
+
+    /// Puts a root that keeps what is shown.
+    fn checkpoint_now(&mut self) -> Result<(), Refusal>
+        ensures step { StepsAs Self.shows self.old self.new CheckpointAsked
+            (replied (checkpointed result)) }
+        ensures shown { (st : State) → Self.shows self.old st → Self.shows self.new st }
+        ensures refusal { IfErr result IsStorageRefusal }
+        ensures says { checkpoints self.old (checkpointed result) self.new }
+        ensures keeps { KeepsRecording recording logged waiting last self.old self.new }
+        ensures done { OnOk result ((st : State) → Self.shows self.old st
+            → HasNewRoot stores is_rooted last self.new st × is_clean self.new) }
+        ensures undone { OnErr result (StaysRooted stores is_rooted last self.old self.new
+            ⊎ ((st : State) → Self.shows self.old st
+            → HasNewRoot stores is_rooted last self.new st)) };
+
+    /// Nothing is written down any more.
+    fn emptied(&mut self)
+        ensures logged { logged self.new ≡ [] }
+        ensures waiting { waiting self.new ≡ [] }
+        ensures recording { recording self.new ≡ recording self.old }
+        ensures shown { is_clean self.old → (st : State) → Self.shows self.old st
+            → Self.shows self.new st }
+        ensures stays { StaysRooted stores is_rooted last self.old self.new }
+        ensures clean { is_clean self.old → is_clean self.new }
+        ensures same { same self.old self.new };
+
+    /// Removes the files that no tablet has.
+    fn sweep_now(&mut self) -> Reply
+        ensures step { (before : State) → IsReached before → Self.shows self.old before
+            → is_clean self.old → (after : State) × Step before SweepAsked (replied result) after
+            × Self.shows self.new after × (replied result ≡ Refused Damaged → ⊥) }
+        ensures limits { KeepsToLimits result }
+        ensures says { sweeps self.old result self.new }
+        ensures keeps { KeepsRecording recording logged waiting last self.old self.new }
+        ensures stays { (st : State) → Self.shows self.old st → is_clean self.old
+            → StaysRooted stores is_rooted last self.old self.new };
+
+    /// What is written down follows what is shown. An answer leaves what is kept, but for checkpoints and sweeps, and the
+    /// places of the root, but for what moves tablets. So does what comes between two answers.
+    fn recording_laws()
+        ensures follows { (server : Self) (st : State) → recording server ≡ true
+            → is_rooted server → Self.shows server st
+            → Follows (stores server) (logged server) (waiting server) (count server) (last server) st }
+        ensures leaves { (old new : Self) (request : Lent) (reply : CodecReply)
+            → ¬ NeedsRoot request → Self.says old request reply new
+            → (now : State) → IsReached now → Self.shows old now
+            → StaysRooted stores is_rooted last old new × (logged new ≡ logged old) }
+        ensures moves { (old new : Self) (request : Lent) (reply : CodecReply)
+            → MovesTablets request → Self.says old request reply new
+            → StaysStored stores last old new
+            × KeepsRecording recording logged waiting last old new }
+        ensures tends { (old new : Self) → Self.between old new
+            → StaysRooted stores is_rooted last old new × (logged new ≡ logged old)
+            × ((st : State) → Self.shows old st → Self.shows new st) };
+
+    ghost same_self: { (server : Self) → same server server };
+
+    ghost same_then: { (first mid last : Self) → same first mid → same mid last → same first last };
+}

@@ -1,5 +1,0 @@
-use Rattle.row_atomic.proofs.Limits.{kept_none}
-use Rattle.row_atomic.proofs.plain.PlainRows.new.Goals as goal
-
-pub invariant_of-result : goal.invariant_of-result
-invariant_of-result c = kept_none c.new.result.entries c.new.ensures.empty

@@ -1,0 +1,11 @@
+pub mod Calls
+pub mod Firsts
+pub mod Halves
+pub mod Limits
+pub mod NewestLists
+pub mod NextLists
+pub mod Places
+pub mod PushedLists
+pub mod RowsFrom
+pub mod SlotLemmas
+pub mod Stamps

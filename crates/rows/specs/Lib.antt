@@ -1,0 +1,16 @@
+pub mod Batches
+pub mod Calls
+pub mod Laws
+pub mod Oldest
+pub mod Reads
+pub mod Refusals
+pub mod Room
+pub mod Slots
+pub mod Storage
+pub use Rattle.cell_key.specs.Cells
+pub use Rattle.cell_key.specs.Entries
+pub use Rattle.cell_key.specs.Faults
+pub use Rattle.cell_key.specs.Keys
+pub use Rattle.cell_key.specs.Places
+pub use Rattle.cell_key.specs.Versions
+pub use Rattle.file_store.specs.Store

@@ -1,0 +1,106 @@
+//! Cells with the newest versions of their columns, and batches of them.
+
+ghost use Rattle.std.specs.Prelude.{◌≡◌, ◌-◌, length, OnOk, OnErr, IfErr, Some};
+ghost use Rattle.cell_key.specs.Entries.{or_else};
+ghost use Rattle.rows.specs.Batches.{bytes_in, bytes_of, value_bytes, Keeps};
+
+use crate::cell_version::CellVersion;
+use cell_key::{Family, Qualifier, Refusal, Row, Stamp};
+use std::alloc::Global;
+
+/// A cell and the newest version of each of its columns at or below a stamp, or `None` for a column that has none there.
+#[derive(Drop)]
+pub struct CellVersions {
+    pub row: Row,
+    pub family: Family,
+    pub data: Option<CellVersion>,
+    pub lock: Option<CellVersion>,
+    pub write: Option<CellVersion>,
+}
+
+/// Cells in their order, and whether no cell is left after them.
+#[derive(Drop)]
+pub struct VersionBatch {
+    pub cells: Vec<CellVersions>,
+    pub is_last: bool,
+}
+
+/// When a batch is full: with this number of cells, or with cells whose values have this number of bytes together.
+#[derive(Clone, Copy, Debug)]
+pub struct BatchLimits {
+    pub cells: usize,
+    pub bytes: usize,
+}
+
+impl BatchLimits {
+    /// What is left of them after these cells.
+    pub fn after(self, cells: &[CellVersions]) -> BatchLimits
+        ensures cells { result.cells ≡ self.cells - length cells.now }
+        ensures bytes { result.bytes ≡ self.bytes - bytes_in cells.now }
+    {
+        let mut bytes = self.bytes;
+        for cell in cells {
+            bytes = cell.bytes_after(bytes);
+        }
+        BatchLimits {
+            cells: self.cells.saturating_sub(cells.len()),
+            bytes,
+        }
+    }
+}
+
+/// Takes a version for that of a column which has none.
+fn keep_newest(
+    alloc: Global,
+    newest: &mut Option<CellVersion>,
+    stamp: Stamp,
+    value: &[u8],
+) -> Result<(), Refusal>
+    ensures ok { OnOk result (newest.new ≡ or_else newest.old (Some (stamp, value.now))) }
+    ensures refusal { IfErr result (λ refusal. refusal ≡ Refusal.NoMemory) }
+{
+    if newest.is_none() {
+        *newest = Some(CellVersion::new(alloc, stamp, value)?);
+    }
+    Ok(())
+}
+
+/// A number of bytes without those of a value, or 0 if the value has more.
+fn bytes_after(bytes: usize, found: &Option<CellVersion>) -> usize
+    ensures { result ≡ bytes - value_bytes found.now }
+{
+    match found {
+        Some(version) => bytes.saturating_sub(version.value().len()),
+        None => bytes,
+    }
+}
+
+impl CellVersions {
+    /// Takes a version for that of its column, if that has none yet. Answers `NoMemory` if there is no memory for the
+    /// value.
+    pub fn keep(
+        &mut self,
+        alloc: Global,
+        qualifier: Qualifier,
+        stamp: Stamp,
+        value: &[u8],
+    ) -> Result<(), Refusal>
+        ensures ok { OnOk result (Keeps qualifier (stamp, value.now) self.old self.new) }
+        ensures refusal { IfErr result (λ refusal. refusal ≡ Refusal.NoMemory) }
+    {
+        match qualifier {
+            Qualifier::Data => keep_newest(alloc, &mut self.data, stamp, value),
+            Qualifier::Lock => keep_newest(alloc, &mut self.lock, stamp, value),
+            Qualifier::Write => keep_newest(alloc, &mut self.write, stamp, value),
+        }
+    }
+
+    /// A number of bytes without those of the cell's values, or 0 if these have more.
+    pub fn bytes_after(&self, bytes: usize) -> usize
+        ensures { result ≡ bytes - bytes_of self.now }
+    {
+        let bytes = bytes_after(bytes, &self.data);
+        let bytes = bytes_after(bytes, &self.lock);
+        bytes_after(bytes, &self.write)
+    }
+}

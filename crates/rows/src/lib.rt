@@ -1,0 +1,18 @@
+//! Rows of cells: what every kind of them can do, however they are stored; the batches in which they answer a scan; and the
+//! oldest version in a range, found by their reads. A plain map of rows in memory is their measure in tests.
+#![tactic(auto)]
+
+mod batches;
+mod cell_version;
+mod laws;
+mod oldest_version;
+mod plain;
+mod rows;
+mod slots;
+
+pub use batches::{BatchLimits, CellVersions, VersionBatch};
+pub use cell_version::CellVersion;
+pub use laws::{one_newest, one_next_cell};
+pub use oldest_version::oldest;
+pub use plain::PlainRows;
+pub use rows::Rows;

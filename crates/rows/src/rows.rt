@@ -1,0 +1,181 @@
+//! Rows of cells: what each kind of them can do, and what each call leaves.
+
+ghost use Rattle.std.specs.Prelude.{◌≡◌, ◌≤◌, ℕ, length, map, IfOk, OnOk, OnErr, IfErr, IsErrOf, IfSome, option_map};
+ghost use Rattle.std.specs.Bool.{OnFalse};
+ghost use Rattle.std.specs.List.{AllByRecursion};
+ghost use Rattle.cell_key.specs.Cells.{IsNewest, IsEditOf, version};
+ghost use Rattle.cell_key.specs.Faults.{HasReason};
+ghost use Rattle.cell_key.specs.Places.{AreNextCells, IsNextCell, place_named};
+ghost use Rattle.cell_key.specs.Versions.{IsVersion, IsVersionIn, stamped};
+ghost use Rattle.rows.specs.Batches.{AreNextVersions, IsFull};
+ghost use Rattle.rows.specs.Reads.{AreNewestFirst, HasVersion};
+ghost use Rattle.rows.specs.Calls.{Applies, AreReadableFrom, OnlyReads, View};
+ghost use Rattle.rows.specs.Refusals.{IsApplyRefusal, IsRefusalOfRead};
+
+use crate::batches::{BatchLimits, VersionBatch};
+use cell_key::{Edit, Family, Qualifier, Refusal, Row, Stamp};
+
+/// Rows of cells. What is read or changed under one row is read or changed at once
+/// (Bigtable: reads and writes under a single row are atomic).
+///
+/// A read changes no cell, even if it is refused. Its refusals are `Device` if a device
+/// failed during the call, `NoMemory` if a growth was refused, and `Damaged` if bytes that
+/// were read are outside their form. Damage elsewhere bars no read, and what a read answers then is right.
+pub trait Rows {
+    /// What is seen of them. Each call keeps the premise under which answers have a meaning. A read changes neither
+    /// the cells nor the room for edits, and no call changes what lies below the rows that are in memory.
+    ghost seen: { View Self };
+
+    /// How often a device has failed, up to the greatest number of eight bytes.
+    ghost faults: { Self → ℕ };
+
+    /// The version of a cell's column with the greatest stamp in `lo..=hi`: its stamp, from 1 to
+    /// 2^63 - 1, and its value of at most 65,536 bytes. `None` if there is none.
+    ///
+    /// # Errors
+    ///
+    /// `Device`, `NoMemory` or `Damaged`, as for every read.
+    fn newest(
+        &mut self,
+        row: &Row,
+        family: &Family,
+        qualifier: Qualifier,
+        lo: Stamp,
+        hi: Stamp,
+    ) -> Result<Option<(Stamp, Vec<u8>)>, Refusal>
+        ensures found { seen.readable self.old row.now → IfOk result (λ found. IsNewest
+            (seen.cells self.old) (version row.now family.now qualifier) lo hi
+            (option_map stamped found)) }
+        ensures reads { OnlyReads seen self.old self.new }
+        ensures limits { IfOk result (λ found.
+            IfSome (option_map stamped found) (IsVersionIn lo hi)) }
+        ensures refusal { IfErr result (IsRefusalOfRead (seen.readable self.old row.now)) }
+        ensures reason { HasReason (faults self.old) (faults self.new) result };
+
+    /// The versions of a cell's column with stamps at or below `hi`, the newest first, as `newest` would find them one
+    /// by one: `most` of them, or fewer if no more are left. They cost one pass over what lies before the last of them.
+    ///
+    /// # Errors
+    ///
+    /// `Device`, `NoMemory` or `Damaged`, as for every read.
+    fn versions(
+        &mut self,
+        row: &Row,
+        family: &Family,
+        qualifier: Qualifier,
+        hi: Stamp,
+        most: usize,
+    ) -> Result<Vec<(Stamp, Vec<u8>)>, Refusal>
+        ensures found { seen.readable self.old row.now → IfOk result (λ found. AreNewestFirst
+            (seen.cells self.old) (version row.now family.now qualifier) hi most
+            (map stamped found.items)) }
+        ensures few { IfOk result (λ found. length found.items ≤ most) }
+        ensures reads { OnlyReads seen self.old self.new }
+        ensures limits { IfOk result (λ found.
+            AllByRecursion (λ version. IsVersion version.0 version.1.items) found.items) }
+        ensures refusal { IfErr result (IsRefusalOfRead (seen.readable self.old row.now)) }
+        ensures reason { HasReason (faults self.old) (faults self.new) result };
+
+    /// Whether a cell's column has a version with a stamp in `lo..=hi`: whether `newest` would find one. No value that
+    /// is in memory is copied.
+    ///
+    /// # Errors
+    ///
+    /// `Device`, `NoMemory` or `Damaged`, as for every read.
+    fn has_version(
+        &mut self,
+        row: &Row,
+        family: &Family,
+        qualifier: Qualifier,
+        lo: Stamp,
+        hi: Stamp,
+    ) -> Result<bool, Refusal>
+        ensures found { seen.readable self.old row.now → IfOk result (HasVersion
+            (seen.cells self.old) (version row.now family.now qualifier) lo hi) }
+        ensures reads { OnlyReads seen self.old self.new }
+        ensures refusal { IfErr result (IsRefusalOfRead (seen.readable self.old row.now)) }
+        ensures reason { HasReason (faults self.old) (faults self.new) result };
+
+    /// The next cell that has any key, in the order of rows and then of families, after the cell
+    /// of `after`, or from the start if that is `None`. `None` if no cell is left.
+    ///
+    /// # Errors
+    ///
+    /// `Device`, `NoMemory` or `Damaged`, as for every read.
+    fn next_cell(
+        &mut self,
+        after: Option<(&Row, &Family)>,
+    ) -> Result<Option<(Row, Family)>, Refusal>
+        ensures found { AreReadableFrom seen self.old (option_map place_named after.entry)
+            → IfOk result (IsNextCell (seen.cells self.old) (option_map place_named after.entry)) }
+        ensures reads { OnlyReads seen self.old self.new }
+        ensures refusal { IfErr result (IsRefusalOfRead
+            (AreReadableFrom seen self.old (option_map place_named after.entry))) }
+        ensures reason { HasReason (faults self.old) (faults self.new) result };
+
+    /// The next cells that have any key, in the order of rows and then of families, after the cell of `after`, or
+    /// from the start if that is `None`: `most` of them, or fewer if no more are left. They cost one pass over what
+    /// lies before the last of them.
+    ///
+    /// # Errors
+    ///
+    /// `Device`, `NoMemory` or `Damaged`, as for every read.
+    fn next_cells(
+        &mut self,
+        after: Option<(&Row, &Family)>,
+        most: usize,
+    ) -> Result<Vec<(Row, Family)>, Refusal>
+        ensures found { AreReadableFrom seen self.old (option_map place_named after.entry)
+            → IfOk result (λ found. AreNextCells (seen.cells self.old)
+            (option_map place_named after.entry) most found.items) }
+        ensures few { IfOk result (λ found. length found.items ≤ most) }
+        ensures reads { OnlyReads seen self.old self.new }
+        ensures refusal { IfErr result (IsRefusalOfRead
+            (AreReadableFrom seen self.old (option_map place_named after.entry))) }
+        ensures reason { HasReason (faults self.old) (faults self.new) result };
+
+    /// The next cells that have any key, as `next_cells` gives them, each with the newest versions at or below `hi` of its
+    /// columns: until they are as many as `limits` says or their values have as many bytes, or no more are left. They
+    /// cost one pass over what lies before the last of them, in which no other version is copied.
+    ///
+    /// # Errors
+    ///
+    /// `Device`, `NoMemory` or `Damaged`, as for every read.
+    fn next_versions(
+        &mut self,
+        after: Option<(&Row, &Family)>,
+        limits: BatchLimits,
+        hi: Stamp,
+    ) -> Result<VersionBatch, Refusal>
+        ensures found { AreReadableFrom seen self.old (option_map place_named after.entry)
+            → IfOk result (AreNextVersions (seen.cells self.old)
+            (option_map place_named after.entry) hi) }
+        ensures full { IfOk result (λ batch. OnFalse batch.is_last
+            (IsFull limits batch.cells.items)) }
+        ensures few { IfOk result (λ batch. length batch.cells.items ≤ limits.cells) }
+        ensures reads { OnlyReads seen self.old self.new }
+        ensures refusal { IfErr result (IsRefusalOfRead
+            (AreReadableFrom seen self.old (option_map place_named after.entry))) }
+        ensures reason { HasReason (faults self.old) (faults self.new) result };
+
+    /// Makes edits under one row in order, all of them or none. No device is touched, and nothing below the rows in
+    /// memory changes.
+    ///
+    /// # Errors
+    ///
+    /// `MemtableFull` if a limit of what is held in memory would be passed, and `NoMemory` if a
+    /// growth was refused. The cells are then as before, and edits would pass a limit only if they did before.
+    fn apply(&mut self, row: &Row, edits: Vec<Edit>) -> Result<(), Refusal>
+        requires { AllByRecursion (IsEditOf row.now) edits.items }
+        ensures ok { OnOk result (Applies seen row.now edits.items self.old self.new) }
+        ensures err { OnErr result (OnlyReads seen self.old self.new) }
+        ensures refusal { IfErr result IsApplyRefusal }
+        ensures full { IsErrOf result Refusal.MemtableFull
+            → seen.overfills self.old row.now edits.items }
+        ensures within { OnOk result (¬ seen.overfills self.old row.now edits.items) }
+        ensures untouched { faults self.new ≡ faults self.old };
+
+    /// How often a device has failed. A count of 2^64 - 1 stays.
+    fn faults(&self) -> u64
+        ensures { result ≡ faults self.now };
+}
