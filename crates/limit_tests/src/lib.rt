@@ -1,4 +1,4 @@
-//! Tests of the limits of a server, and of the audit.
+//! Tests of the limits of a server, and of what it does in each order of steps, as the audit judges it.
 #![tactic(auto)]
 
 #[cfg(test)]

@@ -1,8 +1,7 @@
-//! Tests of the limits of a server, and of the audit.
+//! Tests of the limits of a server, and of what it does in each order of steps, as the audit judges it.
 
 mod audits;
 mod limits;
-mod recordings;
 mod scan_limits;
 
 use cell_key::Refusal;

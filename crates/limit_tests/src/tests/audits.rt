@@ -1,9 +1,9 @@
-//! What an audit says: of all orders of a client that stops, a cleaner and a collector, and of recorded runs with one wrong reply.
+//! What an audit says of all orders of a client that stops, a cleaner and a collector.
 
 use crate::tests::{MemServer, new_server};
+use audit::Audit;
 use cell_key::Refusal;
 use request_codec::{Reply, Request, decode_request};
-use server_loop::Audit;
 use si_model::{CleanStart, Found, Progress};
 use std::alloc::Global;
 use std::test::Fail;

@@ -1,8 +1,8 @@
 //! Recorded runs with one wrong reply at their end, and requests that may be answered in more ways than one, as an audit judges them.
 
+use audit::Audit;
 use cell_key::Refusal;
 use request_codec::{decode_reply, decode_request};
-use server_loop::Audit;
 use std::alloc::Global;
 use std::test::Fail;
 use testing::cleaning::{ROLLED_FORWARD, SESSION_STOPPED};
