@@ -6,8 +6,7 @@ ghost use Rattle.std.specs.List.Sorted.{IsPermutation};
 ghost use Rattle.std.specs.Ordering.{is_le};
 ghost use Rattle.file_store.specs.Store.{Contents};
 ghost use Rattle.cell_key.specs.Entries.{lent_entry, merged};
-ghost use Rattle.sorted_file.specs.Source.{ComesToEnd, IsReadRefusal};
-ghost use Rattle.cell_key.specs.Faults.{HasReason};
+ghost use Rattle.sorted_file.specs.Source.{ComesToEnd, ReadsFiles};
 ghost use Rattle.compaction.specs.Order.{AreSorted, InOrder, IsDistinct, IsOrdered, IsReady, place_cmp};
 ghost use Rattle.compaction.specs.Merging.{Advances, AreAtStart, BreaksAmong, BreaksAt, GoesPast, HasMoved, IsMoved, MovesPast, lent_at, first_lent, StepsTo, MergeHolds, cost, one};
 ghost use Rattle.compaction.specs.Ties.{ties};
@@ -127,9 +126,7 @@ fn advance_each<F: Files, S: Source<F>>(
     places: &[usize],
     files: &mut F,
 ) -> Result<(), Refusal>
-    ensures files { F.contents files.new ≡ F.contents files.old }
-    ensures reason { HasReason (F.faults files.old) (F.faults files.new) result }
-    ensures refusal { IfErr result IsReadRefusal }
+    ensures reads { ReadsFiles F.contents F.faults files.old files.new result }
     ensures cost { OnOk result (sum_by (λ s. cost (S.left s) (S.lent s)) sources.new
         ≤ sum_by (λ s. cost (S.left s) (S.lent s)) sources.old) }
     ensures lower { OnOk result (IsSome (first_lent S.lent sources.old places.now)
@@ -182,9 +179,7 @@ fn advance_at<F: Files, S: Source<F>>(
     place: usize,
     files: &mut F,
 ) -> Result<bool, Refusal>
-    ensures files { F.contents files.new ≡ F.contents files.old }
-    ensures reason { HasReason (F.faults files.old) (F.faults files.new) result }
-    ensures refusal { IfErr result IsReadRefusal }
+    ensures reads { ReadsFiles F.contents F.faults files.old files.new result }
     ensures more { IfOk result (λ more. more ≡ is_some (lent_at S.lent sources.new place)) }
     ensures lower { IfOk result (λ more.
         sum_by (λ s. cost (S.left s) (S.lent s)) sources.new + (if more then 1 else 0)
@@ -210,9 +205,7 @@ fn step_only<F: Files, S: Source<F>>(
     files: &mut F,
 ) -> Result<bool, Refusal>
     requires { length order.old.items ≡ 1 }
-    ensures files { F.contents files.new ≡ F.contents files.old }
-    ensures reason { HasReason (F.faults files.old) (F.faults files.new) result }
-    ensures refusal { IfErr result IsReadRefusal }
+    ensures reads { ReadsFiles F.contents F.faults files.old files.new result }
     ensures more { IfOk result (λ more.
         more ≡ is_some (first_lent S.lent sources.new order.new.items)) }
     ensures lower { IfOk result (λ more.
@@ -245,9 +238,7 @@ fn step_tied<F: Files, S: Source<F>>(
     files: &mut F,
 ) -> Result<(), Refusal>
     requires { IsSome (first_lent S.lent sources.old order.old) }
-    ensures files { F.contents files.new ≡ F.contents files.old }
-    ensures reason { HasReason (F.faults files.old) (F.faults files.new) result }
-    ensures refusal { IfErr result IsReadRefusal }
+    ensures reads { ReadsFiles F.contents F.faults files.old files.new result }
     ensures cost { OnOk result (sum_by (λ s. cost (S.left s) (S.lent s)) sources.new + 1
         ≤ sum_by (λ s. cost (S.left s) (S.lent s)) sources.old) }
     ensures past { OnOk result (IsOrdered (map S.lent sources.old) order.old
@@ -272,9 +263,7 @@ fn step_tied<F: Files, S: Source<F>>(
 
 /// Advances each source. None of them is at an entry.
 fn step_all<F: Files, S: Source<F>>(sources: &mut [S], files: &mut F) -> Result<(), Refusal>
-    ensures files { F.contents files.new ≡ F.contents files.old }
-    ensures reason { HasReason (F.faults files.old) (F.faults files.new) result }
-    ensures refusal { IfErr result IsReadRefusal }
+    ensures reads { ReadsFiles F.contents F.faults files.old files.new result }
     ensures cost { OnOk result (sum_by (λ s. cost (S.left s) (S.lent s)) sources.new
         + sum_by (λ s. one (S.lent s)) sources.new
         ≤ sum_by (λ s. cost (S.left s) (S.lent s)) sources.old) }
@@ -315,9 +304,7 @@ fn step_first<F: Files, S: Source<F>>(
     order: &mut Vec<usize>,
     files: &mut F,
 ) -> Result<(), Refusal>
-    ensures files { F.contents files.new ≡ F.contents files.old }
-    ensures reason { HasReason (F.faults files.old) (F.faults files.new) result }
-    ensures refusal { IfErr result IsReadRefusal }
+    ensures reads { ReadsFiles F.contents F.faults files.old files.new result }
     ensures cost { OnOk result (sum_by (λ s. cost (S.left s) (S.lent s)) sources.new
         + sum_by (λ s. one (S.lent s)) sources.new
         ≤ sum_by (λ s. cost (S.left s) (S.lent s)) sources.old) }
@@ -354,9 +341,7 @@ fn step_several<F: Files, S: Source<F>>(
     order: &mut Vec<usize>,
     files: &mut F,
 ) -> Result<(), Refusal>
-    ensures files { F.contents files.new ≡ F.contents files.old }
-    ensures reason { HasReason (F.faults files.old) (F.faults files.new) result }
-    ensures refusal { IfErr result IsReadRefusal }
+    ensures reads { ReadsFiles F.contents F.faults files.old files.new result }
     ensures paid { OnOk result (sum_by (λ s. cost (S.left s) (S.lent s)) sources.new
         ≤ sum_by (λ s. cost (S.left s) (S.lent s)) sources.old) }
     ensures lower { OnOk result ((k : ℕ) → IsSome (lent_at S.lent sources.new k)
@@ -393,9 +378,7 @@ fn step<F: Files, S: Source<F>>(
     order: &mut Vec<usize>,
     files: &mut F,
 ) -> Result<bool, Refusal>
-    ensures files { F.contents files.new ≡ F.contents files.old }
-    ensures reason { HasReason (F.faults files.old) (F.faults files.new) result }
-    ensures refusal { IfErr result IsReadRefusal }
+    ensures reads { ReadsFiles F.contents F.faults files.old files.new result }
     ensures more { IfOk result (λ more.
         more ≡ is_some (first_lent S.lent sources.new order.new.items)) }
     ensures lower { IfOk result (λ more.

@@ -25,14 +25,12 @@ loop-source-preserved g c =
     (λ before. step_none g.S.Source.lent (g.S.Source.remaining told) (g.S.Source.holds told) s t before.1 (holds before.0) (takes before.0))
     (subst (λ (o : Option Contents). g.S.Source.steps o s t) c.loop-source.invariant.same (subst (λ s. g.S.Source.steps now s t) (sym c.source-item.is) c.in_ok-advance.ensures.steps))
 
-pub returns-in_err-advance-clause-files : goal.returns-in_err-advance-clause-files
-returns-in_err-advance-clause-files g c = c.in_err-advance.ensures.files ∙ c.loop-source.invariant.same
-
-pub returns-in_err-advance-clause-reason : goal.returns-in_err-advance-clause-reason
-returns-in_err-advance-clause-reason g c = reason_after _ _ _ c.loop-source.invariant.quiet (passed_reason c.from_residual.result _ c.in_err-advance.field-0.0 _ _ c.from_residual.ensures.1 refl c.in_err-advance.ensures.reason)
-
-pub returns-in_err-advance-clause-refusal : goal.returns-in_err-advance-clause-refusal
-returns-in_err-advance-clause-refusal g c = passed_err c.from_residual.result c.in_err-advance.field-0.0 _ c.from_residual.ensures.1 c.in_err-advance.ensures.refusal
+pub returns-in_err-advance-clause-reads : goal.returns-in_err-advance-clause-reads
+returns-in_err-advance-clause-reads g c = record {
+  refusal = passed_err c.from_residual.result c.in_err-advance.field-0.0 _ c.from_residual.ensures.1 c.in_err-advance.ensures.refusal;
+  same = c.in_err-advance.ensures.files ∙ c.loop-source.invariant.same;
+  reason = reason_after _ _ _ c.loop-source.invariant.quiet (passed_reason c.from_residual.result _ c.in_err-advance.field-0.0 _ _ c.from_residual.ensures.1 refl c.in_err-advance.ensures.reason);
+}
 
 pub returns-in_err-advance-clause-cost : goal.returns-in_err-advance-clause-cost
 returns-in_err-advance-clause-cost g c = passed_none c.from_residual.result c.in_err-advance.field-0.0 _ c.from_residual.ensures.1
@@ -40,14 +38,12 @@ returns-in_err-advance-clause-cost g c = passed_none c.from_residual.result c.in
 pub returns-in_err-advance-clause-steps : goal.returns-in_err-advance-clause-steps
 returns-in_err-advance-clause-steps g c = passed_none c.from_residual.result c.in_err-advance.field-0.0 _ c.from_residual.ensures.1
 
-pub returns-clause-files : goal.returns-clause-files
-returns-clause-files g c = c.loop-source.invariant.same
-
-pub returns-clause-reason : goal.returns-clause-reason
-returns-clause-reason g c = reason_after _ _ _ c.loop-source.invariant.quiet (quiet_reason _ _ (not_err _ Device))
-
-pub returns-clause-refusal : goal.returns-clause-refusal
-returns-clause-refusal g c = tt
+pub returns-clause-reads : goal.returns-clause-reads
+returns-clause-reads g c = record {
+  refusal = tt;
+  same = c.loop-source.invariant.same;
+  reason = reason_after _ _ _ c.loop-source.invariant.quiet (quiet_reason _ _ (not_err _ Device));
+}
 
 pub returns-clause-damaged : goal.returns-clause-damaged
 returns-clause-damaged g c = λ is. absurd (not_err _ _ is)
