@@ -52,6 +52,27 @@ impl fmt::Display for Verdict<'_> {
     }
 }
 
+/// What is said of the reply to a body outside the grammar: nothing if it says so.
+fn judge_unread<'a>(number: u64, reply: &Reply) -> Option<Verdict<'a>> {
+    if matches!(reply, Reply::Refused(Refusal::BadRequest)) {
+        return None;
+    }
+    Some(Verdict::BadRequest(number, Flaw::OutsideGrammar))
+}
+
+/// What the audit says of a request and its reply: nothing if it is a step.
+fn judge_step<'a>(
+    audit: &mut Audit,
+    number: u64,
+    request: Request<'a>,
+    reply: Reply,
+) -> Result<Option<Verdict<'a>>, Refusal> {
+    if audit.take(&request, &reply)? {
+        return Ok(None);
+    }
+    Ok(Some(Verdict::NoStep(number, request, reply)))
+}
+
 /// What the audit says of a body of a request and one of its reply: nothing if the reply is a step, or is the one to a
 /// body outside the grammar.
 fn judge_bodies<'a>(
@@ -65,15 +86,9 @@ fn judge_bodies<'a>(
         return Ok(Some(Verdict::BadReply(number, Flaw::OutsideGrammar)));
     };
     let Some(request) = decode_request(request) else {
-        if matches!(reply, Reply::Refused(Refusal::BadRequest)) {
-            return Ok(None);
-        }
-        return Ok(Some(Verdict::BadRequest(number, Flaw::OutsideGrammar)));
+        return Ok(judge_unread(number, &reply));
     };
-    if audit.take(&request, &reply)? {
-        return Ok(None);
-    }
-    Ok(Some(Verdict::NoStep(number, request, reply)))
+    judge_step(audit, number, request, reply)
 }
 
 /// The frames of a recording that are still to be judged.

@@ -63,13 +63,22 @@ impl From<clap::Error> for Failure {
     }
 }
 
+/// The frames of the requests and those of the replies.
+fn read_files<R>(rt: &R, options: &Options<'_>) -> Result<(Vec<u8>, Vec<u8>), Failure>
+where
+    R: AllocGlobal + Folders<File = File> + Clone + Drop,
+{
+    let requests = fs::read(rt, options.requests)?;
+    let replies = fs::read(rt, options.replies)?;
+    Ok((requests, replies))
+}
+
 /// Judges the two files, prints the verdict, and gives the exit status.
 fn judge_files<R>(rt: &R, options: &Options<'_>) -> Result<u8, Failure>
 where
     R: AllocGlobal + Print + Folders<File = File> + Clone + Drop,
 {
-    let requests = fs::read(rt, options.requests)?;
-    let replies = fs::read(rt, options.replies)?;
+    let (requests, replies) = read_files(rt, options)?;
     let verdict = judge(rt.alloc(), &requests, &replies, &options.reopened_at)?;
     println!(rt; "{verdict}")?;
     Ok(verdict.status())

@@ -46,9 +46,11 @@ pub struct RequestWords<'a>(pub &'a Request<'a>);
 impl fmt::Display for RequestWords<'_> {
     fn fmt<W: fmt::Write>(&self, f: &mut fmt::Formatter<W>) -> fmt::Result {
         match *self.0 {
-            Request::Begin => write!(f, "Begin"),
-            Request::Get { start, row, family } => {
-                write!(f, "Get {start} {} {}", Text(row), Text(family))
+            Request::Begin | Request::Step { .. } | Request::Stop { .. } => {
+                write_session(self.0, f)
+            }
+            Request::Get { .. } | Request::Set { .. } | Request::Delete { .. } => {
+                write_cell(self.0, f)
             }
             Request::Scan {
                 start,
@@ -60,31 +62,6 @@ impl fmt::Display for RequestWords<'_> {
                 write!(f, "Scan {start} {cells} {what}")?;
                 write_range(&range, f)
             }
-            Request::Set {
-                start,
-                row,
-                family,
-                value,
-            } => write!(
-                f,
-                "Set {start} {} {} {}",
-                Text(row),
-                Text(family),
-                Text(value)
-            ),
-            Request::Delete { start, row, family } => {
-                write!(f, "Delete {start} {} {}", Text(row), Text(family))
-            }
-            Request::Step { start } => write!(f, "Step {start}"),
-            Request::Stop { start } => write!(f, "Stop {start}"),
-            Request::CleanBegin { row, family } => {
-                write!(f, "CleanBegin {} {}", Text(row), Text(family))
-            }
-            Request::CleanStep { cleaner } => write!(f, "CleanStep {cleaner}"),
-            Request::CollectBegin => write!(f, "CollectBegin"),
-            Request::CollectStep { collector, visits } => {
-                write!(f, "CollectStep {collector} {visits}")
-            }
             Request::Raw {
                 row,
                 family,
@@ -95,8 +72,39 @@ impl fmt::Display for RequestWords<'_> {
                 let column = column_name(qualifier);
                 write!(f, "Raw {} {} {column} {lo}..{hi}", Text(row), Text(family))
             }
-            upkeep => write_upkeep(&upkeep, f),
+            _ => write_upkeep(self.0, f),
         }
+    }
+}
+
+/// A request of a session that names no cell, in words.
+fn write_session<W: fmt::Write>(request: &Request<'_>, f: &mut fmt::Formatter<W>) -> fmt::Result {
+    match *request {
+        Request::Step { start } => write!(f, "Step {start}"),
+        Request::Stop { start } => write!(f, "Stop {start}"),
+        _ => write!(f, "Begin"),
+    }
+}
+
+/// A request of a session that names a cell, in words.
+fn write_cell<W: fmt::Write>(request: &Request<'_>, f: &mut fmt::Formatter<W>) -> fmt::Result {
+    match *request {
+        Request::Get { start, row, family } => {
+            write!(f, "Get {start} {} {}", Text(row), Text(family))
+        }
+        Request::Set {
+            start,
+            row,
+            family,
+            value,
+        } => {
+            write!(f, "Set {start} {} {}", Text(row), Text(family))?;
+            write!(f, " {}", Text(value))
+        }
+        Request::Delete { start, row, family } => {
+            write!(f, "Delete {start} {} {}", Text(row), Text(family))
+        }
+        _ => Ok(()),
     }
 }
 
@@ -114,8 +122,26 @@ fn write_range<W: fmt::Write>(range: &ScanRange<'_>, f: &mut fmt::Formatter<W>) 
     Ok(())
 }
 
-/// A request for the upkeep of tablets, in words.
+/// A request for the upkeep of cells or tablets, in words.
 fn write_upkeep<W: fmt::Write>(request: &Request<'_>, f: &mut fmt::Formatter<W>) -> fmt::Result {
+    match *request {
+        Request::CleanBegin { row, family } => {
+            write!(f, "CleanBegin {} {}", Text(row), Text(family))
+        }
+        Request::CleanStep { cleaner } => write!(f, "CleanStep {cleaner}"),
+        Request::CollectBegin => write!(f, "CollectBegin"),
+        Request::CollectStep { collector, visits } => {
+            write!(f, "CollectStep {collector} {visits}")
+        }
+        _ => write_upkeep_of_tablets(request, f),
+    }
+}
+
+/// A request for the upkeep of tablets, in words.
+fn write_upkeep_of_tablets<W: fmt::Write>(
+    request: &Request<'_>,
+    f: &mut fmt::Formatter<W>,
+) -> fmt::Result {
     match *request {
         Request::Minor { tablet } => write!(f, "Minor {tablet}"),
         Request::Merge { tablet, count } => write!(f, "Merge {tablet} {count}"),
@@ -136,34 +162,53 @@ pub struct ReplyWords<'a>(pub &'a Reply);
 impl fmt::Display for ReplyWords<'_> {
     fn fmt<W: fmt::Write>(&self, f: &mut fmt::Formatter<W>) -> fmt::Result {
         match self.0 {
-            Reply::Begin(start) => write!(f, "Begin {start}"),
             Reply::Get(found) => write_found(found, f),
             Reply::Scan(reply) => write_scanned(reply, f),
-            Reply::Set => write!(f, "Set done"),
-            Reply::Delete => write!(f, "Delete done"),
             Reply::Step(progress) => write_progress(*progress, f),
-            Reply::Stop => write!(f, "Stop done"),
-            Reply::CleanBegin(CleanStart::NoLock) => write!(f, "NoLock"),
-            Reply::CleanBegin(CleanStart::Cleaner(cleaner, start)) => {
-                write!(f, "Cleaner {cleaner} {start}")
-            }
+            Reply::CleanBegin(start) => write_clean_start(*start, f),
             Reply::CleanStep(done) => write_cleaning(*done, f),
-            Reply::CollectBegin(collector, floor) => {
-                write!(f, "Collector {collector}, floor {floor}")
-            }
             Reply::CollectStep(done) => write_collecting(done, f),
-            Reply::Minor => write!(f, "Minor done"),
-            Reply::Merge => write!(f, "Merge done"),
-            Reply::Major => write!(f, "Major done"),
-            Reply::Split(tablet) => write!(f, "Split {tablet}"),
-            Reply::Move => write!(f, "Move done"),
-            Reply::Sweep(count) => write!(f, "Sweep {count}"),
-            Reply::OracleRestart => write!(f, "OracleRestart done"),
             Reply::Raw(None) => write!(f, "Raw nothing"),
             Reply::Raw(Some((stamp, value))) => write!(f, "Raw {stamp} {}", Text(value)),
-            Reply::Checkpoint => write!(f, "Checkpoint done"),
             Reply::Refused(refusal) => write!(f, "{refusal}"),
+            _ => write_numbers(self.0, f),
         }
+    }
+}
+
+/// A reply that answers with numbers, in words.
+fn write_numbers<W: fmt::Write>(reply: &Reply, f: &mut fmt::Formatter<W>) -> fmt::Result {
+    match *reply {
+        Reply::Begin(start) => write!(f, "Begin {start}"),
+        Reply::CollectBegin(collector, floor) => {
+            write!(f, "Collector {collector}, floor {floor}")
+        }
+        Reply::Split(tablet) => write!(f, "Split {tablet}"),
+        Reply::Sweep(count) => write!(f, "Sweep {count}"),
+        _ => write!(f, "{} done", done_name(reply)),
+    }
+}
+
+/// The name of the request that a reply says is done.
+fn done_name(reply: &Reply) -> &'static str {
+    match reply {
+        Reply::Set => "Set",
+        Reply::Delete => "Delete",
+        Reply::Stop => "Stop",
+        Reply::Minor => "Minor",
+        Reply::Merge => "Merge",
+        Reply::Major => "Major",
+        Reply::Move => "Move",
+        Reply::OracleRestart => "OracleRestart",
+        _ => "Checkpoint",
+    }
+}
+
+/// What a CleanBegin answers, in words.
+fn write_clean_start<W: fmt::Write>(start: CleanStart, f: &mut fmt::Formatter<W>) -> fmt::Result {
+    match start {
+        CleanStart::NoLock => write!(f, "NoLock"),
+        CleanStart::Cleaner(cleaner, start) => write!(f, "Cleaner {cleaner} {start}"),
     }
 }
 
