@@ -13,7 +13,6 @@ use std::test::Fail;
 use testing::FILE_LIMIT;
 use testing::cleaning::{ROLLED_FORWARD, SESSION_STOPPED};
 use testing::frames::push_frame;
-use testing::memory::Came;
 use testing::rows::{COMMITTED, Exchange, TRANSFER};
 use testing::script::{COLLECTED, COLUMNS, FLUSHED, MERGED, SPLIT};
 
