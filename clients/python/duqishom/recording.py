@@ -6,23 +6,26 @@ from os import PathLike
 from pathlib import Path
 
 from duqishom.connection import whole_frames
+from duqishom.files import LOG_FILE, MARK_FILE, mark_of
 
 
 class Recording:
     """The files `requests` and `replies` of a folder. They begin with a new store.
 
     Where the folder has a recording already, it goes on: the store was closed behind it and opened again. The file `reopened-at`
-    has the numbers of the last replies before that, for the option of this name.
+    has the numbers of the last replies before that, for the option of this name. If the store has a log, it is the file
+    `recovered-at`, and each number has the oracle's mark behind it.
     """
 
-    def __init__(self, folder: str | PathLike[str]) -> None:
-        """Begins a recording, or goes on with one. The folder is made where there is none. OSError where it can't be written."""
+    def __init__(self, folder: str | PathLike[str], store: str | None = None) -> None:
+        """Begins a recording, or goes on with one. The folder is made where there is none. The store, which isn't opened yet, is in
+        its own folder, if one is named. OSError where the recording can't be written."""
         place = Path(folder)
         place.mkdir(parents=True, exist_ok=True)
         self._requests = open(place / "requests", "ab")
         self._replies = open(place / "replies", "ab")
         if self._replies.tell() > 0:
-            note_reopened(place)
+            note_reopened(place, store)
 
     def note_requests(self, frames: bytes) -> None:
         """Adds frames that went in."""
@@ -38,10 +41,19 @@ class Recording:
         self._replies.close()
 
 
-def note_reopened(place: Path) -> None:
+def note_reopened(place: Path, store: str | None) -> None:
     """Notes that the store is opened again behind the last reply."""
     replies: list[bytes] = []
     whole_frames((place / "replies").read_bytes(), replies)
-    noted = place / "reopened-at"
+    mark = logged_mark(store)
+    noted = place / ("reopened-at" if mark is None else "recovered-at")
     before = noted.read_text().strip() + "," if noted.exists() else ""
-    noted.write_text(f"{before}{len(replies)}\n")
+    noted.write_text(f"{before}{len(replies)}{'' if mark is None else f':{mark}'}\n")
+
+
+def logged_mark(store: str | None) -> int | None:
+    """The oracle's mark of a store in a folder, if that has a log."""
+    if store is None or not (Path(store) / LOG_FILE).exists():
+        return None
+    file = Path(store) / MARK_FILE
+    return mark_of(file.read_bytes()) if file.exists() else 0

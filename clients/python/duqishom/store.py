@@ -132,7 +132,7 @@ class Store:
         if log and folder is None:
             raise ValueError("a log is in a folder, and none is named")
         self._connection: Connection = Gateway(fspath(socket)) if socket is not None else started(
-            program, self.folder, words, None if record is None else Recording(record), log
+            program, self.folder, words, None if record is None else Recording(record, self.folder), log
         )
         self._is_closed = False
         self._unsaved = Unsaved(self.folder is not None, self.has_log)

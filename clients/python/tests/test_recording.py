@@ -38,9 +38,9 @@ class Recordings(unittest.TestCase):
         self.addCleanup(folder.cleanup)
         self.place = Path(folder.name) / "recording"
 
-    def record(self, folder: str | None = None) -> None:
+    def record(self, folder: str | None = None, log: bool | None = None) -> None:
         """Records a store that reads, writes, deletes, cleans and collects."""
-        with Store(record=self.place, folder=folder) as store:
+        with Store(record=self.place, folder=folder, log=log) as store:
             with store.transaction() as transaction:
                 transaction.set(b"Ann", b"bal", b"1")
                 transaction.set(b"Bob", b"bal", b"2")
@@ -59,13 +59,17 @@ class Recordings(unittest.TestCase):
 
     def test_a_recording_goes_on(self) -> None:
         with tempfile.TemporaryDirectory() as folder:
-            self.record(folder)
+            self.record(folder, False)
             before = len(bodies(self.place / "replies"))
-            self.record(folder)
+            self.record(folder, False)
+            self.record(folder, True)
+            behind = len(bodies(self.place / "replies"))
             self.record(folder)
         noted = (self.place / "reopened-at").read_text().strip().split(",")
         self.assertEqual(int(noted[0]), before)
         self.assertEqual(len(noted), 2)
+        # The first Begin of each opening raises the mark by 1,000
+        self.assertEqual((self.place / "recovered-at").read_text(), f"{behind}:3000\n")
 
     def test_a_socket_is_recorded_by_its_gateway(self) -> None:
         with self.assertRaises(ValueError):
@@ -73,13 +77,15 @@ class Recordings(unittest.TestCase):
 
     @unittest.skipUnless(os.access(AUDIT, os.X_OK), "tablet_audit isn't built")
     def test_a_recording_is_judged(self) -> None:
-        with tempfile.TemporaryDirectory() as folder:
-            self.record(folder)
-            count = len(bodies(self.place / "replies"))
-            self.assertEqual(judged(self.place), (0, f"{count} replies, each a step of the machine\n"))
-            self.record(folder)
-        self.assertEqual(judged(self.place)[0], 1)
-        self.assertEqual(judged(self.place, "--reopened-at", (self.place / "reopened-at").read_text().strip())[0], 0)
+        for log, option in ((False, "reopened-at"), (True, "recovered-at")):
+            self.place = self.place / option
+            with tempfile.TemporaryDirectory() as folder:
+                self.record(folder, log)
+                count = len(bodies(self.place / "replies"))
+                self.assertEqual(judged(self.place), (0, f"{count} replies, each a step of the machine\n"))
+                self.record(folder, log)
+            self.assertEqual(judged(self.place)[0], 1)
+            self.assertEqual(judged(self.place, f"--{option}", (self.place / option).read_text().strip())[0], 0)
 
 
 class RecordedGateways(unittest.TestCase):

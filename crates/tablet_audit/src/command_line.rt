@@ -1,5 +1,6 @@
 //! The command line.
 
+use crate::judge::Reopening;
 use clap::builder::ValueParser;
 use clap::{Arg, ArgAction, ArgMatches, Command, Error};
 use std::alloc::{AllocError, Global};
@@ -20,6 +21,11 @@ const REOPENED: &str = "reopened-at";
 const REOPENED_HELP: &str =
     "Replies behind which the store was closed after a Checkpoint and opened again, by their numbers from 1";
 
+const RECOVERED: &str = "recovered-at";
+
+const RECOVERED_HELP: &str =
+    "Replies behind which a store with a log was opened again, each with the mark of its oracle then";
+
 /// What the command line says.
 #[derive(Drop)]
 pub struct Options<'a> {
@@ -27,8 +33,30 @@ pub struct Options<'a> {
     pub requests: &'a str,
     /// The file of the replies' frames.
     pub replies: &'a str,
-    /// The numbers of the replies behind which the store was opened again.
-    pub reopened_at: Vec<u64>,
+    /// Where the store was opened again.
+    pub reopenings: Vec<Reopening>,
+}
+
+/// Why a command line is refused.
+#[derive(Drop)]
+pub enum LineError {
+    NoMemory,
+    /// What the parser says, the answer to a request for help too.
+    Parser(Error),
+    /// A value of `--recovered-at` isn't a number and a mark.
+    NoMark,
+}
+
+impl From<AllocError> for LineError {
+    fn from(_error: AllocError) -> LineError {
+        LineError::NoMemory
+    }
+}
+
+impl From<Error> for LineError {
+    fn from(error: Error) -> LineError {
+        LineError::Parser(error)
+    }
 }
 
 /// A file that the command line must name.
@@ -39,50 +67,79 @@ fn file<'a>(alloc: Global, id: &'a str, shown: &'a str, help: &'a str) -> Arg<'a
         .required(true)
 }
 
-/// The option that takes the numbers of replies.
-fn reopened<'a>(alloc: Global) -> Arg<'a> {
-    Arg::new(alloc, REOPENED)
-        .long(REOPENED)
-        .value_name("K,..")
-        .help(REOPENED_HELP)
+/// An option that takes a list of values.
+fn list<'a>(alloc: Global, id: &'a str, shown: &'a str, help: &'a str) -> Arg<'a> {
+    Arg::new(alloc, id)
+        .long(id)
+        .value_name(shown)
+        .help(help)
         .action(ArgAction::Append)
         .value_delimiter(',')
-        .value_parser(ValueParser::unsigned(1, u64::MAX))
 }
 
 /// The command with its options.
 fn command<'a>(alloc: Global) -> Result<Command<'a>, AllocError> {
     let requests = file(alloc, REQUESTS, "REQUESTS", "The frames of the requests");
     let replies = file(alloc, REPLIES, "REPLIES", "The frames of the replies");
+    let reopened = list(alloc, REOPENED, "K,..", REOPENED_HELP).value_parser(ValueParser::unsigned(
+        1,
+        u64::MAX,
+    ));
+    let recovered = list(alloc, RECOVERED, "K:MARK,..", RECOVERED_HELP);
     Command::new(alloc, "tablet_audit")
         .about(ABOUT)
         .arg(requests)?
         .arg(replies)?
-        .arg(reopened(alloc))
+        .arg(reopened)?
+        .arg(recovered)
 }
 
-/// The numbers of replies that were given.
-fn numbers_of(alloc: Global, matches: &ArgMatches<'_>) -> Result<Vec<u64>, AllocError> {
+/// The places at which a store without a log was opened again.
+fn clean_reopenings(alloc: Global, matches: &ArgMatches<'_>) -> Result<Vec<Reopening>, AllocError> {
     let mut given = Vec::new(alloc);
     let Some(numbers) = matches.get_many::<u64>(REOPENED) else {
         return Ok(given);
     };
     for number in numbers {
         // The parser has refused what is no number.
-        if let Ok(number) = number {
-            given.push(number)?;
+        if let Ok(behind) = number {
+            given.push(Reopening { behind, mark: None })?;
         }
     }
     Ok(given)
 }
 
-/// Reads the words of the command line, the program's name first. An error has the parser's text, that of a request for help too.
-pub fn read_options<'a>(alloc: Global, words: &'a [&'a str]) -> Result<Options<'a>, Error> {
+/// The place that a text as `7:1000` names, if it is one.
+fn recovery_of(text: &str) -> Option<Reopening> {
+    let (behind, mark) = text.split_once(':')?;
+    Some(Reopening {
+        behind: behind.parse().ok()?,
+        mark: Some(mark.parse().ok()?),
+    })
+}
+
+/// Adds the places at which a store with a log was opened again.
+fn add_recoveries(given: &mut Vec<Reopening>, matches: &ArgMatches<'_>) -> Result<(), LineError> {
+    let Some(texts) = matches.get_strs(RECOVERED) else {
+        return Ok(());
+    };
+    for text in texts {
+        let Some(recovery) = recovery_of(text) else {
+            return Err(LineError::NoMark);
+        };
+        given.push(recovery).map_err(AllocError::from)?;
+    }
+    Ok(())
+}
+
+/// Reads the words of the command line, the program's name first.
+pub fn read_options<'a>(alloc: Global, words: &'a [&'a str]) -> Result<Options<'a>, LineError> {
     let matches = command(alloc)?.try_get_matches_from(words)?;
-    let reopened_at = numbers_of(alloc, &matches)?;
+    let mut reopenings = clean_reopenings(alloc, &matches)?;
+    add_recoveries(&mut reopenings, &matches)?;
     Ok(Options {
         requests: matches.get_str(REQUESTS).unwrap_or(""),
         replies: matches.get_str(REPLIES).unwrap_or(""),
-        reopened_at,
+        reopenings,
     })
 }

@@ -21,6 +21,15 @@ pub enum Verdict<'a> {
     BadRequest(u64, Flaw),
     /// The reply of this number is no whole one.
     BadReply(u64, Flaw),
+    /// The mark over which the store was opened again behind the reply of this number is below a stamp that was answered.
+    BadMark(u64),
+}
+
+/// That a store was opened again: behind the reply of which number, from 1, and over which mark of its oracle if it has a log.
+#[derive(Drop, Clone, Copy)]
+pub struct Reopening {
+    pub behind: u64,
+    pub mark: Option<u64>,
 }
 
 impl Verdict<'_> {
@@ -28,7 +37,7 @@ impl Verdict<'_> {
     pub fn status(&self) -> u8 {
         match self {
             Verdict::Steps(_) => 0,
-            Verdict::NoStep(..) => 1,
+            Verdict::NoStep(..) | Verdict::BadMark(_) => 1,
             Verdict::BadRequest(..) | Verdict::BadReply(..) => 2,
         }
     }
@@ -48,6 +57,10 @@ impl fmt::Display for Verdict<'_> {
             }
             Verdict::BadRequest(number, flaw) => write!(f, "request {number} {flaw}"),
             Verdict::BadReply(number, flaw) => write!(f, "reply {number} {flaw}"),
+            Verdict::BadMark(number) => write!(
+                f,
+                "the mark behind reply {number} is below a stamp that was answered"
+            ),
         }
     }
 }
@@ -126,8 +139,22 @@ impl<'a> Recording<'a> {
     }
 }
 
-/// Judges the frames of a recording: each reply beside its request, from a new store on. Behind the replies of the numbers in
-/// `reopened_at` the store was opened again.
+/// Whether the store may have been opened again behind the reply of this number as the options say. The audit goes on from there.
+fn reopen(audit: &mut Audit, number: u64, reopenings: &[Reopening]) -> bool {
+    let Some(reopening) = reopenings.iter().find(|it| it.behind == number) else {
+        return true;
+    };
+    match reopening.mark {
+        Some(mark) => audit.recover(mark),
+        None => {
+            audit.reopen();
+            true
+        }
+    }
+}
+
+/// Judges the frames of a recording: each reply beside its request, from a new store on. Behind some replies the store was
+/// opened again.
 ///
 /// # Errors
 ///
@@ -136,7 +163,7 @@ pub fn judge<'a>(
     alloc: Global,
     requests: &'a [u8],
     replies: &'a [u8],
-    reopened_at: &[u64],
+    reopenings: &[Reopening],
 ) -> Result<Verdict<'a>, Refusal> {
     let mut audit = Audit::new(alloc)?;
     let mut recording = Recording { requests, replies };
@@ -144,8 +171,8 @@ pub fn judge<'a>(
         if let Some(verdict) = recording.judge_next(alloc, &mut audit, number)? {
             return Ok(verdict);
         }
-        if reopened_at.contains(&number) {
-            audit.reopen();
+        if !reopen(&mut audit, number, reopenings) {
+            return Ok(Verdict::BadMark(number));
         }
     }
     Ok(Verdict::Steps(u64::MAX))

@@ -1,5 +1,5 @@
-//! `tablet_audit REQUESTS REPLIES [--reopened-at K,..]` judges a recorded run of a store: whether each reply is a step of the
-//! snapshot machine. REQUESTS has the frames that went in, REPLIES those that came out.
+//! `tablet_audit REQUESTS REPLIES [--reopened-at K,..] [--recovered-at K:MARK,..]` judges a recorded run of a store: whether each
+//! reply is a step of the snapshot machine. REQUESTS has the frames that went in, REPLIES those that came out.
 #![tactic(auto)]
 
 mod command_line;
@@ -9,7 +9,7 @@ mod words;
 
 use cell_key::Refusal;
 use clap::error::ErrorKind;
-use command_line::{Options, read_options};
+use command_line::{LineError, Options, read_options};
 use judge::judge;
 use std::alloc::AllocError;
 use std::fs::File;
@@ -30,6 +30,7 @@ enum Failure {
     Unread(io::Error),
     Line(clap::Error),
     Help(clap::Error),
+    NoMark,
 }
 
 impl From<AllocError> for Failure {
@@ -63,6 +64,16 @@ impl From<clap::Error> for Failure {
     }
 }
 
+impl From<LineError> for Failure {
+    fn from(error: LineError) -> Failure {
+        match error {
+            LineError::NoMemory => Failure::NoMemory,
+            LineError::Parser(error) => Failure::from(error),
+            LineError::NoMark => Failure::NoMark,
+        }
+    }
+}
+
 /// The frames of the requests and those of the replies.
 fn read_files<R>(rt: &R, options: &Options<'_>) -> Result<(Vec<u8>, Vec<u8>), Failure>
 where
@@ -79,7 +90,7 @@ where
     R: AllocGlobal + Print + Folders<File = File> + Clone + Drop,
 {
     let (requests, replies) = read_files(rt, options)?;
-    let verdict = judge(rt.alloc(), &requests, &replies, &options.reopened_at)?;
+    let verdict = judge(rt.alloc(), &requests, &replies, &options.reopenings)?;
     println!(rt; "{verdict}")?;
     Ok(verdict.status())
 }
@@ -108,6 +119,12 @@ where
         }
         Err(Failure::Unread(error)) => {
             let _ = eprintln!(rt; "tablet_audit: {error}");
+            UNREAD
+        }
+        Err(Failure::NoMark) => {
+            let _ = rt.eprintln(
+                "tablet_audit: --recovered-at takes K:MARK, the number of a reply and a mark",
+            );
             UNREAD
         }
         Err(Failure::Line(error)) => {

@@ -85,7 +85,7 @@ def service_of(options: argparse.Namespace) -> Service:
     places = Places(options.socket, options.mode, options.admin, options.tcp)
     bounds = Bounds(options.clients, (options.sessions, options.cleaners, options.collectors))
     checkpoint = options.checkpoint if options.dir is not None else 0
-    return Service(command, places, rules, bounds, checkpoint, options.grace, options.record)
+    return Service(command, places, rules, bounds, checkpoint, options.grace, options.record, options.dir)
 
 
 def main(words: Sequence[str]) -> int:

@@ -39,7 +39,8 @@ class Places:
 @dataclass(frozen=True)
 class Service:
     """A gateway as it is asked for: the program's command, where it listens, how it serves, the seconds between two
-    checkpoints (0 for none) and those that a client may take for its last replies, and the folder of a recording."""
+    checkpoints (0 for none) and those that a client may take for its last replies, the folder of a recording, and that of the
+    store."""
 
     command: Sequence[str]
     places: Places
@@ -48,6 +49,7 @@ class Service:
     checkpoint: float = 0
     grace: float = 5
     record: str | None = None
+    folder: str | None = None
 
     def run(self) -> int:
         """Serves until the end, and gives the exit status."""
@@ -65,7 +67,7 @@ class Service:
         """Serves at these sockets."""
         loop = asyncio.get_running_loop()
         stopped: asyncio.Future[int | None] = loop.create_future()
-        recording = None if self.record is None else Recording(self.record)
+        recording = None if self.record is None else Recording(self.record, self.folder)
         exchange = Exchange(self.rules, self.bounds, lambda status: resolve(stopped, status), recording)
         for number in (signal.SIGTERM, signal.SIGINT):
             loop.add_signal_handler(number, resolve, stopped, None)
