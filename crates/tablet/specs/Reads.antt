@@ -1,5 +1,5 @@
 -- What a read finds.
-use Rattle.std.specs.Prelude.{◌≡◌, ℕ, ◌≤◌, ◌<◌, length, List, [], ◌∷◌, Option, Some, None, if◌then◌else◌, map}
+use Rattle.std.specs.Prelude.{◌≡◌, ℕ, ◌≤◌, ◌<◌, length, List, [], ◌∷◌, Option, Some, None, if◌then◌else◌, map, IfSome, Result, IsErrOf}
 use Rattle.std.specs.List.{AllByRecursion}
 use Rattle.std.specs.Ordering.{is_le}
 use Rattle.cell_key.specs.Names.{IsRow, IsFamily}
@@ -10,12 +10,17 @@ use Rattle.cell_key.specs.Places.{Place, place_of}
 use Rattle.cell_key.specs.declared.keys.CellKey.{CellKey}
 use Rattle.cell_key.specs.declared.keys.Qualifier.{Qualifier}
 use Rattle.cell_key.specs.declared.keys.Qualifier.TheVariants.{Write}
+use Rattle.cell_key.specs.declared.refusals.Refusal.{Refusal}
+use Rattle.cell_key.specs.declared.refusals.Refusal.TheVariants.{Damaged}
 use Rattle.file_store.specs.Store.{Contents}
 use Rattle.sorted_file.specs.Newest.{at_stamp, IsAfterStamp}
 use Rattle.sorted_file.specs.File.{IsOpen, listed}
+use Rattle.sorted_file.specs.Source.{ReadsFiles}
 use Rattle.sorted_file.specs.declared.file.SortedFile.{SortedFile}
 use Rattle.tablet.specs.Ranges.{lower_fence}
+use Rattle.tablet.specs.Views.{Holds}
 use Rattle.tablet.specs.declared.ranges.RowRange.{RowRange}
+use Rattle.tablet.specs.declared.tablet.Tablet.{Tablet}
 
 -- the first value of entries, with its text
 abbrev pub first_value : List Entry → Option (List ℕ × List ℕ)
@@ -93,3 +98,9 @@ IsPlaceOrNone (Some place) = IsStoredPlace place
 -- found is the place of the first value of entries after a place
 abbrev pub IsNextIn : List Entry → Option Place → Option Place → Type 0
 IsNextIn es after = NamesPlace (first_value (entries_from (past_place after) es))
+
+-- A read of a tablet reads files, and answers that they are damaged only if the tablet doesn't hold.
+pub record ReadsTablet {F T : Type 0} (contents : F → Option Contents) (faults : F → ℕ)
+    (tablet : Tablet) (old new : F) (result : Result T Refusal) : Type 0 where
+  pub damaged : IsErrOf result Damaged → IfSome (contents old) (λ m. ¬ Holds m tablet)
+  pub files : ReadsFiles contents faults old new result

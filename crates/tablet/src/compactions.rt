@@ -17,7 +17,7 @@ ghost use Rattle.compaction.specs.Passing.{MergeBreaks, MergesNoList, MergesTooM
 ghost use Rattle.compaction.specs.Writing.{written};
 ghost use Rattle.tablet.specs.Ranges.{seen};
 ghost use Rattle.tablet.specs.Sources.{IsOpenIn, listed_in, lists_over};
-ghost use Rattle.tablet.specs.Views.{range_of, memory_of, files_of, names_of, IsUnchanged, Keeps, UsesName};
+ghost use Rattle.tablet.specs.Views.{range_of, memory_of, files_of, names_of, IsUnchanged, Keeps};
 ghost use Rattle.tablet.specs.declared.compactions.Compaction.TheVariants.{Minor, Merge, Major};
 ghost use Rattle.tablet.specs.Compactions.{compacted, compacted_of, inputs_of, keeps_erasures, memory_read, Compacts, Flushes, HasAsMany, files_read, IsCompactionRefusal, IsMergeRefusal, IsMinorRefusal, IsNewFile, IsUnreadable, ReadsOpen, ReadsThrough, ReadsTooMuch, Replaces, TakesName};
 
@@ -84,9 +84,8 @@ fn write_new<F: Files, S: Source<F> + Drop>(
         next_name.old (F.contents files.old) (F.contents files.new)) }
     ensures comes { OnOk result (AllByRecursion
         (ComesToEnd (S.steps (F.contents files.old)) S.lent) sources.items) }
-    ensures name { UsesName
+    ensures name { TakesName
         (F.contents files.old) next_name.old (F.contents files.new) next_name.new }
-    ensures limit { next_name.old ≤ 2 ^ 63 → next_name.new ≤ 2 ^ 63 }
     ensures left { OnOk result (next_name.old < 2 ^ 63) }
     ensures exhausted { IsErrOf result Refusal.Exhausted → 2 ^ 63 ≤ next_name.old }
     ensures large { IsErrOf result Refusal.FileTooLarge
@@ -175,9 +174,8 @@ impl Tablet {
             × (next_name.new ≡ next_name.old + 1)) }
         ensures others { OnOk result (KeepsOthers
             next_name.old (F.contents files.old) (F.contents files.new)) }
-        ensures name { UsesName
+        ensures name { TakesName
             (F.contents files.old) next_name.old (F.contents files.new) next_name.new }
-        ensures limit { next_name.old ≤ 2 ^ 63 → next_name.new ≤ 2 ^ 63 }
         ensures exhausted { IsErrOf result Refusal.Exhausted → 2 ^ 63 ≤ next_name.old }
         ensures large { IsErrOf result Refusal.FileTooLarge
             → ReadsOpen compaction (F.contents files.old) self.now

@@ -4,11 +4,10 @@ ghost use Rattle.std.specs.Prelude.{◌≡◌, ℕ, ◌⊎◌, ◌≤◌, ◌<�
 ghost use Rattle.std.specs.Option.{option_copied};
 ghost use Rattle.std.specs.List.{AllByRecursion, AllZip};
 ghost use Rattle.cell_key.specs.Entries.{entry_of_key, first_naming, value_of};
-ghost use Rattle.cell_key.specs.Faults.{HasReason};
 ghost use Rattle.cell_key.specs.Keys.{text};
 ghost use Rattle.file_store.specs.Store.{Contents};
 ghost use Rattle.sorted_file.specs.File.{IsOpen, IsSameFile, IsShortValue, listed, value_bytes};
-ghost use Rattle.sorted_file.specs.Source.{IsReadRefusal};
+ghost use Rattle.sorted_file.specs.Source.{ReadsFiles};
 ghost use Rattle.sorted_file.specs.Newest.{IsAfterStamp};
 ghost use Rattle.tablet.specs.Reads.{HasNoLater, IsValue};
 
@@ -72,9 +71,7 @@ pub(crate) fn newest_stamp<F: Files>(
     ensures stay { AllZip (IsSameFile (F.contents store.old)) files.old files.new }
     ensures damaged { IsErrOf result Refusal.Damaged → IfSome (F.contents store.old)
         (λ m. ¬ AllByRecursion (IsOpen m) files.old) }
-    ensures refusal { IfErr result IsReadRefusal }
-    ensures same { F.contents store.new ≡ F.contents store.old }
-    ensures reason { HasReason (F.faults store.old) (F.faults store.new) result }
+    ensures reads { ReadsFiles F.contents F.faults store.old store.new result }
 {
     let mut found = None;
     for file in files.iter_mut() {
@@ -99,9 +96,7 @@ fn find_in_file<F: Files>(
     ensures stays { IsSameFile (F.contents store.old) file.old file.new }
     ensures damaged { IsErrOf result Refusal.Damaged
         → IfSome (F.contents store.old) (λ m. ¬ IsOpen m file.old) }
-    ensures refusal { IfErr result IsReadRefusal }
-    ensures same { F.contents store.new ≡ F.contents store.old }
-    ensures reason { HasReason (F.faults store.old) (F.faults store.new) result }
+    ensures reads { ReadsFiles F.contents F.faults store.old store.new result }
 {
     if !file.may_have_key(key) {
         return Ok(None);
@@ -124,9 +119,7 @@ pub(crate) fn find_in_files<F: Files>(
     ensures stay { AllZip (IsSameFile (F.contents store.old)) files.old files.new }
     ensures damaged { IsErrOf result Refusal.Damaged
         → IfSome (F.contents store.old) (λ m. ¬ AllByRecursion (IsOpen m) files.old) }
-    ensures refusal { IfErr result IsReadRefusal }
-    ensures same { F.contents store.new ≡ F.contents store.old }
-    ensures reason { HasReason (F.faults store.old) (F.faults store.new) result }
+    ensures reads { ReadsFiles F.contents F.faults store.old store.new result }
 {
     for file in files.iter_mut() {
         if let Some(value) = find_in_file(file, key, store)? {
@@ -155,9 +148,7 @@ pub(crate) fn lookup<F: Files>(
     ensures stay { AllZip (IsSameFile (F.contents store.old)) files.old files.new }
     ensures damaged { IsErrOf result Refusal.Damaged
         → IfSome (F.contents store.old) (λ m. ¬ AllByRecursion (IsOpen m) files.old) }
-    ensures refusal { IfErr result IsReadRefusal }
-    ensures same { F.contents store.new ≡ F.contents store.old }
-    ensures reason { HasReason (F.faults store.old) (F.faults store.new) result }
+    ensures reads { ReadsFiles F.contents F.faults store.old store.new result }
 {
     if let Some(newest) = memtable.lookup(key.key()) {
         return copy_value(alloc, newest.value);

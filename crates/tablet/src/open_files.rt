@@ -3,12 +3,11 @@
 ghost use Rattle.std.specs.Prelude.{◌≡◌, ◌≤◌, ◌<◌, ◌^◌, ◌∷◌, [], false, Option, option_map, map, drop, length, vec_len, IfOk, IfErr, IfSome, IsErrOf, OnOk, OnErr};
 ghost use Rattle.std.specs.List.{AllByRecursion, AllZip};
 ghost use Rattle.cell_key.specs.Entries.{first_naming};
-ghost use Rattle.cell_key.specs.Faults.{HasReason};
 ghost use Rattle.cell_key.specs.Keys.{text};
 ghost use Rattle.file_store.specs.Store.{Contents};
 ghost use Rattle.sorted_file.specs.File.{IsOpen, IsSameFile, IsShortValue, listed, value_bytes};
 ghost use Rattle.sorted_file.specs.LockIndexes.{IsIndexOf};
-ghost use Rattle.sorted_file.specs.Source.{IsReadRefusal};
+ghost use Rattle.sorted_file.specs.Source.{ReadsFiles};
 ghost use Rattle.tablet.specs.Reads.{HasNoLater, HaveNoValue};
 
 use crate::lookup::{find_in_files, newest_stamp};
@@ -200,9 +199,7 @@ impl OpenFiles {
         ensures stay { AllZip (IsSameFile (F.contents store.old)) self.old self.new }
         ensures damaged { IsErrOf result Refusal.Damaged → IfSome (F.contents store.old)
             (λ m. ¬ AllByRecursion (IsOpen m) self.old) }
-        ensures refusal { IfErr result IsReadRefusal }
-        ensures same { F.contents store.new ≡ F.contents store.old }
-        ensures reason { HasReason (F.faults store.old) (F.faults store.new) result }
+        ensures reads { ReadsFiles F.contents F.faults store.old store.new result }
     {
         stays_covered();
         stays_indexed();
@@ -230,9 +227,7 @@ impl OpenFiles {
         ensures stay { AllZip (IsSameFile (F.contents store.old)) self.old self.new }
         ensures damaged { IsErrOf result Refusal.Damaged → IfSome (F.contents store.old)
             (λ m. ¬ AllByRecursion (IsOpen m) self.old) }
-        ensures refusal { IfErr result IsReadRefusal }
-        ensures same { F.contents store.new ≡ F.contents store.old }
-        ensures reason { HasReason (F.faults store.old) (F.faults store.new) result }
+        ensures reads { ReadsFiles F.contents F.faults store.old store.new result }
     {
         match key.key().qualifier {
             Qualifier::Lock => Ok(self.locks.latest(key, lo)),
@@ -256,9 +251,7 @@ impl OpenFiles {
         ensures stay { AllZip (IsSameFile (F.contents store.old)) self.old self.new }
         ensures damaged { IsErrOf result Refusal.Damaged
             → IfSome (F.contents store.old) (λ m. ¬ AllByRecursion (IsOpen m) self.old) }
-        ensures refusal { IfErr result IsReadRefusal }
-        ensures same { F.contents store.new ≡ F.contents store.old }
-        ensures reason { HasReason (F.faults store.old) (F.faults store.new) result }
+        ensures reads { ReadsFiles F.contents F.faults store.old store.new result }
     {
         stays_covered();
         stays_indexed();

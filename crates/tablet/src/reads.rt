@@ -1,21 +1,19 @@
 //! What a tablet answers: the newest versions of a column, and the next cells, alone or with their newest versions.
 
-ghost use Rattle.std.specs.Prelude.{◌≡◌, ℕ, ◌≤◌, ◌<◌, ◌^◌, length, [], false, IsTrue, option_map, map, IfOk, IfErr, IfSome, IsErrOf};
+ghost use Rattle.std.specs.Prelude.{◌≡◌, ℕ, ◌≤◌, ◌<◌, ◌^◌, length, [], false, IsTrue, option_map, map, IfOk, IfErr, IfSome};
 ghost use Rattle.cell_key.specs.Cells.{IsNewest, version};
 ghost use Rattle.cell_key.specs.Entries.{cells_of};
-ghost use Rattle.cell_key.specs.Faults.{HasReason};
 ghost use Rattle.cell_key.specs.Places.{AreNextCells, IsNextCell, place_named};
 ghost use Rattle.cell_key.specs.Versions.{IsVersion, IsVersionIn, stamped};
 ghost use Rattle.memtable.specs.Slots.{lent_version};
 ghost use Rattle.sorted_file.specs.File.{listed};
 ghost use Rattle.sorted_file.specs.Newest.{at_stamp};
-ghost use Rattle.sorted_file.specs.Source.{IsReadRefusal};
 ghost use Rattle.std.specs.Bool.{OnFalse};
 ghost use Rattle.std.specs.List.{AllByRecursion};
 ghost use Rattle.rows.specs.Batches.{AreNextVersions, IsFull};
 ghost use Rattle.tablet.specs.Ranges.{has_row};
 ghost use Rattle.rows.specs.Reads.{AreNewestFirst, HasVersion};
-ghost use Rattle.tablet.specs.Reads.{HasNoLater, HaveNoValue, IsLater};
+ghost use Rattle.tablet.specs.Reads.{HasNoLater, HaveNoValue, IsLater, ReadsTablet};
 
 use crate::lookup::lookup;
 use crate::scan::{later, merged_places, merged_values, merged_versions, past_place, version_text};
@@ -90,11 +88,7 @@ impl Tablet {
         ensures limits { IfOk result (λ found.
             IfSome (option_map stamped found) (IsVersionIn key.now.stamp key.now.stamp)) }
         ensures stays { IsSameTablet (F.contents files.old) self.old self.new }
-        ensures damaged { IsErrOf result Refusal.Damaged
-            → IfSome (F.contents files.old) (λ m. ¬ Holds m self.old) }
-        ensures refusal { IfErr result IsReadRefusal }
-        ensures same { F.contents files.new ≡ F.contents files.old }
-        ensures reason { HasReason (F.faults files.old) (F.faults files.new) result }
+        ensures reads { ReadsTablet F.contents F.faults self.old files.old files.new result }
     {
         let stamp = key.key().stamp;
         match lookup(self.alloc, &self.memtable, &mut self.files, key, files)? {
@@ -126,11 +120,7 @@ impl Tablet {
         ensures limits { IfOk result (λ found.
             IfSome (option_map stamped found) (IsVersionIn lo hi)) }
         ensures stays { IsSameTablet (F.contents files.old) self.old self.new }
-        ensures damaged { IsErrOf result Refusal.Damaged → IfSome (F.contents files.old)
-            (λ m. ¬ Holds m self.old) }
-        ensures refusal { IfErr result IsReadRefusal }
-        ensures same { F.contents files.new ≡ F.contents files.old }
-        ensures reason { HasReason (F.faults files.old) (F.faults files.new) result }
+        ensures reads { ReadsTablet F.contents F.faults self.old files.old files.new result }
     {
         let last = CellKey::new(row, family, qualifier, hi)?;
         let mut key = LookupKey::new(self.alloc, last)?;
@@ -169,11 +159,7 @@ impl Tablet {
             (option_map stamped found))) }
         ensures limits { IfOk result (λ found.
             IfSome (option_map stamped found) (IsVersionIn lo hi)) }
-        ensures damaged { IsErrOf result Refusal.Damaged
-            → IfSome (F.contents files.old) (λ m. ¬ Holds m self.now) }
-        ensures refusal { IfErr result IsReadRefusal }
-        ensures same { F.contents files.new ≡ F.contents files.old }
-        ensures reason { HasReason (F.faults files.old) (F.faults files.new) result }
+        ensures reads { ReadsTablet F.contents F.faults self.now files.old files.new result }
     {
         let mut found = self.versions(row, family, qualifier, hi, 1, files)?;
         match found.pop() {
@@ -196,11 +182,7 @@ impl Tablet {
         ensures within { IfOk result (λ found.
             IfSome found (λ stamp. (lo ≤ stamp) × (stamp ≤ key.now.stamp))) }
         ensures stays { IsSameTablet (F.contents files.old) self.old self.new }
-        ensures damaged { IsErrOf result Refusal.Damaged → IfSome (F.contents files.old)
-            (λ m. ¬ Holds m self.old) }
-        ensures refusal { IfErr result IsReadRefusal }
-        ensures same { F.contents files.new ≡ F.contents files.old }
-        ensures reason { HasReason (F.faults files.old) (F.faults files.new) result }
+        ensures reads { ReadsTablet F.contents F.faults self.old files.old files.new result }
     {
         self.files.newest_stamp(key, lo, files)
     }
@@ -232,11 +214,7 @@ impl Tablet {
         ensures limits { IfOk result (λ found.
             IfSome (option_map stamped found) (IsVersionIn lo hi)) }
         ensures stays { IsSameTablet (F.contents files.old) self.old self.new }
-        ensures damaged { IsErrOf result Refusal.Damaged
-            → IfSome (F.contents files.old) (λ m. ¬ Holds m self.old) }
-        ensures refusal { IfErr result IsReadRefusal }
-        ensures same { F.contents files.new ≡ F.contents files.old }
-        ensures reason { HasReason (F.faults files.old) (F.faults files.new) result }
+        ensures reads { ReadsTablet F.contents F.faults self.old files.old files.new result }
     {
         let found = self.memtable.newest(row, family, qualifier, lo, hi);
         let from = stamp_after(found, lo).max(1);
@@ -270,11 +248,7 @@ impl Tablet {
             → IsTrue (has_row (range_of self.old) row.now)
             → HasVersion (cells_at m self.old) (version row.now family.now qualifier) lo hi has)) }
         ensures stays { IsSameTablet (F.contents files.old) self.old self.new }
-        ensures damaged { IsErrOf result Refusal.Damaged
-            → IfSome (F.contents files.old) (λ m. ¬ Holds m self.old) }
-        ensures refusal { IfErr result IsReadRefusal }
-        ensures same { F.contents files.new ≡ F.contents files.old }
-        ensures reason { HasReason (F.faults files.old) (F.faults files.new) result }
+        ensures reads { ReadsTablet F.contents F.faults self.old files.old files.new result }
     {
         let in_memory = self.memtable.newest(row, family, qualifier, lo, hi);
         if in_memory.is_some() {
@@ -312,11 +286,7 @@ impl Tablet {
         ensures few { IfOk result (λ found. length found.items ≤ most) }
         ensures limits { IfOk result (λ found.
             AllByRecursion (λ version. IsVersion version.0 version.1.items) found.items) }
-        ensures damaged { IsErrOf result Refusal.Damaged
-            → IfSome (F.contents files.old) (λ m. ¬ Holds m self.now) }
-        ensures refusal { IfErr result IsReadRefusal }
-        ensures same { F.contents files.new ≡ F.contents files.old }
-        ensures reason { HasReason (F.faults files.old) (F.faults files.new) result }
+        ensures reads { ReadsTablet F.contents F.faults self.now files.old files.new result }
     {
         let newest = hi.min(MOST_STAMP);
         let from = version_text(self.alloc, row, family, qualifier, newest)?;
@@ -346,11 +316,7 @@ impl Tablet {
         ensures found { IfOk result (λ found.
             IfSome (F.contents files.old) (λ m. Holds m self.now
             → IsNextCell (cells_at m self.now) (option_map place_named after.entry) found)) }
-        ensures damaged { IsErrOf result Refusal.Damaged
-            → IfSome (F.contents files.old) (λ m. ¬ Holds m self.now) }
-        ensures refusal { IfErr result IsReadRefusal }
-        ensures same { F.contents files.new ≡ F.contents files.old }
-        ensures reason { HasReason (F.faults files.old) (F.faults files.new) result }
+        ensures reads { ReadsTablet F.contents F.faults self.now files.old files.new result }
     {
         let mut found = self.next_cells(after, 1, files)?;
         Ok(found.pop())
@@ -373,11 +339,7 @@ impl Tablet {
             → AreNextCells (cells_at m self.now) (option_map place_named after.entry) most
             found.items)) }
         ensures few { IfOk result (λ found. length found.items ≤ most) }
-        ensures damaged { IsErrOf result Refusal.Damaged
-            → IfSome (F.contents files.old) (λ m. ¬ Holds m self.now) }
-        ensures refusal { IfErr result IsReadRefusal }
-        ensures same { F.contents files.new ≡ F.contents files.old }
-        ensures reason { HasReason (F.faults files.old) (F.faults files.new) result }
+        ensures reads { ReadsTablet F.contents F.faults self.now files.old files.new result }
     {
         let (fence, end) = fences(self.alloc, &self.range)?;
         let past = past_place(self.alloc, after)?;
@@ -414,11 +376,7 @@ impl Tablet {
         ensures full { IfOk result (λ batch. OnFalse batch.is_last
             (IsFull limits batch.cells.items)) }
         ensures few { IfOk result (λ batch. length batch.cells.items ≤ limits.cells) }
-        ensures damaged { IsErrOf result Refusal.Damaged
-            → IfSome (F.contents files.old) (λ m. ¬ Holds m self.now) }
-        ensures refusal { IfErr result IsReadRefusal }
-        ensures same { F.contents files.new ≡ F.contents files.old }
-        ensures reason { HasReason (F.faults files.old) (F.faults files.new) result }
+        ensures reads { ReadsTablet F.contents F.faults self.now files.old files.new result }
     {
         let (fence, end) = fences(self.alloc, &self.range)?;
         let past = past_place(self.alloc, after)?;

@@ -7,13 +7,12 @@ ghost use Rattle.std.specs.Option.{option_copied, option_to_list};
 ghost use Rattle.std.specs.List.{AllByRecursion};
 ghost use Rattle.cell_key.specs.Cells.{version};
 ghost use Rattle.cell_key.specs.Entries.{Entry, IsEntry, IsEntryList, entries_from, lent_entry};
-ghost use Rattle.cell_key.specs.Faults.{HasReason};
 ghost use Rattle.cell_key.specs.Keys.{text};
 ghost use Rattle.cell_key.specs.Names.{IsRow, IsFamily};
 ghost use Rattle.cell_key.specs.Places.{AreNext, place_named};
 ghost use Rattle.cell_key.specs.Versions.{IsVersion, stamped};
 ghost use Rattle.sorted_file.specs.File.{IsOpen, listed};
-ghost use Rattle.sorted_file.specs.Source.{IsReadRefusal};
+ghost use Rattle.sorted_file.specs.Source.{ReadsFiles};
 ghost use Rattle.rows.specs.Batches.{IsFull};
 ghost use Rattle.tablet.specs.Gathering.{AreVersionsIn, Gathers, IsWithin, KeepsLimits};
 ghost use Rattle.tablet.specs.Reads.{first_value, later, past_place, stamped_values, HasLeft, IsNextIn, IsPlaceOrNone, NamesPlace};
@@ -87,9 +86,7 @@ fn next_place<F: Files, S: Source<F>>(
     ensures holds { OnOk result (S.holds (F.contents store.old) source.old
         → S.holds (F.contents store.old) source.new) }
     ensures damaged { IsErrOf result Refusal.Damaged → ¬ S.holds (F.contents store.old) source.old }
-    ensures refusal { IfErr result IsReadRefusal }
-    ensures same { F.contents store.new ≡ F.contents store.old }
-    ensures reason { HasReason (F.faults store.old) (F.faults store.new) result }
+    ensures reads { ReadsFiles F.contents F.faults store.old store.new result }
 {
     while source.advance(store)? {
         if let Some(place) = place_at::<F, S>(alloc, source, past)? {
@@ -111,9 +108,7 @@ fn next_places<F: Files, S: Source<F>>(
         (IsNextIn (S.remaining (F.contents store.old) source.old)) None most found.items) }
     ensures few { IfOk result (λ found. length found.items ≤ most) }
     ensures damaged { IsErrOf result Refusal.Damaged → ¬ S.holds (F.contents store.old) source.old }
-    ensures refusal { IfErr result IsReadRefusal }
-    ensures same { F.contents store.new ≡ F.contents store.old }
-    ensures reason { HasReason (F.faults store.old) (F.faults store.new) result }
+    ensures reads { ReadsFiles F.contents F.faults store.old store.new result }
 {
     let mut found = Vec::new(alloc);
     'wanted: while found.len() < most {
@@ -145,9 +140,7 @@ pub(crate) fn merged_places<F: Files>(
     ensures few { IfOk result (λ found. length found.items ≤ most) }
     ensures damaged { IsErrOf result Refusal.Damaged
         → IfSome (F.contents store.old) (λ m. ¬ AllByRecursion (IsOpen m) files.now) }
-    ensures refusal { IfErr result IsReadRefusal }
-    ensures same { F.contents store.new ≡ F.contents store.old }
-    ensures reason { HasReason (F.faults store.old) (F.faults store.new) result }
+    ensures reads { ReadsFiles F.contents F.faults store.old store.new result }
 {
     let sources = sources::<F>(alloc, Some(memtable), files, from, end)?;
     let mut merge = Merge::new::<F>(sources)?;
@@ -198,9 +191,7 @@ fn next_versions<F: Files, S: Source<F>>(
     ensures full { IfOk result (λ batch. OnFalse batch.is_last (IsFull limits batch.cells.items)) }
     ensures few { IfOk result (λ batch. length batch.cells.items ≤ limits.cells) }
     ensures damaged { IsErrOf result Refusal.Damaged → ¬ S.holds (F.contents store.old) source.old }
-    ensures refusal { IfErr result IsReadRefusal }
-    ensures same { F.contents store.new ≡ F.contents store.old }
-    ensures reason { HasReason (F.faults store.old) (F.faults store.new) result }
+    ensures reads { ReadsFiles F.contents F.faults store.old store.new result }
 {
     let mut gathering = Gathering::new(alloc, limits, hi)?;
     while source.advance(store)? {
@@ -232,9 +223,7 @@ pub(crate) fn merged_versions<F: Files>(
     ensures few { IfOk result (λ batch. length batch.cells.items ≤ limits.cells) }
     ensures damaged { IsErrOf result Refusal.Damaged
         → IfSome (F.contents store.old) (λ m. ¬ AllByRecursion (IsOpen m) files.now) }
-    ensures refusal { IfErr result IsReadRefusal }
-    ensures same { F.contents store.new ≡ F.contents store.old }
-    ensures reason { HasReason (F.faults store.old) (F.faults store.new) result }
+    ensures reads { ReadsFiles F.contents F.faults store.old store.new result }
 {
     let inputs = sources::<F>(alloc, Some(memtable), files, from, end)?;
     let mut merge = Merge::new::<F>(inputs)?;
@@ -295,9 +284,7 @@ fn first_versions<F: Files, S: Source<F>>(
     ensures limits { IfOk result (λ found.
         AllByRecursion (λ version. IsVersion version.0 version.1.items) found.items) }
     ensures damaged { IsErrOf result Refusal.Damaged → ¬ S.holds (F.contents store.old) source.old }
-    ensures refusal { IfErr result IsReadRefusal }
-    ensures same { F.contents store.new ≡ F.contents store.old }
-    ensures reason { HasReason (F.faults store.old) (F.faults store.new) result }
+    ensures reads { ReadsFiles F.contents F.faults store.old store.new result }
 {
     let mut found = Vec::new(alloc);
     'wanted: while found.len() < most {
@@ -332,9 +319,7 @@ pub(crate) fn merged_values<F: Files>(
         AllByRecursion (λ version. IsVersion version.0 version.1.items) found.items) }
     ensures damaged { IsErrOf result Refusal.Damaged
         → IfSome (F.contents store.old) (λ m. ¬ AllByRecursion (IsOpen m) files.now) }
-    ensures refusal { IfErr result IsReadRefusal }
-    ensures same { F.contents store.new ≡ F.contents store.old }
-    ensures reason { HasReason (F.faults store.old) (F.faults store.new) result }
+    ensures reads { ReadsFiles F.contents F.faults store.old store.new result }
 {
     let inputs = sources::<F>(alloc, Some(memtable), files, from, end)?;
     let mut merge = Merge::new::<F>(inputs)?;

@@ -6,7 +6,7 @@ ghost use Rattle.std.specs.List.{AllByRecursion};
 ghost use Rattle.sorted_file.specs.Grammar.{FitsIn};
 ghost use Rattle.sorted_file.specs.Limits.{IsFileLimit};
 ghost use Rattle.sorted_file.specs.File.{HasFile};
-ghost use Rattle.sorted_file.specs.Source.{IsReadRefusal};
+ghost use Rattle.sorted_file.specs.Source.{ReadsFiles};
 ghost use Rattle.cell_key.specs.Faults.{HasReason};
 ghost use Rattle.tablet.specs.Ranges.{seen};
 ghost use Rattle.tablet.specs.Views.{range_of, memory_of, names_of, Holds, IsBelow, IsUnchanged, Keeps, with_name};
@@ -45,9 +45,7 @@ impl Tablet {
         ensures holds { IfOk result (λ t. IfSome (F.contents files.old) (λ m. Holds m t)) }
         ensures damaged { IsErrOf result Refusal.Damaged
             → IfSome (F.contents files.old) (λ m. ¬ AllByRecursion (HasFile m) names.now) }
-        ensures refusal { IfErr result IsReadRefusal }
-        ensures same { F.contents files.new ≡ F.contents files.old }
-        ensures reason { HasReason (F.faults files.old) (F.faults files.new) result }
+        ensures reads { ReadsFiles F.contents F.faults files.old files.new result }
     {
         let mut open = OpenFiles::new(alloc);
         let mut newer = names;
@@ -84,9 +82,7 @@ impl Tablet {
         ensures holds { IfOk result (λ t. IfSome (F.contents files.old) (λ m. Holds m t)) }
         ensures damaged { IsErrOf result Refusal.Damaged → IfSome (F.contents files.old) (λ m.
             ¬ AllByRecursion (HasFile m) (names_of self.now)) }
-        ensures refusal { IfErr result IsReadRefusal }
-        ensures same { F.contents files.new ≡ F.contents files.old }
-        ensures reason { HasReason (F.faults files.old) (F.faults files.new) result }
+        ensures reads { ReadsFiles F.contents F.faults files.old files.new result }
     {
         let names = self.names()?;
         Tablet::load(self.alloc, range, &names, self.most_blocks, files)
@@ -173,9 +169,7 @@ impl Tablet {
             (F.contents files.old) next self.old (F.contents files.new) next self.new) }
         ensures damaged { IsErrOf result Refusal.Damaged → IfSome (F.contents files.old) (λ m.
             ¬ AllByRecursion (HasFile m) (names_of self.old)) }
-        ensures refusal { IfErr result IsReadRefusal }
-        ensures same { F.contents files.new ≡ F.contents files.old }
-        ensures reason { HasReason (F.faults files.old) (F.faults files.new) result }
+        ensures reads { ReadsFiles F.contents F.faults files.old files.new result }
     {
         one_listing();
         let (range, after) = self.left_of(row)?;

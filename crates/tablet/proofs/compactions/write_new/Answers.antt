@@ -34,12 +34,14 @@ returns-clause-others g c =
     (others_kept (g.F.Files.contents c.args.files.now) (g.F.Files.contents c.merge_into.new.files) c.in_ok-name.name c.in_ok-file.ensures.written.0 c.in_ok-file.ensures.written.1.0)
 
 pub returns-clause-name : goal.returns-clause-name
-returns-clause-name g c =
-    inr (
-      c.in_ok-name.ensures.used,
-      subst (λ (name : ℕ). KeepsOthers name (g.F.Files.contents c.args.files.now) (g.F.Files.contents c.merge_into.new.files)) c.in_ok-name.ensures.name
-          (others_kept (g.F.Files.contents c.args.files.now) (g.F.Files.contents c.merge_into.new.files) c.in_ok-name.name c.in_ok-file.ensures.written.0 c.in_ok-file.ensures.written.1.0),
-    )
+returns-clause-name g c = record {
+  uses = inr (
+    c.in_ok-name.ensures.used,
+    subst (λ (name : ℕ). KeepsOthers name (g.F.Files.contents c.args.files.now) (g.F.Files.contents c.merge_into.new.files)) c.in_ok-name.ensures.name
+        (others_kept (g.F.Files.contents c.args.files.now) (g.F.Files.contents c.merge_into.new.files) c.in_ok-name.name c.in_ok-file.ensures.written.0 c.in_ok-file.ensures.written.1.0),
+  );
+  within = used_within _ _ c.in_ok-name.ensures.used c.in_ok-name.ensures.left;
+}
 
 pub returns-clause-fits : goal.returns-clause-fits
 returns-clause-fits g c =
@@ -52,9 +54,6 @@ returns-clause-used g c = c.in_ok-name.ensures.used
 
 pub returns-clause-left : goal.returns-clause-left
 returns-clause-left g c = c.in_ok-name.ensures.left
-
-pub returns-clause-limit : goal.returns-clause-limit
-returns-clause-limit g c = used_within _ _ c.in_ok-name.ensures.used c.in_ok-name.ensures.left
 
 pub returns-clause-comes : goal.returns-clause-comes
 returns-clause-comes g c = c.in_ok-file.ensures.comes
@@ -78,10 +77,10 @@ pub returns-in_err-name-clause-fits : goal.returns-in_err-name-clause-fits
 returns-in_err-name-clause-fits g c = passed_none c.from_residual.result c.in_err-name.field-0.0 _ c.from_residual.ensures.1
 
 pub returns-in_err-name-clause-name : goal.returns-in_err-name-clause-name
-returns-in_err-name-clause-name g c = inl (c.in_err-name.ensures.err, refl)
-
-pub returns-in_err-name-clause-limit : goal.returns-in_err-name-clause-limit
-returns-in_err-name-clause-limit g c = λ most. subst (λ (n : ℕ). n ≤ 2 ^ 63) (sym c.in_err-name.ensures.err) most
+returns-in_err-name-clause-name g c = record {
+  uses = inl (c.in_err-name.ensures.err, refl);
+  within = λ most. subst (λ (n : ℕ). n ≤ 2 ^ 63) (sym c.in_err-name.ensures.err) most;
+}
 
 pub returns-in_err-name-clause-exhausted : goal.returns-in_err-name-clause-exhausted
 returns-in_err-name-clause-exhausted g c = λ is. c.in_err-name.ensures.exhausted
@@ -117,13 +116,13 @@ pub returns-in_err-file-clause-fits : goal.returns-in_err-file-clause-fits
 returns-in_err-file-clause-fits g c = passed_none c.from_residual-in_err-file.result c.in_err-file.field-0.0 _ c.from_residual-in_err-file.ensures.1
 
 pub returns-in_err-file-clause-name : goal.returns-in_err-file-clause-name
-returns-in_err-file-clause-name g c = inr (
-  c.in_ok-name.ensures.used,
-  subst (λ (name : ℕ). KeepsOthers name (g.F.Files.contents c.args.files.now) (g.F.Files.contents c.merge_into.new.files)) c.in_ok-name.ensures.name c.in_err-file.ensures.others,
-)
-
-pub returns-in_err-file-clause-limit : goal.returns-in_err-file-clause-limit
-returns-in_err-file-clause-limit g c = used_within _ _ c.in_ok-name.ensures.used c.in_ok-name.ensures.left
+returns-in_err-file-clause-name g c = record {
+  uses = inr (
+    c.in_ok-name.ensures.used,
+    subst (λ (name : ℕ). KeepsOthers name (g.F.Files.contents c.args.files.now) (g.F.Files.contents c.merge_into.new.files)) c.in_ok-name.ensures.name c.in_err-file.ensures.others,
+  );
+  within = used_within _ _ c.in_ok-name.ensures.used c.in_ok-name.ensures.left;
+}
 
 pub returns-in_err-file-clause-exhausted : goal.returns-in_err-file-clause-exhausted
 returns-in_err-file-clause-exhausted g c = λ is. absurd (passed_kind c.from_residual-in_err-file.result c.in_err-file.field-0.0 _ IsWriteRefusal c.from_residual-in_err-file.ensures.1 c.in_err-file.ensures.refusal is)

@@ -16,8 +16,8 @@ loop-file-preserved g c =
     let now = g.F.Files.contents c.loop-file.store in
     let below : c.loop-file.file-index < length c.loop-file.files = omega arith in
     record {
-      same = c.find_in_file.ensures.same ∙ c.loop-file.invariant.same;
-      quiet = c.in_ok-value.ensures.reason.told (not_err _ Device) ∙ c.loop-file.invariant.quiet;
+      same = c.find_in_file.ensures.reads.same ∙ c.loop-file.invariant.same;
+      quiet = c.in_ok-value.ensures.reads.reason.told (not_err _ Device) ∙ c.loop-file.invariant.quiet;
       stay = same_set told now c.loop-file.invariant.same c.args.files.now c.loop-file.files c.loop-file.file-index c.file-item.result below c.loop-file.invariant.stay c.find_in_file.new.file c.find_in_file.ensures.stays;
       told = none_here told now c.loop-file.invariant.same c.args.files.now c.loop-file.files c.loop-file.file-index c.file-item.result below c.loop-file.invariant.stay (text c.args.key.now) c.loop-file.invariant.told (rw c.in_default.is at c.in_ok-value.ensures.found);
     }

@@ -14,14 +14,12 @@ returns-in-Some-clause-damaged g c = λ e. absurd (long_of_none c.args.memtable.
 pub returns-in-Some-clause-short : goal.returns-in-Some-clause-short
 returns-in-Some-clause-short g c = c.copy_value.ensures.short
 
-pub returns-in-Some-clause-refusal : goal.returns-in-Some-clause-refusal
-returns-in-Some-clause-refusal g c = err_map c.copy_value.result _ IsReadRefusal held_read c.copy_value.ensures.refusal
-
-pub returns-in-Some-clause-same : goal.returns-in-Some-clause-same
-returns-in-Some-clause-same g c = refl
-
-pub returns-in-Some-clause-reason : goal.returns-in-Some-clause-reason
-returns-in-Some-clause-reason g c = quiet_reason c.copy_value.result _ (λ is. absurd (err_kind c.copy_value.result Device IsHeldRefusal (err_map c.copy_value.result _ IsHeldRefusal held_refusal c.copy_value.ensures.refusal) is))
+pub returns-in-Some-clause-reads : goal.returns-in-Some-clause-reads
+returns-in-Some-clause-reads g c = record {
+  refusal = err_map c.copy_value.result _ IsReadRefusal held_read c.copy_value.ensures.refusal;
+  same = refl;
+  reason = quiet_reason c.copy_value.result _ (λ is. absurd (err_kind c.copy_value.result Device IsHeldRefusal (err_map c.copy_value.result _ IsHeldRefusal held_refusal c.copy_value.ensures.refusal) is));
+}
 
 pub returns-in_err-value-clause-found : goal.returns-in_err-value-clause-found
 returns-in_err-value-clause-found g c = passed_none c.from_residual.result c.in_err-value.field-0.0 _ c.from_residual.ensures.1
@@ -32,14 +30,12 @@ returns-in_err-value-clause-short g c = passed_none c.from_residual.result c.in_
 pub returns-in_err-value-clause-damaged : goal.returns-in_err-value-clause-damaged
 returns-in_err-value-clause-damaged g c = λ is. c.in_err-value.ensures.damaged (passed_on c.from_residual.result _ c.in_err-value.field-0.0 _ c.from_residual.ensures.1 refl is)
 
-pub returns-in_err-value-clause-refusal : goal.returns-in_err-value-clause-refusal
-returns-in_err-value-clause-refusal g c = passed_err c.from_residual.result c.in_err-value.field-0.0 _ c.from_residual.ensures.1 c.in_err-value.ensures.refusal
-
-pub returns-in_err-value-clause-same : goal.returns-in_err-value-clause-same
-returns-in_err-value-clause-same g c = c.in_err-value.ensures.same
-
-pub returns-in_err-value-clause-reason : goal.returns-in_err-value-clause-reason
-returns-in_err-value-clause-reason g c = passed_reason c.from_residual.result _ c.in_err-value.field-0.0 _ _ c.from_residual.ensures.1 refl c.in_err-value.ensures.reason
+pub returns-in_err-value-clause-reads : goal.returns-in_err-value-clause-reads
+returns-in_err-value-clause-reads g c = record {
+  refusal = passed_err c.from_residual.result c.in_err-value.field-0.0 _ c.from_residual.ensures.1 c.in_err-value.ensures.reads.refusal;
+  same = c.in_err-value.ensures.reads.same;
+  reason = passed_reason c.from_residual.result _ c.in_err-value.field-0.0 _ _ c.from_residual.ensures.1 refl c.in_err-value.ensures.reads.reason;
+}
 
 pub returns-in-None-clause-short : goal.returns-in-None-clause-short
 returns-in-None-clause-short g c = tt
@@ -47,14 +43,12 @@ returns-in-None-clause-short g c = tt
 pub returns-in-None-clause-damaged : goal.returns-in-None-clause-damaged
 returns-in-None-clause-damaged g c = λ is. absurd (not_err _ _ is)
 
-pub returns-in-None-clause-refusal : goal.returns-in-None-clause-refusal
-returns-in-None-clause-refusal g c = tt
-
-pub returns-in-None-clause-same : goal.returns-in-None-clause-same
-returns-in-None-clause-same g c = c.in_ok-value.ensures.same
-
-pub returns-in-None-clause-reason : goal.returns-in-None-clause-reason
-returns-in-None-clause-reason g c = reason_of_ok _ _ _ _ c.in_ok-value.ensures.reason
+pub returns-in-None-clause-reads : goal.returns-in-None-clause-reads
+returns-in-None-clause-reads g c = record {
+  refusal = tt;
+  same = c.in_ok-value.ensures.reads.same;
+  reason = reason_of_ok _ _ _ _ c.in_ok-value.ensures.reads.reason;
+}
 
 pub returns-in-Some-clause-stay : goal.returns-in-Some-clause-stay
 returns-in-Some-clause-stay g c = same_files (g.F.Files.contents c.args.store.now) c.args.files.now

@@ -25,8 +25,8 @@ loop-file-preserved g c =
     let below : c.loop-file.file-index < length c.loop-file.files = omega arith in
     let i = c.loop-file.invariant in
     record {
-      same = c.newest_stamp.ensures.same ∙ i.same;
-      quiet = c.in_ok-later.ensures.reason.told (not_err _ Device) ∙ i.quiet;
+      same = c.newest_stamp.ensures.reads.same ∙ i.same;
+      quiet = c.in_ok-later.ensures.reads.reason.told (not_err _ Device) ∙ i.quiet;
       within = subst (λ (o : Option ℕ). IfSome o (λ stamp. (c.args.lo ≤ stamp) × (stamp ≤ c.args.key.now.stamp))) (sym c.or-found.ensures)
           (within_still told now i.same c.args.files.now c.loop-file.files c.loop-file.file-index c.file-item.result below i.stay c.args.key.now c.args.lo c.first_after-from.result c.loop-file.found c.in_ok-later.later c.first_after-from.ensures.after c.first_after-from.ensures.first
           c.loop-file.found c.in_ok-later.later i.within c.in_ok-later.ensures.within c.first_after-from.ensures.after);

@@ -49,14 +49,12 @@ returns-in_err-advance-clause-damaged g c = λ is start.
     let i = c.loop-source.invariant in
     subst (λ (o : Option Contents). ¬ g.S.Source.holds o c.loop-source.source) i.same (c.in_err-advance.ensures.damaged (passed_on c.from_residual.result _ c.in_err-advance.field-0.0 _ c.from_residual.ensures.1 refl is)) (i.told start).0
 
-pub returns-in_err-advance-clause-refusal : goal.returns-in_err-advance-clause-refusal
-returns-in_err-advance-clause-refusal g c = passed_err c.from_residual.result c.in_err-advance.field-0.0 _ c.from_residual.ensures.1 c.in_err-advance.ensures.refusal
-
-pub returns-in_err-advance-clause-same : goal.returns-in_err-advance-clause-same
-returns-in_err-advance-clause-same g c = c.advance.ensures.files ∙ c.loop-source.invariant.same
-
-pub returns-in_err-advance-clause-reason : goal.returns-in_err-advance-clause-reason
-returns-in_err-advance-clause-reason g c = reason_after _ _ _ c.loop-source.invariant.quiet (passed_reason c.from_residual.result _ c.in_err-advance.field-0.0 _ _ c.from_residual.ensures.1 refl c.in_err-advance.ensures.reason)
+pub returns-in_err-advance-clause-reads : goal.returns-in_err-advance-clause-reads
+returns-in_err-advance-clause-reads g c = record {
+  refusal = passed_err c.from_residual.result c.in_err-advance.field-0.0 _ c.from_residual.ensures.1 c.in_err-advance.ensures.refusal;
+  same = c.advance.ensures.files ∙ c.loop-source.invariant.same;
+  reason = reason_after _ _ _ c.loop-source.invariant.quiet (passed_reason c.from_residual.result _ c.in_err-advance.field-0.0 _ _ c.from_residual.ensures.1 refl c.in_err-advance.ensures.reason);
+}
 
 pub returns-in_err-place-clause-found : goal.returns-in_err-place-clause-found
 returns-in_err-place-clause-found g c = passed_nothing c.from_residual-in_err-place.result c.in_err-place.field-0.0 _ c.from_residual-in_err-place.ensures.1
@@ -73,15 +71,13 @@ returns-in_err-place-clause-damaged g c = λ is start.
     let holds = subst (λ (o : Option Contents). g.S.Source.holds o s → g.S.Source.holds o t) i.same c.in_ok-advance.ensures.holds in
     c.in_err-place.ensures.damaged (passed_on c.from_residual-in_err-place.result _ c.in_err-place.field-0.0 _ c.from_residual-in_err-place.ensures.1 refl is) (lent_listed _ _ (g.met.S.Source.list told t (holds (i.told start).0)))
 
-pub returns-in_err-place-clause-refusal : goal.returns-in_err-place-clause-refusal
-returns-in_err-place-clause-refusal g c = passed_err c.from_residual-in_err-place.result c.in_err-place.field-0.0 _ c.from_residual-in_err-place.ensures.1 (held_read c.in_err-place.field-0.0 c.in_err-place.ensures.refusal)
-
-pub returns-in_err-place-clause-same : goal.returns-in_err-place-clause-same
-returns-in_err-place-clause-same g c = c.advance.ensures.files ∙ c.loop-source.invariant.same
-
-pub returns-in_err-place-clause-reason : goal.returns-in_err-place-clause-reason
-returns-in_err-place-clause-reason g c = reason_after _ _ _ (c.in_ok-advance.ensures.reason.told (not_err _ Device) ∙ c.loop-source.invariant.quiet)
-    (quiet_reason c.from_residual-in_err-place.result _ (λ is. absurd (passed_kind c.from_residual-in_err-place.result c.in_err-place.field-0.0 Device IsHeldRefusal c.from_residual-in_err-place.ensures.1 (held_refusal c.in_err-place.field-0.0 c.in_err-place.ensures.refusal) is)))
+pub returns-in_err-place-clause-reads : goal.returns-in_err-place-clause-reads
+returns-in_err-place-clause-reads g c = record {
+  refusal = passed_err c.from_residual-in_err-place.result c.in_err-place.field-0.0 _ c.from_residual-in_err-place.ensures.1 (held_read c.in_err-place.field-0.0 c.in_err-place.ensures.refusal);
+  same = c.advance.ensures.files ∙ c.loop-source.invariant.same;
+  reason = reason_after _ _ _ (c.in_ok-advance.ensures.reason.told (not_err _ Device) ∙ c.loop-source.invariant.quiet)
+      (quiet_reason c.from_residual-in_err-place.result _ (λ is. absurd (passed_kind c.from_residual-in_err-place.result c.in_err-place.field-0.0 Device IsHeldRefusal c.from_residual-in_err-place.ensures.1 (held_refusal c.in_err-place.field-0.0 c.in_err-place.ensures.refusal) is)));
+}
 
 pub returns-in-Some-clause-found : goal.returns-in-Some-clause-found
 returns-in-Some-clause-found g c = λ start.
@@ -112,14 +108,12 @@ returns-in-Some-clause-holds g c = λ start.
 pub returns-in-Some-clause-damaged : goal.returns-in-Some-clause-damaged
 returns-in-Some-clause-damaged g c = λ is. absurd (not_err _ _ is)
 
-pub returns-in-Some-clause-refusal : goal.returns-in-Some-clause-refusal
-returns-in-Some-clause-refusal g c = tt
-
-pub returns-in-Some-clause-same : goal.returns-in-Some-clause-same
-returns-in-Some-clause-same g c = c.advance.ensures.files ∙ c.loop-source.invariant.same
-
-pub returns-in-Some-clause-reason : goal.returns-in-Some-clause-reason
-returns-in-Some-clause-reason g c = reason_of_ok _ _ _ _ (reason_after _ _ _ c.loop-source.invariant.quiet c.in_ok-advance.ensures.reason)
+pub returns-in-Some-clause-reads : goal.returns-in-Some-clause-reads
+returns-in-Some-clause-reads g c = record {
+  refusal = tt;
+  same = c.advance.ensures.files ∙ c.loop-source.invariant.same;
+  reason = reason_of_ok _ _ _ _ (reason_after _ _ _ c.loop-source.invariant.quiet c.in_ok-advance.ensures.reason);
+}
 
 pub returns-clause-found : goal.returns-clause-found
 returns-clause-found g c = λ start.
@@ -142,11 +136,9 @@ returns-clause-rest g c = λ start. tt
 pub returns-clause-damaged : goal.returns-clause-damaged
 returns-clause-damaged g c = λ is. absurd (not_err _ _ is)
 
-pub returns-clause-refusal : goal.returns-clause-refusal
-returns-clause-refusal g c = tt
-
-pub returns-clause-same : goal.returns-clause-same
-returns-clause-same g c = c.advance.ensures.files ∙ c.loop-source.invariant.same
-
-pub returns-clause-reason : goal.returns-clause-reason
-returns-clause-reason g c = reason_of_ok _ _ _ _ (reason_after _ _ _ c.loop-source.invariant.quiet c.in_ok-advance.ensures.reason)
+pub returns-clause-reads : goal.returns-clause-reads
+returns-clause-reads g c = record {
+  refusal = tt;
+  same = c.advance.ensures.files ∙ c.loop-source.invariant.same;
+  reason = reason_of_ok _ _ _ _ (reason_after _ _ _ c.loop-source.invariant.quiet c.in_ok-advance.ensures.reason);
+}

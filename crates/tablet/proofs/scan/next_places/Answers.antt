@@ -28,8 +28,8 @@ wanted-preserved g c =
     let items : c.push.new.self.items ≡ c.wanted.found.items ++ c.in-Some.place ∷ [] = c.in_ok-push-in-Some.ensures.items in
     let grown = ap length items ∙ length-append c.wanted.found.items (c.in-Some.place ∷ []) in
     record {
-      same = c.next_place.ensures.same ∙ i.same;
-      quiet = c.in_ok-place.ensures.reason.told (not_err _ Device) ∙ i.quiet;
+      same = c.next_place.ensures.reads.same ∙ i.same;
+      quiet = c.in_ok-place.ensures.reads.reason.told (not_err _ Device) ∙ i.quiet;
       few = omega (arith, grown, c.wanted-test.true, c.len.ensures);
       told = λ start.
           let before = i.told start in

@@ -12,7 +12,7 @@ use Rattle.rows.specs.declared.batches.CellVersions.{CellVersions}
 use Rattle.tablet.proofs.GatheredCells.{on_false}
 use Rattle.tablet.proofs.NextVersions.{gone_all, gone_more, gone_none, gone_stops}
 use Rattle.tablet.proofs.ReadPlaces.{rest_of}
-use Rattle.tablet.proofs.Passed.{IsHeldRefusal, held_refusal, not_err, passed_kind, passed_on, passed_reason, quiet_reason, reason_after, reason_of_ok}
+use Rattle.tablet.proofs.Passed.{IsHeldRefusal, held_read, held_refusal, not_err, passed_err, passed_kind, passed_on, passed_reason, quiet_reason, reason_after, reason_of_ok}
 use Rattle.tablet.proofs.scan.next_versions.Goals as goal
 
 lent_listed : (lent : Option Entry) (es : List Entry) → IsEntryList (pending lent es) → IfSome lent IsEntry
@@ -67,11 +67,12 @@ returns-in_err-advance-clause-damaged g c = λ is start.
     let i = c.loop-gathering.invariant in
     subst (λ (o : Option Contents). ¬ g.S.Source.holds o c.loop-gathering.source) i.same (c.in_err-advance.ensures.damaged (passed_on c.from_residual-in_err-advance.result _ c.in_err-advance.field-0.0 _ c.from_residual-in_err-advance.ensures.1 refl is)) (i.told start).0
 
-pub returns-in_err-advance-clause-same : goal.returns-in_err-advance-clause-same
-returns-in_err-advance-clause-same g c = c.advance.ensures.files ∙ c.loop-gathering.invariant.same
-
-pub returns-in_err-advance-clause-reason : goal.returns-in_err-advance-clause-reason
-returns-in_err-advance-clause-reason g c = reason_after _ _ _ c.loop-gathering.invariant.quiet (passed_reason c.from_residual-in_err-advance.result _ c.in_err-advance.field-0.0 _ _ c.from_residual-in_err-advance.ensures.1 refl c.in_err-advance.ensures.reason)
+pub returns-in_err-advance-clause-reads : goal.returns-in_err-advance-clause-reads
+returns-in_err-advance-clause-reads g c = record {
+  refusal = passed_err c.from_residual-in_err-advance.result c.in_err-advance.field-0.0 _ c.from_residual-in_err-advance.ensures.1 c.in_err-advance.ensures.refusal;
+  same = c.advance.ensures.files ∙ c.loop-gathering.invariant.same;
+  reason = reason_after _ _ _ c.loop-gathering.invariant.quiet (passed_reason c.from_residual-in_err-advance.result _ c.in_err-advance.field-0.0 _ _ c.from_residual-in_err-advance.ensures.1 refl c.in_err-advance.ensures.reason);
+}
 
 pub returns-in_err-take_at-clause-damaged : goal.returns-in_err-take_at-clause-damaged
 returns-in_err-take_at-clause-damaged g c = λ is start.
@@ -84,12 +85,13 @@ returns-in_err-take_at-clause-damaged g c = λ is start.
     c.in_err-take_at.ensures.damaged before.1.before before.1.gathers (passed_on c.from_residual-in_err-take_at.result _ c.in_err-take_at.field-0.0 _ c.from_residual-in_err-take_at.ensures.1 refl is)
     (lent_listed _ _ (g.met.S.Source.list disk t (holds before.0)))
 
-pub returns-in_err-take_at-clause-same : goal.returns-in_err-take_at-clause-same
-returns-in_err-take_at-clause-same g c = c.advance.ensures.files ∙ c.loop-gathering.invariant.same
-
-pub returns-in_err-take_at-clause-reason : goal.returns-in_err-take_at-clause-reason
-returns-in_err-take_at-clause-reason g c = reason_after _ _ _ (c.in_ok-advance.ensures.reason.told (not_err _ Device) ∙ c.loop-gathering.invariant.quiet)
-    (quiet_reason c.from_residual-in_err-take_at.result _ (λ is. absurd (passed_kind c.from_residual-in_err-take_at.result c.in_err-take_at.field-0.0 Device IsHeldRefusal c.from_residual-in_err-take_at.ensures.1 (held_refusal c.in_err-take_at.field-0.0 c.in_err-take_at.ensures.refusal) is)))
+pub returns-in_err-take_at-clause-reads : goal.returns-in_err-take_at-clause-reads
+returns-in_err-take_at-clause-reads g c = record {
+  refusal = passed_err c.from_residual-in_err-take_at.result c.in_err-take_at.field-0.0 _ c.from_residual-in_err-take_at.ensures.1 (held_read c.in_err-take_at.field-0.0 c.in_err-take_at.ensures.refusal);
+  same = c.advance.ensures.files ∙ c.loop-gathering.invariant.same;
+  reason = reason_after _ _ _ (c.in_ok-advance.ensures.reason.told (not_err _ Device) ∙ c.loop-gathering.invariant.quiet)
+      (quiet_reason c.from_residual-in_err-take_at.result _ (λ is. absurd (passed_kind c.from_residual-in_err-take_at.result c.in_err-take_at.field-0.0 Device IsHeldRefusal c.from_residual-in_err-take_at.ensures.1 (held_refusal c.in_err-take_at.field-0.0 c.in_err-take_at.ensures.refusal) is)));
+}
 
 pub returns-then-not-branch-clause-found : goal.returns-then-not-branch-clause-found
 returns-then-not-branch-clause-found g c = λ start.
@@ -119,11 +121,12 @@ returns-then-not-branch-clause-few g c =
     subst (λ (cells : List CellVersions). length cells ≤ c.args.limits.cells) (sym c.stopped.ensures.cells)
     (subst (λ (limits : BatchLimits). length c.take_at.new.gathering.cells.items ≤ limits.cells) (c.take_at.ensures.limits.limits ∙ c.loop-gathering.invariant.limits) c.in_ok-take_at.ensures.within.cells)
 
-pub returns-then-not-branch-clause-same : goal.returns-then-not-branch-clause-same
-returns-then-not-branch-clause-same g c = c.advance.ensures.files ∙ c.loop-gathering.invariant.same
-
-pub returns-then-not-branch-clause-reason : goal.returns-then-not-branch-clause-reason
-returns-then-not-branch-clause-reason g c = reason_of_ok _ _ _ _ (reason_after _ _ _ c.loop-gathering.invariant.quiet c.in_ok-advance.ensures.reason)
+pub returns-then-not-branch-clause-reads : goal.returns-then-not-branch-clause-reads
+returns-then-not-branch-clause-reads g c = record {
+  refusal = tt;
+  same = c.advance.ensures.files ∙ c.loop-gathering.invariant.same;
+  reason = reason_of_ok _ _ _ _ (reason_after _ _ _ c.loop-gathering.invariant.quiet c.in_ok-advance.ensures.reason);
+}
 
 pub returns-clause-found : goal.returns-clause-found
 returns-clause-found g c = λ start.
@@ -142,8 +145,9 @@ returns-clause-found g c = λ start.
 pub returns-clause-few : goal.returns-clause-few
 returns-clause-few g c = subst (λ (limits : BatchLimits). length c.ended.result.cells.items ≤ limits.cells) c.loop-gathering.invariant.limits c.ended.ensures.few
 
-pub returns-clause-same : goal.returns-clause-same
-returns-clause-same g c = c.advance.ensures.files ∙ c.loop-gathering.invariant.same
-
-pub returns-clause-reason : goal.returns-clause-reason
-returns-clause-reason g c = reason_of_ok _ _ _ _ (reason_after _ _ _ c.loop-gathering.invariant.quiet c.in_ok-advance.ensures.reason)
+pub returns-clause-reads : goal.returns-clause-reads
+returns-clause-reads g c = record {
+  refusal = tt;
+  same = c.advance.ensures.files ∙ c.loop-gathering.invariant.same;
+  reason = reason_of_ok _ _ _ _ (reason_after _ _ _ c.loop-gathering.invariant.quiet c.in_ok-advance.ensures.reason);
+}

@@ -18,7 +18,7 @@ returns-clause-parts g c = λ next.
       left_names = c.in_ok-left.ensures.names;
       right_files = refl;
     })
-    (keeps_itself (g.F.Files.contents c.args.files.now) next c.args.self.now) c.in_ok-left.ensures.holds c.in_ok-left.ensures.same
+    (keeps_itself (g.F.Files.contents c.args.files.now) next c.args.self.now) c.in_ok-left.ensures.holds c.in_ok-left.ensures.reads.same
 
 pub returns-in_err-left-clause-damaged : goal.returns-in_err-left-clause-damaged
 returns-in_err-left-clause-damaged g c = λ err.
@@ -28,4 +28,4 @@ pub returns-in_err-range-clause-keeps : goal.returns-in_err-range-clause-keeps
 returns-in_err-range-clause-keeps g c = passed_kept c.from_residual.result _ (λ next. keeps_itself (g.F.Files.contents c.args.files.now) next c.args.self.now)
 
 pub returns-in_err-left-clause-keeps : goal.returns-in_err-left-clause-keeps
-returns-in_err-left-clause-keeps g c = passed_kept c.from_residual-in_err-left.result _ (λ next. subst (λ (o : Option Contents). Keeps (g.F.Files.contents c.args.files.now) next c.args.self.now o next c.args.self.now) (sym c.in_err-left.ensures.same) (keeps_itself (g.F.Files.contents c.args.files.now) next c.args.self.now))
+returns-in_err-left-clause-keeps g c = passed_kept c.from_residual-in_err-left.result _ (λ next. subst (λ (o : Option Contents). Keeps (g.F.Files.contents c.args.files.now) next c.args.self.now o next c.args.self.now) (sym c.in_err-left.ensures.reads.same) (keeps_itself (g.F.Files.contents c.args.files.now) next c.args.self.now))

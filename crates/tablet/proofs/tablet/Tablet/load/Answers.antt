@@ -46,8 +46,12 @@ empty_holds : (old : Option Contents) (t : Tablet) → memory_of t ≡ [] → If
 empty_holds None t none opened = tt
 empty_holds (Some m) t none opened = record { memory = subst IsEntryList (sym none) no_entries; files = opened }
 
-pub returns-in_err-file-clause-same : goal.returns-in_err-file-clause-same
-returns-in_err-file-clause-same g c = c.open_over.ensures.same ∙ c.names.invariant.contents
+pub returns-in_err-file-clause-reads : goal.returns-in_err-file-clause-reads
+returns-in_err-file-clause-reads g c = record {
+  refusal = passed_err c.from_residual.result c.in_err-file.field-0.0 _ c.from_residual.ensures.1 c.in_err-file.ensures.reads.refusal;
+  same = c.open_over.ensures.reads.same ∙ c.names.invariant.contents;
+  reason = reason_after _ _ _ c.names.invariant.quiet (passed_reason c.from_residual.result _ c.in_err-file.field-0.0 _ _ c.from_residual.ensures.1 refl c.in_err-file.ensures.reads.reason);
+}
 
 pub returns-in_err-file-clause-range : goal.returns-in_err-file-clause-range
 returns-in_err-file-clause-range g c = passed_none c.from_residual.result c.in_err-file.field-0.0 _ c.from_residual.ensures.1
@@ -61,29 +65,21 @@ returns-in_err-file-clause-names g c = passed_none c.from_residual.result c.in_e
 pub returns-in_err-file-clause-holds : goal.returns-in_err-file-clause-holds
 returns-in_err-file-clause-holds g c = passed_none c.from_residual.result c.in_err-file.field-0.0 _ c.from_residual.ensures.1
 
-pub returns-in_err-file-clause-refusal : goal.returns-in_err-file-clause-refusal
-returns-in_err-file-clause-refusal g c = passed_err c.from_residual.result c.in_err-file.field-0.0 _ c.from_residual.ensures.1 c.in_err-file.ensures.refusal
-
-pub returns-in_err-file-clause-reason : goal.returns-in_err-file-clause-reason
-returns-in_err-file-clause-reason g c = reason_after _ _ _ c.names.invariant.quiet (passed_reason c.from_residual.result _ c.in_err-file.field-0.0 _ _ c.from_residual.ensures.1 refl c.in_err-file.ensures.reason)
-
 pub returns-clause-range : goal.returns-clause-range
 returns-clause-range g c = refl
 
 pub returns-clause-memory : goal.returns-clause-memory
 returns-clause-memory g c = c.new.ensures
 
-pub returns-clause-refusal : goal.returns-clause-refusal
-returns-clause-refusal g c = tt
+pub returns-clause-reads : goal.returns-clause-reads
+returns-clause-reads g c = record {
+  refusal = tt;
+  same = c.names.invariant.contents;
+  reason = reason_after _ _ _ c.names.invariant.quiet (quiet_reason _ _ (not_err _ Device));
+}
 
 pub returns-clause-damaged : goal.returns-clause-damaged
 returns-clause-damaged g c = λ is. absurd (not_err _ _ is)
-
-pub returns-clause-same : goal.returns-clause-same
-returns-clause-same g c = c.names.invariant.contents
-
-pub returns-clause-reason : goal.returns-clause-reason
-returns-clause-reason g c = reason_after _ _ _ c.names.invariant.quiet (quiet_reason _ _ (not_err _ Device))
 
 pub returns-in_err-reserve-clause-range : goal.returns-in_err-reserve-clause-range
 returns-in_err-reserve-clause-range g c = passed_none c.from_residual-in_err-reserve.result c.in_err-reserve.field-0.0 _ c.from_residual-in_err-reserve.ensures.1
@@ -115,30 +111,26 @@ returns-in_err-reserve-clause-damaged g c = λ is. absurd (passed_kind c.from_re
 pub returns-in_err-replace_newest-clause-damaged : goal.returns-in_err-replace_newest-clause-damaged
 returns-in_err-replace_newest-clause-damaged g c = λ is. absurd (passed_kind c.from_residual-in_err-replace_newest.result c.in_err-replace_newest.field-0.0 _ IsNoMemory c.from_residual-in_err-replace_newest.ensures.1 (no_memory _ c.in_err-replace_newest.ensures.refusal) is)
 
-pub returns-in_err-reserve-clause-refusal : goal.returns-in_err-reserve-clause-refusal
-returns-in_err-reserve-clause-refusal g c = passed_err c.from_residual-in_err-reserve.result c.in_err-reserve.field-0.0 _ c.from_residual-in_err-reserve.ensures.1 (subst IsReadRefusal (sym c.in_err-reserve.ensures.refusal) tt)
+pub returns-in_err-reserve-clause-reads : goal.returns-in_err-reserve-clause-reads
+returns-in_err-reserve-clause-reads g c = record {
+  refusal = passed_err c.from_residual-in_err-reserve.result c.in_err-reserve.field-0.0 _ c.from_residual-in_err-reserve.ensures.1 (subst IsReadRefusal (sym c.in_err-reserve.ensures.refusal) tt);
+  same = c.open_over.ensures.reads.same ∙ c.names.invariant.contents;
+  reason = reason_after _ _ _ (c.in_ok-file.ensures.reads.reason.told (not_err _ Device) ∙ c.names.invariant.quiet) (quiet_reason c.from_residual-in_err-reserve.result _ (λ is. absurd (passed_kind c.from_residual-in_err-reserve.result c.in_err-reserve.field-0.0 _ IsNoMemory c.from_residual-in_err-reserve.ensures.1 (no_memory _ c.in_err-reserve.ensures.refusal) is)));
+}
 
-pub returns-in_err-replace_newest-clause-refusal : goal.returns-in_err-replace_newest-clause-refusal
-returns-in_err-replace_newest-clause-refusal g c = passed_err c.from_residual-in_err-replace_newest.result c.in_err-replace_newest.field-0.0 _ c.from_residual-in_err-replace_newest.ensures.1 (subst IsReadRefusal (sym c.in_err-replace_newest.ensures.refusal) tt)
-
-pub returns-in_err-reserve-clause-same : goal.returns-in_err-reserve-clause-same
-returns-in_err-reserve-clause-same g c = c.open_over.ensures.same ∙ c.names.invariant.contents
-
-pub returns-in_err-replace_newest-clause-same : goal.returns-in_err-replace_newest-clause-same
-returns-in_err-replace_newest-clause-same g c = c.open_over.ensures.same ∙ c.names.invariant.contents
-
-pub returns-in_err-reserve-clause-reason : goal.returns-in_err-reserve-clause-reason
-returns-in_err-reserve-clause-reason g c = reason_after _ _ _ (c.in_ok-file.ensures.reason.told (not_err _ Device) ∙ c.names.invariant.quiet) (quiet_reason c.from_residual-in_err-reserve.result _ (λ is. absurd (passed_kind c.from_residual-in_err-reserve.result c.in_err-reserve.field-0.0 _ IsNoMemory c.from_residual-in_err-reserve.ensures.1 (no_memory _ c.in_err-reserve.ensures.refusal) is)))
-
-pub returns-in_err-replace_newest-clause-reason : goal.returns-in_err-replace_newest-clause-reason
-returns-in_err-replace_newest-clause-reason g c = reason_after _ _ _ (c.in_ok-file.ensures.reason.told (not_err _ Device) ∙ c.names.invariant.quiet) (quiet_reason c.from_residual-in_err-replace_newest.result _ (λ is. absurd (passed_kind c.from_residual-in_err-replace_newest.result c.in_err-replace_newest.field-0.0 _ IsNoMemory c.from_residual-in_err-replace_newest.ensures.1 (no_memory _ c.in_err-replace_newest.ensures.refusal) is)))
+pub returns-in_err-replace_newest-clause-reads : goal.returns-in_err-replace_newest-clause-reads
+returns-in_err-replace_newest-clause-reads g c = record {
+  refusal = passed_err c.from_residual-in_err-replace_newest.result c.in_err-replace_newest.field-0.0 _ c.from_residual-in_err-replace_newest.ensures.1 (subst IsReadRefusal (sym c.in_err-replace_newest.ensures.refusal) tt);
+  same = c.open_over.ensures.reads.same ∙ c.names.invariant.contents;
+  reason = reason_after _ _ _ (c.in_ok-file.ensures.reads.reason.told (not_err _ Device) ∙ c.names.invariant.quiet) (quiet_reason c.from_residual-in_err-replace_newest.result _ (λ is. absurd (passed_kind c.from_residual-in_err-replace_newest.result c.in_err-replace_newest.field-0.0 _ IsNoMemory c.from_residual-in_err-replace_newest.ensures.1 (no_memory _ c.in_err-replace_newest.ensures.refusal) is)));
+}
 
 pub names-preserved : goal.names-preserved
 names-preserved g c =
     let put = c.in_ok-replace_newest.ensures.ok ∙ ap (λ (l : List SortedFile). c.in_ok-file.file ∷ l) c.in_ok-reserve.ensures.same in
     record {
-      contents = c.open_over.ensures.same ∙ c.names.invariant.contents;
-      quiet = c.in_ok-file.ensures.reason.told (not_err _ Device) ∙ c.names.invariant.quiet;
+      contents = c.open_over.ensures.reads.same ∙ c.names.invariant.contents;
+      quiet = c.in_ok-file.ensures.reads.reason.told (not_err _ Device) ∙ c.names.invariant.quiet;
       named = named_more c.args.names.now c.in-Some.rest.now c.names.newer.now c.in-Some.name.now c.in_ok-file.file c.names.open c.replace_newest.new.self c.in-Some.ensures.cases.0 put c.in_ok-file.ensures.named c.names.invariant.named;
       opened = opened_more _ _ _ _ _ c.names.invariant.contents put c.in_ok-file.ensures.opened c.names.invariant.opened;
     }

@@ -32,7 +32,7 @@ one_name file new next is named = cc
 pub returns-in_err-file-clause-keeps : goal.returns-in_err-file-clause-keeps
 returns-in_err-file-clause-keeps g c =
     still_keeps c.stays_open.ensures (g.F.Files.contents c.args.files.now) (g.F.Files.contents c.write.new.files) c.args.next_name.now c.write.new.next_name c.args.self.now _
-    (record { range = refl; memory = refl; files = c.in_ok-reserve.ensures.same }) c.in_err-file.ensures.name
+    (record { range = refl; memory = refl; files = c.in_ok-reserve.ensures.same }) c.in_err-file.ensures.name.uses
 
 pub returns-in_err-file-clause-large : goal.returns-in_err-file-clause-large
 returns-in_err-file-clause-large g c = λ err.
@@ -84,7 +84,7 @@ pub returns-in_err-file-clause-err : goal.returns-in_err-file-clause-err
 returns-in_err-file-clause-err g c = passed_kept c.from_residual-in_err-file.result _ (record { range = refl; memory = refl; files = c.in_ok-reserve.ensures.same })
 
 pub returns-in_err-file-clause-name : goal.returns-in_err-file-clause-name
-returns-in_err-file-clause-name g c = record { uses = c.in_err-file.ensures.name; within = c.in_err-file.ensures.limit }
+returns-in_err-file-clause-name g c = c.in_err-file.ensures.name
 
 pub returns-in_err-file-clause-exhausted : goal.returns-in_err-file-clause-exhausted
 returns-in_err-file-clause-exhausted g c = λ is. c.in_err-file.ensures.exhausted (passed_on c.from_residual-in_err-file.result _ c.in_err-file.field-0.0 _ c.from_residual-in_err-file.ensures.1 refl is)
@@ -141,7 +141,7 @@ pub returns-clause-refusal : goal.returns-clause-refusal
 returns-clause-refusal g c = tt
 
 pub returns-clause-name : goal.returns-clause-name
-returns-clause-name g c = record { uses = inr (c.in_ok-file.ensures.used.1, c.in_ok-file.ensures.others); within = c.in_ok-file.ensures.limit }
+returns-clause-name g c = record { uses = inr (c.in_ok-file.ensures.used.1, c.in_ok-file.ensures.others); within = c.in_ok-file.ensures.name.within }
 
 pub returns-clause-exhausted : goal.returns-clause-exhausted
 returns-clause-exhausted g c = λ is. absurd (not_err _ _ is)
@@ -211,7 +211,7 @@ returns-in_err-replace_newest-clause-lists g c = passed_none c.from_residual-in_
 pub returns-in_err-replace_newest-clause-keeps : goal.returns-in_err-replace_newest-clause-keeps
 returns-in_err-replace_newest-clause-keeps g c =
     still_keeps c.stays_open.ensures (g.F.Files.contents c.args.files.now) (g.F.Files.contents c.write.new.files) c.args.next_name.now c.write.new.next_name c.args.self.now _
-    (record { range = refl; memory = refl; files = c.in_err-replace_newest.ensures.err ∙ c.in_ok-reserve.ensures.same }) c.in_ok-file.ensures.name
+    (record { range = refl; memory = refl; files = c.in_err-replace_newest.ensures.err ∙ c.in_ok-reserve.ensures.same }) c.in_ok-file.ensures.name.uses
 
 pub returns-in_err-replace_newest-clause-range : goal.returns-in_err-replace_newest-clause-range
 returns-in_err-replace_newest-clause-range g c = refl
@@ -220,7 +220,7 @@ pub returns-in_err-replace_newest-clause-err : goal.returns-in_err-replace_newes
 returns-in_err-replace_newest-clause-err g c = passed_kept c.from_residual-in_err-replace_newest.result _ (record { range = refl; memory = refl; files = c.in_err-replace_newest.ensures.err ∙ c.in_ok-reserve.ensures.same })
 
 pub returns-in_err-replace_newest-clause-name : goal.returns-in_err-replace_newest-clause-name
-returns-in_err-replace_newest-clause-name g c = record { uses = c.in_ok-file.ensures.name; within = c.in_ok-file.ensures.limit }
+returns-in_err-replace_newest-clause-name g c = c.in_ok-file.ensures.name
 
 pub returns-in_err-replace_newest-clause-exhausted : goal.returns-in_err-replace_newest-clause-exhausted
 returns-in_err-replace_newest-clause-exhausted g c = λ is. absurd (passed_kind c.from_residual-in_err-replace_newest.result c.in_err-replace_newest.field-0.0 _ IsNoMemory c.from_residual-in_err-replace_newest.ensures.1 (no_memory _ c.in_err-replace_newest.ensures.refusal) is)

@@ -23,7 +23,7 @@ within files len count is most = omega (arith, length-map files name_of)
 pub returns-in_err-file-clause-keeps : goal.returns-in_err-file-clause-keeps
 returns-in_err-file-clause-keeps g c =
     still_keeps c.stays_open.ensures (g.F.Files.contents c.args.files.now) (g.F.Files.contents c.write.new.files) c.args.next_name.now c.write.new.next_name c.args.self.now _
-    (record { range = refl; memory = refl; files = refl }) c.in_err-file.ensures.name
+    (record { range = refl; memory = refl; files = refl }) c.in_err-file.ensures.name.uses
 
 pub returns-clause-lists : goal.returns-clause-lists
 returns-clause-lists g c =
@@ -56,7 +56,7 @@ pub returns-in_err-file-clause-err : goal.returns-in_err-file-clause-err
 returns-in_err-file-clause-err g c = passed_kept c.from_residual.result _ (record { range = refl; memory = refl; files = refl })
 
 pub returns-in_err-file-clause-name : goal.returns-in_err-file-clause-name
-returns-in_err-file-clause-name g c = record { uses = c.in_err-file.ensures.name; within = c.in_err-file.ensures.limit }
+returns-in_err-file-clause-name g c = c.in_err-file.ensures.name
 
 pub returns-in_err-file-clause-count : goal.returns-in_err-file-clause-count
 returns-in_err-file-clause-count g c = (λ is. absurd (passed_kind c.from_residual.result c.in_err-file.field-0.0 BadCount IsCompactionRefusal c.from_residual.ensures.1 c.in_err-file.ensures.refusal is), λ no. absurd (no (c.if-count-lt2.false, within (files_of c.args.self.now) _ c.args.count c.len.ensures c.if-count-len.false)))
@@ -126,7 +126,7 @@ pub returns-clause-refusal : goal.returns-clause-refusal
 returns-clause-refusal g c = tt
 
 pub returns-clause-name : goal.returns-clause-name
-returns-clause-name g c = record { uses = inr (c.in_ok-file.ensures.used.1, c.in_ok-file.ensures.others); within = c.in_ok-file.ensures.limit }
+returns-clause-name g c = record { uses = inr (c.in_ok-file.ensures.used.1, c.in_ok-file.ensures.others); within = c.in_ok-file.ensures.name.within }
 
 pub returns-clause-count : goal.returns-clause-count
 returns-clause-count g c = (λ is. absurd (not_err _ _ is), λ no. absurd (no (c.if-count-lt2.false, within (files_of c.args.self.now) _ c.args.count c.len.ensures c.if-count-len.false)))
@@ -193,7 +193,7 @@ returns-in_err-replace_newest-clause-lists g c = passed_none c.from_residual-in_
 pub returns-in_err-replace_newest-clause-keeps : goal.returns-in_err-replace_newest-clause-keeps
 returns-in_err-replace_newest-clause-keeps g c =
     still_keeps c.stays_open.ensures (g.F.Files.contents c.args.files.now) (g.F.Files.contents c.write.new.files) c.args.next_name.now c.write.new.next_name c.args.self.now _
-    (record { range = refl; memory = refl; files = c.in_err-replace_newest.ensures.err }) c.in_ok-file.ensures.name
+    (record { range = refl; memory = refl; files = c.in_err-replace_newest.ensures.err }) c.in_ok-file.ensures.name.uses
 
 pub returns-in_err-replace_newest-clause-range : goal.returns-in_err-replace_newest-clause-range
 returns-in_err-replace_newest-clause-range g c = refl
@@ -202,7 +202,7 @@ pub returns-in_err-replace_newest-clause-err : goal.returns-in_err-replace_newes
 returns-in_err-replace_newest-clause-err g c = passed_kept c.from_residual-in_err-replace_newest.result _ (record { range = refl; memory = refl; files = c.in_err-replace_newest.ensures.err })
 
 pub returns-in_err-replace_newest-clause-name : goal.returns-in_err-replace_newest-clause-name
-returns-in_err-replace_newest-clause-name g c = record { uses = c.in_ok-file.ensures.name; within = c.in_ok-file.ensures.limit }
+returns-in_err-replace_newest-clause-name g c = c.in_ok-file.ensures.name
 
 pub returns-in_err-replace_newest-clause-exhausted : goal.returns-in_err-replace_newest-clause-exhausted
 returns-in_err-replace_newest-clause-exhausted g c = λ is. absurd (passed_kind c.from_residual-in_err-replace_newest.result c.in_err-replace_newest.field-0.0 _ IsNoMemory c.from_residual-in_err-replace_newest.ensures.1 (no_memory _ c.in_err-replace_newest.ensures.refusal) is)

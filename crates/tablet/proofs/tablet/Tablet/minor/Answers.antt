@@ -28,7 +28,7 @@ names_more next (e ∷ es) file old new some is named = cc
 pub returns-in_err-file-clause-keeps : goal.returns-in_err-file-clause-keeps
 returns-in_err-file-clause-keeps g c =
     still_keeps c.stays_open.ensures (g.F.Files.contents c.args.files.now) (g.F.Files.contents c.write.new.files) c.args.next_name.now c.write.new.next_name c.args.self.now _
-    (record { range = refl; memory = refl; files = c.in_ok-reserve.ensures.same }) c.in_err-file.ensures.name
+    (record { range = refl; memory = refl; files = c.in_ok-reserve.ensures.same }) c.in_err-file.ensures.name.uses
 
 pub returns-in_err-file-clause-large : goal.returns-in_err-file-clause-large
 returns-in_err-file-clause-large g c = λ err.
@@ -87,7 +87,7 @@ pub returns-in_err-file-clause-err : goal.returns-in_err-file-clause-err
 returns-in_err-file-clause-err g c = passed_kept c.from_residual-in_err-file.result _ (record { range = refl; memory = refl; files = c.in_ok-reserve.ensures.same })
 
 pub returns-in_err-file-clause-name : goal.returns-in_err-file-clause-name
-returns-in_err-file-clause-name g c = record { uses = c.in_err-file.ensures.name; within = c.in_err-file.ensures.limit }
+returns-in_err-file-clause-name g c = c.in_err-file.ensures.name
 
 pub returns-in_err-file-clause-full : goal.returns-in_err-file-clause-full
 returns-in_err-file-clause-full g c = (λ is. absurd (passed_kind c.from_residual-in_err-file.result c.in_err-file.field-0.0 TooManyFiles IsCompactionRefusal c.from_residual-in_err-file.ensures.1 c.in_err-file.ensures.refusal is), λ both. absurd (not_both _ _ (too_few c.args.self.now.files _ 64 c.len.ensures c.if-len-ge-MOST_FILES.false) both.1))
@@ -188,7 +188,7 @@ pub returns-clause-err : goal.returns-clause-err
 returns-clause-err g c = tt
 
 pub returns-clause-name : goal.returns-clause-name
-returns-clause-name g c = record { uses = inr (c.in_ok-file.ensures.used.1, c.in_ok-file.ensures.others); within = c.in_ok-file.ensures.limit }
+returns-clause-name g c = record { uses = inr (c.in_ok-file.ensures.used.1, c.in_ok-file.ensures.others); within = c.in_ok-file.ensures.name.within }
 
 pub returns-clause-full : goal.returns-clause-full
 returns-clause-full g c = (λ is. absurd (not_err _ _ is), λ both. absurd (not_both _ _ (too_few c.args.self.now.files _ 64 c.len.ensures c.if-len-ge-MOST_FILES.false) both.1))
@@ -270,7 +270,7 @@ returns-in_err-replace_newest-clause-lists g c = passed_none c.from_residual-in_
 pub returns-in_err-replace_newest-clause-keeps : goal.returns-in_err-replace_newest-clause-keeps
 returns-in_err-replace_newest-clause-keeps g c =
     still_keeps c.stays_open.ensures (g.F.Files.contents c.args.files.now) (g.F.Files.contents c.write.new.files) c.args.next_name.now c.write.new.next_name c.args.self.now _
-    (record { range = refl; memory = refl; files = c.in_err-replace_newest.ensures.err ∙ c.in_ok-reserve.ensures.same }) c.in_ok-file.ensures.name
+    (record { range = refl; memory = refl; files = c.in_err-replace_newest.ensures.err ∙ c.in_ok-reserve.ensures.same }) c.in_ok-file.ensures.name.uses
 
 pub returns-in_err-replace_newest-clause-range : goal.returns-in_err-replace_newest-clause-range
 returns-in_err-replace_newest-clause-range g c = refl
@@ -279,7 +279,7 @@ pub returns-in_err-replace_newest-clause-err : goal.returns-in_err-replace_newes
 returns-in_err-replace_newest-clause-err g c = passed_kept c.from_residual-in_err-replace_newest.result _ (record { range = refl; memory = refl; files = c.in_err-replace_newest.ensures.err ∙ c.in_ok-reserve.ensures.same })
 
 pub returns-in_err-replace_newest-clause-name : goal.returns-in_err-replace_newest-clause-name
-returns-in_err-replace_newest-clause-name g c = record { uses = c.in_ok-file.ensures.name; within = c.in_ok-file.ensures.limit }
+returns-in_err-replace_newest-clause-name g c = c.in_ok-file.ensures.name
 
 pub returns-in_err-replace_newest-clause-exhausted : goal.returns-in_err-replace_newest-clause-exhausted
 returns-in_err-replace_newest-clause-exhausted g c = λ is. absurd (passed_kind c.from_residual-in_err-replace_newest.result c.in_err-replace_newest.field-0.0 _ IsNoMemory c.from_residual-in_err-replace_newest.ensures.1 (no_memory _ c.in_err-replace_newest.ensures.refusal) is)

@@ -54,7 +54,7 @@ returns-in-Some-2-clause-found g c =
     let low : c.args.lo ≤ c.in-Some.stamp = within.0 in
     let high : c.in-Some.stamp ≤ c.args.hi = (let a = within.1 in let b = i.high in omega (arith, a, b)) in
     let after = none_after o t c.args.row.now c.args.family.now c.args.qualifier c.args.lo c.args.hi (g.F.Files.contents c.hidden.files) c.hidden.self i.same i.stays c.hidden.key.stamp (Some c.in-Some.stamp) i.told found in
-    shows o t c.args.row.now c.args.family.now c.args.qualifier c.args.lo c.args.hi (g.F.Files.contents c.newest_file_stamp.new.files) c.newest_file_stamp.new.self (c.newest_file_stamp.ensures.same ∙ i.same)
+    shows o t c.args.row.now c.args.family.now c.args.qualifier c.args.lo c.args.hi (g.F.Files.contents c.newest_file_stamp.new.files) c.newest_file_stamp.new.self (c.newest_file_stamp.ensures.reads.files.same ∙ i.same)
     (same_after_tablet o t c.hidden.self c.newest_file_stamp.new.self i.stays (over_now o (g.F.Files.contents c.hidden.files) c.hidden.self c.newest_file_stamp.new.self i.same c.newest_file_stamp.ensures.stays))
     c.in-Some.stamp low high after (stamped c.in-Some-2.found)
     (same_one (g.F.Files.contents c.newest_file_stamp.new.files) c.newest_file_stamp.new.self (Some (stamped c.in-Some-2.found)) c.set_stamp.new.self (at c.in-Some.stamp) named (rw c.in-Some-2.is at c.in_ok-found.ensures.found))
@@ -75,10 +75,10 @@ hidden-preserved g c =
     let one : c.set_stamp-in-hidden.new.self.stamp + 1 ≡ c.in-Some.stamp = (let a = c.requires.from in omega (arith, a, low, last)) in
     let after = none_after o t c.args.row.now c.args.family.now c.args.qualifier c.args.lo c.args.hi (g.F.Files.contents c.hidden.files) c.hidden.self i.same i.stays c.hidden.key.stamp (Some c.in-Some.stamp) i.told found in
     let mid = same_after_tablet o t c.hidden.self c.newest_file_stamp.new.self i.stays (over_now o (g.F.Files.contents c.hidden.files) c.hidden.self c.newest_file_stamp.new.self i.same c.newest_file_stamp.ensures.stays) in
-    let same = c.newest_file_stamp.ensures.same ∙ i.same in
+    let same = c.newest_file_stamp.ensures.reads.files.same ∙ i.same in
     record {
-      same = c.version_at-in-hidden.ensures.same ∙ same;
-      quiet = c.in_ok-found.ensures.reason.told (not_err _ Device) ∙ c.in_ok-stamp.ensures.reason.told (not_err _ Device) ∙ i.quiet;
+      same = c.version_at-in-hidden.ensures.reads.files.same ∙ same;
+      quiet = c.in_ok-found.ensures.reads.files.reason.told (not_err _ Device) ∙ c.in_ok-stamp.ensures.reads.files.reason.told (not_err _ Device) ∙ i.quiet;
       high = omega (arith, high, one);
       stays = same_after_tablet o t c.newest_file_stamp.new.self c.version_at-in-hidden.new.self mid (over_now o (g.F.Files.contents c.newest_file_stamp.new.files) c.newest_file_stamp.new.self c.version_at-in-hidden.new.self same c.version_at-in-hidden.ensures.stays);
       told = hidden o t c.args.row.now c.args.family.now c.args.qualifier c.args.lo c.args.hi (g.F.Files.contents c.newest_file_stamp.new.files) c.newest_file_stamp.new.self same mid
@@ -108,14 +108,14 @@ returns-in_err-found-clause-stays g c =
     let o = g.F.Files.contents c.args.files.now in
     let i = c.hidden.invariant in
     let mid = same_after_tablet o c.args.self.now c.hidden.self c.newest_file_stamp.new.self i.stays (over_now o (g.F.Files.contents c.hidden.files) c.hidden.self c.newest_file_stamp.new.self i.same c.newest_file_stamp.ensures.stays) in
-    same_after_tablet o c.args.self.now c.newest_file_stamp.new.self c.version_at-in-hidden.new.self mid (over_now o (g.F.Files.contents c.newest_file_stamp.new.files) c.newest_file_stamp.new.self c.version_at-in-hidden.new.self (c.newest_file_stamp.ensures.same ∙ i.same) c.version_at-in-hidden.ensures.stays)
+    same_after_tablet o c.args.self.now c.newest_file_stamp.new.self c.version_at-in-hidden.new.self mid (over_now o (g.F.Files.contents c.newest_file_stamp.new.files) c.newest_file_stamp.new.self c.version_at-in-hidden.new.self (c.newest_file_stamp.ensures.reads.files.same ∙ i.same) c.version_at-in-hidden.ensures.stays)
 
 pub returns-in-Some-2-clause-stays : goal.returns-in-Some-2-clause-stays
 returns-in-Some-2-clause-stays g c =
     let o = g.F.Files.contents c.args.files.now in
     let i = c.hidden.invariant in
     let mid = same_after_tablet o c.args.self.now c.hidden.self c.newest_file_stamp.new.self i.stays (over_now o (g.F.Files.contents c.hidden.files) c.hidden.self c.newest_file_stamp.new.self i.same c.newest_file_stamp.ensures.stays) in
-    same_after_tablet o c.args.self.now c.newest_file_stamp.new.self c.version_at-in-hidden.new.self mid (over_now o (g.F.Files.contents c.newest_file_stamp.new.files) c.newest_file_stamp.new.self c.version_at-in-hidden.new.self (c.newest_file_stamp.ensures.same ∙ i.same) c.version_at-in-hidden.ensures.stays)
+    same_after_tablet o c.args.self.now c.newest_file_stamp.new.self c.version_at-in-hidden.new.self mid (over_now o (g.F.Files.contents c.newest_file_stamp.new.files) c.newest_file_stamp.new.self c.version_at-in-hidden.new.self (c.newest_file_stamp.ensures.reads.files.same ∙ i.same) c.version_at-in-hidden.ensures.stays)
 
 pub returns-in_default-clause-stays : goal.returns-in_default-clause-stays
 returns-in_default-clause-stays g c =

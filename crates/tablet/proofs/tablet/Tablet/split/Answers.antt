@@ -34,25 +34,25 @@ pub returns-in_err-minor-clause-empty : goal.returns-in_err-minor-clause-empty
 returns-in_err-minor-clause-empty g c = λ none. (c.in_err-minor.ensures.empty none).1.1
 
 pub returns-clause-full : goal.returns-clause-full
-returns-clause-full g c = (λ is. absurd (err_kind c.cut.result _ IsReadRefusal c.cut.ensures.refusal is), λ both. absurd (not_err _ _ (c.in_ok-minor.ensures.full.1 both)))
+returns-clause-full g c = (λ is. absurd (err_kind c.cut.result _ IsReadRefusal c.cut.ensures.reads.refusal is), λ both. absurd (not_err _ _ (c.in_ok-minor.ensures.full.1 both)))
 
 pub returns-clause-exhausted : goal.returns-clause-exhausted
-returns-clause-exhausted g c = λ is. absurd (err_kind c.cut.result _ IsReadRefusal c.cut.ensures.refusal is)
+returns-clause-exhausted g c = λ is. absurd (err_kind c.cut.result _ IsReadRefusal c.cut.ensures.reads.refusal is)
 
 pub returns-clause-large : goal.returns-clause-large
-returns-clause-large g c = λ is. absurd (err_kind c.cut.result _ IsReadRefusal c.cut.ensures.refusal is)
+returns-clause-large g c = λ is. absurd (err_kind c.cut.result _ IsReadRefusal c.cut.ensures.reads.refusal is)
 
 pub returns-clause-unwritten : goal.returns-clause-unwritten
-returns-clause-unwritten g c = λ is. absurd (err_kind c.cut.result _ IsReadRefusal c.cut.ensures.refusal is)
+returns-clause-unwritten g c = λ is. absurd (err_kind c.cut.result _ IsReadRefusal c.cut.ensures.reads.refusal is)
 
 pub returns-clause-refusal : goal.returns-clause-refusal
-returns-clause-refusal g c = err_map c.cut.result IsReadRefusal IsMinorRefusal minor_read c.cut.ensures.refusal
+returns-clause-refusal g c = err_map c.cut.result IsReadRefusal IsMinorRefusal minor_read c.cut.ensures.reads.refusal
 
 pub returns-clause-damaged : goal.returns-clause-damaged
 returns-clause-damaged g c = λ is. missing_before c.open_is_there.ensures (g.F.Files.contents c.args.files.now) (g.F.Files.contents c.minor.new.files) c.args.file_limit c.args.next_name.now c.minor.new.next_name c.args.self.now c.minor.new.self c.in_ok-minor.ensures.name.uses c.in_ok-minor.ensures.flushed (c.cut.ensures.damaged is)
 
 pub returns-clause-reason : goal.returns-clause-reason
-returns-clause-reason g c = reason_after (g.F.Files.faults c.args.files.now) (g.F.Files.faults c.minor.new.files) (g.F.Files.faults c.cut.new.files) (c.in_ok-minor.ensures.reason.told (λ is. not_err _ _ is)) c.cut.ensures.reason
+returns-clause-reason g c = reason_after (g.F.Files.faults c.args.files.now) (g.F.Files.faults c.minor.new.files) (g.F.Files.faults c.cut.new.files) (c.in_ok-minor.ensures.reason.told (λ is. not_err _ _ is)) c.cut.ensures.reads.reason
 
 pub returns-in_err-minor-clause-cut : goal.returns-in_err-minor-clause-cut
 returns-in_err-minor-clause-cut g c = passed_none c.from_residual.result c.in_err-minor.field-0.0 _ c.from_residual.ensures.1
@@ -78,4 +78,4 @@ returns-clause-left g c =
 
 pub returns-clause-name : goal.returns-clause-name
 returns-clause-name g c =
-    subst (λ (told : Option Contents). TakesName (g.F.Files.contents c.args.files.now) c.args.next_name.now told c.minor.new.next_name) (sym c.cut.ensures.same) c.in_ok-minor.ensures.name
+    subst (λ (told : Option Contents). TakesName (g.F.Files.contents c.args.files.now) c.args.next_name.now told c.minor.new.next_name) (sym c.cut.ensures.reads.same) c.in_ok-minor.ensures.name

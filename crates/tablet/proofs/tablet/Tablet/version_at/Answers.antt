@@ -35,46 +35,40 @@ returns-in_err-value-clause-found g c = passed_none c.from_residual.result c.in_
 pub returns-in_err-value-clause-limits : goal.returns-in_err-value-clause-limits
 returns-in_err-value-clause-limits g c = passed_none c.from_residual.result c.in_err-value.field-0.0 _ c.from_residual.ensures.1
 
-pub returns-in_err-value-clause-damaged : goal.returns-in_err-value-clause-damaged
-returns-in_err-value-clause-damaged g c = λ is.
-    if_some_not (g.F.Files.contents c.args.files.now) (λ m. AllByRecursion (IsOpen m) c.args.self.now.files) (λ m. Holds m c.args.self.now) (λ m h. h.files)
-    (c.in_err-value.ensures.damaged (passed_on c.from_residual.result _ c.in_err-value.field-0.0 _ c.from_residual.ensures.1 refl is))
+pub returns-in_err-value-clause-reads : goal.returns-in_err-value-clause-reads
+returns-in_err-value-clause-reads g c = record {
+  damaged = λ is.
+      if_some_not (g.F.Files.contents c.args.files.now) (λ m. AllByRecursion (IsOpen m) c.args.self.now.files) (λ m. Holds m c.args.self.now) (λ m h. h.files)
+      (c.in_err-value.ensures.damaged (passed_on c.from_residual.result _ c.in_err-value.field-0.0 _ c.from_residual.ensures.1 refl is));
+  files = record {
+    refusal = passed_err c.from_residual.result c.in_err-value.field-0.0 _ c.from_residual.ensures.1 c.in_err-value.ensures.reads.refusal;
+    same = c.in_err-value.ensures.reads.same;
+    reason = passed_reason c.from_residual.result _ c.in_err-value.field-0.0 _ _ c.from_residual.ensures.1 refl c.in_err-value.ensures.reads.reason;
+  };
+}
 
-pub returns-in_err-value-clause-refusal : goal.returns-in_err-value-clause-refusal
-returns-in_err-value-clause-refusal g c = passed_err c.from_residual.result c.in_err-value.field-0.0 _ c.from_residual.ensures.1 c.in_err-value.ensures.refusal
-
-pub returns-in_err-value-clause-same : goal.returns-in_err-value-clause-same
-returns-in_err-value-clause-same g c = c.in_err-value.ensures.same
-
-pub returns-in_err-value-clause-reason : goal.returns-in_err-value-clause-reason
-returns-in_err-value-clause-reason g c = passed_reason c.from_residual.result _ c.in_err-value.field-0.0 _ _ c.from_residual.ensures.1 refl c.in_err-value.ensures.reason
-
-pub returns-in-Some-clause-damaged : goal.returns-in-Some-clause-damaged
-returns-in-Some-clause-damaged g c = λ is. absurd (not_err _ _ is)
-
-pub returns-in-Some-clause-refusal : goal.returns-in-Some-clause-refusal
-returns-in-Some-clause-refusal g c = tt
-
-pub returns-in-Some-clause-same : goal.returns-in-Some-clause-same
-returns-in-Some-clause-same g c = c.in_ok-value.ensures.same
-
-pub returns-in-Some-clause-reason : goal.returns-in-Some-clause-reason
-returns-in-Some-clause-reason g c = reason_of_ok _ _ _ _ c.in_ok-value.ensures.reason
+pub returns-in-Some-clause-reads : goal.returns-in-Some-clause-reads
+returns-in-Some-clause-reads g c = record {
+  damaged = λ is. absurd (not_err _ _ is);
+  files = record {
+    refusal = tt;
+    same = c.in_ok-value.ensures.reads.same;
+    reason = reason_of_ok _ _ _ _ c.in_ok-value.ensures.reads.reason;
+  };
+}
 
 pub returns-in-None-clause-limits : goal.returns-in-None-clause-limits
 returns-in-None-clause-limits g c = tt
 
-pub returns-in-None-clause-damaged : goal.returns-in-None-clause-damaged
-returns-in-None-clause-damaged g c = λ is. absurd (not_err _ _ is)
-
-pub returns-in-None-clause-refusal : goal.returns-in-None-clause-refusal
-returns-in-None-clause-refusal g c = tt
-
-pub returns-in-None-clause-same : goal.returns-in-None-clause-same
-returns-in-None-clause-same g c = c.in_ok-value.ensures.same
-
-pub returns-in-None-clause-reason : goal.returns-in-None-clause-reason
-returns-in-None-clause-reason g c = reason_of_ok _ _ _ _ c.in_ok-value.ensures.reason
+pub returns-in-None-clause-reads : goal.returns-in-None-clause-reads
+returns-in-None-clause-reads g c = record {
+  damaged = λ is. absurd (not_err _ _ is);
+  files = record {
+    refusal = tt;
+    same = c.in_ok-value.ensures.reads.same;
+    reason = reason_of_ok _ _ _ _ c.in_ok-value.ensures.reads.reason;
+  };
+}
 
 pub returns-in_err-value-clause-stays : goal.returns-in_err-value-clause-stays
 returns-in_err-value-clause-stays g c = same_tablet (g.F.Files.contents c.args.files.now) c.args.self.now _ refl refl c.lookup.ensures.stay

@@ -59,10 +59,10 @@ pub returns-in_err-from-clause-fits : goal.returns-in_err-from-clause-fits
 returns-in_err-from-clause-fits g c = passed_none c.from_residual.result c.in_err-from.field-0.0 _ c.from_residual.ensures.1
 
 pub returns-in_err-from-clause-name : goal.returns-in_err-from-clause-name
-returns-in_err-from-clause-name g c = inl (refl, refl)
-
-pub returns-in_err-from-clause-limit : goal.returns-in_err-from-clause-limit
-returns-in_err-from-clause-limit g c = λ most. most
+returns-in_err-from-clause-name g c = record {
+  uses = inl (refl, refl);
+  within = λ most. most;
+}
 
 pub returns-in_err-from-clause-exhausted : goal.returns-in_err-from-clause-exhausted
 returns-in_err-from-clause-exhausted g c = λ is. absurd (passed_kind c.from_residual.result c.in_err-from.field-0.0 _ IsNoMemory c.from_residual.ensures.1 (no_memory c.in_err-from.field-0.0 c.in_err-from.ensures.refusal) is)
@@ -95,10 +95,10 @@ pub returns-in_err-sources-clause-fits : goal.returns-in_err-sources-clause-fits
 returns-in_err-sources-clause-fits g c = passed_none c.from_residual-in_err-sources.result c.in_err-sources.field-0.0 _ c.from_residual-in_err-sources.ensures.1
 
 pub returns-in_err-sources-clause-name : goal.returns-in_err-sources-clause-name
-returns-in_err-sources-clause-name g c = inl (refl, refl)
-
-pub returns-in_err-sources-clause-limit : goal.returns-in_err-sources-clause-limit
-returns-in_err-sources-clause-limit g c = λ most. most
+returns-in_err-sources-clause-name g c = record {
+  uses = inl (refl, refl);
+  within = λ most. most;
+}
 
 pub returns-in_err-sources-clause-exhausted : goal.returns-in_err-sources-clause-exhausted
 returns-in_err-sources-clause-exhausted g c = λ is. absurd (passed_kind c.from_residual-in_err-sources.result c.in_err-sources.field-0.0 _ IsNoMemory c.from_residual-in_err-sources.ensures.1 (no_memory c.in_err-sources.field-0.0 c.in_err-sources.ensures.refusal) is)
@@ -126,9 +126,6 @@ returns-clause-others g c = c.write_new.ensures.others
 
 pub returns-clause-name : goal.returns-clause-name
 returns-clause-name g c = c.write_new.ensures.name
-
-pub returns-clause-limit : goal.returns-clause-limit
-returns-clause-limit g c = c.write_new.ensures.limit
 
 pub returns-clause-exhausted : goal.returns-clause-exhausted
 returns-clause-exhausted g c = c.write_new.ensures.exhausted
@@ -204,10 +201,10 @@ pub returns-in_err-older-clause-fits : goal.returns-in_err-older-clause-fits
 returns-in_err-older-clause-fits g c = passed_none c.from_residual-in_err-older.result c.in_err-older.field-0.0 _ c.from_residual-in_err-older.ensures.1
 
 pub returns-in_err-older-clause-name : goal.returns-in_err-older-clause-name
-returns-in_err-older-clause-name g c = inl (refl, refl)
-
-pub returns-in_err-older-clause-limit : goal.returns-in_err-older-clause-limit
-returns-in_err-older-clause-limit g c = λ most. most
+returns-in_err-older-clause-name g c = record {
+  uses = inl (refl, refl);
+  within = λ most. most;
+}
 
 pub returns-in_err-older-clause-exhausted : goal.returns-in_err-older-clause-exhausted
 returns-in_err-older-clause-exhausted g c = λ is. absurd (passed_kind c.from_residual-in_err-older.result c.in_err-older.field-0.0 _ IsNoMemory c.from_residual-in_err-older.ensures.1 (no_memory c.in_err-older.field-0.0 c.in_err-older.ensures) is)
