@@ -58,17 +58,20 @@ const CHECKPOINTS: Upkeep = Upkeep {
     checkpoint: Some(1),
 };
 
+/// How a server compacts and checkpoints, how many bytes a read gives, what is asked for at the end, and the log then.
+const LOGS: [(Upkeep, usize, &[u8], &[u8]); 4] = [
+    (ON_REQUEST, 1, b"", TWO_RECORDS),
+    (ON_REQUEST, usize::MAX, b"", ONE_RECORD),
+    // Checkpoint
+    (ON_REQUEST, 1, b"\0\0\0\x01\x12", &HEAD),
+    (CHECKPOINTS, 1, b"", &HEAD),
+];
+
 #[test]
 fn what_the_log_has(rt: HostRuntime) -> Result<(), Fail> {
-    let bytes = log_after(rt.alloc(), ON_REQUEST, 1, b"")?;
-    assert!(rt; bytes.as_slice() == TWO_RECORDS);
-    let bytes = log_after(rt.alloc(), ON_REQUEST, usize::MAX, b"")?;
-    assert!(rt; bytes.as_slice() == ONE_RECORD);
-    // Checkpoint
-    let bytes = log_after(rt.alloc(), ON_REQUEST, 1, b"\0\0\0\x01\x12")?;
-    assert!(rt; bytes.as_slice() == HEAD.as_slice());
-    let bytes = log_after(rt.alloc(), CHECKPOINTS, 1, b"")?;
-    assert!(rt; bytes.as_slice() == HEAD.as_slice());
+    for (upkeep, most, more, log) in LOGS {
+        assert!(rt; log_after(rt.alloc(), upkeep, most, more)?.as_slice() == log);
+    }
     Ok(())
 }
 
@@ -162,16 +165,19 @@ struct Logged {
     reads: Vec<u8>,
 }
 
+/// The bodies of the transfer's requests.
+fn bodies(alloc: Global) -> Result<Vec<&'static [u8]>, Refusal> {
+    let mut bodies = Vec::new(alloc);
+    for (request, _) in TRANSFER {
+        bodies.push(request)?;
+    }
+    Ok(bodies)
+}
+
 impl Logged {
     fn new(alloc: Global) -> Result<Logged, Refusal> {
-        let mut bodies = Vec::new(alloc);
-        let mut requests = Vec::new(alloc);
-        for (request, _) in TRANSFER {
-            bodies.push(request)?;
-            push_frame(&mut requests, request)?;
-        }
         let devices = Devices::new(alloc)?;
-        let states = logged_states(alloc, &devices, &bodies)?;
+        let states = logged_states(alloc, &devices, &bodies(alloc)?)?;
         let log = devices.log_bytes()?;
         Ok(Logged {
             ends: ends_of(alloc, &log)?,

@@ -4,13 +4,12 @@
 
 ghost use Rattle.std.specs.Prelude.{None};
 
-use crate::tests::script::{Room, Run, Watch, played_over};
+use crate::tests::script::{Came, Room, Run, Watch, played_over};
 use cell_key::Refusal;
 use file_store::{FailAt, FileFault, Files, MemFiles};
 use oracle::{FailMarkAt, MemMark};
 use std::alloc::Global;
 use std::test::Fail;
-use testing::memory::Came;
 
 /// How many calls the script makes of its mark store: it loads the mark and stores the end of a range, and both again
 /// after the oracle restarts.

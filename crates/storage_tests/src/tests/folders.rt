@@ -191,6 +191,13 @@ fn mark_in_a_folder(rt: HostRuntime) -> Result<(), Fail> {
     Ok(())
 }
 
+/// Whether no call of these files goes.
+fn are_faults(rt: &HostRuntime, files: &mut DirFiles<HostRuntime>) -> bool {
+    files.put(1, b"x") == Err(FileFault::Device)
+        && has_files(rt, files, &[]) == Err(FileFault::Device)
+        && files.faults() == 2
+}
+
 #[test]
 fn a_folder_is_removed(rt: HostRuntime) -> Result<(), Fail> {
     let folder = new_folder(&rt, "removed")?;
@@ -198,10 +205,7 @@ fn a_folder_is_removed(rt: HostRuntime) -> Result<(), Fail> {
     let mut files = DirFiles::open(rt, path)?;
     let mut mark = DirMark::open(rt, path)?;
     fs::remove_dir_all(&rt, path)?;
-    assert!(rt; files.put(1, b"x") == Err(FileFault::Device));
-    assert!(rt; has_files(&rt, &mut files, &[]) == Err(FileFault::Device));
-    assert!(rt; files.faults() == 2);
-    assert!(rt; mark.store(5).is_err());
+    assert!(rt; are_faults(&rt, &mut files) && mark.store(5).is_err());
     assert!(rt; matches!(DirFiles::open(rt, path), Err(FileFault::Device)));
     assert!(rt; DirMark::open(rt, path).is_err());
     Ok(())

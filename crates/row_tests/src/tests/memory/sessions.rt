@@ -132,6 +132,28 @@ impl Sessions {
         }
         Ok(())
     }
+
+    /// Begins a session: the lowest byte of its start.
+    fn start(&mut self) -> Result<u8, Refusal> {
+        Ok((self.clients.begin(&mut self.oracle)? % 256) as u8)
+    }
+
+    /// What a step of a session comes to.
+    fn step(&mut self, start: Stamp) -> Result<[u8; 2], Refusal> {
+        let progress = self.clients.step(&mut self.rows, &mut self.oracle, start)?;
+        Ok(told(progress))
+    }
+
+    /// The calls that answer nothing.
+    fn call(&mut self, number: usize) -> Result<(), Refusal> {
+        match number {
+            3 => self.clients.set(4, b"a", b"bal", b"7"),
+            4 => self.clients.set(4, b"n", b"bal", b"7"),
+            8 => self.clients.stop(3),
+            9 => self.clients.delete(4, b"a", b"bal"),
+            _ => self.clients.delete(4, b"n", b"bal"),
+        }
+    }
 }
 
 pub const SESSIONS: Table = (b"1L162\x06", &CALLS);
@@ -149,44 +171,20 @@ impl Subject for Sessions {
     }
 
     fn answers(&mut self, alloc: Global, number: usize, wanted: &[u8]) -> Result<bool, Refusal> {
-        let start = match number {
-            0 => {
-                let start = self.clients.begin(&mut self.oracle)?;
-                return Ok(wanted == [(start % 256) as u8].as_slice());
+        match number {
+            0 => Ok(wanted == [self.start()?].as_slice()),
+            1 => Ok(wanted == [get(&mut self.clients, &mut self.rows, b"a")?].as_slice()),
+            2 => Ok(wanted == [get(&mut self.clients, &mut self.rows, b"b")?].as_slice()),
+            5 => Ok(wanted == self.step(3)?.as_slice()),
+            6 => Ok(wanted == self.step(4)?.as_slice()),
+            7 => Ok(wanted == self.step(5)?.as_slice()),
+            11 => Ok(wanted == scan(alloc, &mut self.clients, &mut self.rows, 10)?.as_slice()),
+            12 => Ok(wanted == scan(alloc, &mut self.clients, &mut self.rows, 2)?.as_slice()),
+            _ => {
+                self.call(number)?;
+                Ok(wanted.is_empty())
             }
-            1 => return Ok(wanted == [get(&mut self.clients, &mut self.rows, b"a")?].as_slice()),
-            2 => return Ok(wanted == [get(&mut self.clients, &mut self.rows, b"b")?].as_slice()),
-            3 => {
-                self.clients.set(4, b"a", b"bal", b"7")?;
-                return Ok(wanted.is_empty());
-            }
-            4 => {
-                self.clients.set(4, b"n", b"bal", b"7")?;
-                return Ok(wanted.is_empty());
-            }
-            9 => {
-                self.clients.delete(4, b"a", b"bal")?;
-                return Ok(wanted.is_empty());
-            }
-            10 => {
-                self.clients.delete(4, b"n", b"bal")?;
-                return Ok(wanted.is_empty());
-            }
-            11 | 12 => {
-                let cells = if number == 11 { 10 } else { 2 };
-                let found = scan(alloc, &mut self.clients, &mut self.rows, cells)?;
-                return Ok(wanted == found.as_slice());
-            }
-            8 => {
-                self.clients.stop(3)?;
-                return Ok(wanted.is_empty());
-            }
-            5 => 3,
-            6 => 4,
-            _ => 5,
-        };
-        let progress = self.clients.step(&mut self.rows, &mut self.oracle, start)?;
-        Ok(wanted == told(progress).as_slice())
+        }
     }
 
     fn read(&mut self, alloc: Global) -> Result<Vec<u8>, Refusal> {
