@@ -39,8 +39,8 @@ use file_store::Files;
 use metadata_table::one_root;
 use oracle::{MarkStore, Oracle};
 use row_atomic::{Cluster, Recorded, keeps_following};
-use si_model::{recovers, shows_reopened};
 use server_loop::{Config, Server};
+use si_model::{recovers, shows_reopened};
 use sorted_file::refusal_of;
 use std::alloc::Global;
 
