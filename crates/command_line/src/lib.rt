@@ -3,15 +3,14 @@
 
 mod command_options;
 
-pub use command_options::{
-    DEFAULT_FLUSH, LEAST_CACHE, LEAST_FLUSH_BYTES, LEAST_LOG_BYTES, MOST_CACHE, MOST_FLUSH,
-    MOST_FLUSH_BYTES, MOST_LOG_BYTES, MOST_MERGE, Options,
-};
-
 ghost use Rattle.std.specs.Prelude.{◌≡◌, ◌≤◌, IfOk, IfSome, IsTrue, is_some, true};
 
 use clap::builder::ValueParser;
 use clap::{Arg, ArgAction, Command, Error};
+pub use command_options::{
+    DEFAULT_FLUSH, LEAST_CACHE, LEAST_FLUSH_BYTES, LEAST_LOG_BYTES, MOST_CACHE, MOST_FLUSH,
+    MOST_FLUSH_BYTES, MOST_LOG_BYTES, MOST_MERGE, Options,
+};
 use std::alloc::{AllocError, Global};
 
 /// What the program is, where it reads and writes, and how long its data last.
