@@ -8,7 +8,7 @@ ghost use Rattle.cell_key.specs.Faults.{HasReason};
 ghost use Rattle.file_store.specs.Store.{Contents};
 ghost use Rattle.metadata_table.specs.Roots.{IsSoundRoot, RootView, file_names, lengths_of, root_of};
 ghost use Rattle.sorted_file.specs.Limits.{IsFileLimit};
-ghost use Rattle.sorted_file.specs.Source.{IsReadRefusal};
+ghost use Rattle.sorted_file.specs.Source.{IsReadRefusal, ReadsFiles};
 ghost use Rattle.tablet.specs.Views.{Holds as HoldsAt};
 ghost use Rattle.row_atomic.specs.Changes.{Holds, IsEmptied};
 ghost use Rattle.row_atomic.specs.Roots.{AreMeasured, KeepsCells, root_name};
@@ -34,9 +34,7 @@ fn read_root<F: Files>(alloc: Global, files: &mut F) -> Result<Option<Root>, Ref
     ensures sound { IfOk result (λ found. IfSome found (λ root. IsSoundRoot (root_of root))) }
     ensures damaged { IsErrOf result Refusal.Damaged
         → IfSome (F.contents files.old) (λ m. IsDamaged m) }
-    ensures refusal { IfErr result IsReadRefusal }
-    ensures same { F.contents files.new ≡ F.contents files.old }
-    ensures reason { HasReason (F.faults files.old) (F.faults files.new) result }
+    ensures reads { ReadsFiles F.contents F.faults files.old files.new result }
 {
     match read_whole(alloc, files, ROOT_NAME) {
         Ok(None) => Ok(None),
@@ -68,9 +66,7 @@ fn load_at<F: Files>(
     ensures holds { IfOk result (λ t. IfSome (F.contents files.old) (λ m. HoldsAt m t)) }
     ensures damaged { IsErrOf result Refusal.Damaged
         → IfSome (F.contents files.old) (λ m. LacksFile m table.now) }
-    ensures refusal { IfErr result IsReadRefusal }
-    ensures same { F.contents files.new ≡ F.contents files.old }
-    ensures reason { HasReason (F.faults files.old) (F.faults files.new) result }
+    ensures reads { ReadsFiles F.contents F.faults files.old files.new result }
 {
     let places = table.places();
     let after = if index == 0 {
@@ -99,9 +95,7 @@ fn load_each<F: Files>(
         AllByRecursion (HoldsAt m) tablets.items)) }
     ensures damaged { IsErrOf result Refusal.Damaged
         → IfSome (F.contents files.old) (λ m. LacksFile m table.now) }
-    ensures refusal { IfErr result IsReadRefusal }
-    ensures same { F.contents files.new ≡ F.contents files.old }
-    ensures reason { HasReason (F.faults files.old) (F.faults files.new) result }
+    ensures reads { ReadsFiles F.contents F.faults files.old files.new result }
 {
     let mut tablets = Vec::new(alloc);
     for number in 0..table.len() {
@@ -123,9 +117,7 @@ fn load_root<F: Files>(alloc: Global, root: &Root, files: &mut F) -> Result<Vec<
     ensures damaged { IsErrOf result Refusal.Damaged
         → IfSome (F.contents files.old) (λ m. LacksFile m root.now.table
         ⊎ (¬ AreMeasured m (file_names root.now.table) (lengths_of root.now))) }
-    ensures refusal { IfErr result IsReadRefusal }
-    ensures same { F.contents files.new ≡ F.contents files.old }
-    ensures reason { HasReason (F.faults files.old) (F.faults files.new) result }
+    ensures reads { ReadsFiles F.contents F.faults files.old files.new result }
 {
     files_are_there();
     let tablets = load_each(alloc, &root.table, files)?;

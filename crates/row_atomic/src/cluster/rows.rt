@@ -7,7 +7,7 @@ ghost use Rattle.cell_key.specs.Versions.{IsVersion, IsVersionIn, stamped};
 ghost use Rattle.file_store.specs.Store.{Contents};
 ghost use Rattle.metadata_table.specs.Places.{view_of, views};
 ghost use Rattle.metadata_table.specs.Table.{IsTable};
-ghost use Rattle.sorted_file.specs.Source.{IsReadRefusal};
+ghost use Rattle.sorted_file.specs.Source.{ReadsFiles};
 ghost use Rattle.std.specs.Bool.{OnFalse};
 ghost use Rattle.std.specs.List.{AllByRecursion};
 ghost use Rattle.cell_key.specs.Faults.{HasReason};
@@ -61,9 +61,7 @@ fn next_cells_in<F: Files>(
     ensures few { IfOk result (λ found. length found.items ≤ most) }
     ensures meets { IsErrOf result Refusal.Damaged → MeetsDamage (F.contents files.old)
         (option_map place_named after.entry) most (views places.now) tablets.now }
-    ensures refusal { IfErr result IsReadRefusal }
-    ensures same { F.contents files.new ≡ F.contents files.old }
-    ensures reason { HasReason (F.faults files.old) (F.faults files.new) result }
+    ensures reads { ReadsFiles F.contents F.faults files.old files.new result }
 {
     let mut found = Vec::new(alloc);
     for place in places {
@@ -116,9 +114,7 @@ fn next_versions_in<F: Files>(
     ensures damaged { IsErrOf result Refusal.Damaged → (m : Contents)
         → F.contents files.old ≡ Some m
         → ¬ AreOpenFrom m tablets.now (option_map place_named after.entry) (views places.now) }
-    ensures refusal { IfErr result IsReadRefusal }
-    ensures same { F.contents files.new ≡ F.contents files.old }
-    ensures reason { HasReason (F.faults files.old) (F.faults files.new) result }
+    ensures reads { ReadsFiles F.contents F.faults files.old files.new result }
 {
     let mut found = Vec::new(alloc);
     let mut is_last = true;

@@ -3,8 +3,7 @@
 ghost use Rattle.std.specs.Prelude.{◌≡◌, ◌≤◌, ◌<◌, ◌+◌, ◌↔◌, ◌⊎◌, [], length, IfErr, IfOk, IfSome, IsErrOf, IsTrue, OnErr, OnOk};
 ghost use Rattle.metadata_table.specs.Places.{PlaceView};
 ghost use Rattle.metadata_table.specs.Table.{BarsSplit, Cuts, HasTablet, IsHolder, IsTable, most_servers, moved};
-ghost use Rattle.sorted_file.specs.Source.{IsReadRefusal};
-ghost use Rattle.cell_key.specs.Faults.{HasReason};
+ghost use Rattle.sorted_file.specs.Source.{ReadsFiles};
 ghost use Rattle.tablet.specs.Views.{Holds as HoldsAt, IsUnchanged, memory_of, names_of, range_of};
 ghost use Rattle.row_atomic.specs.Changes.{IsEmptied, IsHalved, IsOn, IsOutOfOrder, IsReopened, KeepsMap, Numbered, OfHolder, Remakes};
 ghost use Rattle.row_atomic.specs.Commands.{IsOutcome, done_of, split_of};
@@ -63,9 +62,7 @@ fn open_again<F: Files>(
     ensures holds { IfOk result (λ opened. IfSome (F.contents files.old) (λ m. HoldsAt m opened)) }
     ensures damaged { IsErrOf result Refusal.Damaged
         → IsOutOfOrder (F.contents files.old) tablet.now }
-    ensures refusal { IfErr result IsReadRefusal }
-    ensures same { F.contents files.new ≡ F.contents files.old }
-    ensures reason { HasReason (F.faults files.old) (F.faults files.new) result }
+    ensures reads { ReadsFiles F.contents F.faults files.old files.new result }
 {
     files_are_there();
     let mut names = room.names;
@@ -112,7 +109,7 @@ impl<F: Files> Cluster<F> {
         ensures kept { KeepsMap F.contents self.old self.new }
         ensures limit { self.new.file_limit ≡ self.old.file_limit }
         ensures name { self.new.next_name ≡ self.old.next_name }
-        ensures files { F.contents self.new.files ≡ F.contents self.old.files }
+        ensures reads { ReadsFiles F.contents F.faults self.old.files self.new.files result }
         ensures number { IfOk result (λ left. left ≡ length self.old.places + 1) }
         ensures cut { IfOk result (λ left. Cuts row.now left self.old.places self.new.places) }
         ensures halved { IfOk result (λ left. IsHalved
@@ -123,8 +120,6 @@ impl<F: Files> Cluster<F> {
             → Remakes IsUnchanged place.tablet self.old.tablets self.new.tablets) }
         ensures damaged { IsErrOf result Refusal.Damaged → OfHolder
             (IsOutOfOrder (F.contents self.old.files)) row.now self.old.places self.old.tablets }
-        ensures refusal { IfErr result IsReadRefusal }
-        ensures reason { HasReason (F.faults self.old.files) (F.faults self.new.files) result }
     {
         others_stay();
         stays_in_range();
@@ -203,7 +198,7 @@ impl<F: Files> Cluster<F> {
         requires room { Numbered (HasOpenRoom room 0) tablet self.old.tablets }
         ensures kept { KeepsMap F.contents self.old self.new }
         ensures limit { self.new.file_limit ≡ self.old.file_limit }
-        ensures files { F.contents self.new.files ≡ F.contents self.old.files }
+        ensures reads { ReadsFiles F.contents F.faults self.old.files self.new.files result }
         ensures name { self.new.next_name ≡ self.old.next_name }
         ensures places { OnOk result (self.new.places ≡ moved tablet server self.old.places) }
         ensures stay { OnErr result (self.new.places ≡ self.old.places) }
@@ -211,8 +206,6 @@ impl<F: Files> Cluster<F> {
         ensures err { OnErr result (self.new.tablets ≡ self.old.tablets) }
         ensures damaged { IsErrOf result Refusal.Damaged → Numbered
             (IsOutOfOrder (F.contents self.old.files)) tablet self.old.tablets }
-        ensures refusal { IfErr result IsReadRefusal }
-        ensures reason { HasReason (F.faults self.old.files) (F.faults self.new.files) result }
     {
         same_cells();
         let index = self.position(tablet);

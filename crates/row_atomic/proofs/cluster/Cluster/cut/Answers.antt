@@ -94,13 +94,13 @@ pub invariant_of-self : goal.invariant_of-self
 invariant_of-self g c =
     let at = rw (← c.self.view_is) at c.position-index.ensures in
     let there = found_there c.self.inside.tablets.items c.position-index.result at.tablet c.index_mut.result.now at.there c.index_mut.ensures.value in
-    (matched_unchanged c.self.inside.file_limit (g.F.Files.contents c.self.inside.files) (g.F.Files.contents c.cut.new.files) c.self.inside.next_name c.self.inside.next_name c.self.inside.table c.self.inside.tablets.items c.position-index.result c.index_mut.result.now c.cut.new.self there (inl (refl, c.cut.ensures.same)) (λ within. within) c.in_err-part.ensures.err c.self.invariant.0, c.self.invariant.1, set_same c.self.inside.most c.self.inside.tablets.items c.position-index.result c.self.invariant.2 c.index_mut.result.now c.cut.new.self there c.in_err-part.ensures.err.memory)
+    (matched_unchanged c.self.inside.file_limit (g.F.Files.contents c.self.inside.files) (g.F.Files.contents c.cut.new.files) c.self.inside.next_name c.self.inside.next_name c.self.inside.table c.self.inside.tablets.items c.position-index.result c.index_mut.result.now c.cut.new.self there (inl (refl, c.cut.ensures.reads.same)) (λ within. within) c.in_err-part.ensures.err c.self.invariant.0, c.self.invariant.1, set_same c.self.inside.most c.self.inside.tablets.items c.position-index.result c.self.invariant.2 c.index_mut.result.now c.cut.new.self there c.in_err-part.ensures.err.memory)
 
 pub returns-in_err-part-clause-kept : goal.returns-in_err-part-clause-kept
 returns-in_err-part-clause-kept g c =
     let at = rw (← c.self.view_is) at c.position-index.ensures in
     let there = found_there c.self.inside.tablets.items c.position-index.result at.tablet c.index_mut.result.now at.there c.index_mut.ensures.value in
-    rw (← c.self.view_is) (stays_over c.self.inside.tablets.items c.self.inside.tablets.items refl c.position-index.result c.index_mut.result.now c.cut.new.self there c.others_stay.ensures (g.F.Files.contents c.self.inside.files) (g.F.Files.contents c.cut.new.files) c.self.inside.next_name c.self.inside.next_name (inl (refl, c.cut.ensures.same)) (c.in_err-part.ensures.keeps c.self.inside.next_name))
+    rw (← c.self.view_is) (stays_over c.self.inside.tablets.items c.self.inside.tablets.items refl c.position-index.result c.index_mut.result.now c.cut.new.self there c.others_stay.ensures (g.F.Files.contents c.self.inside.files) (g.F.Files.contents c.cut.new.files) c.self.inside.next_name c.self.inside.next_name (inl (refl, c.cut.ensures.reads.same)) (c.in_err-part.ensures.keeps c.self.inside.next_name))
 
 pub returns-in_err-part-clause-damaged : goal.returns-in_err-part-clause-damaged
 returns-in_err-part-clause-damaged g c =
@@ -113,8 +113,12 @@ returns-in_err-part-clause-damaged g c =
       tablet = numbered_old c.self.inside.tablets.items c.position-index.result c.index_mut.result.now c.cut.new.self there (IsOutOfOrder (g.F.Files.contents c.self.inside.files)) (view_of c.locate.result.now).tablet at.number (not_there c.files_are_there.ensures (g.F.Files.contents c.self.inside.files) (names_of c.index_mut.result.now) c.index_mut.result.now refl (c.in_err-part.ensures.damaged (passed c.from_residual.result c.in_err-part.field-0.0 _ c.from_residual.ensures.1 is)));
     })
 
-pub returns-in_err-part-clause-refusal : goal.returns-in_err-part-clause-refusal
-returns-in_err-part-clause-refusal g c = refused_so c.from_residual.result c.in_err-part.field-0.0 IsReadRefusal c.from_residual.ensures.1 c.in_err-part.ensures.refusal
+pub returns-in_err-part-clause-reads : goal.returns-in_err-part-clause-reads
+returns-in_err-part-clause-reads g c = record {
+  refusal = refused_so c.from_residual.result c.in_err-part.field-0.0 IsReadRefusal c.from_residual.ensures.1 c.in_err-part.ensures.reads.refusal;
+  same = rw (← c.self.view_is) c.cut.ensures.reads.same;
+  reason = rw (← c.self.view_is) (reason_passed c.from_residual.result c.in_err-part.field-0.0 _ _ c.from_residual.ensures.1 c.in_err-part.ensures.reads.reason);
+}
 
 pub returns-in_err-part-clause-unchanged : goal.returns-in_err-part-clause-unchanged
 returns-in_err-part-clause-unchanged g c =
@@ -127,9 +131,6 @@ returns-in_err-part-clause-unchanged g c =
 
 pub returns-in_err-part-clause-name : goal.returns-in_err-part-clause-name
 returns-in_err-part-clause-name g c = rw (← c.self.view_is) refl
-
-pub returns-in_err-part-clause-files : goal.returns-in_err-part-clause-files
-returns-in_err-part-clause-files g c = rw (← c.self.view_is) c.cut.ensures.same
 
 pub returns-in_err-part-clause-limit : goal.returns-in_err-part-clause-limit
 returns-in_err-part-clause-limit g c = rw (← c.self.view_is) refl
@@ -146,9 +147,6 @@ returns-in_err-part-clause-cut g c = none_answered c.from_residual.result c.in_e
 pub returns-in_err-part-clause-halved : goal.returns-in_err-part-clause-halved
 returns-in_err-part-clause-halved g c = none_answered c.from_residual.result c.in_err-part.field-0.0 _ c.from_residual.ensures.1
 
-pub returns-in_err-part-clause-reason : goal.returns-in_err-part-clause-reason
-returns-in_err-part-clause-reason g c = rw (← c.self.view_is) (reason_passed c.from_residual.result c.in_err-part.field-0.0 _ _ c.from_residual.ensures.1 c.in_err-part.ensures.reason)
-
 pub invariant_of-self-2 : goal.invariant_of-self-2
 invariant_of-self-2 g c =
     let table = c.locate.ensures.table in
@@ -163,7 +161,7 @@ invariant_of-self-2 g c =
     let pushed : c.push_reserved.new.self.items ≡ (set c.self.inside.tablets.items c.position-index.result c.cut.new.self ++ c.in_ok-part.part ∷ []) = c.push_reserved.ensures.items ∙ ap (λ (ys : List Tablet). ys ++ c.in_ok-part.part ∷ []) moved in
     let for = rw (← c.self.view_is) at c.requires.room in (
       subst (λ (ys : List Tablet). IsMatched c.self.inside.file_limit c.self.inside.next_name c.list_files-2.new.table ys) (sym pushed)
-          (matched_cut c.self.inside.table c.self.inside.tablets.items c.position-index.result c.index_mut.result.now c.in_ok-part.part c.cut.new.self c.args.row.now (view_of c.locate.result.now) table there holder at.number c.in_ok-part.ensures.left_range c.in_ok-part.ensures.right_range c.self.inside.file_limit (g.F.Files.contents c.self.inside.files) (g.F.Files.contents c.cut.new.files) c.self.inside.next_name c.self.inside.next_name c.list_files-2.new.table c.args.room.left (inl (refl, c.cut.ensures.same)) (λ within. within)
+          (matched_cut c.self.inside.table c.self.inside.tablets.items c.position-index.result c.index_mut.result.now c.in_ok-part.part c.cut.new.self c.args.row.now (view_of c.locate.result.now) table there holder at.number c.in_ok-part.ensures.left_range c.in_ok-part.ensures.right_range c.self.inside.file_limit (g.F.Files.contents c.self.inside.files) (g.F.Files.contents c.cut.new.files) c.self.inside.next_name c.self.inside.next_name c.list_files-2.new.table c.args.room.left (inl (refl, c.cut.ensures.reads.same)) (λ within. within)
           c.in_ok-part.ensures.left_names c.in_ok-part.ensures.right_names for.number cut c.self.invariant.0),
       none_held c.list_files-2.new.table c.clear.new.self.numbers.entries c.clear.ensures.none,
       subst (HaveAtMost c.self.inside.most) (sym pushed)
@@ -180,7 +178,7 @@ returns-clause-kept g c =
     let moved : c.append.new.self.items ≡ set c.self.inside.tablets.items c.position-index.result c.cut.new.self = appended c.append.result _ _ _ _ c.append.ensures.items c.unwrap.ensures (rw (← c.self.view_is) at c.requires.room).space.empty in
     let pushed : c.push_reserved.new.self.items ≡ (set c.self.inside.tablets.items c.position-index.result c.cut.new.self ++ c.in_ok-part.part ∷ []) = c.push_reserved.ensures.items ∙ ap (λ (ys : List Tablet). ys ++ c.in_ok-part.part ∷ []) moved in
     rw (← c.self.view_is) (λ order. subst (λ (ys : List Tablet). InOrder (g.F.Files.contents c.cut.new.files) c.self.inside.next_name ys × (cells_in (g.F.Files.contents c.cut.new.files) ys ≡ cells_in (g.F.Files.contents c.self.inside.files) c.self.inside.tablets.items)) (sym pushed)
-    (parts_keep c.self.inside.table c.self.inside.tablets.items c.position-index.result c.index_mut.result.now c.in_ok-part.part c.cut.new.self c.args.row.now (view_of c.locate.result.now) table there holder at.number c.in_ok-part.ensures.left_range c.in_ok-part.ensures.right_range c.stays_in_range.ensures c.others_stay.ensures (g.F.Files.contents c.self.inside.files) (g.F.Files.contents c.cut.new.files) c.self.inside.next_name c.self.inside.next_name c.self.invariant.0.placed c.self.invariant.0.as_many (inl (refl, c.cut.ensures.same)) (c.in_ok-part.ensures.parts c.self.inside.next_name) order))
+    (parts_keep c.self.inside.table c.self.inside.tablets.items c.position-index.result c.index_mut.result.now c.in_ok-part.part c.cut.new.self c.args.row.now (view_of c.locate.result.now) table there holder at.number c.in_ok-part.ensures.left_range c.in_ok-part.ensures.right_range c.stays_in_range.ensures c.others_stay.ensures (g.F.Files.contents c.self.inside.files) (g.F.Files.contents c.cut.new.files) c.self.inside.next_name c.self.inside.next_name c.self.invariant.0.placed c.self.invariant.0.as_many (inl (refl, c.cut.ensures.reads.same)) (c.in_ok-part.ensures.parts c.self.inside.next_name) order))
 
 pub returns-clause-halved : goal.returns-clause-halved
 returns-clause-halved g c =
@@ -216,8 +214,12 @@ returns-clause-cut g c =
 pub returns-clause-name : goal.returns-clause-name
 returns-clause-name g c = rw (← c.self.view_is) refl
 
-pub returns-clause-files : goal.returns-clause-files
-returns-clause-files g c = rw (← c.self.view_is) c.cut.ensures.same
+pub returns-clause-reads : goal.returns-clause-reads
+returns-clause-reads g c = record {
+  refusal = tt;
+  same = rw (← c.self.view_is) c.cut.ensures.reads.same;
+  reason = rw (← c.self.view_is) (reason_kept _ _ _ _ c.in_ok-part.ensures.reads.reason);
+}
 
 pub returns-clause-limit : goal.returns-clause-limit
 returns-clause-limit g c = rw (← c.self.view_is) refl
@@ -228,11 +230,5 @@ returns-clause-err g c = tt
 pub returns-clause-unchanged : goal.returns-clause-unchanged
 returns-clause-unchanged g c = tt
 
-pub returns-clause-refusal : goal.returns-clause-refusal
-returns-clause-refusal g c = tt
-
 pub returns-clause-damaged : goal.returns-clause-damaged
 returns-clause-damaged g c = λ is. absurd (not_refused _ Damaged is)
-
-pub returns-clause-reason : goal.returns-clause-reason
-returns-clause-reason g c = rw (← c.self.view_is) (reason_kept _ _ _ _ c.in_ok-part.ensures.reason)

@@ -78,15 +78,15 @@ returns-clause-outcome g c =
     let new = c.put.new.self in
     put_after g.F.Files.contents g.F.Files.faults c.args.tablet c.args.server old mid c.in_ok-is_on.ensures.known c.in_ok-is_on.ensures.below
     (λ on. not_both _ (c.in_ok-is_on.ensures.on.1 on) c.if-branch.false) new c.put.result outcome c.put.ensures.kept c.put.ensures.limit
-    (still_used (g.F.Files.contents old.files) (g.F.Files.contents mid.files) (g.F.Files.contents new.files) old.next_name mid.next_name new.next_name c.put.ensures.name c.put.ensures.files outcome.files.0.name)
-    (λ none. let first = outcome.files.0.none none in (c.put.ensures.name ∙ first.0, c.put.ensures.files ∙ first.1))
+    (still_used (g.F.Files.contents old.files) (g.F.Files.contents mid.files) (g.F.Files.contents new.files) old.next_name mid.next_name new.next_name c.put.ensures.name c.put.ensures.reads.same outcome.files.0.name)
+    (λ none. let first = outcome.files.0.none none in (c.put.ensures.name ∙ first.0, c.put.ensures.reads.same ∙ first.1))
     (on_ok _ _ c.put.result (λ is. record { names = names_of listed.tablet; moved = is ∙ ap (moved c.args.tablet c.args.server) listed.such }) c.put.ensures.places)
     (on_ok _ _ c.put.result (λ opened. flushed_opened old.next_name c.args.tablet old.tablets mid.tablets new.tablets outcome.upholds.made opened) c.put.ensures.opened)
     (on_err_weaker c.put.result (λ same. ap (map spot_of) same ∙ outcome.files.1) c.put.ensures.stay)
     (on_err_weaker c.put.result (λ stay. inr (subst (Remakes (IsFlushed old.next_name) c.args.tablet old.tablets) (sym stay) outcome.upholds.made)) c.put.ensures.err)
     (move_lists c.args.tablet c.args.server mid.places new.places c.put.result c.put.ensures.places c.put.ensures.stay)
     (λ is. out_before (g.F.Files.contents old.files) (g.F.Files.contents mid.files) c.args.tablet old.tablets mid.tablets c.in_ok-compact_tablet.ensures.order (c.put.ensures.damaged is))
-    c.put.ensures.refusal c.put.ensures.reason
+    c.put.ensures.reads.refusal c.put.ensures.reads.reason
 
 pub returns-in_err-is_on-clause-table : goal.returns-in_err-is_on-clause-table
 returns-in_err-is_on-clause-table g c = c.is_on.ensures.table

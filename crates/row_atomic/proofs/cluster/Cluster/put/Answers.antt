@@ -39,7 +39,7 @@ returns-clause-kept g c =
     let at = rw (← c.self.view_is) at c.position-index.ensures in
     let there = found_there c.self.inside.tablets.items c.position-index.result at.tablet c.index.result.now at.there c.index.ensures in
     let memory = emptied_at c.self.inside.tablets.items c.args.tablet c.position-index.result c.index.result.now at.number there (rw (← c.self.view_is) at c.requires.flushed) in
-    rw (← c.self.view_is) (opened_keeps c.same_cells.ensures c.self.inside.tablets.items c.position-index.result c.index.result.now c.in_ok-opened.opened there c.in_ok-opened.ensures.range c.in_ok-opened.ensures.names memory c.in_ok-opened.ensures.memory (g.F.Files.contents c.self.inside.files) (g.F.Files.contents c.open_again.new.files) c.self.inside.next_name c.open_again.ensures.same c.in_ok-opened.ensures.holds)
+    rw (← c.self.view_is) (opened_keeps c.same_cells.ensures c.self.inside.tablets.items c.position-index.result c.index.result.now c.in_ok-opened.opened there c.in_ok-opened.ensures.range c.in_ok-opened.ensures.names memory c.in_ok-opened.ensures.memory (g.F.Files.contents c.self.inside.files) (g.F.Files.contents c.open_again.new.files) c.self.inside.next_name c.open_again.ensures.reads.same c.in_ok-opened.ensures.holds)
 
 pub returns-clause-opened : goal.returns-clause-opened
 returns-clause-opened g c =
@@ -48,7 +48,7 @@ returns-clause-opened g c =
     rw (← c.self.view_is) (remade c.self.inside.tablets.items c.position-index.result c.index.result.now c.in_ok-opened.opened there IsReopened c.args.tablet at.number (record { memory = c.in_ok-opened.ensures.memory; names = c.in_ok-opened.ensures.names }))
 
 pub returns-in_err-opened-clause-kept : goal.returns-in_err-opened-clause-kept
-returns-in_err-opened-clause-kept g c = rw (← c.self.view_is) (λ order. (still_in_order (g.F.Files.contents c.self.inside.files) (g.F.Files.contents c.open_again.new.files) c.self.inside.next_name c.self.inside.tablets.items c.open_again.ensures.same order, same_cells_in (g.F.Files.contents c.self.inside.files) (g.F.Files.contents c.open_again.new.files) c.self.inside.tablets.items c.open_again.ensures.same))
+returns-in_err-opened-clause-kept g c = rw (← c.self.view_is) (λ order. (still_in_order (g.F.Files.contents c.self.inside.files) (g.F.Files.contents c.open_again.new.files) c.self.inside.next_name c.self.inside.tablets.items c.open_again.ensures.reads.same order, same_cells_in (g.F.Files.contents c.self.inside.files) (g.F.Files.contents c.open_again.new.files) c.self.inside.tablets.items c.open_again.ensures.reads.same))
 
 pub returns-in_err-opened-clause-limit : goal.returns-in_err-opened-clause-limit
 returns-in_err-opened-clause-limit g c = rw (← c.self.view_is) refl
@@ -56,8 +56,12 @@ returns-in_err-opened-clause-limit g c = rw (← c.self.view_is) refl
 pub returns-in_err-opened-clause-name : goal.returns-in_err-opened-clause-name
 returns-in_err-opened-clause-name g c = rw (← c.self.view_is) refl
 
-pub returns-in_err-opened-clause-files : goal.returns-in_err-opened-clause-files
-returns-in_err-opened-clause-files g c = rw (← c.self.view_is) c.open_again.ensures.same
+pub returns-in_err-opened-clause-reads : goal.returns-in_err-opened-clause-reads
+returns-in_err-opened-clause-reads g c = record {
+  refusal = refused_so c.from_residual.result c.in_err-opened.field-0.0 IsReadRefusal c.from_residual.ensures.1 c.in_err-opened.ensures.reads.refusal;
+  same = rw (← c.self.view_is) c.open_again.ensures.reads.same;
+  reason = rw (← c.self.view_is) (reason_passed c.from_residual.result c.in_err-opened.field-0.0 _ _ c.from_residual.ensures.1 c.in_err-opened.ensures.reads.reason);
+}
 
 pub returns-in_err-opened-clause-places : goal.returns-in_err-opened-clause-places
 returns-in_err-opened-clause-places g c = none_answered c.from_residual.result c.in_err-opened.field-0.0 _ c.from_residual.ensures.1
@@ -77,20 +81,18 @@ returns-in_err-opened-clause-damaged g c =
     let there = found_there c.self.inside.tablets.items c.position-index.result at.tablet c.index.result.now at.there c.index.ensures in
     rw (← c.self.view_is) (λ is. numbered_old c.self.inside.tablets.items c.position-index.result c.index.result.now c.index.result.now there (IsOutOfOrder (g.F.Files.contents c.self.inside.files)) c.args.tablet at.number (c.in_err-opened.ensures.damaged (passed c.from_residual.result c.in_err-opened.field-0.0 _ c.from_residual.ensures.1 is)))
 
-pub returns-in_err-opened-clause-refusal : goal.returns-in_err-opened-clause-refusal
-returns-in_err-opened-clause-refusal g c = refused_so c.from_residual.result c.in_err-opened.field-0.0 IsReadRefusal c.from_residual.ensures.1 c.in_err-opened.ensures.refusal
-
-pub returns-in_err-opened-clause-reason : goal.returns-in_err-opened-clause-reason
-returns-in_err-opened-clause-reason g c = rw (← c.self.view_is) (reason_passed c.from_residual.result c.in_err-opened.field-0.0 _ _ c.from_residual.ensures.1 c.in_err-opened.ensures.reason)
-
 pub returns-clause-limit : goal.returns-clause-limit
 returns-clause-limit g c = rw (← c.self.view_is) refl
 
 pub returns-clause-name : goal.returns-clause-name
 returns-clause-name g c = rw (← c.self.view_is) refl
 
-pub returns-clause-files : goal.returns-clause-files
-returns-clause-files g c = rw (← c.self.view_is) c.open_again.ensures.same
+pub returns-clause-reads : goal.returns-clause-reads
+returns-clause-reads g c = record {
+  refusal = tt;
+  same = rw (← c.self.view_is) c.open_again.ensures.reads.same;
+  reason = rw (← c.self.view_is) (reason_kept _ _ _ _ c.in_ok-opened.ensures.reads.reason);
+}
 
 pub returns-clause-stay : goal.returns-clause-stay
 returns-clause-stay g c = tt
@@ -98,14 +100,8 @@ returns-clause-stay g c = tt
 pub returns-clause-err : goal.returns-clause-err
 returns-clause-err g c = tt
 
-pub returns-clause-refusal : goal.returns-clause-refusal
-returns-clause-refusal g c = tt
-
 pub returns-clause-damaged : goal.returns-clause-damaged
 returns-clause-damaged g c = λ is. absurd (not_refused _ Damaged is)
-
-pub returns-clause-reason : goal.returns-clause-reason
-returns-clause-reason g c = rw (← c.self.view_is) (reason_kept _ _ _ _ c.in_ok-opened.ensures.reason)
 
 pub invariant_of-self : goal.invariant_of-self
 invariant_of-self g c = c.self.invariant

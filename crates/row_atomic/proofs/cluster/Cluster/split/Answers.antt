@@ -69,8 +69,8 @@ returns g c =
     let new = c.cut.new.self in
     rw (← c.self.view_is) (cut_after g.F.Files.contents g.F.Files.faults c.args.row.now (view_of c.locate.result.now) _ mid c.locate.ensures.holder c.in_ok-check_split.ensures.split new c.cut.result outcome
     c.cut.ensures.kept c.cut.ensures.limit
-    (still_used (g.F.Files.contents c.self.inside.files) (g.F.Files.contents mid.files) (g.F.Files.contents new.files) c.self.inside.next_name mid.next_name new.next_name c.cut.ensures.name c.cut.ensures.files files.0.name)
-    (λ none. let first = files.0.none (holder_that IsEmptied c.args.row.now c.self.inside.table c.self.inside.tablets.items (view_of c.locate.result.now) c.locate.ensures.holder none) in (c.cut.ensures.name ∙ first.0, c.cut.ensures.files ∙ first.1))
+    (still_used (g.F.Files.contents c.self.inside.files) (g.F.Files.contents mid.files) (g.F.Files.contents new.files) c.self.inside.next_name mid.next_name new.next_name c.cut.ensures.name c.cut.ensures.reads.same files.0.name)
+    (λ none. let first = files.0.none (holder_that IsEmptied c.args.row.now c.self.inside.table c.self.inside.tablets.items (view_of c.locate.result.now) c.locate.ensures.holder none) in (c.cut.ensures.name ∙ first.0, c.cut.ensures.reads.same ∙ first.1))
     (number_after c.self.inside.table mid.places c.cut.result files.1 c.cut.ensures.number)
     (cut_listed c.args.row.now c.self.inside.table mid.places new.places mid.tablets (view_of c.locate.result.now) c.cut.result c.locate.ensures.holder listed c.cut.ensures.cut)
     (IfOk-weaker c.cut.result _ _ (halved_after c.self.inside.next_name mid.next_name c.args.row.now c.self.inside.table mid.places c.self.inside.tablets.items mid.tablets new.tablets (view_of c.locate.result.now) c.locate.ensures.holder listed made) c.cut.ensures.halved)
@@ -78,4 +78,4 @@ returns g c =
     (on_err_weaker c.cut.result (flushed_alone c.self.inside.next_name mid.next_name c.args.row.now c.self.inside.table mid.places c.self.inside.tablets.items mid.tablets new.tablets (view_of c.locate.result.now) c.locate.ensures.holder listed made) c.cut.ensures.unchanged)
     (cut_lists c.args.row.now mid.places new.places c.cut.result c.cut.ensures.cut c.cut.ensures.err)
     (λ is. holder_out_before (g.F.Files.contents c.self.inside.files) (g.F.Files.contents mid.files) c.args.row.now c.self.inside.table mid.places c.self.inside.tablets.items mid.tablets (view_of c.locate.result.now) c.locate.ensures.holder listed order (c.cut.ensures.damaged is))
-    c.cut.ensures.refusal c.cut.ensures.reason)
+    c.cut.ensures.reads.refusal c.cut.ensures.reads.reason)

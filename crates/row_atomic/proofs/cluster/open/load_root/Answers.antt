@@ -19,7 +19,7 @@ returns-then-ne-clause-damaged g c = λ is.
     let some : ¬ (length c.args.root.now.lengths.items ≡ 0) = search rules in
     let other : ¬ (c.as_slice.result.now ≡ c.as_slice-2.result.now) = search rules in
     let there = there_told c.files_are_there.ensures told c.in_ok-tablets.tablets.items c.args.root.now.table c.in_ok-tablets.ensures.loaded c.in_ok-tablets.ensures.holds in
-    let are = subst (λ (o : Option Contents). IfSome o (λ m. AreMeasured m (file_names c.args.root.now.table) c.in_ok-lengths.lengths.items)) c.in_ok-tablets.ensures.same c.in_ok-lengths.ensures.measured in
+    let are = subst (λ (o : Option Contents). IfSome o (λ m. AreMeasured m (file_names c.args.root.now.table) c.in_ok-lengths.lengths.items)) c.in_ok-tablets.ensures.reads.same c.in_ok-lengths.ensures.measured in
     either_wrong told c.args.root.now.table c.args.root.now.lengths.items
     (wrong_lengths told c.args.root.now.table c.args.root.now.lengths.items c.in_ok-lengths.lengths.items c.requires (λ e. some (ap length e)) c.in_ok-lengths.ensures.count
     (λ e. other (c.as_slice.ensures.value ∙ e ∙ sym c.as_slice-2.ensures.value)) there are)

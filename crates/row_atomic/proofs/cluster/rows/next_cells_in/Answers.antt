@@ -53,7 +53,7 @@ returns-in_err-more-clause-meets g c =
       few = fewer;
       passed = c.loop-place.invariant.left fewer;
       within = λ low. not_both _ (c.precedes.ensures.1 low) c.if-not-precedes.true;
-      out = record { tablet = t; numbered = numbered; such = subst (λ disk. IsOutOfOrder disk t) c.loop-place.invariant.same (c.next_cells.ensures.damaged e) };
+      out = record { tablet = t; numbered = numbered; such = subst (λ disk. IsOutOfOrder disk t) c.loop-place.invariant.same (c.next_cells.ensures.reads.damaged e) };
     }
 
 pub loop-place-preserved : goal.loop-place-preserved
@@ -86,8 +86,8 @@ loop-place-preserved g c =
           let few = w.in_ok-more.ensures.few in
           let sum = length-append found more in
           rw w.files-is (rw w.found-is (rw items (record {
-            same = w.next_cells.ensures.same ∙ i.same;
-            quiet = w.in_ok-more.ensures.reason.told (λ e. cc) ∙ i.quiet;
+            same = w.next_cells.ensures.reads.files.same ∙ i.same;
+            quiet = w.in_ok-more.ensures.reads.files.reason.told (λ e. cc) ∙ i.quiet;
             few = omega (arith, few, sum, asked, fewer);
             told = λ m told open_there.
                 let open_t = at_item (λ q. ¬ PrecedesCell q start → (v : Tablet) → tablet_numbered q.tablet ts ≡ Some v → Holds m v) places at p open_there within is

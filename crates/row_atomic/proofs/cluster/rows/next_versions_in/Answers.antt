@@ -59,7 +59,7 @@ returns-in_err-more-clause-damaged g c = λ damaged m told open_there.
     let open_t = at_item (λ q. ¬ PrecedesCell q start → (v : Tablet) → tablet_numbered q.tablet ts ≡ Some v → Holds m v) c.args.places.now c.loop-place.place-index c.place-item.result open_there c.loop-place-test.true c.place-item.is
     (λ low. not_both _ (c.precedes.ensures.1 low) c.if-not-precedes.true) t numbered in
     let e : IsErrOf c.next_versions.result Damaged = cc (p.1, p.2, c.in_err-more.was, damaged) in
-    at_told (λ n. ¬ Holds n t) disk m told (subst (λ (o : Option Contents). IfSome o (λ n. ¬ Holds n t)) c.loop-place.invariant.same (c.next_versions.ensures.damaged e)) open_t
+    at_told (λ n. ¬ Holds n t) disk m told (subst (λ (o : Option Contents). IfSome o (λ n. ¬ Holds n t)) c.loop-place.invariant.same (c.next_versions.ensures.reads.damaged e)) open_t
 
 pub loop-place-preserved : goal.loop-place-preserved
 loop-place-preserved g c =
@@ -90,8 +90,8 @@ loop-place-preserved g c =
           let asked = w.after-left.ensures.cells ∙ ap (λ (xs : List CellVersions). c.args.limits.cells - length xs) w.deref.ensures.value in
           let room = w.after-left.ensures.bytes ∙ ap (λ (xs : List CellVersions). c.args.limits.bytes - bytes_in xs) w.deref.ensures.value in
           rw w.files-is (rw w.found-is (rw w.is_last-is (rw items (record {
-            same = w.next_versions.ensures.same ∙ i.same;
-            quiet = w.in_ok-more.ensures.reason.told (λ e. cc) ∙ i.quiet;
+            same = w.next_versions.ensures.reads.files.same ∙ i.same;
+            quiet = w.in_ok-more.ensures.reads.files.reason.told (λ e. cc) ∙ i.quiet;
             few = omega (arith, few, sum, asked, i.few);
             full = full_more more.is_last c.args.limits w.after-left.result found more.cells.items asked room w.in_ok-more.ensures.full;
             told = λ m told open_there.

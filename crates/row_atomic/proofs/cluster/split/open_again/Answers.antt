@@ -25,11 +25,9 @@ returns-clause-memory g c = c.load.ensures.memory
 pub returns-clause-holds : goal.returns-clause-holds
 returns-clause-holds g c = c.load.ensures.holds
 
-pub returns-clause-same : goal.returns-clause-same
-returns-clause-same g c = c.load.ensures.same
-
-pub returns-clause-refusal : goal.returns-clause-refusal
-returns-clause-refusal g c = c.load.ensures.refusal
-
-pub returns-clause-reason : goal.returns-clause-reason
-returns-clause-reason g c = c.load.ensures.reason
+pub returns-clause-reads : goal.returns-clause-reads
+returns-clause-reads g c = record {
+  refusal = c.load.ensures.reads.refusal;
+  same = c.load.ensures.reads.same;
+  reason = c.load.ensures.reads.reason;
+}

@@ -39,7 +39,7 @@ returns-clause-reads g c =
     let at = at_kept c.self.inside.table c.self.inside.tablets.items c.args.row.now c.index_of-index.result c.self.invariant.0.placed c.index_of-index.ensures.holder in
     let ts = c.self.inside.tablets.items in
     let there = found_there ts c.index_of-index.result at.tablet c.index_mut.result.now at.there c.index_mut.ensures.value in
-    rw (← c.self.view_is) (tablet_read g.F.Files.contents _ c.index_of-index.result c.index_mut.result.now c.has_version.new.self c.has_version.new.files there c.has_version.ensures.stays c.has_version.ensures.same)
+    rw (← c.self.view_is) (tablet_read g.F.Files.contents _ c.index_of-index.result c.index_mut.result.now c.has_version.new.self c.has_version.new.files there c.has_version.ensures.stays c.has_version.ensures.reads.files.same)
 
 pub returns-clause-damaged : goal.returns-clause-damaged
 returns-clause-damaged g c =
@@ -50,7 +50,7 @@ returns-clause-damaged g c =
     rw (← c.self.view_is) (λ is. record {
       place = at.place;
       holder = at.holder;
-      tablet = numbered_old ts c.index_of-index.result t c.has_version.new.self there (IsOutOfOrder (g.F.Files.contents c.self.inside.files)) at.place.tablet at.number (c.has_version.ensures.damaged is);
+      tablet = numbered_old ts c.index_of-index.result t c.has_version.new.self there (IsOutOfOrder (g.F.Files.contents c.self.inside.files)) at.place.tablet at.number (c.has_version.ensures.reads.damaged is);
     })
 
 pub returns-clause-refusal : goal.returns-clause-refusal
@@ -59,4 +59,4 @@ returns-clause-refusal g c =
     let ts = c.self.inside.tablets.items in
     let there = found_there ts c.index_of-index.result at.tablet c.index_mut.result.now at.there c.index_mut.ensures.value in
     rw (← c.self.view_is) (refused_read _ c.has_version.result (λ whole. not_damaged (g.F.Files.contents c.self.inside.files) c.index_mut.result.now _
-    (whole at.place c.index_mut.result.now at.holder (holder_numbered c.self.inside.table ts c.args.row.now c.index_of-index.result c.index_mut.result.now at there)) c.has_version.ensures.damaged) c.has_version.ensures.refusal)
+    (whole at.place c.index_mut.result.now at.holder (holder_numbered c.self.inside.table ts c.args.row.now c.index_of-index.result c.index_mut.result.now at there)) c.has_version.ensures.reads.damaged) c.has_version.ensures.reads.files.refusal)

@@ -26,7 +26,7 @@ returns-clause-found g c =
     (whole at.place c.index.result.now at.holder (holder_numbered c.self.inside.table ts c.args.row.now c.index_of-index.result c.index.result.now at there)) c.versions.ensures.found)
 
 pub returns-clause-reads : goal.returns-clause-reads
-returns-clause-reads g c = rw (← c.self.view_is) (files_read g.F.Files.contents _ c.versions.new.files c.versions.ensures.same)
+returns-clause-reads g c = rw (← c.self.view_is) (files_read g.F.Files.contents _ c.versions.new.files c.versions.ensures.reads.files.same)
 
 pub returns-clause-damaged : goal.returns-clause-damaged
 returns-clause-damaged g c =
@@ -37,7 +37,7 @@ returns-clause-damaged g c =
     rw (← c.self.view_is) (λ is. record {
       place = at.place;
       holder = at.holder;
-      tablet = record { tablet = t; numbered = holder_numbered c.self.inside.table ts c.args.row.now c.index_of-index.result t at there; such = c.versions.ensures.damaged is };
+      tablet = record { tablet = t; numbered = holder_numbered c.self.inside.table ts c.args.row.now c.index_of-index.result t at there; such = c.versions.ensures.reads.damaged is };
     })
 
 pub returns-clause-refusal : goal.returns-clause-refusal
@@ -46,4 +46,4 @@ returns-clause-refusal g c =
     let ts = c.self.inside.tablets.items in
     let there = found_there ts c.index_of-index.result at.tablet c.index.result.now at.there c.index.ensures in
     rw (← c.self.view_is) (refused_read _ c.versions.result (λ whole. not_damaged (g.F.Files.contents c.self.inside.files) c.index.result.now _
-    (whole at.place c.index.result.now at.holder (holder_numbered c.self.inside.table ts c.args.row.now c.index_of-index.result c.index.result.now at there)) c.versions.ensures.damaged) c.versions.ensures.refusal)
+    (whole at.place c.index.result.now at.holder (holder_numbered c.self.inside.table ts c.args.row.now c.index_of-index.result c.index.result.now at there)) c.versions.ensures.reads.damaged) c.versions.ensures.reads.files.refusal)
