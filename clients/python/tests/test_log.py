@@ -112,6 +112,22 @@ class Logs(FolderTest):
         self.assertTrue(has_log(self.folder))
         self.assertEqual(self.value(), b"1")
 
+    def test_a_checkpoint_that_was_refused_is_not_the_last(self) -> None:
+        """It was refused for a tablet's 64 files. Once they are merged, and a checkpoint is asked for, others come by themselves."""
+        value = bytes(60_000)
+        with self.opened(None, "--log-bytes", "1048576") as store:
+            for _ in range(64):
+                put(store, b"1")
+                store.minor(1)
+            for _ in range(20):
+                put(store, value)
+            self.assertGreater((self.path / LOG).stat().st_size, 1_100_000)
+            store.major(1)
+            store.checkpoint()
+            for _ in range(20):
+                put(store, value)
+            self.assertLess((self.path / LOG).stat().st_size, 1_100_000)
+
     def test_tails_of_logs(self) -> None:
         """A log whose last frame isn't whole ends before that frame."""
         with self.opened() as store:

@@ -222,10 +222,13 @@ impl<S: Recording, L: Log> LastingServer<S, L> {
         }
     }
 
-    /// Whether it is time for a root that nobody asks for. One that was refused is tried again once much more is written down.
+    /// Whether it is time for a root that nobody asks for. One that was refused is tried again once much more is written down,
+    /// or once less is, for then a root was put meanwhile.
     fn is_root_due(&self, written: usize) -> bool {
         written >= self.root_bytes
-            && (self.tried_bytes == 0 || written >= self.tried_bytes.saturating_add(BETWEEN_TRIES))
+            && (written < self.tried_bytes
+                || self.tried_bytes == 0
+                || written >= self.tried_bytes.saturating_add(BETWEEN_TRIES))
     }
 
     /// Answers a request that needs no root.

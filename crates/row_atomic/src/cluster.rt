@@ -12,7 +12,7 @@ mod checkpoint;
 mod compact;
 pub(crate) mod laws;
 mod open;
-mod rows;
+mod row_calls;
 mod split;
 mod sweep;
 mod upkeep;

@@ -2,7 +2,7 @@ use Rattle.std.proofs.Common.{◌≡◌, ◌<◌, ◌-◌, ℕ, Some, slice_inde
 use Rattle.cell_key.specs.Places.{IsNextCell, place_named}
 use Rattle.row_atomic.specs.Commands.{cells_shown}
 use Rattle.rows.proofs.NextLists.{next_single}
-use Rattle.row_atomic.proofs.cluster.rows.ClusterRows.next_cell.Goals as goal
+use Rattle.row_atomic.proofs.cluster.row_calls.ClusterRows.next_cell.Goals as goal
 
 pub returns-clause-found : goal.returns-clause-found
 returns-clause-found g c = λ held.

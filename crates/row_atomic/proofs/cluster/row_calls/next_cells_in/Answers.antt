@@ -17,8 +17,8 @@ use Rattle.row_atomic.proofs.Scans.{at_item, parted_at, passed_more, place_numbe
 use Rattle.row_atomic.proofs.ManyNexts.{HasScanned, asked_begins, asked_ended, asked_next, asked_passed, asked_passes, begin_fewer, dropped_at, later_none, passes_more}
 use Rattle.rows.proofs.NextLists.{next_all}
 use Rattle.row_atomic.proofs.Nexts.{NoneAfter}
-use Rattle.row_atomic.proofs.cluster.rows.next_cells_in.Goals as goal
-use Rattle.row_atomic.proofs.cluster.rows.next_cells_in.Goals.{then-len-most+then-not-precedes+in_ok-more+in_ok-append, else-len-most, else-len-most-via-then-len-most+else-not-precedes, else-len-most-via-else-len-most}
+use Rattle.row_atomic.proofs.cluster.row_calls.next_cells_in.Goals as goal
+use Rattle.row_atomic.proofs.cluster.row_calls.next_cells_in.Goals.{then-len-most+then-not-precedes+in_ok-more+in_ok-append, else-len-most, else-len-most-via-then-len-most+else-not-precedes, else-len-most-via-else-len-most}
 
 pub overflow_sub-tablet : goal.overflow_sub-tablet
 overflow_sub-tablet g c = (place_numbered c.args.tablets.now c.args.places.now c.loop-place.place-index c.place-item.result c.requires.placed c.loop-place-test.true c.place-item.is).from

@@ -6,7 +6,7 @@ use Rattle.metadata_table.specs.Places.{views}
 use Rattle.rows.specs.Batches.{AreNextVersions}
 use Rattle.row_atomic.proofs.Calls.{files_read}
 use Rattle.row_atomic.proofs.ManyVersions.{read_found, read_refused}
-use Rattle.row_atomic.proofs.cluster.rows.ClusterRows.next_versions.Goals as goal
+use Rattle.row_atomic.proofs.cluster.row_calls.ClusterRows.next_versions.Goals as goal
 
 pub returns-clause-found : goal.returns-clause-found
 returns-clause-found g c = rw (← c.self.view_is) (λ whole.

@@ -21,8 +21,8 @@ use Rattle.row_atomic.proofs.Scans.{at_item, parted_at, passed_more, place_numbe
 use Rattle.row_atomic.proofs.ManyNexts.{begin_fewer, dropped_at, later_none}
 use Rattle.row_atomic.proofs.ManyVersions.{HasFound, more_begins, more_ended, more_newest, more_next, more_passed}
 use Rattle.row_atomic.proofs.Nexts.{NoneAfter}
-use Rattle.row_atomic.proofs.cluster.rows.next_versions_in.Goals as goal
-use Rattle.row_atomic.proofs.cluster.rows.next_versions_in.Goals.{then-is_last+then-not-precedes+in_ok-more+in_ok-found, else-is_last, else-is_last-via-then-is_last+else-not-precedes, else-is_last-via-else-is_last}
+use Rattle.row_atomic.proofs.cluster.row_calls.next_versions_in.Goals as goal
+use Rattle.row_atomic.proofs.cluster.row_calls.next_versions_in.Goals.{then-is_last+then-not-precedes+in_ok-more+in_ok-found, else-is_last, else-is_last-via-then-is_last+else-not-precedes, else-is_last-via-else-is_last}
 
 -- cells that fill what is left of limits fill these with those before them
 full_more : (b : Bool) (limits left : BatchLimits) (found more : List CellVersions) → left.cells ≡ limits.cells - length found → left.bytes ≡ limits.bytes - bytes_in found → OnFalse b (IsFull left more) → OnFalse b (IsFull limits (found ++ more))

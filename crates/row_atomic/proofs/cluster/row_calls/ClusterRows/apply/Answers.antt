@@ -13,7 +13,7 @@ use Rattle.row_atomic.proofs.Readable.{readable_in}
 use Rattle.row_atomic.proofs.CompactionRoom.{all_kept, not_full, room_after}
 use Rattle.row_atomic.proofs.Memtables.{set_fuller}
 use Rattle.row_atomic.proofs.PlaceCaches.{at_kept}
-use Rattle.row_atomic.proofs.cluster.rows.ClusterRows.apply.Goals as goal
+use Rattle.row_atomic.proofs.cluster.row_calls.ClusterRows.apply.Goals as goal
 
 pub index_of-index-requires : goal.index_of-index-requires
 index_of-index-requires g c = c.self.invariant.1

@@ -8,7 +8,7 @@ use Rattle.metadata_table.specs.Places.{views}
 use Rattle.row_atomic.specs.Changes.{Passes}
 use Rattle.row_atomic.specs.Clusters.{AreOpenFrom}
 use Rattle.row_atomic.proofs.ManyNexts.{HasScanned}
-use Rattle.row_atomic.proofs.cluster.rows.next_cells_in.Given as goal
+use Rattle.row_atomic.proofs.cluster.row_calls.next_cells_in.Given as goal
 
 abbrev pub invariant-loop-place : goal.invariant-loop-place
 invariant-loop-place g l = record {

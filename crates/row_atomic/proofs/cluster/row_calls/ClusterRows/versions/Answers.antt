@@ -5,7 +5,7 @@ use Rattle.row_atomic.proofs.RowAnswers.{found_there, holder_numbered, index_bel
 use Rattle.row_atomic.proofs.Calls.{files_read}
 use Rattle.row_atomic.proofs.Readable.{refused_read}
 use Rattle.row_atomic.proofs.PlaceCaches.{at_kept}
-use Rattle.row_atomic.proofs.cluster.rows.ClusterRows.versions.Goals as goal
+use Rattle.row_atomic.proofs.cluster.row_calls.ClusterRows.versions.Goals as goal
 
 pub index_of-index-requires : goal.index_of-index-requires
 index_of-index-requires g c = c.self.invariant.1

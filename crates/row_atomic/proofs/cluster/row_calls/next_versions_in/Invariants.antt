@@ -8,7 +8,7 @@ use Rattle.metadata_table.specs.Places.{views}
 use Rattle.rows.specs.Batches.{IsFull}
 use Rattle.row_atomic.specs.Clusters.{AreOpenFrom}
 use Rattle.row_atomic.proofs.ManyVersions.{HasFound}
-use Rattle.row_atomic.proofs.cluster.rows.next_versions_in.Given as goal
+use Rattle.row_atomic.proofs.cluster.row_calls.next_versions_in.Given as goal
 
 abbrev pub invariant-loop-place : goal.invariant-loop-place
 invariant-loop-place g l = record {

@@ -7,7 +7,7 @@ use Rattle.row_atomic.proofs.Calls.{tablet_read}
 use Rattle.row_atomic.proofs.Readable.{refused_read}
 use Rattle.row_atomic.proofs.Memtables.{set_same}
 use Rattle.row_atomic.proofs.PlaceCaches.{at_kept}
-use Rattle.row_atomic.proofs.cluster.rows.ClusterRows.newest.Goals as goal
+use Rattle.row_atomic.proofs.cluster.row_calls.ClusterRows.newest.Goals as goal
 
 pub index_of-index-requires : goal.index_of-index-requires
 index_of-index-requires g c = c.self.invariant.1

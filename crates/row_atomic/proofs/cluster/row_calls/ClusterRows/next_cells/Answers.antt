@@ -4,7 +4,7 @@ use Rattle.cell_key.specs.Places.{place_named}
 use Rattle.metadata_table.specs.Places.{views}
 use Rattle.row_atomic.proofs.Calls.{files_read}
 use Rattle.row_atomic.proofs.Readable.{next_found, next_refused}
-use Rattle.row_atomic.proofs.cluster.rows.ClusterRows.next_cells.Goals as goal
+use Rattle.row_atomic.proofs.cluster.row_calls.ClusterRows.next_cells.Goals as goal
 
 pub returns-clause-found : goal.returns-clause-found
 returns-clause-found g c = rw (← c.self.view_is) (λ whole.
