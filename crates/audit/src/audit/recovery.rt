@@ -1,0 +1,23 @@
+//! What an audit says of a store with a log that was opened again.
+
+ghost use Rattle.audit.specs.Audits.{JudgesMark};
+
+use crate::audit::Audit;
+use cell_key::{MOST_STAMP, Stamp};
+
+impl Audit {
+    /// Whether a store with a log may have been opened again over this mark of its oracle: each stamp that was answered is
+    /// at most the mark. If so, the audit goes on from there: sessions, cleaners and collectors are forgotten, and stamps
+    /// up to the mark count as answered. Otherwise it stays.
+    pub fn recover(&mut self, mark: Stamp) -> bool
+        ensures { JudgesMark mark self.old self.new result }
+    {
+        if mark < self.top || mark > MOST_STAMP {
+            return false;
+        }
+        self.reopen();
+        self.top = mark;
+        self.floor = mark + 1;
+        true
+    }
+}
