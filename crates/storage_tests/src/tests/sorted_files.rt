@@ -386,10 +386,11 @@ const LOCKS: &[u8] = b"TABLET01\
     \0\0\0\x08\0\0\0\x5D\0\0\0\x16a\0\0bal\0\0lock\0\0\xFF\xFF\xFF\xFF\xFF\xFF\xFF\xFE\
     \0\0\0\x65\0\0\0\x01\0\0\0\x03\0\0\0\x9FTABLETZZ";
 
-/// A row, the stamp of its newest lock up to 9, and what is read for it. The file's first lock is known without a read.
+/// A row, the stamp of its newest lock up to 9, and what is read for it. The file's first lock is known without a read. A row of
+/// which only a lock's erasure stands here is read too: the index of the files' locks keeps it away.
 const LOCK_TESTS: [(&[u8], Option<Stamp>, &[(u64, u64, usize)]); 4] = [
     (b"a", Some(1), &[]),
-    (b"b", None, &[]),
+    (b"b", None, &[(1, 8, 93)]),
     (b"bb", None, &[]),
     (b"c", Some(1), &[(1, 8, 93)]),
 ];
