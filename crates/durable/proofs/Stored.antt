@@ -239,15 +239,18 @@ module _ {F : Type 0} (contents : F → Option Contents) (laws : LogsEdits) wher
 
 module _ {F M : Type 0} (contents : F → Option Contents) where
   -- the same server with other rows, of the same cluster
-  pub same_cluster : (old : Server F M) (rows : Recorded F) → rows.cluster ≡ cluster_of old → StaysRooted (StoresCells contents) (IsRooted contents) last_of old (record old { rows = rows })
+  same_cluster : (old : Server F M) (rows : Recorded F) → rows.cluster ≡ cluster_of old → StaysRooted (StoresCells contents) (IsRooted contents) last_of old (record old { rows = rows })
   same_cluster old rows is = stays_rooted contents old (record old { rows = rows }) (λ root cells has. subst (λ (state : ClusterState F). HasRoot contents root cells state) (sym is) has) (omega arith) (ap (λ (state : ClusterState F). machine_places state.places) is)
+
+  pub same_rows : (old new : Server F M) (rows : Recorded F) → new ≡ record old { rows = rows } → rows.cluster ≡ cluster_of old → StaysRooted (StoresCells contents) (IsRooted contents) last_of old new
+  same_rows old new rows is same = subst (λ (server : Server F M). StaysRooted (StoresCells contents) (IsRooted contents) last_of old server) (sym is) (same_cluster old rows same)
 
   -- what is shown without a journal is shown with one that follows
   pub remembers : (server : Server F M) (st : State) → Shows contents (forgets server) st → Follows contents (cluster_of server) (journal_of server) → Shows contents server st
   remembers server st shown follows = record { in_order = (shown.in_order.0, follows); shows = shown.shows; cleaners = shown.cleaners; collectors = shown.collectors; places = shown.places; next = shown.next }
 
-  pub logged_shows : LogsEdits → (server : Server F M) (st : State) (rows : Recorded F) → rows ≡ record { cluster = cluster_of server; journal = option_map all_logged (journal_of server) } → Shows contents server st → Shows contents (record server { rows = rows }) st
-  logged_shows laws server st rows is shown = subst (λ (r : Recorded F). Shows contents (record server { rows = r }) st) (sym is) (record {
+  pub logged_shows : LogsEdits → (server now : Server F M) (st : State) → now ≡ record server { rows = record { cluster = cluster_of server; journal = option_map all_logged (journal_of server) } } → Shows contents server st → Shows contents now st
+  logged_shows laws server now st is shown = subst (λ (s : Server F M). Shows contents s st) (sym is) (record {
     in_order = (shown.in_order.0, follows_logged contents laws (cluster_of server) (journal_of server) shown.in_order.1);
     shows = shown.shows;
     cleaners = shown.cleaners;

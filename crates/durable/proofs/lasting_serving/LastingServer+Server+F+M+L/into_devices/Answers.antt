@@ -4,4 +4,4 @@ use Rattle.durable.proofs.lasting_serving.LastingServer+Server+F+M+L.into_device
 
 pub returns-clause-lasts : goal.returns-clause-lasts
 returns-clause-lasts g c = λ st lasts known.
-    rw (c.into_devices.ensures.files, c.into_devices.ensures.marks) (devices_last g.F.Files g.L.Log c.args.self st (g.M.MarkStore.mark (marks_of c.args.self.server)) known c.into_devices.ensures.within lasts)
+    rw (c.into_devices-files.ensures.files, c.into_devices-files.ensures.marks) (devices_last g.F.Files g.L.Log c.args.self st (g.M.MarkStore.mark (marks_of c.args.self.server)) known c.into_devices-files.ensures.within lasts)
