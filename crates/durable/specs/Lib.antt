@@ -1,5 +1,6 @@
 pub mod Lasting
 pub mod Devices
+pub mod Due
 pub mod Lasts
 pub mod Stored
 pub mod ServesLogged

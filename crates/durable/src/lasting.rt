@@ -1,11 +1,12 @@
 //! A server whose answers outlast a kill: what it answers is on a log before a reply leaves.
 
-ghost use Rattle.std.specs.Prelude.{◌≡◌, ◌⊎◌, [], true, false, IfErr, OnOk};
+ghost use Rattle.std.specs.Prelude.{◌≡◌, ◌⊎◌, ◌↔◌, [], true, false, IfErr, IsTrue, OnOk};
 ghost use Rattle.cell_key.specs.Cells.{Cells};
 ghost use Rattle.commit_log.specs.Edits.{LogsEdits};
 ghost use Rattle.request_codec.specs.Replies.{replied};
 ghost use Rattle.request_codec.specs.declared.replies.Reply.{Reply as CodecReply};
 ghost use Rattle.request_codec.specs.declared.requests.Request.{Request as Lent};
+ghost use Rattle.durable.specs.Due.{IsRootDue};
 ghost use Rattle.durable.specs.Lasting.{GoesOn, IsSettled, Settles};
 ghost use Rattle.server_loop.specs.Commands.{checkpointed};
 ghost use Rattle.durable.specs.Lasts.{AnswersLasting, HasNewRoot, HoldsLogged, IsLastingAnswer, LastsIn, Logs, MovesTablets, NeedsRoot, PutsRoot, StaysRooted, shown_by};
@@ -224,11 +225,13 @@ impl<S: Recording, L: Log> LastingServer<S, L> {
 
     /// Whether it is time for a root that nobody asks for. One that was refused is tried again once much more is written down,
     /// or once less is, for then a root was put meanwhile.
-    fn is_root_due(&self, written: usize) -> bool {
+    fn is_root_due(&self, written: usize) -> bool
+        ensures { IsTrue result ↔ IsRootDue self.now written }
+    {
         written >= self.root_bytes
             && (written < self.tried_bytes
                 || self.tried_bytes == 0
-                || written >= self.tried_bytes.saturating_add(BETWEEN_TRIES))
+                || written - self.tried_bytes >= BETWEEN_TRIES)
     }
 
     /// Answers a request that needs no root.
