@@ -4,7 +4,7 @@ ghost use Rattle.std.specs.Prelude.{IfOk};
 ghost use Rattle.cell_key.specs.Cells.{IsEditOf};
 ghost use Rattle.row_atomic.specs.Commands.{IsUnderRow};
 
-use crate::tests::memory::rows::{new_cluster, newest};
+use crate::tests::memory::clusters::{new_cluster, newest};
 use cell_key::{CellKey, Edit, Family, Qualifier, Refusal, Row, Stamp};
 use file_store::MemFiles;
 use row_atomic::{Cluster, Command, Outcome};

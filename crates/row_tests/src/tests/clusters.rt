@@ -3,7 +3,7 @@
 ghost use Rattle.std.specs.Prelude.{IfOk};
 ghost use Rattle.row_atomic.specs.Commands.{IsUnderRow};
 
-use crate::tests::memory::rows::{new_cluster, newest, next};
+use crate::tests::memory::clusters::{new_cluster, newest, next};
 use cell_key::{Refusal, Row, Stamp};
 use file_store::MemFiles;
 use row_atomic::{Cluster, Command, Outcome, Rows, one_newest, one_next_cell};

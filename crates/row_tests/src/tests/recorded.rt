@@ -1,6 +1,6 @@
 //! Rows whose edits are written down.
 
-use crate::tests::memory::rows::{new_cluster, newest};
+use crate::tests::memory::clusters::{new_cluster, newest};
 use cell_key::{Refusal, Row, Stamp};
 use file_store::MemFiles;
 use row_atomic::{Recorded, Rows};

@@ -1,6 +1,6 @@
 //! Sessions over rows in memory.
 
-use crate::tests::memory::rows::newest;
+use crate::tests::memory::clusters::newest;
 use cell_key::{Refusal, Stamp};
 use oracle::{MemMark, Oracle};
 use row_atomic::PlainRows;
