@@ -120,7 +120,10 @@ class Frames:
                 return
         except BlockingIOError:
             pass
-        except (BrokenPipeError, ConnectionError, ValueError):
+        except ConnectionError:
+            # What the other side has answered before it closed is still there
+            unsent = memoryview(b"")
+        except ValueError:
             raise StreamEnded() from None
         if (unsent or deadline is not None) and not self._is_readable(bool(unsent), deadline):
             return

@@ -2,6 +2,7 @@
 
 from __future__ import annotations
 
+from io import BufferedWriter
 from os import PathLike
 from pathlib import Path
 
@@ -14,7 +15,7 @@ class Recording:
 
     Where the folder has a recording already, it goes on: the store was closed behind it and opened again. The file `reopened-at`
     has the numbers of the last replies before that, for the option of this name. If the store has a log, it is the file
-    `recovered-at`, and each number has the oracle's mark behind it.
+    `recovered-at`, and each number has the oracle's mark behind it. OSError, which names the file, where one can't be written.
     """
 
     def __init__(self, folder: str | PathLike[str], store: str | None = None) -> None:
@@ -29,16 +30,36 @@ class Recording:
 
     def note_requests(self, frames: bytes) -> None:
         """Adds frames that went in."""
-        self._requests.write(frames)
+        write(self._requests, frames)
 
     def note_replies(self, frames: bytes) -> None:
         """Adds bytes of frames that came out."""
-        self._replies.write(frames)
+        write(self._replies, frames)
 
     def close(self) -> None:
         """Writes what is left to the files, and closes them. It may be called again."""
-        self._requests.close()
-        self._replies.close()
+        try:
+            close(self._requests)
+        finally:
+            close(self._replies)
+
+
+def write(file: BufferedWriter, data: bytes) -> None:
+    """Adds to a file."""
+    try:
+        file.write(data)
+    except OSError as error:
+        error.filename = file.name
+        raise
+
+
+def close(file: BufferedWriter) -> None:
+    """Writes what is left to a file, and closes it."""
+    try:
+        file.close()
+    except OSError as error:
+        error.filename = file.name
+        raise
 
 
 def note_reopened(place: Path, store: str | None) -> None:

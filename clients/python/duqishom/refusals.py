@@ -78,10 +78,11 @@ class TooManyWrites(Refused):
 
 
 class TooManySessions(Refused):
-    """1,024 sessions are active; or, of a cleaner that is to open, 1,024 of these are open, and of a collector 64."""
+    """1,024 sessions are active; or, of a cleaner that is to open, 1,024 of these are open, and of a collector 64. A gateway has
+    lower limits for each connection, and refuses so one that it has no place for."""
 
     number = 7
-    limit = "1,024 sessions, 1,024 cleaners and 64 collectors are the most"
+    limit = "1,024 sessions, 1,024 cleaners and 64 collectors are the most; a gateway has limits of its own, of connections too"
 
 
 class EmptyCommit(Refused):

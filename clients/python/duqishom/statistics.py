@@ -12,7 +12,9 @@ from collections.abc import Iterator, Mapping, Sequence
 from dataclasses import dataclass
 
 from duqishom.fields import MalformedReply
+from duqishom.operations import REFUSED
 from duqishom.program import ProgramEnded
+from duqishom.refusals import BY_NUMBER, Refused
 from duqishom.remote import Gateway
 
 REQUEST, REPLY = b"\x70", 0xF0
@@ -51,12 +53,15 @@ METRICS = (
 
 
 def statistics(path: str) -> dict[str, Counted]:
-    """What the gateway at a socket counts. OSError where none serves there, ConnectionLost where it ends."""
+    """What the gateway at a socket counts. OSError where none serves there, ConnectionLost where it ends, and TooManySessions where
+    it has no place."""
     gateway = Gateway(path)
     try:
         [reply] = gateway.ask([REQUEST])
     finally:
         gateway.close()
+    if len(reply) == 2 and reply[0] == REFUSED and reply[1] in BY_NUMBER:
+        raise BY_NUMBER[reply[1]]()
     if reply[:1] != bytes((REPLY,)):
         raise MalformedReply(f"these are no statistics: {reply.hex(' ')}")
     told: dict[str, Counted] = json.loads(reply[1:])
@@ -99,7 +104,7 @@ def main(words: Sequence[str]) -> int:
     options = parser.parse_args(words)
     try:
         told = statistics(options.socket)
-    except (OSError, ProgramEnded, MalformedReply) as failure:
+    except (OSError, ProgramEnded, MalformedReply, Refused) as failure:
         print(f"duqishom: {options.socket}: {failure}", file=sys.stderr)
         return 2
     for line in prometheus(told) if options.prometheus else lines(told):

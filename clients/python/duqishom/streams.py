@@ -61,6 +61,10 @@ class FrameStream(asyncio.Protocol):
         rest = self._rest + data
         self._rest = rest[whole_frames(rest, replies) :]
         for reply in replies:
+            if not self._trips:
+                # A gateway that has no place for this connection says so before it is asked
+                self._transport.close()
+                return
             trip = self._trips[0]
             trip.replies.append(reply)
             if len(trip.replies) == trip.count:

@@ -266,19 +266,6 @@ class Folders(FolderTest):
         """No file that was being written stands in the folder. A mark that was is written anew."""
         self.assertEqual([file.name for file in self.path.glob("t*.new")], [])
 
-    def test_options_act_in_a_folder(self) -> None:
-        with self.opened("--flush", "2") as store:
-            for number in range(6):
-                store.run(lambda transaction: transaction.set(b"%d" % number, FAMILY, b"1"))
-        self.assertGreaterEqual(len(list(self.path.glob("t*.tab"))), 6)
-        with self.opened("--flush", "2", "--merge", "3") as store:
-            for number in range(20):
-                store.run(lambda transaction: transaction.set(b"%d" % number, FAMILY, b"1"))
-            with self.assertRaises(BadCount):
-                store.merge(1, 3)
-            store.checkpoint()
-        self.assertLess(len(read_root(self.path).tablets[0].files), 4)
-
     def test_automatic_compactions_on_both_sides_of_a_split(self) -> None:
         with self.opened("--flush", "3", "--merge", "4") as store:
             store.split(b"m")

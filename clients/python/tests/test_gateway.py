@@ -51,8 +51,10 @@ NO_SCAN_BOUNDS = (b"", b"\0\0", b"\0\0\0\0", b"\2\0\0", b"\0\2\0", b"\0\0\2", b"
 class Frames(unittest.TestCase):
     """What passes, and what is answered on the way."""
 
-    def test_the_socket_is_its_owner_s(self) -> None:
-        self.assertEqual(os.stat(Gateway(self).path).st_mode & 0o777, 0o600)
+    def test_modes_of_the_sockets(self) -> None:
+        for word, modes in (("--mode", [0o660, 0o600]), ("--admin-mode", [0o600, 0o660])):
+            gateway = Gateway(self, ["--admin", "ADMIN", word, "660"])
+            self.assertEqual([os.stat(path).st_mode & 0o777 for path in (gateway.path, gateway.admin)], modes)
 
     def test_each_client_has_its_own_replies_in_order(self) -> None:
         gateway, wrong = Gateway(self), list[bytes]()
@@ -210,7 +212,6 @@ class Belongings(unittest.TestCase):
         for request in (*(of_tablet(code, 1) for code in (0x0A, 0x0C)), SWEEP, frame(b"\x10"), frame(b"\x12")):
             self.assertEqual(wire.ask(request), BAD_REQUEST)
             self.assertEqual(admin.ask(request)[0], request[4] | 0x80)
-        self.assertEqual(os.stat(gateway.admin).st_mode & 0o777, 0o600)
 
     def test_room_is_made_where_clients_can_not(self) -> None:
         program = stand_in(

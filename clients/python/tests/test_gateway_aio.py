@@ -6,10 +6,10 @@ import asyncio
 import unittest
 from collections.abc import Awaitable, Callable
 
-from duqishom import Committed, ConnectionLost, Lost, Patience, Pending, StillPending, TransactionConflict
+from duqishom import Committed, ConnectionLost, Lost, Patience, Pending, StillPending, TooManySessions, TransactionConflict
 from duqishom import Store as PlainStore
 from duqishom.aio import Store, Transaction
-from tests.gateways import Gateway
+from tests.gateways import BEGIN, Gateway
 
 ROW, OTHER, FAMILY = b"r", b"s", b"c"
 TASKS, EACH = 10, 10
@@ -108,6 +108,24 @@ class Aio(unittest.TestCase):
             self.assertEqual(await store.fate(start, OTHER, FAMILY), Lost())
 
         self.with_store(work, Patience(tries=2, cleans=False))
+
+    def test_a_gateway_without_a_place(self) -> None:
+        gateway = Gateway(self, ["--clients", "1"])
+        self.assertEqual(gateway.wire().ask(BEGIN)[0], 0x81)
+
+        async def main() -> None:
+            async with Store(socket=gateway.path) as early, Store(socket=gateway.path) as late:
+                with self.assertRaises(TooManySessions):
+                    await early.begin()
+                # It hears that there is no place before it asks, for others have come behind it
+                others = [gateway.wire() for _ in range(40)]
+                while late._stream.is_open:
+                    await asyncio.sleep(0.01)
+                with self.assertRaises(ConnectionLost):
+                    await late.begin()
+                self.assertEqual(others[0].reply(), b"\xff\x07")
+
+        asyncio.run(main())
 
     def test_a_task_that_is_cancelled_and_the_end_of_the_gateway(self) -> None:
         gateway = Gateway(self)

@@ -9,7 +9,23 @@ import time
 import unittest
 from contextlib import suppress
 
-from tests.gateways import COLLECT_BEGIN, STATISTICS, Gateway, Wire, collect_step, frame, get, raw, set_, stand_in, step, until
+from duqishom import ConnectionLost, Store, TooManySessions
+from duqishom.statistics import statistics
+from tests.gateways import (
+    BEGIN,
+    COLLECT_BEGIN,
+    STATISTICS,
+    Gateway,
+    Wire,
+    collect_step,
+    frame,
+    get,
+    raw,
+    set_,
+    stand_in,
+    step,
+    until,
+)
 
 # What docs/GATEWAY.md says: the gateway has at most so many bytes of memory, whatever its clients do.
 MOST_MEMORY = 512 << 20
@@ -98,9 +114,22 @@ class Bounds(unittest.TestCase):
 
     def test_so_many_clients(self) -> None:
         gateway = Gateway(self, ["--clients", "2"])
-        wires = [gateway.wire() for _ in range(3)]
-        self.assertEqual([wire.ask(raw(b"r", 1)) for wire in wires[:2]], 2 * [b"\x91\x00"])
-        self.assertRaises((EOFError, ConnectionError), wires[2].ask, raw(b"r", 1))
+        wires = [gateway.wire() for _ in range(2)]
+        self.assertEqual([wire.ask(raw(b"r", 1)) for wire in wires], 2 * [b"\x91\x00"])
+        # One that asks, one whose request is long and isn't whole, and more that ask nothing than may stay for a while
+        for request in (BEGIN, frame(b"\x01" * 1_048_576)[:200_000], *40 * [b""]):
+            wires.append(gateway.wire())
+            wires[-1].send(request)
+        for wire in wires[2:]:
+            self.assertEqual(wire.reply(), b"\xff\x07")
+            self.assertRaises((EOFError, ConnectionError), wire.reply)
+        with Store(socket=gateway.path) as store:
+            self.assertRaises(TooManySessions, store.begin)
+            self.assertRaises(ConnectionLost, store.begin)
+        self.assertRaises(TooManySessions, statistics, gateway.path)
+        wires[0].close()
+        self.assertTrue(until(lambda: gateway.wire().ask(BEGIN)[0] == 0x81))
+        self.assertEqual(wires[1].ask(BEGIN)[0], 0x81)
 
 
 class Fairness(unittest.TestCase):

@@ -2,11 +2,13 @@
 
 from __future__ import annotations
 
+import fcntl
 import os
 import signal
 import socket
 import subprocess
 import unittest
+from contextlib import ExitStack
 from pathlib import Path
 
 from duqishom.program import default_program
@@ -167,6 +169,26 @@ class Begins(unittest.TestCase):
         self.assertEqual((again.returncode, again.stderr), (2, f"duqishom: another gateway serves {gateway.path}\n"))
         self.assertEqual(gateway.wire().ask(BEGIN)[0], 0x81)
 
+    def test_two_at_once_over_what_is_left_of_another(self) -> None:
+        path = folder_of(self) + "/socket"
+        with socket.socket(socket.AF_UNIX) as left, open(path + ".lock", "w") as lock:
+            left.bind(path)
+            # One that has begun, and isn't at its socket yet
+            fcntl.flock(lock, fcntl.LOCK_EX)
+            refused = run_again(path)
+        self.assertEqual((refused.returncode, refused.stderr), (2, f"duqishom: another gateway serves {path}\n"))
+        both = [subprocess.Popen(command_of(path), cwd=PACKAGE, stderr=subprocess.PIPE, text=True) for _ in range(2)]
+        firsts = []
+        for process in both:
+            assert process.stderr is not None
+            firsts.append(process.stderr.readline())
+        self.assertEqual(sorted(firsts), [f"duqishom: another gateway serves {path}\n", "duqishom: ready\n"])
+        for process, first in zip(both, firsts):
+            if first == "duqishom: ready\n":
+                process.terminate()
+            process.communicate(timeout=60)
+        self.assertEqual(sorted(process.returncode for process in both), [0, 2])
+
     def test_at_what_is_no_socket(self) -> None:
         path = folder_of(self) + "/file"
         open(path, "w").close()
@@ -192,25 +214,37 @@ class Begins(unittest.TestCase):
 
     def test_by_a_service_manager(self) -> None:
         folder = folder_of(self)
-        path, notices = folder + "/socket", folder + "/notices"
-        with socket.socket(socket.AF_UNIX) as listening, socket.socket(socket.AF_UNIX, socket.SOCK_DGRAM) as manager:
-            listening.bind(path)
-            listening.listen(5)
+        path, admin, notices = folder + "/socket", folder + "/admin", folder + "/notices"
+        with ExitStack() as stack:
+            files = []
+            for place in (path, admin):
+                listening = stack.enter_context(socket.socket(socket.AF_UNIX))
+                listening.bind(place)
+                listening.listen(5)
+                files.append(listening.fileno())
+            manager = stack.enter_context(socket.socket(socket.AF_UNIX, socket.SOCK_DGRAM))
             manager.bind(notices)
             manager.settimeout(60)
-            early = Wire(path)
+            early, others = Wire(path), Wire(admin)
+            stack.callback(early.close)
+            stack.callback(others.close)
             early.send(BEGIN)
-            script = f'exec 3<&{listening.fileno()}; LISTEN_PID=$$ LISTEN_FDS=1 exec "$@"'
+            handed = "LISTEN_PID=$$ LISTEN_FDS=2 LISTEN_FDNAMES=clients:admin"
+            script = f'exec 3<&{files[0]} 4<&{files[1]}; {handed} exec "$@"'
             command = ["sh", "-c", script, "sh", *command_of(path)[:-2]]
-            place = {**os.environ, "NOTIFY_SOCKET": notices}
-            files = [listening.fileno()]
-            with subprocess.Popen(command, cwd=PACKAGE, env=place, pass_fds=files, stderr=subprocess.DEVNULL) as process:
-                self.assertEqual(manager.recv(100), b"READY=1")
-                self.assertEqual(early.reply()[0], 0x81)
-                process.terminate()
-                self.assertEqual(manager.recv(100), b"STOPPING=1")
-                self.assertEqual(process.wait(60), 0)
-            early.close()
+            environment = {**os.environ, "NOTIFY_SOCKET": notices}
+            quiet = subprocess.DEVNULL
+            process = subprocess.Popen(command, cwd=PACKAGE, env=environment, pass_fds=files, stderr=quiet)
+            stack.enter_context(process)
+            stack.callback(process.kill)
+            self.assertEqual(manager.recv(100), b"READY=1")
+            self.assertEqual(early.reply()[0], 0x81)
+            for request in (of_tablet(0x0C, 1), SWEEP, frame(b"\x10")):
+                self.assertEqual(early.ask(request), b"\xff\x16")
+                self.assertEqual(others.ask(request)[0], request[4] | 0x80)
+            process.terminate()
+            self.assertEqual(manager.recv(100), b"STOPPING=1")
+            self.assertEqual(process.wait(60), 0)
         self.assertTrue(os.path.exists(path))
 
 

@@ -66,11 +66,9 @@ class Frames(unittest.TestCase):
         self.assertGreater(len(exchanges(PROTOCOL)), 10)
         self.assert_followed(PROTOCOL)
 
-    def test_readme(self) -> None:
-        [first_cell] = exchanges(README)
-        sent = b"".join(line.frame for line in first_cell.lines if isinstance(line, Sent))
-        self.assertEqual(sent, (TOP / "examples" / "first_cell.frames").read_bytes())
-        self.assert_followed(README)
+    def test_first_cell(self) -> None:
+        sent = [b"".join(line.frame for line in it.lines if isinstance(line, Sent)) for it in exchanges(PROTOCOL)]
+        self.assertIn((TOP / "examples" / "first_cell.frames").read_bytes(), sent)
 
 
 class Commands(unittest.TestCase):

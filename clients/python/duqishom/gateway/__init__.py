@@ -5,6 +5,6 @@
 `docs/GATEWAY.md` says what it does. The parts: `passages` knows of each operation what the gateway must know to pass it on,
 `things` the sessions, cleaners and collectors that are open, and whose they are; a `client` is a connection, and the
 `household` asks what the gateway asks for itself; `verdicts` says what the gateway answers itself, `turns` gives turns, and the
-`upstream` is the program. `heirs` ends what a dead client had open, the `keeper` holds replies back until a checkpoint, and
-`service` starts and ends it all.
+`upstream` is the program. `heirs` ends what a dead client had open, and the `keeper` holds replies back until a checkpoint.
+`turned_away` is a connection that there is no place for, a `failure` ends all at once, and `service` starts and ends it all.
 """

@@ -48,9 +48,7 @@ class Client(asyncio.BufferedProtocol):
     def connection_made(self, transport: asyncio.BaseTransport) -> None:
         self.transport = cast(asyncio.Transport, transport)
         self.transport.set_write_buffer_limits(0)
-        if not self.exchange.admit(self):
-            self.is_alive = False
-            self.transport.abort()
+        self.is_alive = self.exchange.admit(self)
 
     def get_buffer(self, size: int) -> memoryview:
         return READ_BUFFER

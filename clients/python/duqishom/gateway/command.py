@@ -3,12 +3,12 @@
 from __future__ import annotations
 
 import argparse
-import sys
 from collections.abc import Sequence
 
 from duqishom.folders import has_log, log_words
 from duqishom.gateway.bounds import Bounds
 from duqishom.gateway.exchange import Rules
+from duqishom.gateway.failure import tell
 from duqishom.gateway.service import Places, Service
 from duqishom.gateway.sockets import NoSocket
 from duqishom.program import default_program
@@ -38,8 +38,9 @@ def parser() -> argparse.ArgumentParser:
     """The parser of the command line."""
     words = argparse.ArgumentParser(prog="duqishom serve", description=DESCRIPTION)
     words.add_argument("--socket", metavar="PATH", help="the Unix socket for clients")
-    words.add_argument("--mode", type=octal, default=0o600, help="the mode of the sockets' files (600)")
+    words.add_argument("--mode", type=octal, default=0o600, help="the mode of the clients' socket (600)")
     words.add_argument("--admin", metavar="PATH", help="a socket that compactions, splits and the like are for alone")
+    words.add_argument("--admin-mode", metavar="MODE", type=octal, default=0o600, help="the mode of that socket (600)")
     words.add_argument("--tcp", metavar="PORT", type=port, help="a port of 127.0.0.1, which every user of the machine may open")
     words.add_argument("--program", help="the tabletd to start")
     words.add_argument("--dir", help="the folder of the store: a new store in memory where none is named")
@@ -80,9 +81,8 @@ def service_of(options: argparse.Namespace) -> Service:
         is_durable=options.durable and not is_logged,
         leaves=options.leave,
         is_shared=options.shared,
-        has_admin=options.admin is not None,
     )
-    places = Places(options.socket, options.mode, options.admin, options.tcp)
+    places = Places(options.socket, options.mode, options.admin, options.admin_mode, options.tcp)
     bounds = Bounds(options.clients, (options.sessions, options.cleaners, options.collectors))
     checkpoint = options.checkpoint if options.dir is not None else 0
     return Service(command, places, rules, bounds, checkpoint, options.grace, options.record, options.dir)
@@ -90,8 +90,8 @@ def service_of(options: argparse.Namespace) -> Service:
 
 def main(words: Sequence[str]) -> int:
     """Serves. The status is 0 where a signal has ended the gateway and all is kept, 1 where the last checkpoint was refused, 2
-    where the words are refused, the socket can't be taken or the program can't be started, and the program's where that has
-    ended."""
+    where the words are refused, the socket can't be taken or the program can't be started, 70 where the gateway has failed, and
+    the program's where that has ended."""
     parsing = parser()
     options = parsing.parse_args(words)
     for word in ("durable", "log"):
@@ -100,5 +100,5 @@ def main(words: Sequence[str]) -> int:
     try:
         return service_of(options).run()
     except (OSError, NoSocket) as failure:
-        print(f"duqishom: {failure}", file=sys.stderr)
+        tell(str(failure))
         return REFUSED

@@ -3,18 +3,22 @@
 from __future__ import annotations
 
 import asyncio
+import os
 from collections.abc import Callable, Sequence
 from contextlib import suppress
 from dataclasses import dataclass
+from typing import Any
 
 from duqishom.gateway.bounds import REQUESTS_OF_ALL, Bounds
 from duqishom.gateway.client import Client
 from duqishom.gateway.counts import Counts
+from duqishom.gateway.failure import FAILED, GatewayFailed, begin, is_own
 from duqishom.gateway.heirs import Heirs
 from duqishom.gateway.household import Household
 from duqishom.gateway.keeper import Keeper
 from duqishom.gateway.passages import CHECKPOINT, MEMTABLE_FULL, SWEEP, passages
 from duqishom.gateway.things import Things
+from duqishom.gateway.turned_away import TurnedAway
 from duqishom.gateway.turns import Turns
 from duqishom.gateway.upstream import Run, Upstream
 from duqishom.program import ProgramEnded
@@ -36,25 +40,27 @@ class Rules:
 
 
 class Exchange:
-    """All clients of one program. `ended` is called with the program's status when it has ended."""
+    """All clients of one program. `ended` is called when the program has ended, or the gateway has failed."""
 
     def __init__(
-        self, rules: Rules, bounds: Bounds, ended: Callable[[int], None], recording: Recording | None = None
+        self, rules: Rules, bounds: Bounds, ended: Callable[[ProgramEnded], None], recording: Recording | None = None
     ) -> None:
         self.rules, self.bounds = rules, bounds
         self.clients: set[Client] = set()
+        self.turned_away: dict[TurnedAway, None] = {}
         self.outs: list[Client] = []
         self.counts = Counts()
         self.things = Things()
         self.table = passages(notes_reads=rules.is_durable)
         self.is_closing = False
-        self.upstream = Upstream(self._taken, self._fail, self._eased, recording)
+        self._recording = recording
+        self.upstream = Upstream(self._taken, self._program_ended, self._eased, recording)
         self.turns = Turns(self.upstream, self._flush)
         self.household = Household(self.upstream, self.turns, self.things, self.table, rules.has_log)
         self.heirs = Heirs(self.household, self.things)
         self.keeper = Keeper(self.household, rules.is_durable)
         self._ended = ended
-        self.gone: asyncio.Future[int] = asyncio.get_running_loop().create_future()
+        self.gone: asyncio.Future[ProgramEnded] = asyncio.get_running_loop().create_future()
         self._idle = asyncio.Event()
         self._relief: asyncio.Task[None] | None = None
         self.need_room: set[Client] = set()
@@ -70,13 +76,17 @@ class Exchange:
     # What clients do.
 
     def admit(self, client: Client) -> bool:
-        """Takes a client in, where there is a place for it."""
-        if self.is_closing or len(self.clients) >= self.bounds.clients:
-            self.counts.turned_away += 1
-            return False
-        self.clients.add(client)
-        self.counts.connections += 1
-        return True
+        """Takes a client in, where there is a place for it. Another one is told so."""
+        if not self.is_closing and len(self.clients) < self.bounds.clients:
+            self.clients.add(client)
+            self.counts.connections += 1
+            return True
+        self.counts.turned_away += 1
+        if self.is_closing:
+            client.transport.abort()
+        else:
+            TurnedAway(client.transport, self.turned_away)
+        return False
 
     def came(self, client: Client, count: int) -> None:
         """Notes so many bytes that came from a client. Where all have too many waiting, the one with the most is closed."""
@@ -100,7 +110,7 @@ class Exchange:
         self.keeper.note(client, run, reply)
         if reply == MEMTABLE_FULL and self.rules.has_admin and not client.is_admin:
             self.need_room.add(client)
-            self._relief = self._relief or asyncio.get_running_loop().create_task(self._make_room())
+            self._relief = self._relief or begin(self._make_room())
 
     async def _make_room(self) -> None:
         """Writes memtables, which clients can't where the administrator has a socket. Those that need room have no turn
@@ -118,7 +128,7 @@ class Exchange:
 
     def bequeath(self, client: Client) -> None:
         """Has the heirs end what a client that is gone had open, unless that is left."""
-        if self.upstream.status is None:
+        if not self.gone.done():
             self.heirs.take(client, self.rules.leaves)
 
     # What the program does.
@@ -139,16 +149,49 @@ class Exchange:
     def _eased(self) -> None:
         self.turns.call()
 
-    def _fail(self, status: int) -> None:
+    def _program_ended(self, status: int) -> None:
         """The program has ended: all connections close."""
-        self._idle.set()
-        self.household.fail(status)
+        if self._recording is not None:
+            try:
+                self._recording.close()
+            except OSError as error:
+                self.fail(error)
+        self._end(ProgramEnded(status))
         for client in list(self.clients):
             client.transport.close()
-        self.gone.set_result(status)
-        self._ended(status)
 
     # The end.
+
+    def handle(self, loop: asyncio.AbstractEventLoop, context: dict[str, Any]) -> None:
+        """Has the gateway fail where the event loop met an exception that nothing has caught."""
+        error = context.get("exception")
+        if error is None or not is_own(error):
+            loop.default_exception_handler(context)
+            return
+        try:
+            self.fail(error)
+        except Exception:
+            # All connections close with the process
+            os._exit(FAILED)
+
+    def fail(self, error: BaseException) -> ProgramEnded:
+        """Ends all at once, for a reply may be on its way to somebody else from here on: no client gets another byte. Gives what
+        has ended the exchange, which may have been before."""
+        self.upstream.abandon()
+        self.outs.clear()
+        for client in self.clients:
+            client.transport.abort()
+        self._end(GatewayFailed(error))
+        return self.gone.result()
+
+    def _end(self, ended: ProgramEnded) -> None:
+        """Ends all waiting. What comes first tells why."""
+        self.is_closing = True
+        self._idle.set()
+        if not self.gone.done():
+            self.household.fail(ended)
+            self.gone.set_result(ended)
+            self._ended(ended)
 
     async def shut(self, grace: float) -> bool:
         """Takes no new frame, lets all replies out, ends what is open, makes a checkpoint in a folder, and ends the program's
@@ -173,7 +216,7 @@ class Exchange:
 
     async def _drain(self) -> None:
         """Waits until the program has answered all that was sent."""
-        if self.upstream.runs and self.upstream.status is None:
+        if self.upstream.runs and not self.gone.done():
             self._idle.clear()
             await self._idle.wait()
 

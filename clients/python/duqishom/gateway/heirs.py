@@ -6,6 +6,7 @@ import asyncio
 from contextlib import suppress
 
 from duqishom.fields import FieldReader, counted, number
+from duqishom.gateway.failure import begin
 from duqishom.gateway.household import Household, body_of
 from duqishom.gateway.passages import CLEAN_BEGIN, CLEAN_STEP, COLLECT_STEP, MEMTABLE_FULL, STEP, STOP, Kind
 from duqishom.gateway.things import Owner, Thing, Things
@@ -35,7 +36,7 @@ class Heirs:
         for thing in list(owner.things):
             self._things.give(thing, self._household)
             if not leaves:
-                work = asyncio.get_running_loop().create_task(self._end(thing))
+                work = begin(self._end(thing))
                 self._works[work] = thing.kind
                 work.add_done_callback(self._works.pop)
 

@@ -42,14 +42,15 @@ class Household:
         self._waiting: deque[tuple[bytes, bytes | None, asyncio.Future[bytes]]] = deque()
         self._asked: deque[asyncio.Future[bytes]] = deque()
         self._room_lock = asyncio.Lock()
+        self._end: ProgramEnded | None = None
 
     async def ask(self, body: bytes, then: bytes | None = None) -> bytes:
         """Asks, and gives the frame of the reply. ProgramEnded where the program ends in place of it.
 
         Where another body is given, that request goes right behind, whatever comes of it.
         """
-        if self._upstream.status is not None:
-            raise ProgramEnded(self._upstream.status)
+        if self._end is not None:
+            raise self._end
         reply: asyncio.Future[bytes] = asyncio.get_running_loop().create_future()
         self._waiting.append((body, then, reply))
         self._turns.add(self)
@@ -86,11 +87,12 @@ class Household:
         if not reply.done():
             reply.set_result(frames)
 
-    def fail(self, status: int) -> None:
-        """Ends all waiting, for the program has ended."""
+    def fail(self, ended: ProgramEnded) -> None:
+        """Ends all waiting, for the program has ended, or the gateway has failed."""
+        self._end = ended
         for reply in (*self._asked, *(reply for _, _, reply in self._waiting)):
             if not reply.done():
-                reply.set_exception(ProgramEnded(status))
+                reply.set_exception(ended)
                 reply.exception()
         self._asked.clear()
         self._waiting.clear()

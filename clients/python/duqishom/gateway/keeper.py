@@ -3,10 +3,10 @@
 from __future__ import annotations
 
 import asyncio
-import sys
 from contextlib import suppress
 from typing import TYPE_CHECKING
 
+from duqishom.gateway.failure import begin, tell
 from duqishom.gateway.household import Household, body_of
 from duqishom.gateway.passages import CHECKPOINT, GET, RAW, SCAN, SWEEP, TOO_MANY_FILES, frame
 from duqishom.gateway.things import CODE, COMMITTED, CONFLICT, FIELDS, FINISHED, TAG
@@ -47,7 +47,7 @@ class Keeper:
         if self._is_durable and self._shows(run, reply) and client.hold():
             self._holding.append(client)
             if self._work is None:
-                self._work = asyncio.get_running_loop().create_task(self._keep())
+                self._work = begin(self._keep())
 
     def _see(self, reply: bytes) -> None:
         """Notes commits and checkpoints."""
@@ -97,7 +97,7 @@ class Keeper:
             await self._sweep()
             reply = await self._ask(CHECKPOINT)
         if reply != CHECKPOINT_MADE:
-            print(f"duqishom: a checkpoint was refused: {body_of(reply)[1]}", file=sys.stderr, flush=True)
+            tell(f"a checkpoint was refused: {body_of(reply)[1]}")
         return reply == CHECKPOINT_MADE
 
     async def _sweep(self) -> None:

@@ -7,15 +7,15 @@ import os
 import resource
 import signal
 import socket
-import sys
 from collections.abc import Sequence
 from contextlib import ExitStack
-from dataclasses import dataclass
+from dataclasses import dataclass, replace
 
 from duqishom.gateway.bounds import Bounds
 from duqishom.gateway.client import Client
 from duqishom.gateway.exchange import Exchange, Rules
-from duqishom.gateway.sockets import BACKLOG, NoSocket, SocketFile, inherited, notify, tcp_socket, unix_socket
+from duqishom.gateway.failure import tell
+from duqishom.gateway.sockets import BACKLOG, NoSocket, SocketFile, inherited, lock_beside, notify, tcp_socket, unix_socket
 from duqishom.program import ProgramEnded
 from duqishom.recording import Recording
 
@@ -28,11 +28,12 @@ BY_SIGNAL = 128
 
 @dataclass(frozen=True)
 class Places:
-    """Where the gateway listens."""
+    """Where the gateway listens, and the modes of its Unix sockets."""
 
     socket: str | None = None
     mode: int = 0o600
     admin: str | None = None
+    admin_mode: int = 0o600
     tcp: int | None = None
 
 
@@ -66,71 +67,77 @@ class Service:
     async def _serve_at(self, listening: Sequence[tuple[socket.socket, bool]]) -> int:
         """Serves at these sockets."""
         loop = asyncio.get_running_loop()
-        stopped: asyncio.Future[int | None] = loop.create_future()
+        stopped: asyncio.Future[ProgramEnded | None] = loop.create_future()
         recording = None if self.record is None else Recording(self.record, self.folder)
-        exchange = Exchange(self.rules, self.bounds, lambda status: resolve(stopped, status), recording)
+        rules = replace(self.rules, has_admin=any(is_admin for _, is_admin in listening))
+        exchange = Exchange(rules, self.bounds, lambda ended: resolve(stopped, ended), recording)
+        loop.set_exception_handler(exchange.handle)
         for number in (signal.SIGTERM, signal.SIGINT):
             loop.add_signal_handler(number, resolve, stopped, None)
         try:
             await exchange.start(self.command)
-        except ProgramEnded as ended:
-            return told(ended)
+        except ProgramEnded as early:
+            return await self._end(exchange, early)
         servers = [await accept(exchange, each, is_admin) for each, is_admin in listening]
-        print("duqishom: ready", file=sys.stderr, flush=True)
+        tell("ready")
         notify(os.environ, "READY=1")
-        status = await self._until(exchange, stopped)
+        ended = await self._until(exchange, stopped)
         notify(os.environ, "STOPPING=1")
         for server in servers:
             server.close()
-        return await self._end(exchange, status)
+        return await self._end(exchange, ended)
 
     def _listen(self, stack: ExitStack) -> list[tuple[socket.socket, bool]]:
         """The listening sockets, each with whether it is the administrator's. Those that are made here go with the stack."""
         listening = inherited(os.environ)
-        for path, is_admin in ((self.places.socket, False), (self.places.admin, True)):
+        places = self.places
+        for path, mode, is_admin in ((places.socket, places.mode, False), (places.admin, places.admin_mode, True)):
             if path is not None:
-                listening.append((stack.enter_context(unix_socket(path, self.places.mode)), is_admin))
+                stack.enter_context(lock_beside(path))
+                listening.append((stack.enter_context(unix_socket(path, mode)), is_admin))
                 stack.callback(SocketFile(path).remove)
-        if self.places.tcp is not None:
-            listening.append((stack.enter_context(tcp_socket(self.places.tcp)), False))
+        if places.tcp is not None:
+            listening.append((stack.enter_context(tcp_socket(places.tcp)), False))
         if not listening:
             raise NoSocket("there is nowhere to listen: name a --socket or a --tcp")
         return listening
 
-    async def _until(self, exchange: Exchange, stopped: asyncio.Future[int | None]) -> int | None:
-        """Waits for a signal, or for the program's end: its status. Meanwhile checkpoints are made where they are asked for."""
+    async def _until(self, exchange: Exchange, stopped: asyncio.Future[ProgramEnded | None]) -> ProgramEnded | None:
+        """Waits for a signal, or for the program's end. Meanwhile checkpoints are made where they are asked for."""
         while not stopped.done():
             await asyncio.wait({stopped}, timeout=self.checkpoint or None)
             if not stopped.done():
                 try:
                     await exchange.keeper.checkpoint()
-                except ProgramEnded:
-                    await stopped
+                except ProgramEnded as ended:
+                    return ended
+                except Exception as error:
+                    return exchange.fail(error)
         return stopped.result()
 
-    async def _end(self, exchange: Exchange, status: int | None) -> int:
-        """Ends the gateway: with the program's status where that has ended, and else with 0 where all is kept."""
-        if status is not None:
-            await exchange.leave(self.grace)
-            return told(ProgramEnded(status))
-        try:
-            is_kept = await exchange.shut(self.grace)
-        except ProgramEnded as ended:
-            return told(ended)
-        status = await exchange.gone
-        return told(ProgramEnded(status)) if status != 0 else int(not is_kept)
+    async def _end(self, exchange: Exchange, ended: ProgramEnded | None) -> int:
+        """Ends the gateway: with 0 where all is kept, and with the program's status, or its own, where that has ended or it has
+        failed."""
+        if ended is None:
+            try:
+                is_kept = await exchange.shut(self.grace)
+                ended = await exchange.gone
+                if ended.status == 0:
+                    return int(not is_kept)
+            except ProgramEnded as early:
+                ended = early
+            except Exception as error:
+                ended = exchange.fail(error)
+        tell(str(ended))
+        await exchange.leave(self.grace)
+        await exchange.upstream.settle(self.grace)
+        return ended.status if ended.status >= 0 else BY_SIGNAL - ended.status
 
 
-def resolve(future: asyncio.Future[int | None], result: int | None) -> None:
+def resolve(future: asyncio.Future[ProgramEnded | None], result: ProgramEnded | None) -> None:
     """Gives a future its result, where it has none yet."""
     if not future.done():
         future.set_result(result)
-
-
-def told(ended: ProgramEnded) -> int:
-    """Tells of the program's end, and gives the status with which the gateway ends for it."""
-    print(f"duqishom: {ended}", file=sys.stderr, flush=True)
-    return ended.status if ended.status >= 0 else BY_SIGNAL - ended.status
 
 
 async def accept(exchange: Exchange, listening: socket.socket, is_admin: bool) -> asyncio.Server:

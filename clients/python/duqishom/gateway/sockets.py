@@ -2,11 +2,13 @@
 
 from __future__ import annotations
 
+import fcntl
 import os
 import socket
 import stat
 from collections.abc import Mapping, MutableMapping
 from contextlib import suppress
+from io import BufferedWriter
 
 # How many connections may wait to be accepted.
 BACKLOG = 512
@@ -15,10 +17,25 @@ BACKLOG = 512
 FIRST_INHERITED = 3
 ADMIN_NAME = "admin"
 
+# What the name of a lock has behind that of its socket.
+LOCK = ".lock"
+
 
 class NoSocket(Exception):
     """There is no socket to listen at: another gateway serves at its path, something stands there that is no socket, or none is
     named."""
+
+
+def lock_beside(path: str) -> BufferedWriter:
+    """The lock of a socket's path: a file beside it, which stays, and which one gateway at a time has locked as long as it has it
+    open, or lives. NoSocket where another has."""
+    file = open(path + LOCK, "ab", opener=lambda name, flags: os.open(name, flags | os.O_NOFOLLOW, 0o600))
+    try:
+        fcntl.flock(file, fcntl.LOCK_EX | fcntl.LOCK_NB)
+    except BlockingIOError:
+        file.close()
+        raise NoSocket(f"another gateway serves {path}") from None
+    return file
 
 
 def unix_socket(path: str, mode: int) -> socket.socket:
@@ -94,5 +111,5 @@ def notify(environment: Mapping[str, str], state: str) -> None:
     path = environment.get("NOTIFY_SOCKET", "")
     if path:
         address = "\0" + path[1:] if path.startswith("@") else path
-        with socket.socket(socket.AF_UNIX, socket.SOCK_DGRAM) as manager, suppress(OSError):
+        with suppress(OSError), socket.socket(socket.AF_UNIX, socket.SOCK_DGRAM) as manager:
             manager.sendto(state.encode(), address)

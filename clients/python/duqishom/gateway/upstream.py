@@ -5,6 +5,7 @@ from __future__ import annotations
 import asyncio
 from collections import deque
 from collections.abc import Callable, Sequence
+from contextlib import suppress
 from typing import Protocol, cast
 
 from duqishom.gateway.passages import HEAD, LENGTH, Passage
@@ -57,7 +58,8 @@ class Upstream(asyncio.SubprocessProtocol):
     """A running program. Its standard error is the gateway's, and a Ctrl-C at the terminal isn't for it.
 
     `taken` is called when all replies of one read have gone to their askers, `ended` with the status when the program has
-    ended, and `eased` when the program takes frames again. What goes in and comes out is recorded where that is asked for.
+    ended, and `eased` when the program takes frames again. What goes in and comes out is recorded where that is asked for:
+    OSError where it can't be.
     """
 
     def __init__(
@@ -71,6 +73,8 @@ class Upstream(asyncio.SubprocessProtocol):
         self.weight = 0
         self.is_full = False
         self.status: int | None = None
+        self._has_ended = asyncio.Event()
+        self._is_abandoned = False
         self._taken, self._ended, self._eased = taken, ended, eased
         self._recording = recording
         self._gathered: list[bytes] = []
@@ -101,6 +105,8 @@ class Upstream(asyncio.SubprocessProtocol):
                 self._recording.note_requests(frames)
 
     def pipe_data_received(self, descriptor: int, data: bytes) -> None:
+        if self._is_abandoned:
+            return
         if self._recording is not None:
             self._recording.note_replies(data)
         came = self._came + data if self._came else data
@@ -138,14 +144,23 @@ class Upstream(asyncio.SubprocessProtocol):
         """Ends the program's input, behind what was sent."""
         self._input.close()
 
-    def kill(self) -> None:
-        """Ends the program at once."""
-        if self.status is None:
-            self._child.kill()
+    def abandon(self) -> None:
+        """Hands out no more replies, and ends the program's input."""
+        self._is_abandoned = True
+        self._gathered.clear()
+        self.runs.clear()
+        self.close_input()
+
+    async def settle(self, seconds: float) -> None:
+        """Waits until the program has ended. One that goes on for so many seconds is killed."""
+        for _ in range(2):
+            with suppress(TimeoutError):
+                await asyncio.wait_for(self._has_ended.wait(), seconds)
+            if self.status is None:
+                self._child.kill()
 
     def connection_lost(self, error: Exception | None) -> None:
         returned = self._child.get_returncode()
         self.status = 0 if returned is None else returned
-        if self._recording is not None:
-            self._recording.close()
+        self._has_ended.set()
         self._ended(self.status)

@@ -1,0 +1,51 @@
+"""A connection for which there is no place: it is refused, and then closed."""
+
+from __future__ import annotations
+
+import asyncio
+from contextlib import suppress
+
+from duqishom.gateway.passages import TOO_MANY
+
+# How many such connections may stay for a while, and the seconds in which each may ask something, and then take its reply. Where
+# there are more, the oldest is closed.
+MOST = 32
+SECONDS = 1.0
+
+
+class TurnedAway(asyncio.Protocol):
+    """Its first request is refused TooManySessions, or it is where it asks nothing. It is read until it has gone, for what is
+    sent to a connection that is closed may take the reply with it."""
+
+    def __init__(self, transport: asyncio.Transport, others: dict[TurnedAway, None]) -> None:
+        """Takes a connection over. The others are such ones, the oldest first."""
+        self._transport, self._others = transport, others
+        self._has_refused = False
+        self._timer = asyncio.get_running_loop().call_later(SECONDS, self._refuse)
+        transport.set_protocol(self)
+        others[self] = None
+        if len(others) > MOST:
+            next(iter(others)).close()
+
+    def data_received(self, data: bytes) -> None:
+        self._refuse()
+
+    def connection_lost(self, error: Exception | None) -> None:
+        self._timer.cancel()
+        self._others.pop(self, None)
+
+    def close(self) -> None:
+        """Refuses it, where that isn't done yet, and closes it."""
+        self._refuse()
+        self._others.pop(self, None)
+        self._transport.close()
+
+    def _refuse(self) -> None:
+        """Refuses, once, and says that no more will come."""
+        if not self._has_refused:
+            self._has_refused = True
+            self._transport.write(TOO_MANY)
+            with suppress(OSError):
+                self._transport.write_eof()
+            self._timer.cancel()
+            self._timer = asyncio.get_running_loop().call_later(SECONDS, self._transport.abort)
