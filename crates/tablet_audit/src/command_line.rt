@@ -1,6 +1,6 @@
 //! The command line.
 
-use crate::judge::Reopening;
+use crate::reopenings::Reopening;
 use clap::builder::ValueParser;
 use clap::{Arg, ArgAction, ArgMatches, Command, Error};
 use std::alloc::{AllocError, Global};

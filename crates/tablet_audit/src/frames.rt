@@ -1,6 +1,11 @@
 //! The frames of a recording.
 
-use request_codec::LONGEST_BODY;
+ghost use Rattle.std.specs.Prelude.{◌≡◌, IfErr, IfOk, Some};
+ghost use Rattle.request_codec.specs.Stream.{BeginsNoFrame};
+ghost use Rattle.tablet_audit.specs.Frames.{IsFlawed, Splits};
+ghost use Rattle.tablet_audit.specs.Flaws.{flaw_text};
+
+use request_codec::{LONGEST_BODY, split_frame};
 use std::fmt;
 
 /// What is wrong with a frame of a recording.
@@ -14,22 +19,38 @@ pub enum Flaw {
     OutsideGrammar,
 }
 
-/// The body of the first frame, and what stands behind the frame.
-pub fn first_frame(bytes: &[u8]) -> Result<(&[u8], &[u8]), Flaw> {
+/// Why bytes begin with no frame.
+fn flaw_of(bytes: &[u8]) -> Flaw
+    requires { BeginsNoFrame bytes.now }
+    ensures { IsFlawed bytes.now result }
+{
     if bytes.is_empty() {
-        return Err(Flaw::Missing);
+        return Flaw::Missing;
     }
-    let Some((header, rest)) = bytes.split_first_chunk::<4>() else {
-        return Err(Flaw::Cut);
+    let Some(header) = bytes.first_chunk::<4>() else {
+        return Flaw::Cut;
     };
     let length = u32::from_be_bytes(*header) as usize;
     if length > LONGEST_BODY {
-        return Err(Flaw::OutsideGrammar);
+        return Flaw::OutsideGrammar;
     }
-    rest.split_at_checked(length).ok_or(Flaw::Cut)
+    Flaw::Cut
+}
+
+/// The body of the first frame, and what stands behind the frame.
+pub fn first_frame(bytes: &[u8]) -> Result<(&[u8], &[u8]), Flaw>
+    ensures ok { IfOk result (λ p. Splits bytes.now p.0.now p.1.now) }
+    ensures err { IfErr result (λ flaw. IsFlawed bytes.now flaw) }
+{
+    match split_frame(bytes) {
+        Some(parts) => Ok(parts),
+        None => Err(flaw_of(bytes)),
+    }
 }
 
 impl fmt::Display for Flaw {
+    ghost output = { λ flaw. Some (flaw_text flaw) };
+
     fn fmt<W: fmt::Write>(&self, f: &mut fmt::Formatter<W>) -> fmt::Result {
         match self {
             Flaw::Missing => write!(f, "is missing"),

@@ -5,6 +5,8 @@
 mod command_line;
 mod frames;
 mod judge;
+mod reopenings;
+mod verdicts;
 mod words;
 
 use cell_key::Refusal;

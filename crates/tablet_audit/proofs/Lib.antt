@@ -1,0 +1,2 @@
+mod FirstFrames
+mod Recordings

@@ -1,0 +1,9 @@
+-- What is said of a frame that is no whole one.
+use Rattle.std.specs.Prelude.{ℕ, List, codes}
+use Rattle.tablet_audit.specs.declared.frames.Flaw.{Flaw}
+use Rattle.tablet_audit.specs.declared.frames.Flaw.TheVariants.{Missing, Cut, OutsideGrammar}
+
+abbrev pub flaw_text : Flaw → List ℕ
+flaw_text Missing = codes "is missing"
+flaw_text Cut = codes "is cut"
+flaw_text OutsideGrammar = codes "is outside the grammar"

@@ -1,0 +1,45 @@
+-- What the judgement of one request and its reply says.
+use Rattle.std.specs.Prelude.{◌≡◌, ℕ, List, [], Option, Some, None}
+use Rattle.request_codec.specs.Requests.{IsRequest, asked}
+use Rattle.request_codec.specs.Replies.{IsReply, IsNoReply, replied}
+use Rattle.audit.specs.declared.audit.Audit.{Audit}
+use Rattle.tablet_audit.specs.Frames.{Splits}
+use Rattle.tablet_audit.specs.Runs.{Answers}
+use Rattle.tablet_audit.specs.Verdicts.{EndsAt, Follows, IsNoStep, IsWronglyRead}
+use Rattle.tablet_audit.specs.declared.frames.Flaw.TheVariants.{OutsideGrammar}
+use Rattle.tablet_audit.specs.declared.reopenings.Reopening.{Reopening}
+use Rattle.tablet_audit.specs.declared.verdicts.Verdict.{Verdict}
+use Rattle.tablet_audit.specs.declared.verdicts.Verdict.TheVariants.{NoStep, BadRequest, BadReply}
+
+-- what a verdict on two bodies says of them
+abbrev pub EndsWith : Audit → ℕ → List ℕ → List ℕ → Verdict → Type 0
+EndsWith audit number body answer (NoStep k request reply) = (k ≡ number)
+    × IsRequest (asked request) body × IsReply (replied reply) answer
+    × IsNoStep audit (asked request) (replied reply)
+EndsWith audit number body answer (BadRequest k flaw) =
+    (k ≡ number) × (flaw ≡ OutsideGrammar) × IsWronglyRead body answer
+EndsWith audit number body answer (BadReply k flaw) =
+    (k ≡ number) × (flaw ≡ OutsideGrammar) × IsNoReply answer
+EndsWith audit number body answer other = ⊥
+
+-- No verdict: the audit goes on from the reply.
+abbrev pub JudgesBodies : Audit → Audit → ℕ → List ℕ → List ℕ → Option Verdict → Type 0
+JudgesBodies old new number body answer None = Follows old new (Answers body answer)
+JudgesBodies old new number body answer (Some verdict) = EndsWith old number body answer verdict
+
+-- No verdict: both files go on behind a frame each, and the audit from the reply.
+pub record GoesOn (old new : Audit) (rest more rest' more' : List ℕ) : Type 0 where
+  pub body : List ℕ
+  pub answer : List ℕ
+  pub request_splits : Splits rest body rest'
+  pub reply_splits : Splits more answer more'
+  pub follows : Follows old new (Answers body answer)
+
+-- nothing is left of both files
+abbrev pub IsAtEnd : List ℕ → List ℕ → Type 0
+IsAtEnd rest more = (rest ≡ []) × (more ≡ [])
+
+-- what a verdict says that comes before an opening
+abbrev pub StopsAt : Audit → ℕ → List ℕ → List ℕ → Verdict → Type 0
+StopsAt audit number rest more verdict =
+    (reopenings : List Reopening) → EndsAt reopenings audit number rest more verdict

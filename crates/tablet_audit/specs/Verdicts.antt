@@ -1,0 +1,87 @@
+-- What a verdict on two files says of them.
+use Rattle.std.specs.Prelude.{◌≡◌, ◌≢◌, ◌⊎◌, ℕ, ◌+◌, ◌<◌, ◌≤◌, List, [], ◌++◌, length, Option, Some, None}
+use Rattle.std.specs.List.{AllByRecursion}
+use Rattle.cell_key.specs.declared.refusals.Refusal.TheVariants.{BadRequest as TheBadRequest}
+use Rattle.si_model.specs.Machine.{State, Request, Reply, Refused, Step, end_of_stamps}
+use Rattle.request_codec.specs.Stream.{IsBody, frames}
+use Rattle.request_codec.specs.Requests.{IsRequest, IsMalformed, asked}
+use Rattle.request_codec.specs.Replies.{IsReply, IsNoReply, replied}
+use Rattle.audit.specs.Audits.{Keeps}
+use Rattle.audit.specs.declared.audit.Audit.{Audit}
+use Rattle.tablet_audit.specs.Frames.{BeginsWith, IsFlawed}
+use Rattle.tablet_audit.specs.Runs.{Answers, Run, reopening_behind}
+use Rattle.tablet_audit.specs.declared.frames.Flaw.{Flaw}
+use Rattle.tablet_audit.specs.declared.frames.Flaw.TheVariants.{OutsideGrammar}
+use Rattle.tablet_audit.specs.declared.reopenings.Reopening.{Reopening}
+use Rattle.tablet_audit.specs.declared.verdicts.Verdict.{Verdict}
+use Rattle.tablet_audit.specs.declared.verdicts.Verdict.TheVariants.{Steps, NoStep, BadRequest, BadReply, BadMark}
+
+-- The first frames of both files are those of this many requests and of their replies, which are a
+-- run to a state that the audit keeps. This is left behind them.
+pub record Passes (reopenings : List Reopening) (requests replies : List ℕ) (count : ℕ)
+    (rest more : List ℕ) (audit : Audit) : Type 0 where
+  pub bodies : List (List ℕ)
+  pub answers : List (List ℕ)
+  pub requests_begin : requests ≡ frames bodies ++ rest
+  pub replies_begin : replies ≡ frames answers ++ more
+  pub bodies_fit : AllByRecursion IsBody bodies
+  pub answers_fit : AllByRecursion IsBody answers
+  pub bodies_count : length bodies ≡ count
+  pub answers_count : length answers ≡ count
+  pub state : State
+  pub run : Run reopenings bodies answers state
+  pub keeps : Keeps audit state
+
+-- from each state that the one audit keeps, the machine can go so to one that the other keeps
+abbrev pub Follows : Audit → Audit → (State → State → Type 0) → Type 0
+Follows old new goes = (st : State) → Keeps old st → (next : State) × goes st next × Keeps new next
+
+-- the machine takes no such step from any state that the audit keeps
+abbrev pub IsNoStep : Audit → Request → Reply → Type 0
+IsNoStep audit request reply = (st next : State) → Keeps audit st → Step st request reply next → ⊥
+
+-- a stamp that was answered is above the mark, or the mark is above all stamps
+abbrev pub IsBadMark : ℕ → State → Type 0
+IsBadMark mark st = (mark < st.top) ⊎ (end_of_stamps ≤ mark)
+
+-- a store with a log was opened again over this mark
+abbrev pub HasMark : Option Reopening → ℕ → Type 0
+HasMark found mark = (it : Reopening) × (found ≡ Some it) × (it.mark ≡ Some mark)
+
+-- a body outside the grammar, and a reply to it that isn't BadRequest
+abbrev pub IsWronglyRead : List ℕ → List ℕ → Type 0
+IsWronglyRead body answer =
+    IsMalformed body × (reply : Reply) × IsReply reply answer × (reply ≢ Refused TheBadRequest)
+
+module _ (reopenings : List Reopening) (audit : Audit) (number : ℕ) (rest more : List ℕ) where
+  -- What a verdict says of the next request and its reply: of what is left of both files.
+  abbrev pub EndsAt : Verdict → Type 0
+  EndsAt (Steps count) = (count + 1 ≡ number) × (rest ≡ []) × (more ≡ [])
+  EndsAt (NoStep k request reply) = (k ≡ number)
+      × (body answer : List ℕ) × BeginsWith rest body × BeginsWith more answer
+      × IsRequest (asked request) body × IsReply (replied reply) answer
+      × IsNoStep audit (asked request) (replied reply)
+  EndsAt (BadRequest k flaw) = (k ≡ number)
+      × ((IsFlawed rest flaw × (rest ≡ [] → more ≢ []))
+      ⊎ ((flaw ≡ OutsideGrammar)
+      × (body answer : List ℕ) × BeginsWith rest body × BeginsWith more answer
+      × IsWronglyRead body answer))
+  EndsAt (BadReply k flaw) = (k ≡ number)
+      × (body : List ℕ) × BeginsWith rest body
+      × (IsFlawed more flaw
+      ⊎ ((flaw ≡ OutsideGrammar) × (answer : List ℕ) × BeginsWith more answer × IsNoReply answer))
+  EndsAt (BadMark k) = (k ≡ number)
+      × (body answer : List ℕ) × BeginsWith rest body × BeginsWith more answer
+      × (mark : ℕ) × HasMark (reopening_behind number reopenings) mark
+      × ((st : State) → Keeps audit st
+      → (next : State) × Answers body answer st next × IsBadMark mark next)
+
+-- All requests and replies before the one that ends the judgement are a run.
+pub record IsVerdict (reopenings : List Reopening) (requests replies : List ℕ) (verdict : Verdict)
+    : Type 0 where
+  pub count : ℕ
+  pub rest : List ℕ
+  pub more : List ℕ
+  pub audit : Audit
+  pub passes : Passes reopenings requests replies count rest more audit
+  pub ends : EndsAt reopenings audit (count + 1) rest more verdict

@@ -1,0 +1,61 @@
+//! The verdicts on a recording.
+
+ghost use Rattle.std.specs.Prelude.{◌≡◌};
+ghost use Rattle.tablet_audit.specs.Statuses.{status_of, verdict_text};
+
+use crate::frames::Flaw;
+use crate::words::{ReplyWords, RequestWords};
+use request_codec::{Reply, Request};
+use std::fmt;
+
+/// What comes of the judgement of a recording. Requests and replies are numbered from 1.
+#[derive(Drop)]
+pub enum Verdict<'a> {
+    /// Each of this many replies is a step of the machine.
+    Steps(u64),
+    /// The reply of this number is no step.
+    NoStep(u64, Request<'a>, Reply),
+    /// The request of this number is no whole one.
+    BadRequest(u64, Flaw),
+    /// The reply of this number is no whole one.
+    BadReply(u64, Flaw),
+    /// The mark over which the store was opened again behind the reply of this number is below a stamp that was answered.
+    BadMark(u64),
+}
+
+impl Verdict<'_> {
+    /// The exit status of the program.
+    pub fn status(&self) -> u8
+        ensures { result ≡ status_of self.now }
+    {
+        match self {
+            Verdict::Steps(_) => 0,
+            Verdict::NoStep(..) | Verdict::BadMark(_) => 1,
+            Verdict::BadRequest(..) | Verdict::BadReply(..) => 2,
+        }
+    }
+}
+
+impl fmt::Display for Verdict<'_> {
+    ghost output = { λ verdict. verdict_text verdict };
+
+    fn fmt<W: fmt::Write>(&self, f: &mut fmt::Formatter<W>) -> fmt::Result {
+        match self {
+            Verdict::Steps(count) => write!(f, "{count} replies, each a step of the machine"),
+            Verdict::NoStep(number, request, reply) => {
+                let request = RequestWords(request);
+                let reply = ReplyWords(reply);
+                write!(
+                    f,
+                    "reply {number} is no step of the machine: {request} -> {reply}"
+                )
+            }
+            Verdict::BadRequest(number, flaw) => write!(f, "request {number} {flaw}"),
+            Verdict::BadReply(number, flaw) => write!(f, "reply {number} {flaw}"),
+            Verdict::BadMark(number) => write!(
+                f,
+                "the mark behind reply {number} is below a stamp that was answered"
+            ),
+        }
+    }
+}
