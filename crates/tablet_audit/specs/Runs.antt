@@ -4,7 +4,7 @@ use Rattle.std.specs.Prelude.{◌≡◌, ◌⊎◌, ℕ, ◌+◌, List, [], ◌�
 use Rattle.std.specs.List.{find}
 use Rattle.cell_key.specs.declared.refusals.Refusal.TheVariants.{BadRequest}
 use Rattle.si_model.specs.Machine.{State, Request, Reply, Refused, Step, new_machine, reopened}
-use Rattle.si_model.specs.Recovered.{IsRecovered}
+use Rattle.audit.specs.Audits.{ReopensOver}
 use Rattle.request_codec.specs.Requests.{IsRequest, IsMalformed}
 use Rattle.request_codec.specs.Replies.{IsReply}
 use Rattle.tablet_audit.specs.declared.reopenings.Reopening.{Reopening}
@@ -23,7 +23,7 @@ reopening_behind number reopenings = find (λ it. nat_eq it.behind number) reope
 -- A store without a log is opened again by a clean restart, one with a log over this mark.
 abbrev pub OpensOver : Option ℕ → State → State → Type 0
 OpensOver None st next = next ≡ reopened st
-OpensOver (Some mark) st next = IsRecovered mark st next
+OpensOver (Some mark) st next = ReopensOver mark st next
 
 -- so it is opened there, if it is
 abbrev pub OpensAgain : Option Reopening → State → State → Type 0

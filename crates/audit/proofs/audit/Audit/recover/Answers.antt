@@ -1,4 +1,4 @@
-use Rattle.std.proofs.Common.{◌+◌, refl, inl}
+use Rattle.std.proofs.Common.{◌+◌, refl, inl, arith}
 use Rattle.si_model.specs.Machine.{reopened}
 use Rattle.audit.proofs.audit.Audit.recover.Goals as goal
 
@@ -7,7 +7,7 @@ returns c = λ st kept.
     let again = c.reopen.ensures st kept in
     let mid = reopened st in (
       record mid { top = c.args.mark; floor = c.args.mark + 1 },
-      record {
+      (omega (arith, c.if-mark-self.false, kept.top), omega (arith, c.if-mark-gt-MOST_STAMP.false), record {
         top = refl;
         floor = refl;
         begun = inl refl;
@@ -23,7 +23,7 @@ returns c = λ st kept.
         next_collector = refl;
         places = refl;
         next_tablet = refl;
-      },
+      }),
       record {
         top = refl;
         begun = again.begun;
