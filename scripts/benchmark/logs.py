@@ -14,6 +14,11 @@ from pathlib import Path
 
 from benchmark.requests import field
 
+TOP = Path(__file__).resolve().parents[2]
+sys.path.insert(0, str(TOP / "clients" / "python"))
+
+from duqishom.files import RecordKind, frame_of, log_of  # noqa: E402
+
 SOURCE = Path(__file__).with_name("leveldb_log.cc")
 HEADER = Path("/usr/include/leveldb/db.h")
 
@@ -32,9 +37,6 @@ MOST_CELLS = 256
 
 # Edits of a log that no checkpoint has emptied yet.
 MOST_EDITS = 49_500
-
-# The bytes before the records of a log.
-HEAD_LENGTH = 8
 
 
 def rows() -> Iterator[bytes]:
@@ -195,6 +197,15 @@ def fill_log(program: str, folder: Path, new: Iterator[bytes], edits: int) -> No
     running.end()
 
 
+def add_edits(log: Path, other: Path) -> None:
+    """Adds the edits of another store's log to a log, numbered on."""
+    to, new = log_of(log.read_bytes()), log_of(other.read_bytes())
+    edits = [record for record in new.records if record.kind is RecordKind.EDITS]
+    with log.open("ab") as joined:
+        for number, record in enumerate(edits, start=to.first + len(to.records)):
+            joined.write(frame_of(number, record.kind, 0, record.body))
+
+
 def tabletd_opening(program: str, folder: Path, edits: int) -> tuple[float, int]:
     """The seconds in which tabletd opens a folder whose log has so many edits, up to some 99,000, and the bytes of that log.
 
@@ -206,8 +217,7 @@ def tabletd_opening(program: str, folder: Path, edits: int) -> tuple[float, int]
         other = folder / "other"
         other.mkdir()
         fill_log(program, other, new, min(edits - MOST_EDITS, MOST_EDITS))
-        with log.open("ab") as joined:
-            joined.write((other / log.name).read_bytes()[HEAD_LENGTH:])
+        add_edits(log, other / log.name)
         shutil.rmtree(other)
     size = log.stat().st_size
     began = time.monotonic()

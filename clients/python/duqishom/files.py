@@ -1,4 +1,4 @@
-"""The forms of the files of a folder: sorted files, the root, the log, the mark. `docs/FORMATS.md` has them in words.
+"""The forms of the files of a folder: sorted files, the root, the log and its sign, the mark. `docs/FORMATS.md` has them in words.
 
 Each is read as the program reads it, and what stands outside its form is named by its first wrong byte.
 """
@@ -9,6 +9,7 @@ import re
 import struct
 from collections.abc import Iterator
 from dataclasses import dataclass
+from enum import IntEnum
 from mmap import mmap
 from typing import NamedTuple
 from zlib import crc32
@@ -29,8 +30,12 @@ ROOT_FOOT = b"TABROOTZ"
 MARK_FILE = "oracle.mark"
 LOCK_FILE = "lock"
 LOG_FILE = "commit.log"
-LOG_HEAD = b"TABLOG01"
+SIGN_FILE = "commit.id"
+LOG_HEADS = {b"TABLOG01": 1, b"TABLOG02": 2}
+SIGN_HEAD = b"TABSTORE"
 LONGEST_RECORD = 134_217_728
+FIRST_RECORDS = 2**63
+WINDOW = 131_072
 FAMILY = re.compile(rb"[!-9;-~]{1,64}")
 COLUMNS = {b"data": Qualifier.DATA, b"lock": Qualifier.LOCK, b"write": Qualifier.WRITE}
 
@@ -75,7 +80,9 @@ FORMS = {
 }
 ROOT_HEADS = {b"TABROOT1": 1, b"TABROOT2": 2}
 NUMBER = struct.Struct(">I")
+LONG_NUMBER = struct.Struct(">Q")
 FRAME = struct.Struct(">II")
+LOG_RECORD = struct.Struct(">QBQ")
 
 
 def first_difference(got: bytes, wanted: bytes) -> int:
@@ -295,25 +302,171 @@ def read_root_tablet(
     return RootTablet(number, end, server, tuple(files))
 
 
-def records_of(data: bytes) -> Iterator[tuple[int, bytes]]:
-    """The records of a log, each with the offset where it begins: those of the whole frames at the front. What a write left that
-    was cut short stands behind these. BadForm where the head is another one."""
-    if not data.startswith(LOG_HEAD):
-        raise BadForm("the head isn't TABLOG01", first_difference(data[:8], LOG_HEAD))
-    at = len(LOG_HEAD) + FRAME.size
-    while at <= len(data):
-        length, check = FRAME.unpack_from(data, at - FRAME.size)
-        record = data[at : at + length]
-        if length > LONGEST_RECORD or len(record) < length or crc32(NUMBER.pack(length) + record) != check:
-            return
-        yield at, record
-        at += length + FRAME.size
+def root_sum(root: Root) -> int:
+    """The checksum by which a log names a root: of its bytes in format 2, where each file has the length 0."""
+    count = len(root.tablets)
+    said = b"TABROOT2" + struct.pack(">QQQII", root.top, root.floor, root.next_name, count + 1, count)
+    for tablet in root.tablets:
+        end = b"\x01" if tablet.end is None else b"\x00" + NUMBER.pack(len(tablet.end)) + tablet.end
+        said += NUMBER.pack(tablet.number) + end + struct.pack(">BI", tablet.server, len(tablet.files))
+        said += b"".join(struct.pack(">QQ", file.name, 0) for file in tablet.files)
+    return crc32(said + ROOT_FOOT)
 
 
-def edits_of(data: bytes) -> Iterator[Entry]:
-    """The edits in the records of a log, in their order. BadForm at the byte where one isn't in its form."""
-    for begin, record in records_of(data):
-        yield from edits_in(record, begin)
+class RecordKind(IntEnum):
+    """What a record of a log says: edits, or over which root the log is."""
+
+    EDITS = 0
+    ROOT = 1
+    ANY_ROOT = 2
+
+
+class LogRecord(NamedTuple):
+    """A record: the greatest stamp that was answered by then, and its body, with the offset at which that begins."""
+
+    kind: RecordKind
+    stamp: int
+    at: int
+    body: bytes
+
+
+@dataclass(frozen=True)
+class Log:
+    """The records of the whole frames of a log, where these end, and where behind that a later whole frame begins, if one does. In
+    format 1 there is no store and no first number, and each record is one of edits."""
+
+    format: int
+    store: int
+    first: int
+    records: tuple[LogRecord, ...]
+    end: int
+    later: int | None = None
+
+    def edits(self) -> Iterator[Entry]:
+        """The edits, in their order. BadForm at the byte where one isn't in its form."""
+        for record in self.records:
+            if record.kind is RecordKind.EDITS:
+                yield from edits_in(record.body, record.at)
+
+    def is_over_any(self) -> bool:
+        """Whether it is over whichever root is there."""
+        return self.format == 1 or any(record.kind is RecordKind.ANY_ROOT for record in self.records)
+
+    def roots(self) -> list[tuple[int, int]]:
+        """The roots that it names: the greatest stamp and the checksum of each."""
+        named = [record for record in self.records if record.kind is RecordKind.ROOT]
+        return [(record.stamp, int.from_bytes(record.body, "big")) for record in named]
+
+    def is_over(self, root: Root) -> bool:
+        """Whether it is over this root."""
+        return self.is_over_any() or (root.top, root_sum(root)) in self.roots()
+
+    def greatest(self) -> int:
+        """The greatest stamp in its records."""
+        return max((record.stamp for record in self.records), default=0)
+
+
+def log_of(data: bytes) -> Log:
+    """What a log has. BadForm where it isn't in its form; a frame that isn't whole, and what stands behind it, is left out."""
+    form = LOG_HEADS.get(data[:8])
+    if form is None:
+        near = min(LOG_HEADS, key=lambda head: -first_difference(data[:8], head))
+        raise BadForm("the head is neither TABLOG01 nor TABLOG02", first_difference(data[:8], near))
+    if form == 1:
+        frames = list(frames_of(data, len(SIGN_HEAD)))
+        old = tuple(LogRecord(RecordKind.EDITS, 0, at, record) for at, record in frames)
+        return Log(1, 0, 0, old, frames[-1][0] + len(frames[-1][1]) if frames else 8)
+    if len(data) < 16:
+        raise BadForm("the log ends inside the number of its store", len(data))
+    store, first = LONG_NUMBER.unpack_from(data, 8)[0], number_at(data, 16)
+    if first is None or first >= FIRST_RECORDS:
+        raise BadForm("no first record stands here", 16)
+    records: list[LogRecord] = []
+    end = 16
+    for at, record in frames_of(data, end):
+        if len(record) < LONG_NUMBER.size or LONG_NUMBER.unpack_from(record)[0] != first + len(records):
+            break
+        records.append(log_record(record, at))
+        end = at + len(record)
+    return Log(2, store, first, tuple(records), end, later_frame(data, end, first + len(records)))
+
+
+def frame_at(data: bytes, at: int) -> bytes | None:
+    """The record whose whole frame begins at an offset, if one does."""
+    begin = at + FRAME.size
+    if begin > len(data):
+        return None
+    length, check = FRAME.unpack_from(data, at)
+    record = data[begin : begin + length] if length <= LONGEST_RECORD else b""
+    return record if len(record) == length and crc32(NUMBER.pack(length) + record) == check else None
+
+
+def frames_of(data: bytes, at: int) -> Iterator[tuple[int, bytes]]:
+    """The records of the whole frames that stand one behind the other from an offset on, each with where it begins."""
+    while (record := frame_at(data, at)) is not None:
+        yield at + FRAME.size, record
+        at += FRAME.size + len(record)
+
+
+def number_at(data: bytes, at: int) -> int | None:
+    """The number of the record whose whole frame begins at an offset, if one does."""
+    record = frame_at(data, at)
+    return None if record is None or len(record) < LONG_NUMBER.size else LONG_NUMBER.unpack_from(record)[0]
+
+
+def later_frame(data: bytes, at: int, number: int) -> int | None:
+    """Where, from an offset on, the first whole frame begins whose number is this one or one of those next to it."""
+    # The first five bytes of these numbers are alike, or of two kinds
+    starts = {LONG_NUMBER.pack(one)[:5] for one in (number, number + WINDOW - 1)}
+    for found in re.finditer(b"(?=" + b"|".join(map(re.escape, starts)) + b")", data[at + FRAME.size :]):
+        later = number_at(data, at + found.start())
+        if later is not None and number <= later < number + WINDOW:
+            return at + found.start()
+    return None
+
+
+def log_record(record: bytes, at: int) -> LogRecord:
+    """The record that stands at an offset, behind its number."""
+    if len(record) < LOG_RECORD.size:
+        raise BadForm("the record ends before its body", at + len(record))
+    _, kind, stamp = LOG_RECORD.unpack_from(record)
+    body = record[LOG_RECORD.size :]
+    lengths = {RecordKind.EDITS: len(body), RecordKind.ROOT: 4, RecordKind.ANY_ROOT: 0}
+    if kind not in lengths:
+        raise BadForm("this is no kind of a record", at + LONG_NUMBER.size)
+    if len(body) != lengths[RecordKind(kind)] or (kind == RecordKind.ANY_ROOT and stamp):
+        raise BadForm("the record isn't that of its kind", at + LONG_NUMBER.size)
+    return LogRecord(RecordKind(kind), stamp, at + LOG_RECORD.size, body)
+
+
+def renewed_log(log: Log, root: Root) -> bytes:
+    """The bytes of a log of the same store behind a checkpoint: in the place of all its records one, that it is over this root."""
+    if log.format == 1:
+        return b"TABLOG01"
+    body = NUMBER.pack(root_sum(root))
+    only = frame_of(log.first + len(log.records), RecordKind.ROOT, root.top, body)
+    return b"TABLOG02" + LONG_NUMBER.pack(log.store) + only
+
+
+def frame_of(number: int, kind: RecordKind, stamp: int, body: bytes) -> bytes:
+    """The frame of a record of format 2."""
+    record = LOG_RECORD.pack(number, kind, stamp) + body
+    length = NUMBER.pack(len(record))
+    return length + NUMBER.pack(crc32(length + record)) + record
+
+
+def sign_of(store: int) -> bytes:
+    """The sign that a folder has a log: that of the store of this number."""
+    said = SIGN_HEAD + LONG_NUMBER.pack(store)
+    return said + NUMBER.pack(crc32(said))
+
+
+def store_of(data: bytes) -> int:
+    """The number of the store whose sign these bytes are."""
+    store = int.from_bytes(data[8:16], "big")
+    if data != sign_of(store):
+        raise BadForm("this is no sign of a store", first_difference(data, sign_of(store)))
+    return store
 
 
 def edits_in(record: bytes, begin: int = 0) -> Iterator[Entry]:

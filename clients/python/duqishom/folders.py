@@ -18,16 +18,20 @@ from duqishom.connection import Connection
 from duqishom.files import (
     LOCK_FILE,
     LOG_FILE,
-    LOG_HEAD,
     MARK_FILE,
     NEW_ROOT,
     ROOT_FILE,
+    SIGN_FILE,
+    Log,
     Root,
     SortedFile,
-    edits_of,
     file_name,
+    log_of,
     mark_of,
+    renewed_log,
     root_of,
+    sign_of,
+    store_of,
 )
 from duqishom.operations import (
     Checkpoint,
@@ -128,8 +132,9 @@ def tuned(words: Sequence[str], has_folder: bool) -> list[str]:
 
 
 def has_log(folder: str) -> bool:
-    """Whether a folder has a log: whether it has all that was answered, then, and not only what the last checkpoint left."""
-    return os.path.exists(os.path.join(folder, LOG_FILE))
+    """Whether a folder has a log, or the sign of one: whether it has all that was answered, then, and not only what the last
+    checkpoint left."""
+    return any(os.path.exists(os.path.join(folder, name)) for name in (LOG_FILE, SIGN_FILE))
 
 
 def log_words(folder: str, log: bool | None) -> list[str]:
@@ -178,7 +183,7 @@ def why_not_opened(folder: str | None, status: int) -> str:
     holder = holder_of(folder)
     if status == 4 and holder is not None:
         return f"{folder} is in use by {holder}"
-    for name in (LOCK_FILE, MARK_FILE, LOG_FILE, ROOT_FILE):
+    for name in (LOCK_FILE, MARK_FILE, SIGN_FILE, LOG_FILE, ROOT_FILE):
         file = Path(folder) / name
         try:
             data = file.read_bytes()
@@ -249,25 +254,81 @@ def read_mark(folder: Path) -> int:
         raise FolderDamaged(file, bad.what, bad.at) from None
 
 
-def read_log(folder: Path) -> dict[bytes, bytes | None]:
-    """What the log of a folder has put and erased: of each key's text the last value, and None where it was erased last. Nothing
-    where there is no log."""
+def read_log(folder: Path) -> Log | None:
+    """The log of a folder, if it has one. FolderDamaged where it isn't in its form, a later frame stands behind one that isn't
+    whole, or the folder's sign is of another log."""
+    log = read_frames(folder)
+    if log is None:
+        return None
+    if log.later is not None:
+        why = f"a frame before the whole one of byte {log.later} is broken"
+        raise FolderDamaged(folder / LOG_FILE, why, log.end)
+    store = read_sign(folder)
+    if store is not None and log.format == 1:
+        raise FolderDamaged(folder / LOG_FILE, f"the log is of format 1, and {SIGN_FILE} is there")
+    if store is not None and store != log.store:
+        raise FolderDamaged(folder / LOG_FILE, f"the log is of the store {log.store:016x}, and {SIGN_FILE} of {store:016x}")
+    return log
+
+
+def read_frames(folder: Path) -> Log | None:
+    """What stands in the whole frames of a folder's log, if it has one. FolderDamaged where there is a sign alone."""
     file = folder / LOG_FILE
     try:
-        return dict(edits_of(file.read_bytes()))
+        return log_of(file.read_bytes())
     except FileNotFoundError:
-        return {}
+        if (folder / SIGN_FILE).exists():
+            raise FolderDamaged(file, f"{SIGN_FILE} says that the folder has a log, and it isn't there") from None
+        return None
     except BadForm as bad:
         raise FolderDamaged(file, bad.what, bad.at) from None
+
+
+def read_sign(folder: Path) -> int | None:
+    """The store of which a folder's sign is, if it has one."""
+    file = folder / SIGN_FILE
+    try:
+        return store_of(file.read_bytes())
+    except FileNotFoundError:
+        return None
+    except BadForm as bad:
+        raise FolderDamaged(file, bad.what, bad.at) from None
+
+
+def last_edits(folder: Path, log: Log | None) -> dict[bytes, bytes | None]:
+    """What the log of a folder has put and erased: of each key's text the last value, and None where it was erased last."""
+    try:
+        return {} if log is None else dict(log.edits())
+    except BadForm as bad:
+        raise FolderDamaged(folder / LOG_FILE, bad.what, bad.at) from None
+
+
+def check_over(folder: Path, log: Log | None, root: Root) -> None:
+    """Looks whether a folder's log is over its root. FolderDamaged where it isn't."""
+    if log is None or log.is_over(root) and root != NEW_ROOT:
+        return
+    if root != NEW_ROOT:
+        raise FolderDamaged(folder / ROOT_FILE, "the log is over another root")
+    if any(True for _ in log.edits()):
+        raise FolderDamaged(folder / ROOT_FILE, "the log has edits, and there is no root")
+    if not log.is_over_any():
+        raise FolderDamaged(folder / ROOT_FILE, "the log names a root, and there is none")
+
+
+def check_mark(folder: Path, mark: int, root: Root, log: Log | None) -> None:
+    """Looks whether a folder's mark is above its stamps. FolderDamaged where it isn't."""
+    if mark < root.top:
+        raise FolderDamaged(folder / MARK_FILE, f"the mark {mark} is below the root's greatest stamp {root.top}")
+    if log is not None and mark < log.greatest():
+        raise FolderDamaged(folder / MARK_FILE, f"the mark {mark} is below the log's greatest stamp {log.greatest()}")
 
 
 def check_folder(folder: Path) -> Root:
     """Reads all that a program reads when it opens a folder: the root. FolderDamaged where something is outside its form."""
     root, mark, log = read_root(folder), read_mark(folder), read_log(folder)
-    if log and root == NEW_ROOT:
-        raise FolderDamaged(folder / ROOT_FILE, "the log has edits, and there is no root")
-    if mark < root.top:
-        raise FolderDamaged(folder / MARK_FILE, f"the mark {mark} is below the root's greatest stamp {root.top}")
+    last_edits(folder, log)
+    check_over(folder, log, root)
+    check_mark(folder, mark, root, log)
     for reference in sorted({reference for tablet in root.tablets for reference in tablet.files}):
         file = folder / file_name(reference.name)
         try:
@@ -284,16 +345,19 @@ def check_folder(folder: Path) -> Root:
 
 
 def copy_checkpoint(source: str, target: str) -> None:
-    """Copies the last checkpoint of a folder into another, which is made where there is none, with an empty log if it has one. The
-    mark is first and the root last: so a copy that was cut short is none. ValueError where the other one has files. Nobody may
-    write to the source meanwhile."""
+    """Copies the last checkpoint of a folder into another, which is made where there is none. If it has a log, the copy has its sign
+    and a log without edits over the root. The root is last: so a copy that was cut short is none. ValueError where the other one
+    has files. Nobody may write to the source meanwhile."""
     place, copy = Path(source), Path(target)
     copy.mkdir(exist_ok=True)
     if any(copy.iterdir()):
         raise ValueError(f"{target} is not empty")
-    names = {file_name(reference.name) for tablet in read_root(place).tablets for reference in tablet.files}
-    if has_log(source):
-        write_synced(copy / LOG_FILE, BytesIO(LOG_HEAD))
+    root, log = read_root(place), read_log(place)
+    names = {file_name(reference.name) for tablet in root.tablets for reference in tablet.files}
+    if log is not None:
+        if log.format == 2:
+            write_synced(copy / SIGN_FILE, BytesIO(sign_of(log.store)))
+        write_synced(copy / LOG_FILE, BytesIO(renewed_log(log, root)))
     for name in (MARK_FILE, *sorted(names), ROOT_FILE):
         with (place / name).open("rb") as file:
             write_synced(copy / name, file)

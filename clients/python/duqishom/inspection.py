@@ -1,4 +1,4 @@
-"""`python3 -m duqishom inspect FOLDER [stats | files | tablets | locks | cells [PREFIX]]`: what a folder has, from its files alone.
+"""`python3 -m duqishom inspect FOLDER [stats | files | tablets | log | locks | cells [PREFIX]]`: what a folder has, from its files alone.
 
 It is the store as of its last checkpoint with the edits of its log, also while a program has the folder. Nothing is written and
 nothing is locked.
@@ -22,6 +22,7 @@ from duqishom.answers import Qualifier
 from duqishom.cells import Cell
 from duqishom.columns import BadForm, Kind, Record, read_lock, read_record
 from duqishom.files import (
+    LOG_FILE,
     ROOT_FILE,
     Bytes,
     Key,
@@ -31,12 +32,23 @@ from duqishom.files import (
     file_name,
     key_of,
 )
-from duqishom.folders import FolderDamaged, has_log, holder_of, read_log, read_mark, read_root
+from duqishom.folders import (
+    FolderDamaged,
+    check_mark,
+    check_over,
+    has_log,
+    holder_of,
+    last_edits,
+    read_frames,
+    read_log,
+    read_mark,
+    read_root,
+)
 from duqishom.texts import bytes_of, text_of
 
-WORDS = ("stats", "files", "tablets", "locks", "cells")
+WORDS = ("stats", "files", "tablets", "log", "locks", "cells")
 
-# How often files are looked for anew, where a program removes them between the root and them.
+# How often a folder is read anew, where a program changes it meanwhile.
 TRIES = 10
 
 
@@ -53,20 +65,24 @@ class Found(NamedTuple):
 
 class Folder:
     """The last checkpoint of a folder, its root and the files that the root names, all open; and the edits of its log, which are
-    newer than the files. The log is read first: edits that a root has already change nothing."""
+    newer than the files. The log is read first: edits that a root has already change nothing. Where it is over another root, or a
+    file is gone, a program has put a root meanwhile, and all is read anew."""
 
     def __init__(self, path: Path) -> None:
         """Opens a folder. OSError or FolderDamaged where that can't be done."""
         self.path = path
-        self.mark = read_mark(path)
-        self.log = read_log(path)
-        for _ in range(TRIES):
-            self.root = read_root(path)
-            with suppress(FileNotFoundError):
+        for left in reversed(range(TRIES)):
+            self._logged, self.root = read_log(path), read_root(path)
+            try:
+                check_over(path, self._logged, self.root)
                 self.files = {name: self._opened(name) for name in named_by(self.root)}
                 break
-        else:
-            self.files = {name: self._opened(name) for name in named_by(self.root)}
+            except (FileNotFoundError, FolderDamaged):
+                if not left:
+                    raise
+        self.log = last_edits(path, self._logged)
+        # A program that has the folder raises its mark before it uses stamps
+        self.mark = read_mark(path)
 
     def _opened(self, name: int) -> SortedFile:
         """A file, with its head and its foot."""
@@ -84,9 +100,7 @@ class Folder:
 
     def check(self) -> None:
         """Reads all of it, as a program does that opens the folder, and each value of a lock or a record too."""
-        if self.mark < self.root.top:
-            why = f"the mark {self.mark} is below the root's greatest stamp {self.root.top}"
-            raise FolderDamaged(self.path / "oracle.mark", why)
+        check_mark(self.path, self.mark, self.root, self._logged)
         for tablet in self.root.tablets:
             for name, length in tablet.files:
                 size = self.files[name].size
@@ -194,6 +208,25 @@ def tablets(folder: Folder) -> Iterator[str]:
         yield f"{tablet.number} up to {end_of(tablet)}: {counts}"
 
 
+def log_lines(path: Path) -> Iterator[str]:
+    """What stands in the log, also where the folder isn't opened with it: one that is damaged is told of as far as it is read."""
+    log = read_frames(path)
+    if log is None:
+        yield "no log"
+        return
+    if log.format == 1:
+        yield f"format 1, {len(log.records):,} records"
+    else:
+        roots = [f"stamp {stamp} and checksum {check:08x}" for stamp, check in log.roots()]
+        over = ["whichever root is there"] * log.is_over_any() + [f"the root of {root}" for root in roots]
+        yield f"format 2, store {log.store:016x}, {len(log.records):,} records from number {log.first}, over {' and '.join(over)}"
+    size = (path / LOG_FILE).stat().st_size
+    yield f"{sum(1 for _ in log.edits()):,} edits up to stamp {log.greatest()}"
+    yield f"whole frames up to byte {log.end} of {size}"
+    if log.later is not None:
+        yield f"a broken frame at byte {log.end}, and behind it a whole one at byte {log.later}"
+
+
 def locks(folder: Folder) -> Iterator[str]:
     """The locks, with the session and the first cell of each."""
     for _, key, value in folder.versions():
@@ -239,8 +272,12 @@ def cells(folder: Folder, prefix: bytes = b"") -> Iterator[str]:
             yield f"{text_of(row)}\t{text_of(family)}\t{text_of(data[last.start])}"
 
 
-def looked_at(folder: Folder, what: str, prefix: str) -> Iterator[str]:
-    """The lines that a word asks for."""
+def lines_of(path: Path, what: str, prefix: str) -> Iterator[str]:
+    """The lines that a word asks for. FolderDamaged, before the first one, where the folder is."""
+    if what == "log":
+        return log_lines(path)
+    folder = Folder(path)
+    folder.check()
     match what:
         case "stats":
             return stats(folder)
@@ -278,10 +315,10 @@ def main(words: Sequence[str]) -> int:
         if holder is not None:
             kept = "last checkpoint with its log" if has_log(options.folder) else "last checkpoint"
             print(f"inspect: {path} is in use by {holder}; this is its {kept}", file=sys.stderr)
-        folder = Folder(path)
-        folder.check()
-        for line in looked_at(folder, options.what, options.prefix):
+        for line in lines_of(path, options.what, options.prefix):
             print(line)
+        if options.what == "log":
+            read_log(path)
     except FolderDamaged as damage:
         print(f"inspect: {damage}", file=sys.stderr)
         return 1

@@ -9,7 +9,22 @@ from collections.abc import Callable
 from contextlib import redirect_stderr, redirect_stdout
 
 from duqishom import BadForm, Kind, Lock, Patience, Qualifier, Record, Store, read_lock, read_record
-from duqishom.files import FileRef, Key, Root, RootTablet, SortedFile, edits_in, key_of, mark_of, records_of, root_of
+from duqishom.files import (
+    FileRef,
+    Key,
+    RecordKind,
+    Root,
+    RootTablet,
+    SortedFile,
+    edits_in,
+    key_of,
+    log_of,
+    mark_of,
+    root_of,
+    root_sum,
+    sign_of,
+    store_of,
+)
 from duqishom.inspection import main
 from duqishom.texts import bytes_of
 from tests.folders import FolderTest
@@ -18,6 +33,7 @@ from tests.pages import Fenced, fenced
 PAGE = "docs/FORMATS.md"
 COLUMNS = {"data": Qualifier.DATA, "lock": Qualifier.LOCK, "write": Qualifier.WRITE}
 KINDS = {"set": Kind.SET, "delete": Kind.DELETE}
+RECORDS = {"edits": RecordKind.EDITS, "root": RecordKind.ROOT, "any": RecordKind.ANY_ROOT}
 
 
 def bytes_in(block: Fenced) -> bytes:
@@ -38,7 +54,7 @@ class Examples(unittest.TestCase):
 
     def test_examples(self) -> None:
         blocks = fenced(PAGE, "form")
-        self.assertEqual(len(blocks), 15)
+        self.assertEqual(len(blocks), 17)
         for block in blocks:
             kind, *words = block.more.split()
             with self.subTest(block.more):
@@ -69,11 +85,24 @@ class Examples(unittest.TestCase):
         wanted = tuple(tablet_of(word, int(form)) for word in tablets or ("1::0:",))
         self.assertEqual(root_of(data), Root(int(form), int(top), int(floor), int(next_name), wanted))
 
-    def is_log(self, data: bytes, *records: str) -> None:
-        for cut in range(8, len(data) + 1):
-            found = [record for _, record in records_of(data[:cut])]
-            self.assertEqual(found, [word.encode() for word in records][: len(found)])
-        self.assertEqual(len(found), len(records))
+    def is_log(self, data: bytes, form: str, *words: str) -> None:
+        """A log, however it is cut. In format 2 a word of a record has its kind, its stamp, and a body, of edits their length."""
+        store, first, *records = words if form == "2" else ("0", "0", *words)
+        for cut in range(45 if form == "2" else 8, len(data) + 1):
+            log = log_of(data[:cut])
+            found = [record.body for record in log.records]
+            if form == "2":
+                kinds = [(record.kind, record.stamp) for record in log.records]
+                split = [word.split(":") for word in records[: len(found)]]
+                self.assertEqual(kinds, [(RECORDS[kind], int(stamp)) for kind, stamp, _ in split])
+                self.assertEqual([body.hex() if len(body) <= 4 else str(len(body)) for body in found], [b.lower() for *_, b in split])
+            else:
+                self.assertEqual(found, [word.encode() for word in records[: len(found)]])
+            self.assertEqual((log.format, log.store, log.first), (int(form), int(store, 16), int(first)))
+        self.assertEqual((len(found), log.end), (len(records), len(data)))
+
+    def is_sign(self, data: bytes, store: str) -> None:
+        self.assertEqual((store_of(data), sign_of(int(store, 16))), (int(store, 16), data))
 
     def is_edits(self, data: bytes, *words: str) -> None:
         found = [(key_of(text), value) for text, value in edits_in(data)]
@@ -106,6 +135,23 @@ class OutsideTheForm(unittest.TestCase):
                     if block.more.split()[0] in ("file", "root"):
                         self.assertRaises(BadForm, read, data[:cut])
             self.assertRaises(BadForm, read, data + b"\x00")
+
+    def test_later_frames(self) -> None:
+        """A log with a wrong byte before a whole frame is damaged, and one with a wrong byte in its last frame ends before it."""
+        [data] = [bytes_in(block) for block in fenced(PAGE, "form") if block.more.startswith("log 2")]
+        for at, end, later in ((50, 45, 102), (60, 45, 102), (101, 45, 102), (102, 102, None), (126, 102, None)):
+            log = log_of(data[:at] + bytes([data[at] ^ 1]) + data[at + 1 :])
+            self.assertEqual((log.end, log.later), (end, later), at)
+        for head in (b"", b"TABLOG", b"TABLOG03", data[:8], data[:44], data[:20] + b"\0" + data[21:]):
+            self.assertRaises(BadForm, log_of, head)
+
+    def test_the_checksum_of_a_root(self) -> None:
+        """A log names the root of the page: the lengths of its files don't count."""
+        data = {block.more.split()[0] + block.more.split()[1]: bytes_in(block) for block in fenced(PAGE, "form")}
+        root, log = root_of(data["root2"]), log_of(data["log2"][:45])
+        self.assertTrue(log.is_over(root))
+        self.assertEqual(root_sum(root), root_sum(root_of(data["root2"].replace(b"\x7b", b"\x7c"))))
+        self.assertFalse(log.is_over(root_of(data["root1"])))
 
     def test_first_wrong_byte(self) -> None:
         [_, one, _] = [bytes_in(block) for block in fenced(PAGE, "form") if block.more.startswith("file")]

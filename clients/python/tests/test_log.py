@@ -6,15 +6,19 @@ import io
 import os
 import random
 import resource
+import shutil
 import signal
+import subprocess
 import threading
 import time
 import unittest
 from collections import Counter
 from contextlib import redirect_stderr, redirect_stdout, suppress
 from pathlib import Path
+from zlib import crc32
 
 from duqishom import ConnectionLost, Held, NotOpened, Patience, Pending, ProgramEnded, Store, Transaction, TransactionFailed
+from duqishom.files import FRAME, NUMBER, log_of
 from duqishom.folders import has_log
 from duqishom.inspection import main as inspect
 from duqishom.program import default_program
@@ -25,7 +29,7 @@ from tests.gateways import Gateway, folder_of, until
 KILLS = int(os.environ.get("LOG_KILLS", "20"))
 CLIENTS, ACCOUNTS, FIRST = 8, 12, 100
 ROW, FAMILY = b"counter", b"c"
-ROOT, LOG = "t0000000000000000.tab", "commit.log"
+ROOT, LOG, SIGN, CUT, MARK = "t0000000000000000.tab", "commit.log", "commit.id", "commit.cut", "oracle.mark"
 
 
 def put(store: Store, value: bytes) -> None:
@@ -101,6 +105,7 @@ class Logs(FolderTest):
             self.assertEqual(store.run(lambda t: [t.get(row, FAMILY) for row in numbers]), numbers)
 
     def test_a_copy_has_a_log(self) -> None:
+        """It is over the copy's root, and of the same store."""
         copy = self.path / "copy"
         with self.opened() as store:
             put(store, b"1")
@@ -108,6 +113,8 @@ class Logs(FolderTest):
             put(store, b"2")
             store.kill()
         self.assertEqual(self.value(), b"2")
+        self.assertEqual((copy / SIGN).read_bytes(), (self.path / SIGN).read_bytes())
+        self.assertEqual(len(log_of((copy / LOG).read_bytes()).roots()), 1)
         self.folder = str(copy)
         self.assertTrue(has_log(self.folder))
         self.assertEqual(self.value(), b"1")
@@ -129,49 +136,137 @@ class Logs(FolderTest):
             self.assertLess((self.path / LOG).stat().st_size, 1_100_000)
 
     def test_tails_of_logs(self) -> None:
-        """A log whose last frame isn't whole ends before that frame."""
+        """A log whose last frame isn't whole ends before that frame. What stood there is said and kept."""
         with self.opened() as store:
             put(store, b"1")
             short = (self.path / LOG).stat().st_size
             put(store, b"2")
         whole = (self.path / LOG).read_bytes()
-        self.assertGreater(len(whole), short)
-        for log, value in (
-            (whole, b"2"),
-            (whole + b"\0" * 100, b"2"),
-            (whole + whole[8 : short - 1], b"2"),
-            (whole[:short], b"1"),
-            (whole[: short + 7], b"1"),
-            (whole[:8], None),
+        last = short + 1
+        for log, value, cut in (
+            (whole, b"2", b""),
+            (whole + b"\0" * 100, b"2", b"\0" * 100),
+            (whole + whole[16 : short - 1], b"2", whole[16 : short - 1]),
+            (whole[:short], b"1", b""),
+            (whole[: short + 7], b"1", whole[short : short + 7]),
+            (whole[:last] + b"\1" + whole[last + 1 :], b"1", whole[short:last] + b"\1" + whole[last + 1 :]),
+            (whole[:45], None, b""),
         ):
             (self.path / LOG).write_bytes(log)
-            self.assertEqual(self.value(), value, len(log))
+            (self.path / CUT).unlink(missing_ok=True)
+            told = self.told()
+            said = f"tabletd: {len(cut)} bytes at the end of the log were cut and kept in commit.cut\n" if cut else ""
+            kept = (self.path / CUT).read_bytes() if (self.path / CUT).exists() else b""
+            self.assertEqual((told, kept, self.value()), ((0, said), cut, value), len(log))
+
+    def told(self, *words: str) -> tuple[int, str]:
+        """The status of a program that opens the folder and is asked nothing, and what it says."""
+        line = [default_program(), "--dir", self.folder, *words]
+        ended = subprocess.run(line, stdin=subprocess.DEVNULL, capture_output=True, text=True)
+        return ended.returncode, ended.stderr
 
     def test_logs_that_are_not_opened(self) -> None:
+        """Each way in which a folder can lose a part, or get one of another folder. What is refused stays as it was."""
+        other = self.path / "other"
+        other.mkdir()
+        with Store(folder=other) as store:
+            put(store, b"0")
+        with self.opened() as store:
+            put(store, b"0")
+            store.checkpoint()
+            root = (self.path / ROOT).read_bytes()
+            put(store, b"1")
+            store.checkpoint()
+            for _ in range(2):
+                put(store, b"2")
+        whole = (self.path / LOG).read_bytes()
+        self.assertEqual(len(log_of(whole).roots()), 1)
+        table: tuple[tuple[str, bytes | Path | None, int, str], ...] = (
+            (ROOT, root, 5, f"{ROOT}: the log is over another root"),
+            (ROOT, None, 5, f"{ROOT}: the log has edits, and there is no root"),
+            (MARK, None, 5, f"{MARK}: the mark 0 is below the root's greatest stamp"),
+            (SIGN, other / SIGN, 5, f"{LOG}: the log is of the store [0-9a-f]+, and {SIGN} of"),
+            (SIGN, b"TABSTORE", 5, f"{SIGN}: this is no sign of a store, at byte 8"),
+            (LOG, None, 5, f"{LOG}: {SIGN} says that the folder has a log, and it isn't there"),
+            (LOG, other / LOG, 5, f"{LOG}: the log is of the store"),
+            (LOG, whole[:60] + bytes([whole[60] ^ 1]) + whole[61:], 5, f"{LOG}: a frame before the whole one of byte [0-9]+ is broken"),
+            (LOG, whole[:20] + bytes([whole[20] ^ 1]) + whole[21:], 5, f"{LOG}: no first record stands here, at byte 16"),
+            (LOG, whole[:44], 5, f"{LOG}: no first record stands here, at byte 16"),
+            (LOG, b"TABLOG01", 5, f"{LOG}: the log is of format 1, and {SIGN} is there"),
+            (LOG, b"TABLOG03" + whole[8:], 5, f"{LOG}: the head is neither TABLOG01 nor TABLOG02, at byte 7"),
+            (LOG, b"TABL", 5, f"{LOG}: the head is neither TABLOG01 nor TABLOG02, at byte 4"),
+            (LOG, Path(LOG), 4, "commit.log can't be opened: .*symbolic links"),
+        )
+        for name, wrong, status, why in table:
+            file = self.path / name
+            right = file.read_bytes()
+            file.unlink()
+            if isinstance(wrong, bytes):
+                file.write_bytes(wrong)
+            elif wrong == Path(LOG):
+                file.symlink_to(wrong)
+            elif wrong is not None:
+                shutil.copy(wrong, file)
+            with self.subTest(why):
+                for log in (True, False) if name == LOG and wrong is None else (None,):
+                    with self.assertRaisesRegex(NotOpened, why) as caught:
+                        self.opened(log)
+                    self.assertEqual(caught.exception.status, status)
+                if isinstance(wrong, bytes):
+                    self.assertEqual(file.read_bytes(), wrong)
+                self.assertFalse((self.path / CUT).exists())
+            file.unlink(missing_ok=True)
+            file.write_bytes(right)
+        self.assertEqual(self.value(), b"2")
+
+    def test_an_older_log_than_the_root(self) -> None:
+        """A copy of a folder that takes the log before a checkpoint and the root behind it: a collected cell would come back."""
         with self.opened() as store:
             put(store, b"1")
-        log = self.path / LOG
-        whole = log.read_bytes()
-        for wrong, status, why in (
-            (b"TABLOG02" + whole[8:], 5, "commit.log: the head isn't TABLOG01, at byte 7"),
-            (b"TABL", 5, "commit.log: the head isn't TABLOG01, at byte 4"),
-            (None, 4, "commit.log can't be opened: .*symbolic links"),
-        ):
-            log.unlink()
-            if wrong is None:
-                log.symlink_to(LOG)
-            else:
-                log.write_bytes(wrong)
-            with self.assertRaisesRegex(NotOpened, why) as caught:
-                self.opened()
-            self.assertEqual(caught.exception.status, status)
-        log.unlink()
-        log.write_bytes(whole)
-        root = (self.path / ROOT).rename(self.path / "root")
-        with self.assertRaisesRegex(NotOpened, "the log has edits, and there is no root"):
+            log = (self.path / LOG).read_bytes()
+            store.run(lambda t: t.delete(ROW, FAMILY))
+            store.collect()
+            store.checkpoint()
+        (self.path / LOG).write_bytes(log)
+        with self.assertRaisesRegex(NotOpened, "is over another root"):
             self.opened()
-        root.rename(self.path / ROOT)
-        self.assertEqual(self.value(), b"1")
+
+    def test_a_log_for_a_folder_that_lost_its_root(self) -> None:
+        """One that has a file or a mark and no root gets none, and without one it is a new store."""
+        for lost in (MARK, "t0000000000000001.tab"):
+            with self.subTest(lost):
+                (self.path / lost).write_bytes(bytes(7) + b"\1")
+                self.assertEqual(self.told("--log"), (5, "tabletd: damaged at open\n"))
+                self.assertFalse((self.path / LOG).exists() or (self.path / SIGN).exists())
+                self.assertEqual(self.told(), (0, ""))
+                (self.path / lost).unlink()
+        self.assertEqual(self.told("--log"), (0, ""))
+
+    def test_a_log_whose_mark_is_gone(self) -> None:
+        """The root of a new store has no stamp, and the log has."""
+        with self.opened() as store:
+            put(store, b"1")
+        (self.path / MARK).unlink()
+        with self.assertRaisesRegex(NotOpened, f"{MARK}: the mark 0 is below the log's greatest stamp"):
+            self.opened()
+
+    def test_a_log_of_format_1_is_upgraded(self) -> None:
+        with self.opened() as store:
+            put(store, b"1")
+            put(store, b"2")
+        log, old = self.path / LOG, b"TABLOG01"
+        for record in log_of(log.read_bytes()).records[1:]:
+            length = NUMBER.pack(len(record.body))
+            old += FRAME.pack(len(record.body), crc32(length + record.body)) + record.body
+        (self.path / SIGN).unlink()
+        for tail in (b"", b"\1" * 9):
+            log.write_bytes(old + tail)
+            (self.path / SIGN).unlink(missing_ok=True)
+            for _ in range(2):
+                self.assertEqual(self.value(), b"2")
+            found = log_of(log.read_bytes())
+            self.assertEqual((found.format, found.is_over_any(), (self.path / SIGN).exists()), (2, False, True))
+        self.assertEqual((self.path / CUT).read_bytes(), tail)
 
     def test_a_log_that_failed_ends_the_program(self) -> None:
         """A limit of the size of files stands for a full disk."""
@@ -204,6 +299,10 @@ class Logs(FolderTest):
         self.assertEqual(self.inspected("cells"), "counter\tc\t2\n")
         self.assertEqual(self.inspected("locks"), f"held c: session {start} sets it; its first cell is held c\n")
         self.assertIn("10 keys in the log", self.inspected("stats"))
+        size = (self.path / LOG).stat().st_size
+        what = "format 2, store [0-9a-f]{16}, [0-9]+ records from number [0-9]+, over the root of stamp"
+        self.assertRegex(self.inspected("log"), what)
+        self.assertIn(f"whole frames up to byte {size} of {size}", self.inspected("log"))
 
     def inspected(self, what: str) -> str:
         """What `inspect` writes of the folder."""

@@ -117,6 +117,7 @@ class Options(FolderTest):
     def test_a_second_program_does_nothing(self) -> None:
         """It is refused. A file that the first one is writing stays."""
         for first in (False, True):
+            self.new_folder()
             with self.opened(log=first) as store:
                 (self.path / "t00000000000000ff.new").write_bytes(b"half")
                 self.put(store, 1)

@@ -7,14 +7,14 @@ use Rattle.std.specs.List.{AllByRecursion, flat_map}
 use Rattle.commit_log.specs.Frames.{frame, head, log_of, IsLog, IsRecord, IsTail}
 use Rattle.commit_log.proofs.Fronts.{begins}
 
-same_front : (a b x y : List ℕ) → length a ≡ length b → a ++ x ≡ b ++ y → (a ≡ b) × (x ≡ y)
+pub same_front : (a b x y : List ℕ) → length a ≡ length b → a ++ x ≡ b ++ y → (a ≡ b) × (x ≡ y)
 same_front a b x y size same = (
   sym (take_at a x (length a) refl) ∙ ap (take (length a)) same ∙ take_at b y (length a) (sym size),
   sym (drop_at a x (length a) refl) ∙ ap (drop (length a)) same ∙ drop_at b y (length a) (sym size),
 )
 
 -- a frame is followed by what is left of the bytes
-same_frame : (p q x y : List ℕ) → IsRecord p → IsRecord q → frame p ++ x ≡ frame q ++ y → (p ≡ q) × (x ≡ y)
+pub same_frame : (p q x y : List ℕ) → IsRecord p → IsRecord q → frame p ++ x ≡ frame q ++ y → (p ≡ q) × (x ≡ y)
 same_frame p q x y fits also same =
     let one = begins (frame p ++ x) p x fits refl in
     let other = begins (frame p ++ x) q y also same in

@@ -1,10 +1,13 @@
 -- What the calls of a file leave of the records of its log.
-use Rattle.std.proofs.Common.{◌≡◌, ℕ, ◌≤◌, ◌⊎◌, inl, inr, append-nil, List, [], ◌∷◌, ◌++◌, length, take, drop, Option, Some, None, IfSome, Result, Ok, Err, IsErr, OnErr, OnOk, refl, sym, ap, ◌∙◌, subst, arith}
-use Rattle.std.proofs.lemmas.List.{take-append-drop, length-drop, append_cancel_right}
-use Rattle.commit_log.specs.Files.{GrowsInPart, MayBeCut, with_first, with_more}
-use Rattle.commit_log.specs.Frames.{frame, head, log_of, IsLog, IsRecord}
-use Rattle.commit_log.specs.Held.{Empties, Gains, IsHeld, IsKept, Keeps, MayEmpty, MayGain, Opens}
-use Rattle.commit_log.proofs.Cuts.{in_part, one_more, one_reading, whole}
+use Rattle.std.proofs.Common.{◌≡◌, ℕ, ◌+◌, ◌<◌, ◌≤◌, ◌^◌, ◌⊎◌, inl, inr, List, [], ◌∷◌, ◌++◌, length, take, drop, Option, Some, None, IfSome, refl, sym, ap, ◌∙◌, subst, arith}
+use Rattle.std.proofs.lemmas.List.{length-map, take_all}
+use Rattle.std.specs.Global.{Vec}
+use Rattle.commit_log.specs.Files.{GrowsInPart, MayBeAll, with_all, with_more}
+use Rattle.commit_log.specs.Frames.{bytes_of, frame}
+use Rattle.commit_log.specs.Held.{HasRecords, IsHeld, IsKept, Keeps, Opens}
+use Rattle.commit_log.specs.Numbered.{Hides, IsShort, IsStoreLog, numbered, store_log}
+use Rattle.commit_log.proofs.Numbering.{length-last}
+use Rattle.commit_log.proofs.Storing.{appended, appended_part, cons_some, front, store_reading, whole, SameLog}
 
 -- what was read is what the file holds, if it says that
 read_is : (told : Option (List ℕ)) (read held : List ℕ) → told ≡ Some held → IfSome told (λ b. read ≡ b) → read ≡ held
@@ -18,175 +21,158 @@ through (Some b) P Q f h = f b h
 pub seen : (told : Option (List ℕ)) (items lent : List ℕ) → lent ≡ items → IfSome told (λ b. items ≡ b) → IfSome told (λ b. lent ≡ b)
 seen told items lent is same = through told (λ b. items ≡ b) (λ b. lent ≡ b) (λ b e. is ∙ e) same
 
--- a log begins with the head
-headed : (bytes : List ℕ) (records : List (List ℕ)) (tail : List ℕ) → IsLog bytes records tail → take 8 bytes ≡ head
-headed bytes records tail log = ap (take 8) log.spelled
-
-pub has_head : (told : Option (List ℕ)) (read : List ℕ) (records : List (List ℕ)) (tail : List ℕ) → IfSome told (λ b. read ≡ b) → IsLog read records tail → IfSome told (λ b. take 8 b ≡ head)
-has_head told read records tail same log =
-    through told (λ b. read ≡ b) (λ b. take 8 b ≡ head) (λ b e. ap (take 8) (sym e) ∙ headed read records tail log) same
-
-pub has_no_head : (told : Option (List ℕ)) (read : List ℕ) → IfSome told (λ b. read ≡ b) → (take 8 read ≡ head → ⊥) → IfSome told (λ b. take 8 b ≡ head → ⊥)
-has_no_head told read same none =
-    through told (λ b. read ≡ b) (λ b. take 8 b ≡ head → ⊥) (λ b e h. none (ap (take 8) e ∙ h)) same
-
-nil_of : (xs : List ℕ) → length xs ≡ 0 → xs ≡ []
-nil_of [] h = refl
-nil_of (x ∷ xs) h = absurd (omega (arith, h))
+pub has_records : (told : Option (List ℕ)) (read : List ℕ) (store first : ℕ) (records : List (List ℕ)) (tail : List ℕ) → IfSome told (λ b. read ≡ b) → IsStoreLog store first read records tail → IfSome told HasRecords
+has_records told read store first records tail same log =
+    through told (λ b. read ≡ b) HasRecords
+    (λ b e. (records, record { bytes = read; are_told = ap Some (sym e); store = store; first = first; tail = tail; is_log = log })) same
 
 -- ---- reading
 
-pub keeps : (old new : Option (List ℕ)) (stopped after : Type 0) → new ≡ old → (stopped → after) → (records : List (List ℕ)) → IsHeld old stopped records → IsHeld new after records
-keeps old new stopped after same stays records held = record {
-  kept = record { bytes = held.kept.bytes; are_told = same ∙ held.kept.are_told; tail = held.kept.tail; is_log = held.kept.is_log };
-  clean = elim held.clean [ inl none ↦ inl none | inr s ↦ inr (stays s) ];
+pub keeps_kept : (old new : Option (List ℕ)) → new ≡ old → (records : List (List ℕ)) → IsKept old records → IsKept new records
+keeps_kept old new same records kept = record { bytes = kept.bytes; are_told = same ∙ kept.are_told; store = kept.store; first = kept.first; tail = kept.tail; is_log = kept.is_log }
+
+pub keeps : (old new : Option (List ℕ)) (stopped after : Type 0) (store next : ℕ) → new ≡ old → (stopped → after) → (records : List (List ℕ)) → IsHeld old stopped store next records → IsHeld new after store next records
+keeps old new stopped after store next same stays records held = record {
+  kept = record { bytes = held.kept.bytes; are_told = same ∙ held.kept.are_told; store = held.kept.store; first = held.kept.first; tail = held.kept.tail; is_log = held.kept.is_log };
+  same = held.same;
+  ready = elim held.ready [ inl clean ↦ inl clean | inr s ↦ inr (stays s) ];
 }
 
-pub keeps_kept : (old new : Option (List ℕ)) → new ≡ old → (records : List (List ℕ)) → IsKept old records → IsKept new records
-keeps_kept old new same records kept = record { bytes = kept.bytes; are_told = same ∙ kept.are_told; tail = kept.tail; is_log = kept.is_log }
-
 -- the one reading of what is kept
-reading : (told : Option (List ℕ)) (read : List ℕ) (found : List (List ℕ)) (tail : List ℕ) → IfSome told (λ b. read ≡ b) → IsLog read found tail
-    → (records : List (List ℕ)) → (kept : IsKept told records) → (found ≡ records) × (tail ≡ kept.tail)
-reading told read found tail same log records kept =
-    one_reading kept.bytes found records tail kept.tail
-    (subst (λ (b : List ℕ). IsLog b found tail) (read_is told read kept.bytes kept.are_told same) log) kept.is_log
+reading : (told : Option (List ℕ)) (read : List ℕ) (store first : ℕ) (found : List (List ℕ)) (tail : List ℕ) → IfSome told (λ b. read ≡ b) → IsStoreLog store first read found tail
+    → (records : List (List ℕ)) → (kept : IsKept told records) → SameLog store kept.store first kept.first found records tail kept.tail
+reading told read store first found tail same log records kept =
+    store_reading kept.bytes store kept.store first kept.first found records tail kept.tail
+    (subst (λ (b : List ℕ). IsStoreLog store first b found tail) (read_is told read kept.bytes kept.are_told same) log) kept.is_log
 
-pub read_back : (told : Option (List ℕ)) (read : List ℕ) (found : List (List ℕ)) (tail : List ℕ) (stopped : Type 0) → IfSome told (λ b. read ≡ b) → IsLog read found tail
-    → (records : List (List ℕ)) → IsHeld told stopped records → found ≡ records
-read_back told read found tail stopped same log records held = (reading told read found tail same log records held.kept).0
+pub read_back : (told : Option (List ℕ)) (read : List ℕ) (store first : ℕ) (found : List (List ℕ)) (tail : List ℕ) (stopped : Type 0) (number next : ℕ) → IfSome told (λ b. read ≡ b) → IsStoreLog store first read found tail
+    → (records : List (List ℕ)) → IsHeld told stopped number next records → found ≡ records
+read_back told read store first found tail stopped number next same log records held = (reading told read store first found tail same log records held.kept).records
 
-pub no_damage : (told : Option (List ℕ)) (read : List ℕ) (stopped : Type 0) → IfSome told (λ b. read ≡ b) → (take 8 read ≡ head → ⊥) → (records : List (List ℕ)) → IsHeld told stopped records → ⊥
-no_damage told read stopped same none records held =
-    let kept = held.kept in
-    none (ap (take 8) (read_is told read kept.bytes kept.are_told same) ∙ headed kept.bytes records kept.tail kept.is_log)
+pub no_log : (told : Option (List ℕ)) (read : List ℕ) → IfSome told (λ b. read ≡ b) → ((store first : ℕ) (records : List (List ℕ)) (tail : List ℕ) → IsStoreLog store first read records tail → ⊥)
+    → (records : List (List ℕ)) → IsKept told records → ⊥
+no_log told read same none records kept =
+    none kept.store kept.first records kept.tail
+    (subst (λ (b : List ℕ). IsStoreLog kept.store kept.first b records kept.tail) (sym (read_is told read kept.bytes kept.are_told same)) kept.is_log)
 
 -- ---- writing
 
--- the bytes of a log without a tail, with more behind them
-grown : (old new : Option (List ℕ)) (more : List ℕ) (records : List (List ℕ)) → (kept : IsKept old records) → kept.tail ≡ [] → new ≡ with_more more old → new ≡ Some (log_of records ++ more)
-grown old new more records kept none wrote =
-    wrote
-    ∙ ap (with_more more) kept.are_told
-    ∙ ap (λ (b : List ℕ). Some (b ++ more)) (kept.is_log.spelled ∙ ap (λ (t : List ℕ). log_of records ++ t) none ∙ append-nil (log_of records))
+clean_log : (told : Option (List ℕ)) (records : List (List ℕ)) → (kept : IsKept told records) → kept.tail ≡ [] → IsStoreLog kept.store kept.first kept.bytes records []
+clean_log told records kept none = subst (IsStoreLog kept.store kept.first kept.bytes records) none kept.is_log
 
-pub gains : (old new : Option (List ℕ)) (stopped after : Type 0) (p : List ℕ) → IsRecord p → new ≡ with_more (frame p) old → (stopped → ⊥)
-    → (records : List (List ℕ)) → IsHeld old stopped records → IsHeld new after (records ++ p ∷ [])
-gains old new stopped after p fits wrote free records held =
-    let none : held.kept.tail ≡ [] = elim held.clean [ inl e ↦ e | inr s ↦ absurd (free s) ] in
-    record {
-      kept = record {
-        bytes = log_of records ++ frame p;
-        are_told = grown old new (frame p) records held.kept none wrote;
-        tail = [];
-        is_log = one_more records p held.kept.is_log.each fits;
-      };
-      clean = inl refl;
-    }
+grown : (old new : Option (List ℕ)) (more : List ℕ) (records : List (List ℕ)) → (kept : IsKept old records) → new ≡ with_more more old → new ≡ Some (kept.bytes ++ more)
+grown old new more records kept wrote = wrote ∙ ap (with_more more) kept.are_told
 
-pub may_gain : (old new : Option (List ℕ)) (stopped after : Type 0) (p : List ℕ) → IsRecord p → GrowsInPart (frame p) old new → (stopped → new ≡ old) → after
-    → (records : List (List ℕ)) → IsHeld old stopped records → IsHeld new after records ⊎ IsHeld new after (records ++ p ∷ [])
-may_gain old new stopped after p fits wrote still now records held = elim held.clean [
-  | inl none ↦
-      let is = grown old new (take wrote.0 (frame p)) records held.kept none wrote.1 in
-      elim (in_part records p wrote.0 held.kept.is_log.each fits) [
-        | inl log ↦ inl (record {
-          kept = record { bytes = log_of records ++ take wrote.0 (frame p); are_told = is; tail = take wrote.0 (frame p); is_log = log };
-          clean = inr now;
-        })
-        | inr log ↦ inr (record { kept = record { bytes = log_of records ++ take wrote.0 (frame p); are_told = is; tail = []; is_log = log }; clean = inl refl })
-      ]
-  | inr s ↦ inl (record { kept = keeps_kept old new (still s) records held.kept; clean = inr now })
-]
-
--- ---- cutting
-
--- the tail is cut
-pub opens : (old new : Option (List ℕ)) (after : Type 0) (read : List ℕ) (found : List (List ℕ)) (end : ℕ) → IfSome old (λ b. read ≡ b) → IsLog read found (drop end read) → new ≡ with_first end old
-    → (records : List (List ℕ)) → IsKept old records → IsHeld new after records
-opens old new after read found end same log cut records kept =
-    let left = (reading old read found (drop end read) same log records kept).1 in
-    let is = read_is old read kept.bytes kept.are_told same in
-    let first : take end kept.bytes ≡ log_of records =
-    append_cancel_right (take end kept.bytes) (log_of records) kept.tail
-    (ap (λ (t : List ℕ). take end kept.bytes ++ t) (sym left ∙ ap (drop end) is) ∙ take-append-drop end kept.bytes ∙ kept.is_log.spelled) in
-    record {
-      kept = record { bytes = log_of records; are_told = cut ∙ ap (with_first end) kept.are_told ∙ ap Some first; tail = []; is_log = whole records kept.is_log.each };
-      clean = inl refl;
-    }
-
--- no tail was there
-pub opens_clean : (old new : Option (List ℕ)) (after : Type 0) (read : List ℕ) (found : List (List ℕ)) (end : ℕ) → IfSome old (λ b. read ≡ b) → IsLog read found (drop end read) → new ≡ old → length read ≤ end
-    → (records : List (List ℕ)) → IsKept old records → IsHeld new after records
-unfolding keeps_kept
-opens_clean old new after read found end same log still long records kept =
-    let left = (reading old read found (drop end read) same log records kept).1 in
-    let none : drop end read ≡ [] = nil_of (drop end read) (omega (arith, length-drop end read)) in
-    record {
-      kept = keeps_kept old new still records kept;
-      clean = inl (sym left ∙ none);
-    }
-
--- a cut that failed
-pub may_open : (old new : Option (List ℕ)) (read : List ℕ) (found : List (List ℕ)) (end : ℕ) → IfSome old (λ b. read ≡ b) → IsLog read found (drop end read) → MayBeCut end old new
-    → (records : List (List ℕ)) → IsKept old records → IsKept new records
-may_open old new read found end same log cut records kept = elim cut [
-  | inl still ↦ keeps_kept old new still records kept
-  | inr first ↦ (opens old new (Unit {0}) read found end same log first records kept).kept
-]
-
-pub empties : (old new : Option (List ℕ)) (stopped after : Type 0) → new ≡ with_first 8 old → (records : List (List ℕ)) → IsHeld old stopped records → IsHeld new after []
-empties old new stopped after cut records held =
+pub gains : (old new : Option (List ℕ)) (stopped after : Type 0) (store next : ℕ) (p : List ℕ) → IsShort p → new ≡ with_more (frame (numbered next p)) old → (stopped → ⊥)
+    → (records : List (List ℕ)) → IsHeld old stopped store next records → IsHeld new after store (next + 1) (records ++ p ∷ [])
+gains old new stopped after store next p s wrote free records held =
+    let clean : (held.kept.tail ≡ []) × (next ≡ held.kept.first + length records) = elim held.ready [ inl e ↦ e | inr st ↦ absurd (free st) ] in
     let kept = held.kept in
     record {
       kept = record {
-        bytes = log_of [];
-        are_told = cut ∙ ap (with_first 8) kept.are_told ∙ ap Some (headed kept.bytes records kept.tail kept.is_log);
+        bytes = kept.bytes ++ frame (numbered (kept.first + length records) p);
+        are_told = grown old new (frame (numbered (kept.first + length records) p)) records kept (wrote ∙ ap (λ (n : ℕ). with_more (frame (numbered n p)) old) clean.1);
+        store = kept.store;
+        first = kept.first;
         tail = [];
-        is_log = whole [] tt;
+        is_log = appended kept.store kept.first kept.bytes records p (clean_log old records kept clean.0) s;
       };
-      clean = inl refl;
+      same = held.same;
+      ready = inl (refl, omega (arith, clean.1, length-last records p));
     }
 
-pub may_empty : (old new : Option (List ℕ)) (stopped after : Type 0) → MayBeCut 8 old new → after → (records : List (List ℕ)) → IsHeld old stopped records → IsHeld new after records ⊎ IsHeld new after []
-may_empty old new stopped after cut now records held = elim cut [
-  | inl still ↦ inl (keeps old new stopped after still (λ _. now) records held)
-  | inr first ↦ inr (empties old new stopped after first records held)
+pub may_gain : (old new : Option (List ℕ)) (stopped after : Type 0) (store next : ℕ) (p : List ℕ) → IsShort p → ¬ Hides next p → GrowsInPart (frame (numbered next p)) old new → (stopped → new ≡ old) → after
+    → (records : List (List ℕ)) → IsHeld old stopped store next records → IsHeld new after store next records ⊎ IsHeld new after store next (records ++ p ∷ [])
+may_gain old new stopped after store next p s plain wrote still now records held = elim held.ready [
+  | inl clean ↦
+      let kept = held.kept in
+      let at : ℕ = kept.first + length records in
+      let more : List ℕ = take wrote.0 (frame (numbered at p)) in
+      let is : new ≡ Some (kept.bytes ++ more) = grown old new more records kept (wrote.1 ∙ ap (λ (n : ℕ). with_more (take wrote.0 (frame (numbered n p))) old) clean.1) in
+      elim (appended_part kept.store kept.first wrote.0 kept.bytes records p (clean_log old records kept clean.0) s (subst (λ (n : ℕ). ¬ Hides n p) clean.1 plain)) [
+        | inl log ↦ inl (record {
+          kept = record { bytes = kept.bytes ++ more; are_told = is; store = kept.store; first = kept.first; tail = more; is_log = log };
+          same = held.same;
+          ready = inr now;
+        })
+        | inr log ↦ inr (record {
+          kept = record { bytes = kept.bytes ++ more; are_told = is; store = kept.store; first = kept.first; tail = []; is_log = log };
+          same = held.same;
+          ready = inr now;
+        })
+      ]
+  | inr st ↦ inl (keeps old new stopped after store next (still st) (λ _. now) records held)
 ]
 
--- ---- by the result of a call
+pub renews : (old new : Option (List ℕ)) (stopped after : Type 0) (store next : ℕ) (p : List ℕ) → IsShort p → next < 2 ^ 63 → new ≡ with_all (store_log store next (p ∷ [])) old
+    → (records : List (List ℕ)) → IsHeld old stopped store next records → IsHeld new after store (next + 1) (p ∷ [])
+renews old new stopped after store next p s low put records held = record {
+  kept = record {
+    bytes = store_log store next (p ∷ []);
+    are_told = put ∙ ap (with_all (store_log store next (p ∷ []))) held.kept.are_told;
+    store = store;
+    first = next;
+    tail = [];
+    is_log = whole store next (p ∷ []) (subst (λ (n : ℕ). n < 2 ^ 64) held.same held.kept.is_log.is_store) low (cons_some p []) (s, tt);
+  };
+  same = refl;
+  ready = inl (refl, refl);
+}
 
-pub append_ok : {A E : Type 0} (result : Result A E) (old new : Option (List ℕ)) (stopped after : Type 0) (p more : List ℕ) → IsRecord p → more ≡ frame p → (stopped → IsErr result)
-    → OnOk result (new ≡ with_more more old) → OnOk result (Gains (IsHeld old stopped) (IsHeld new after) p)
-append_ok (Ok a) old new stopped after p more fits is refused wrote =
-    gains old new stopped after p fits (wrote ∙ ap (λ (m : List ℕ). with_more m old) is) (λ s. let h = refused s in cc)
-append_ok (Err e) old new stopped after p more fits is refused wrote = tt
+pub may_renew : (old new : Option (List ℕ)) (stopped after : Type 0) (store next : ℕ) (p : List ℕ) → IsShort p → next < 2 ^ 63 → MayBeAll (store_log store next (p ∷ [])) old new → after
+    → (records : List (List ℕ)) → IsHeld old stopped store next records → IsHeld new after store next records ⊎ IsHeld new after store next (p ∷ [])
+may_renew old new stopped after store next p s low put now records held = elim put [
+  | inl still ↦ inl (keeps old new stopped after store next still (λ _. now) records held)
+  | inr all ↦
+      let put' = renews old new stopped after store next p s low all records held in
+      inr (record { kept = put'.kept; same = put'.same; ready = inr now })
+]
 
-pub append_err : {A E : Type 0} (result : Result A E) (old new : Option (List ℕ)) (stopped after : Type 0) (p more : List ℕ) → IsRecord p → more ≡ frame p → (stopped → new ≡ old)
-    → OnErr result (GrowsInPart more old new) → OnErr result after → OnErr result (MayGain (IsHeld old stopped) (IsHeld new after) p)
-append_err (Ok a) old new stopped after p more fits is still wrote now = tt
-append_err (Err e) old new stopped after p more fits is still wrote now =
-    may_gain old new stopped after p fits (wrote.0, wrote.1 ∙ ap (λ (m : List ℕ). with_more (take wrote.0 m) old) is) still now
+-- ---- opening
 
-pub reset_ok : {A E : Type 0} (result : Result A E) (old new : Option (List ℕ)) (stopped after : Type 0) → OnOk result (new ≡ with_first 8 old) → OnOk result (Empties (IsHeld old stopped) (IsHeld new after))
-reset_ok (Ok a) old new stopped after cut = empties old new stopped after cut
-reset_ok (Err e) old new stopped after cut = tt
+-- the tail is taken away
+opens : (old new : Option (List ℕ)) (after : Type 0) (read : List ℕ) (store first next end : ℕ) (found : List (Vec ℕ)) → IfSome old (λ b. read ≡ b) → IsStoreLog store first read (bytes_of found) (drop end read)
+    → next ≡ first + length found → new ≡ with_all (take end read) old → (records : List (List ℕ)) → IsKept old records → IsHeld new after store next records
+opens old new after read store first next end found same log counted put records kept =
+    let one = reading old read store first (bytes_of found) (drop end read) same log records kept in
+    record {
+      kept = record {
+        bytes = take end read;
+        are_told = put ∙ ap (with_all (take end read)) kept.are_told;
+        store = store;
+        first = first;
+        tail = [];
+        is_log = subst (λ (rs : List (List ℕ)). IsStoreLog store first (take end read) rs []) one.records (front store first end read (bytes_of found) log);
+      };
+      same = refl;
+      ready = inl (refl, omega (arith, counted, sym (length-map found (λ (v : Vec ℕ). v.items)), ap length one.records));
+    }
 
-pub reset_err : {A E : Type 0} (result : Result A E) (old new : Option (List ℕ)) (stopped after : Type 0) → OnErr result (MayBeCut 8 old new) → OnErr result after
-    → OnErr result (MayEmpty (IsHeld old stopped) (IsHeld new after))
-reset_err (Ok a) old new stopped after cut now = tt
-reset_err (Err e) old new stopped after cut now = may_empty old new stopped after cut now
+-- no tail was there
+pub opens_clean : (old new : Option (List ℕ)) (after : Type 0) (read : List ℕ) (store first next end : ℕ) (found : List (Vec ℕ)) → IfSome old (λ b. read ≡ b)
+    → IsStoreLog store first read (bytes_of found) (drop end read) → next ≡ first + length found → new ≡ old → length read ≤ end → (records : List (List ℕ)) → IsKept old records → IsHeld new after store next records
+opens_clean old new after read store first next end found same log counted still long records kept =
+    opens old new after read store first next end found same log counted
+    (still ∙ kept.are_told ∙ ap Some (sym (read_is old read kept.bytes kept.are_told same) ∙ sym (take_all end read long)) ∙ sym (ap (with_all (take end read)) kept.are_told)) records kept
 
-pub open_ok : {A E : Type 0} (result : Result A E) (old mid new : Option (List ℕ)) (after : Type 0) (read : List ℕ) (found : List (List ℕ)) (end : ℕ) → mid ≡ old → IfSome old (λ b. read ≡ b)
-    → IsLog read found (drop end read) → OnOk result (new ≡ with_first end mid) → OnOk result (Opens old new after)
-open_ok (Ok a) old mid new after read found end still same log cut = opens old new after read found end same log (cut ∙ ap (with_first end) still)
-open_ok (Err e) old mid new after read found end still same log cut = tt
+-- a renewal that failed
+may_open : (old new : Option (List ℕ)) (read : List ℕ) (store first end : ℕ) (found : List (Vec ℕ)) → IfSome old (λ b. read ≡ b) → IsStoreLog store first read (bytes_of found) (drop end read) → MayBeAll (take end read) old new
+    → (records : List (List ℕ)) → IsKept old records → IsKept new records
+may_open old new read store first end found same log put records kept = elim put [
+  | inl still ↦ keeps_kept old new still records kept
+  | inr all ↦ (opens old new (Unit {0}) read store first (first + length found) end found same log refl all records kept).kept
+]
 
-pub open_err : {A E : Type 0} (result : Result A E) (old mid new : Option (List ℕ)) (read : List ℕ) (found : List (List ℕ)) (end : ℕ) → mid ≡ old → IfSome old (λ b. read ≡ b)
-    → IsLog read found (drop end read) → OnErr result (MayBeCut end mid new) → OnErr result (Keeps (IsKept old) (IsKept new))
-open_err (Ok a) old mid new read found end still same log cut = tt
-open_err (Err e) old mid new read found end still same log cut = may_open old new read found end same log (subst (λ (m : Option (List ℕ)). MayBeCut end m new) still cut)
+-- what was read before the file was renewed
+pub opens_from : (old mid new : Option (List ℕ)) (after : Type 0) (read all : List ℕ) (store first next end : ℕ) (found : List (Vec ℕ)) → mid ≡ old → IfSome old (λ b. read ≡ b)
+    → IsStoreLog store first read (bytes_of found) (drop end read) → next ≡ first + length found → all ≡ take end read → new ≡ with_all all mid → Opens old new after store next
+opens_from old mid new after read all store first next end found still same log counted is put =
+    opens old new after read store first next end found same log counted (put ∙ ap (with_all all) still ∙ ap (λ (m : List ℕ). with_all m old) is)
 
-pub on_ok : {A E : Type 0} (result : Result A E) (P : Type 0) → P → OnOk result P
-on_ok (Ok a) P p = p
-on_ok (Err e) P p = tt
+pub may_open_from : (old mid new : Option (List ℕ)) (read all : List ℕ) (store first end : ℕ) (found : List (Vec ℕ)) → mid ≡ old → IfSome old (λ b. read ≡ b)
+    → IsStoreLog store first read (bytes_of found) (drop end read) → all ≡ take end read → MayBeAll all mid new → Keeps (IsKept old) (IsKept new)
+may_open_from old mid new read all store first end found still same log is put =
+    may_open old new read store first end found same log (subst (λ (m : Option (List ℕ)). MayBeAll (take end read) m new) still (subst (λ (m : List ℕ). MayBeAll m mid new) is put))
+
+pub wrote_part : (old new : Option (List ℕ)) (more all : List ℕ) → more ≡ all → GrowsInPart more old new → GrowsInPart all old new
+wrote_part old new more all is wrote = (wrote.0, wrote.1 ∙ ap (λ (m : List ℕ). with_more (take wrote.0 m) old) is)

@@ -3,5 +3,8 @@ mod Cuts
 mod Entries
 mod Fronts
 mod Holding
+mod Naming
+mod Storing
 mod Logging
+mod Numbering
 mod Results

@@ -1,10 +1,11 @@
 -- What records hold, and what it makes of cells.
-use Rattle.std.proofs.Common.{◌≡◌, ◌≢◌, ℕ, zero, suc, ◌<◌, List, [], ◌∷◌, ◌++◌, get_or, length, take, drop, refl, sym, ap, subst, ◌∙◌, arith, length-append, append_assoc, append-nil, take_at}
+use Rattle.std.proofs.Common.{◌≡◌, ◌≢◌, ℕ, suc, ◌+◌, ◌<◌, ◌^◌, ◌⊎◌, inl, inr, List, [], ◌∷◌, ◌++◌, get_or, length, take, drop, refl, sym, ap, subst, ◌∙◌, arith, length-append, append_assoc, append-nil, drop_at, take_at}
 use Rattle.std.specs.Prelude.{map}
-use Rattle.std.specs.Global.{Vec}
+use Rattle.std.specs.Int.{from_be_bytes, to_be_bytes, w32}
+use Rattle.std.proofs.lemmas.Nat.{be_bytes_4}
 use Rattle.std.specs.FinMap.{insert}
 use Rattle.std.specs.List.{AllByRecursion, flat_map}
-use Rattle.std.proofs.lemmas.List.{take-append-drop}
+use Rattle.std.proofs.lemmas.List.{get_or-drop, take-append-drop}
 use Rattle.std.proofs.lemmas.List.Concat.{flat_map-append}
 use Rattle.cell_key.specs.Cells.{Cells, after_edit, after_edits, edited_key}
 use Rattle.cell_key.specs.Entries.{Entry}
@@ -12,8 +13,12 @@ use Rattle.cell_key.specs.Keys.{IsStored, OneKeyAText}
 use Rattle.cell_key.specs.declared.keys.CellKey.{CellKey}
 use Rattle.cell_key.specs.declared.edits.Edit.{Edit}
 use Rattle.cell_key.specs.declared.edits.Edit.TheVariants.{Put, Erase}
-use Rattle.commit_log.specs.Edits.{HoldEdits, IsStoredEdit, LogsEdits, edit_entry, spelled_edit, spelled_edits}
-use Rattle.commit_log.specs.Frames.{bytes_of}
+use Rattle.commit_log.specs.Edits.{HoldEdits, IsStoredEdit, LogsEdits, Part, edit_entry, made_in, makes, names, names_any, spelled_edit, spelled_edits, spelled_part}
+use Rattle.commit_log.specs.Records.{any_root, edit_bytes, root_record, spelled_number, spelled_record}
+use Rattle.commit_log.specs.declared.records.RecordKind.{RecordKind}
+use Rattle.commit_log.specs.declared.records.RecordKind.TheVariants as kind
+use Rattle.commit_log.proofs.Naming.{same_parts, same_record}
+use Rattle.commit_log.proofs.Numbering.{length-number, nothing_at}
 use Rattle.commit_log.proofs.Entries.{entry_split, short_edit, spelled_long}
 
 -- what stood at the front stands there still if it did so with more behind it
@@ -43,45 +48,104 @@ all_front : (a b : List Edit) → AllByRecursion IsStoredEdit (a ++ b) → AllBy
 all_front [] b h = (tt, h)
 all_front (e ∷ a) b h = let more = all_front a b h.1 in ((h.0, more.0), more.1)
 
-pub with_record : (records : List (List ℕ)) (edits then : List Edit) → HoldEdits records edits → HoldEdits (records ++ spelled_edits then ∷ []) (edits ++ then)
-with_record records edits then h = record {
-  parts = h.parts ++ then ∷ [];
-  each = ap (λ (rs : List (List ℕ)). rs ++ spelled_edits then ∷ []) h.each ∙ sym (mapped h.parts);
-  joined = ap (λ (es : List Edit). es ++ then) h.joined ∙ ap (λ (es : List Edit). flat_map (λ part. part) h.parts ++ es) (sym (append-nil then)) ∙ sym (flat_map-append (λ part. part) h.parts (then ∷ []));
+pub with_part : (records : List (List ℕ)) (edits : List Edit) (part : Part) → HoldEdits records edits → HoldEdits (records ++ spelled_part part ∷ []) (edits ++ made_in part)
+with_part records edits part h = record {
+  parts = h.parts ++ part ∷ [];
+  each = ap (λ (rs : List (List ℕ)). rs ++ spelled_part part ∷ []) h.each ∙ sym (mapped h.parts);
+  joined = ap (λ (es : List Edit). es ++ made_in part) h.joined ∙ ap (λ (es : List Edit). flat_map made_in h.parts ++ es) (sym (append-nil (made_in part))) ∙ sym (flat_map-append made_in h.parts (part ∷ []));
 }
   where
-    mapped : (parts : List (List Edit)) → map spelled_edits (parts ++ then ∷ []) ≡ map spelled_edits parts ++ spelled_edits then ∷ []
+    mapped : (parts : List Part) → map spelled_part (parts ++ part ∷ []) ≡ map spelled_part parts ++ spelled_part part ∷ []
     mapped [] = refl
-    mapped (part ∷ parts) = ap (λ (rs : List (List ℕ)). spelled_edits part ∷ rs) (mapped parts)
+    mapped (p ∷ parts) = ap (λ (rs : List (List ℕ)). spelled_part p ∷ rs) (mapped parts)
 
-pub holds_more : (records all : List (List ℕ)) (record' : List ℕ) (old new more : List Edit) → all ≡ records ++ record' ∷ [] → record' ≡ spelled_edits more → new ≡ old ++ more
+with_root : (records : List (List ℕ)) (edits : List Edit) (top sum : ℕ) → HoldEdits records edits → HoldEdits (records ++ root_record top sum ∷ []) edits
+with_root records edits top sum h =
+    subst (HoldEdits (records ++ root_record top sum ∷ [])) (append-nil edits) (with_part records edits (names top sum) h)
+
+pub holds_more : (records all : List (List ℕ)) (bytes : List ℕ) (old new : List Edit) (part : Part) → all ≡ records ++ bytes ∷ [] → bytes ≡ spelled_part part → new ≡ old ++ made_in part
     → HoldEdits records old → HoldEdits all new
-holds_more records all record' old new more is spelled' joined' h =
+holds_more records all bytes old new part is spelled' joined' h =
     subst (λ (es : List Edit). HoldEdits all es) (sym joined')
-    (subst (λ (rs : List (List ℕ)). HoldEdits rs (old ++ more)) (ap (λ (r : List ℕ). records ++ r ∷ []) (sym spelled') ∙ sym is) (with_record records old more h))
+    (subst (λ (rs : List (List ℕ)). HoldEdits rs (old ++ made_in part)) (ap (λ (r : List ℕ). records ++ r ∷ []) (sym spelled') ∙ sym is) (with_part records old part h))
 
 pub all_append : (a b : List Edit) → AllByRecursion IsStoredEdit a → AllByRecursion IsStoredEdit b → AllByRecursion IsStoredEdit (a ++ b)
 all_append [] b p q = q
 all_append (e ∷ a) b p q = (p.0, all_append a b p.1 q)
 
--- bytes are the spelling of edits within the limits
+-- bytes are a record, of edits within the limits or of a root
 abbrev pub IsSpelling : List ℕ → Type 0
-IsSpelling bytes = (edits : List Edit) × AllByRecursion IsStoredEdit edits × (bytes ≡ spelled_edits edits)
+IsSpelling bytes = (part : Part) × AllByRecursion IsStoredEdit (made_in part) × (bytes ≡ spelled_part part)
 
-each_spelled : (parts : List (List Edit)) → AllByRecursion IsStoredEdit (flat_map (λ part. part) parts) → AllByRecursion IsSpelling (map spelled_edits parts)
+each_spelled : (parts : List Part) → AllByRecursion IsStoredEdit (flat_map made_in parts) → AllByRecursion IsSpelling (map spelled_part parts)
 each_spelled [] all = tt
 each_spelled (part ∷ parts) all =
-    let both = all_front part (flat_map (λ part. part) parts) all in
+    let both = all_front (made_in part) (flat_map made_in parts) all in
     ((part, both.0, refl), each_spelled parts both.1)
 
 pub all_spelled : (records : List (List ℕ)) (edits : List Edit) → HoldEdits records edits → AllByRecursion IsStoredEdit edits → AllByRecursion IsSpelling records
 all_spelled records edits h all =
     subst (AllByRecursion IsSpelling) (sym h.each) (each_spelled h.parts (subst (AllByRecursion IsStoredEdit) h.joined all))
 
-pub record_at : (records : List (Vec ℕ)) (i : ℕ) (other : Vec ℕ) → i < length records → AllByRecursion IsSpelling (bytes_of records) → IsSpelling (get_or records i other).items
-record_at [] i other within all = absurd (omega (arith, within))
-record_at (r ∷ records) zero other within all = all.0
-record_at (r ∷ records) (suc i) other within all = record_at records i other (omega (arith, within)) all.1
+-- ---- records of no edits
+
+-- bytes that are no record
+pub no_part : (bytes : List ℕ) → ((kind : RecordKind) (stamp : ℕ) (body : List ℕ) → bytes ≢ spelled_record kind stamp body) → (part : Part) → bytes ≢ spelled_part part
+no_part bytes none (makes stamp edits) same = none kind.Edits stamp (spelled_edits edits) same
+no_part bytes none (names top sum) same = none kind.Root top (to_be_bytes w32 sum) same
+no_part bytes none names_any same = none kind.AnyRoot 0 [] same
+
+-- a record of edits whose body is no spelling of them
+pub no_edits_part : (bytes body : List ℕ) (stamp : ℕ) → bytes ≡ spelled_record kind.Edits stamp body → ((more : List Edit) → AllByRecursion IsStoredEdit more → body ≢ spelled_edits more)
+    → (part : Part) → AllByRecursion IsStoredEdit (made_in part) → bytes ≢ spelled_part part
+no_edits_part bytes body stamp is none (makes s edits) all same =
+    none edits all (same_parts kind.Edits kind.Edits stamp s body (spelled_edits edits) (sym is ∙ same)).1.1
+no_edits_part bytes body stamp is none (names top sum) all same =
+    let e = (same_parts kind.Edits kind.Root stamp top body (to_be_bytes w32 sum) (sym is ∙ same)).0 in cc
+no_edits_part bytes body stamp is none names_any all same =
+    let e = (same_parts kind.Edits kind.AnyRoot stamp 0 body [] (sym is ∙ same)).0 in cc
+
+-- a record of another kind whose body is not that of its kind
+pub no_root_part : (bytes body : List ℕ) (k : RecordKind) (stamp : ℕ) → stamp < 2 ^ 64 → bytes ≡ spelled_record k stamp body → k ≢ kind.Edits
+    → (((k ≡ kind.Root) × (length body ≡ 4)) ⊎ ((k ≡ kind.AnyRoot) × (stamp ≡ 0) × (length body ≡ 0)) → ⊥) → (part : Part) → bytes ≢ spelled_part part
+no_root_part bytes body k stamp small is other none (makes s edits) same =
+    other (same_parts k kind.Edits stamp s body (spelled_edits edits) (sym is ∙ same)).0
+no_root_part bytes body k stamp small is other none (names top sum) same =
+    let parts = same_parts k kind.Root stamp top body (to_be_bytes w32 sum) (sym is ∙ same) in
+    none (inl (parts.0, ap length parts.1.1))
+no_root_part bytes body k stamp small is other none names_any same =
+    let parts = same_record k kind.AnyRoot stamp 0 body [] small (omega arith) (sym is ∙ same) in
+    none (inr (parts.0, parts.1.0, ap length parts.1.1))
+
+-- a record of a root
+pub root_part : (bytes body : List ℕ) (k : RecordKind) (stamp : ℕ) (old : List Edit) → ((i : ℕ) → get_or bytes i 0 < 256) → bytes ≡ spelled_record k stamp body
+    → ((k ≡ kind.Root) × (length body ≡ 4)) ⊎ ((k ≡ kind.AnyRoot) × (stamp ≡ 0) × (length body ≡ 0))
+    → (part : Part) × (old ≡ old ++ made_in part) × (bytes ≡ spelled_part part) × AllByRecursion IsStoredEdit (made_in part)
+root_part bytes body k stamp old small is of =
+    let rest : drop 9 bytes ≡ body = ap (drop 9) is ∙ drop_at (spelled_number stamp) body 8 (length-number stamp) in
+    let low : (i : ℕ) → get_or body i 0 < 256 = λ i.
+    let at : get_or body i 0 ≡ get_or bytes (9 + i) 0 = ap (λ (l : List ℕ). get_or l i 0) (sym rest) ∙ get_or-drop 9 bytes i 0 in
+    omega (arith, at, small (9 + i)) in
+    elim of [
+      | inl root ↦ (
+        names stamp (from_be_bytes w32 body),
+        sym (append-nil old),
+        is ∙ ap (λ (j : RecordKind). spelled_record j stamp body) root.0 ∙ ap (spelled_record kind.Root stamp) (sym (be_bytes_4 body (from_be_bytes w32 body) root.1 low refl)),
+        tt,
+      )
+      | inr any ↦ (
+        names_any,
+        sym (append-nil old),
+        is ∙ ap (λ (j : RecordKind). spelled_record j stamp body) any.0 ∙ ap (λ (s : ℕ). spelled_record kind.AnyRoot s body) any.1 ∙ ap (spelled_record kind.AnyRoot 0) (nothing_at body any.2),
+        tt,
+      )
+    ]
+
+pub edits_part : (bytes body : List ℕ) (k : RecordKind) (stamp : ℕ) (old new : List Edit) → bytes ≡ spelled_record k stamp body → k ≡ kind.Edits
+    → (more : List Edit) × (new ≡ old ++ more) × (body ≡ spelled_edits more) × AllByRecursion IsStoredEdit more
+    → (part : Part) × (new ≡ old ++ made_in part) × (bytes ≡ spelled_part part) × AllByRecursion IsStoredEdit (made_in part)
+edits_part bytes body k stamp old new is of (more, joined, spelled', all) =
+    (makes stamp more, joined, is ∙ ap (λ (j : RecordKind). spelled_record j stamp body) of ∙ ap (spelled_record kind.Edits stamp) spelled', all)
 
 -- ---- how many they are
 
@@ -98,12 +162,19 @@ as_many (a ∷ as') (b ∷ bs) p q s =
 stored : (edit : Edit) → IsStoredEdit edit → IsStored (edited_key edit)
 stored edit is = record { row = is.row; family = is.family; from = is.limits.from; to = is.limits.to }
 
-joined : (parts : List (List Edit)) → flat_map (λ record'. record') (map spelled_edits parts) ≡ spelled_edits (flat_map (λ part. part) parts)
-joined [] = refl
-joined (part ∷ parts) = ap (λ (l : List ℕ). spelled_edits part ++ l) (joined parts) ∙ sym (flat_map-append spelled_edit part (flat_map (λ part. part) parts))
+edits_of : (part : Part) → edit_bytes (spelled_part part) ≡ spelled_edits (made_in part)
+edits_of (makes stamp edits) = drop_at (spelled_number stamp) (spelled_edits edits) 8 (length-number stamp)
+edits_of (names top sum) = refl
+edits_of names_any = refl
 
-held : (records : List (List ℕ)) (edits : List Edit) → HoldEdits records edits → flat_map (λ record'. record') records ≡ spelled_edits edits
-held records edits h = ap (flat_map (λ record'. record')) h.each ∙ joined h.parts ∙ ap spelled_edits (sym h.joined)
+joined : (parts : List Part) → flat_map edit_bytes (map spelled_part parts) ≡ spelled_edits (flat_map made_in parts)
+joined [] = refl
+joined (part ∷ parts) =
+    ap (λ (l : List ℕ). l ++ flat_map edit_bytes (map spelled_part parts)) (edits_of part)
+    ∙ ap (λ (l : List ℕ). spelled_edits (made_in part) ++ l) (joined parts) ∙ sym (flat_map-append spelled_edit (made_in part) (flat_map made_in parts))
+
+held : (records : List (List ℕ)) (edits : List Edit) → HoldEdits records edits → flat_map edit_bytes records ≡ spelled_edits edits
+held records edits h = ap (flat_map edit_bytes) h.each ∙ joined h.parts ∙ ap spelled_edits (sym h.joined)
 
 module _ (one_key : OneKeyAText) where
   same_edit : (cells : Cells) (a b : Edit) → IsStoredEdit a → IsStoredEdit b → edit_entry a ≡ edit_entry b → after_edit cells a ≡ after_edit cells b
@@ -132,7 +203,9 @@ module _ (one_key : OneKeyAText) where
   logs_edits = record {
     after = flat_map-append spelled_edit;
     none = record { parts = []; each = refl; joined = refl };
-    more = with_record;
+    more = λ records edits then stamp h. with_part records edits (makes stamp then) h;
+    named = with_root;
+    any = λ records edits h. subst (HoldEdits (records ++ any_root ∷ [])) (append-nil edits) (with_part records edits names_any h);
     whole = held;
     one = λ a b p q same cells. one_replay cells a b p q same;
   }

@@ -1,10 +1,9 @@
 -- A byte is shifted out at once.
-use Rattle.std.proofs.Common.{◌≡◌, ◌<◌, ◌+◌, ◌*◌, ◌/◌, ◌%◌, ◌^◌, ℕ, zero, suc, refl, sym, ap, ◌∙◌, arith}
+use Rattle.std.proofs.Common.{◌≡◌, ◌<◌, ◌*◌, ◌/◌, ◌%◌, ◌^◌, ℕ, zero, suc, refl, sym, ap, ◌∙◌, arith}
 use Rattle.std.specs.Fn.{iterate}
 use Rattle.std.specs.Prelude.{bit_xor}
 use Rattle.std.specs.Int.Bits.{xor_assoc, xor_zero_l, xor_zero_r, xor_shifted}
-use Rattle.std.proofs.lemmas.Nat.{xor_mod, xor_shr, xor_comm, xor_lt}
-use Rattle.std.proofs.Math.Nat.{div-add-mod, mod-lt}
+use Rattle.std.proofs.lemmas.Nat.{xor_mod, xor_shr, xor_comm}
 use Rattle.commit_log.specs.Crc32.{next_bit, next_byte}
 
 crossed : (a b c d : ℕ) → bit_xor (bit_xor a b) (bit_xor c d) ≡ bit_xor (bit_xor a c) (bit_xor b d)

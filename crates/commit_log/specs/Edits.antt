@@ -7,6 +7,8 @@ use Rattle.cell_key.specs.Keys.{text}
 use Rattle.cell_key.specs.Names.{IsRow, IsFamily}
 use Rattle.cell_key.specs.declared.edits.Edit.{Edit}
 use Rattle.cell_key.specs.declared.edits.Edit.TheVariants.{Put, Erase}
+use Rattle.commit_log.specs.Records.{any_root, edit_bytes, root_record, spelled_record}
+use Rattle.commit_log.specs.declared.records.RecordKind.TheVariants as kind
 
 -- an edit as an entry: the text of its key, and its value or an erasure
 abbrev pub edit_entry : Edit → Entry
@@ -31,23 +33,48 @@ pub record IsStoredEdit (edit : Edit) : Type 0 where
   pub family : IsFamily (edited_key edit).family
   pub limits : IsEditOf (edited_key edit).row edit
 
--- Records hold edits: each record is the spelling of some of them, in their order.
+-- a record of edits
+abbrev pub edits_record : ℕ → List Edit → List ℕ
+edits_record stamp edits = spelled_record kind.Edits stamp (spelled_edits edits)
+
+-- What a record says: edits that were made, or which root the log is over.
+pub data Part : Type 0 where
+  makes : (stamp : ℕ) (edits : List Edit) → Part
+  names : (top sum : ℕ) → Part
+  names_any : Part
+
+abbrev pub spelled_part : Part → List ℕ
+spelled_part (makes stamp edits) = edits_record stamp edits
+spelled_part (names top sum) = root_record top sum
+spelled_part names_any = any_root
+
+abbrev pub made_in : Part → List Edit
+made_in (makes stamp edits) = edits
+made_in (names top sum) = []
+made_in names_any = []
+
+-- Records hold edits, in their order.
 pub record HoldEdits (records : List (List ℕ)) (edits : List Edit) : Type 0 where
-  pub parts : List (List Edit)
-  pub each : records ≡ map spelled_edits parts
-  pub joined : edits ≡ flat_map (λ part. part) parts
+  pub parts : List Part
+  pub each : records ≡ map spelled_part parts
+  pub joined : edits ≡ flat_map made_in parts
 
 pub record LogsEdits : Type 0 where
   -- the bytes of edits after edits
   pub after : (first then : List Edit)
       → spelled_edits (first ++ then) ≡ spelled_edits first ++ spelled_edits then
-  -- no records hold no edits, and a record more holds its edits behind the others
+  -- no records hold no edits; a record more holds its edits behind the others, and that of a root none
   pub none : HoldEdits [] []
-  pub more : (records : List (List ℕ)) (edits then : List Edit) → HoldEdits records edits
-      → HoldEdits (records ++ spelled_edits then ∷ []) (edits ++ then)
-  -- records together are the spelling of the edits that they hold
+  pub more : (records : List (List ℕ)) (edits then : List Edit) (stamp : ℕ)
+      → HoldEdits records edits
+      → HoldEdits (records ++ edits_record stamp then ∷ []) (edits ++ then)
+  pub named : (records : List (List ℕ)) (edits : List Edit) (top sum : ℕ)
+      → HoldEdits records edits → HoldEdits (records ++ root_record top sum ∷ []) edits
+  pub any : (records : List (List ℕ)) (edits : List Edit)
+      → HoldEdits records edits → HoldEdits (records ++ any_root ∷ []) edits
+  -- the bytes of edits in records are the spelling of the edits that they hold
   pub whole : (records : List (List ℕ)) (edits : List Edit) → HoldEdits records edits
-      → flat_map (λ bytes. bytes) records ≡ spelled_edits edits
+      → flat_map edit_bytes records ≡ spelled_edits edits
   -- edits of one spelling make the same of cells
   pub one : (a b : List Edit) → AllByRecursion IsStoredEdit a → AllByRecursion IsStoredEdit b
       → spelled_edits a ≡ spelled_edits b

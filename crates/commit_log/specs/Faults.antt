@@ -2,7 +2,7 @@
 use Rattle.std.specs.Prelude.{◌≡◌, ℕ, ◌≤◌, List, codes, Result, IsErrOf}
 pub use Rattle.cell_key.specs.Faults.{HasRisen}
 use Rattle.commit_log.specs.declared.faults.LogFault.{LogFault}
-use Rattle.commit_log.specs.declared.faults.LogFault.TheVariants.{Device, Memory, Damaged}
+use Rattle.commit_log.specs.declared.faults.LogFault.TheVariants.{Device, Memory, Damaged, Refused}
 
 -- A count never falls. A device's fault is answered exactly if it has risen.
 pub record HasFaultCause {T : Type 0} (before now : ℕ) (result : Result T LogFault) : Type 0 where
@@ -14,3 +14,4 @@ abbrev pub fault_text : LogFault → List ℕ
 fault_text Device = codes "device failed"
 fault_text Memory = codes "no memory"
 fault_text Damaged = codes "no log"
+fault_text Refused = codes "record refused"

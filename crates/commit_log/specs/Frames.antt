@@ -1,5 +1,5 @@
--- The bytes of a log: a head, the frame of each record, and a tail at whose front no whole frame stands.
-use Rattle.std.specs.Prelude.{◌≡◌, ◌≢◌, ℕ, ◌≤◌, List, ◌++◌, codes, length, map}
+-- Frames, and the bytes of a log of format 1: a head, the frame of each record, and a tail at whose front no whole frame stands.
+use Rattle.std.specs.Prelude.{◌≡◌, ◌≢◌, ℕ, ◌+◌, ◌≤◌, List, ◌++◌, codes, length, map}
 use Rattle.std.specs.Global.{Vec}
 use Rattle.std.specs.List.{AllByRecursion, flat_map}
 use Rattle.std.specs.Int.{to_be_bytes, w32}
@@ -11,6 +11,10 @@ longest = 134217728
 
 abbrev pub IsRecord : List ℕ → Type 0
 IsRecord payload = length payload ≤ longest
+
+-- a body that fits a record with the number, the kind and the stamp before it
+abbrev pub IsBody : List ℕ → Type 0
+IsBody body = 17 + length body ≤ longest
 
 -- the length of a record in four bytes
 abbrev pub spelled_length : List ℕ → List ℕ

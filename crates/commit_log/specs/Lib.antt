@@ -5,3 +5,5 @@ pub mod Files
 pub mod Frames
 pub mod Held
 pub mod Memory
+pub mod Numbered
+pub mod Records

@@ -1,15 +1,17 @@
 //! Edits of cells in the records of a log: how they are spelled as bytes, and read again.
 
-ghost use Rattle.std.specs.Prelude.{◌≡◌, ◌≢◌, ◌⊎◌, ◌<◌, ◌^◌, ◌++◌, ℕ, List, length, take, IfErr, IfNone, IfOk, IfSome, IsErrOf, OnErr, OnOk};
+ghost use Rattle.std.specs.Prelude.{◌≡◌, ◌≢◌, ◌⊎◌, ◌<◌, ◌^◌, ◌++◌, ◌↔◌, ℕ, List, length, take, IfErr, IfNone, IfOk, IfSome, IsErrOf, IsTrue, OnErr, OnOk};
 ghost use Rattle.std.specs.List.{AllByRecursion};
 ghost use Rattle.cell_key.specs.Cells.{IsEditOf, edited_key};
 ghost use Rattle.cell_key.specs.Entries.{Entry, field, lent_entry, spelled};
 ghost use Rattle.cell_key.specs.declared.edits.Edit.{Edit as CellEdit};
-ghost use Rattle.commit_log.specs.Edits.{HasShortParts, HoldEdits, IsStoredEdit, edit_entry, spelled_edit, spelled_edits};
+ghost use Rattle.commit_log.specs.Edits.{HasShortParts, HoldEdits, IsStoredEdit, Part, edit_entry, made_in, spelled_edit, spelled_edits, spelled_part};
 ghost use Rattle.commit_log.specs.Frames.{bytes_of};
+ghost use Rattle.commit_log.specs.declared.records.RecordKind.TheVariants.{AnyRoot, Root};
 
 use crate::frames::length_in;
-use cell_key::{CellKey, Edit, EntryRef, Refusal, Row};
+use crate::records::{RecordKind, split_record};
+use cell_key::{CellKey, Edit, EntryRef, Refusal, Row, Stamp};
 use std::alloc::Global;
 
 /// The most bytes of a value.
@@ -178,7 +180,7 @@ fn first_edit(alloc: Global, bytes: &[u8]) -> Result<(Edit, &[u8]), Refusal>
     }
 }
 
-/// Reads the edits of a record behind edits that were read.
+/// Reads edits behind edits that were read.
 ///
 /// # Errors
 ///
@@ -200,11 +202,48 @@ fn read_edits(alloc: Global, bytes: &[u8], edits: &mut Vec<Edit>) -> Result<(), 
     Ok(())
 }
 
+/// Whether a record of this kind, stamp and body is over a root, or over whichever is there.
+fn is_of_root(kind: RecordKind, stamp: Stamp, body: &[u8]) -> bool
+    ensures { IsTrue result ↔ ((kind ≡ Root) × (length body.now ≡ 4))
+        ⊎ ((kind ≡ AnyRoot) × (stamp ≡ 0) × (length body.now ≡ 0)) }
+{
+    match kind {
+        RecordKind::Edits => false,
+        RecordKind::Root => body.len() == 4,
+        RecordKind::AnyRoot => stamp == 0 && body.is_empty(),
+    }
+}
+
+/// Reads the edits of a record, if it is one of edits, behind edits that were read.
+///
+/// # Errors
+///
+/// `Damaged` if it is of no kind, or its body isn't that of its kind; `NoMemory`. Some may have been read then.
+fn read_record(alloc: Global, bytes: &[u8], edits: &mut Vec<Edit>) -> Result<(), Refusal>
+    ensures ok { OnOk result ((part : Part) × (edits.new.items ≡ edits.old.items ++ made_in part)
+        × (bytes.now ≡ spelled_part part) × AllByRecursion IsStoredEdit (made_in part)) }
+    ensures damaged { IsErrOf result Refusal.Damaged → (part : Part)
+        → AllByRecursion IsStoredEdit (made_in part) → bytes.now ≢ spelled_part part }
+    ensures refusal { IfErr result (λ refusal. (refusal ≡ Refusal.Damaged)
+        ⊎ (refusal ≡ Refusal.NoMemory)) }
+{
+    let Some((kind, stamp, body)) = split_record(bytes) else {
+        return Err(Refusal::Damaged);
+    };
+    if let RecordKind::Edits = kind {
+        return read_edits(alloc, body, edits);
+    }
+    if !is_of_root(kind, stamp, body) {
+        return Err(Refusal::Damaged);
+    }
+    Ok(())
+}
+
 /// The edits that records hold.
 ///
 /// # Errors
 ///
-/// `Damaged` if they hold no edits within the limits; `NoMemory`.
+/// `Damaged` if they hold no edits within the limits, nor say over which root they are; `NoMemory`.
 pub fn edits_in(alloc: Global, records: &[Vec<u8>]) -> Result<Vec<Edit>, Refusal>
     ensures held { IfOk result (λ edits. HoldEdits (bytes_of records.now) edits.items) }
     ensures stored { IfOk result (λ edits. AllByRecursion IsStoredEdit edits.items) }
@@ -215,7 +254,7 @@ pub fn edits_in(alloc: Global, records: &[Vec<u8>]) -> Result<Vec<Edit>, Refusal
 {
     let mut edits = Vec::new(alloc);
     for record in records {
-        read_edits(alloc, record, &mut edits)?;
+        read_record(alloc, record, &mut edits)?;
     }
     Ok(edits)
 }

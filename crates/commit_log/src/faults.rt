@@ -15,8 +15,10 @@ pub enum LogFault {
     Device,
     /// Memory was refused.
     Memory,
-    /// The bytes don't begin as a log does.
+    /// The bytes are no log.
     Damaged,
+    /// The record can't stand in the log: a later frame stands in it, or there are no more numbers.
+    Refused,
 }
 
 impl fmt::Display for LogFault {
@@ -27,6 +29,7 @@ impl fmt::Display for LogFault {
             LogFault::Device => f.write_str("device failed"),
             LogFault::Memory => f.write_str("no memory"),
             LogFault::Damaged => f.write_str("no log"),
+            LogFault::Refused => f.write_str("record refused"),
         }
     }
 }

@@ -1,58 +1,101 @@
 //! A log in a file.
 
-ghost use Rattle.std.specs.Prelude.{◌≡◌, ◌≢◌, ◌≤◌, ℕ, List, take, IfErr, IfOk, IfSome, IsErrOf, OnErr, OnOk};
+ghost use Rattle.std.specs.Prelude.{◌≡◌, ◌≢◌, ◌≤◌, ◌<◌, ◌^◌, ◌⊎◌, ℕ, List, IfErr, IfOk, IfSome, IsErrOf, OnErr, OnOk};
 ghost use Rattle.commit_log.specs.Faults.{HasFaultCause, HasRisen};
-ghost use Rattle.commit_log.specs.Frames.{head};
-ghost use Rattle.commit_log.specs.Held.{IsHeld, IsKept, Keeps, Opens};
+ghost use Rattle.commit_log.specs.Frames.{IsBody, frame};
+ghost use Rattle.commit_log.specs.Held.{HasRecords, IsHeld, IsKept, Keeps, Opens};
+ghost use Rattle.commit_log.specs.Numbered.{Hides, numbered};
+ghost use Rattle.commit_log.specs.Records.{spelled_record};
 
 use crate::faults::LogFault;
 use crate::files::LogFile;
-use crate::frames::{frame_of, read_log};
 use crate::logs::Log;
+use crate::numbered::{NO_NUMBER, hides, numbered_frame};
+use crate::records::RecordKind;
+use crate::store_log::{log_of_one, read_store_log};
+use cell_key::Stamp;
 use std::alloc::Global;
 
-/// How many bytes the head of a log has.
-const HEAD_BYTES: u64 = 8;
-
-/// A log whose records stand as frames in a file.
+/// A log whose records stand as numbered frames in a file.
 #[derive(Drop)]
 pub struct FileLog<F> {
     alloc: Global,
     file: F,
+    /// The number of the store.
+    store: u64,
+    /// The number of the next record.
+    next: u64,
 }
 
-/// Cuts what stands behind the last whole frame of a file.
-fn cut_tail<F: LogFile>(alloc: Global, file: &mut F) -> Result<(), LogFault>
-    ensures held { OnOk result (Opens (F.bytes file.old) (F.bytes file.new) (F.is_stopped file.new)) }
+/// Takes away what stands behind the last whole frame of a file. It answers the numbers of the store and of the next record.
+fn cut_tail<F: LogFile>(alloc: Global, file: &mut F) -> Result<(u64, u64), LogFault>
+    ensures held { IfOk result (λ numbers. Opens (F.bytes file.old) (F.bytes file.new)
+        (F.is_stopped file.new) numbers.0 numbers.1) }
     ensures kept { OnErr result (Keeps (IsKept (F.bytes file.old)) (IsKept (F.bytes file.new))) }
-    ensures head { OnOk result (IfSome (F.bytes file.old) (λ bytes. take 8 bytes ≡ head)) }
-    ensures damaged { IsErrOf result LogFault.Damaged
-        → IfSome (F.bytes file.old) (λ bytes. take 8 bytes ≢ head) }
+    ensures is_log { OnOk result (IfSome (F.bytes file.old) HasRecords) }
+    ensures damaged { IsErrOf result LogFault.Damaged → (records : List (List ℕ))
+        → ¬ IsKept (F.bytes file.old) records }
+    ensures taken { ¬ IsErrOf result LogFault.Refused }
     ensures cause { HasFaultCause (F.faults file.old) (F.faults file.new) result }
 {
     let bytes = file.read(alloc)?;
-    let end = read_log(alloc, &bytes)?.end;
-    if end < bytes.len() {
-        return file.cut(end as u64);
+    let found = read_store_log(alloc, &bytes)?;
+    let numbers = (found.store, found.first + found.records.len() as u64);
+    if found.end == bytes.len() {
+        return Ok(numbers);
     }
-    Ok(())
+    file.renew(&bytes[..found.end])?;
+    Ok(numbers)
+}
+
+/// The frame of a record with this number, in which no later frame stands.
+///
+/// # Errors
+///
+/// `Refused` if one does, or there is no such number; `Memory`.
+fn frame_to_append(
+    alloc: Global,
+    number: u64,
+    kind: RecordKind,
+    stamp: Stamp,
+    body: &[u8],
+) -> Result<Vec<u8>, LogFault>
+    requires { IsBody body.now }
+    ensures ok { IfOk result (λ bytes.
+        bytes.items ≡ frame (numbered number (spelled_record kind stamp body.now))) }
+    ensures number { OnOk result (number < 2 ^ 63) }
+    ensures plain { OnOk result (¬ Hides number (spelled_record kind stamp body.now)) }
+    ensures refused { IsErrOf result LogFault.Refused → (2 ^ 63 ≤ number)
+        ⊎ Hides number (spelled_record kind stamp body.now) }
+    ensures fault { IfErr result (λ fault. (fault ≡ LogFault.Refused)
+        ⊎ (fault ≡ LogFault.Memory)) }
+{
+    if number >= NO_NUMBER {
+        return Err(LogFault::Refused);
+    }
+    let frame = numbered_frame(alloc, number, kind, stamp, body)?;
+    if hides(&frame, number) {
+        return Err(LogFault::Refused);
+    }
+    Ok(frame)
 }
 
 impl<F: LogFile> FileLog<F> {
-    /// The log of a file that a kill may have left. What stands behind its last whole frame is cut. A refusal gives the file
-    /// back.
+    /// The log of a file that a kill may have left. What stands behind its last whole frame is taken away. A refusal gives the
+    /// file back.
     ///
     /// # Errors
     ///
-    /// `Damaged` if the bytes don't begin as a log does; `Device`; `Memory`.
+    /// `Damaged` if the bytes are no log, or a whole frame stands behind bytes that are none; `Device`; `Memory`.
     pub fn open(alloc: Global, mut file: F) -> Result<FileLog<F>, (LogFault, F)>
-        ensures held { IfOk result (λ log.
-            Opens (F.bytes file) (F.bytes log.file) (F.is_stopped log.file)) }
-        ensures head { OnOk result (IfSome (F.bytes file) (λ bytes. take 8 bytes ≡ head)) }
+        ensures held { IfOk result (λ log. Opens (F.bytes file) (F.bytes log.file)
+            (F.is_stopped log.file) log.store log.next) }
+        ensures is_log { OnOk result (IfSome (F.bytes file) HasRecords) }
         ensures kept { IfErr result (λ refused.
             Keeps (IsKept (F.bytes file)) (IsKept (F.bytes refused.1))) }
         ensures damaged { IfErr result (λ refused. refused.0 ≡ LogFault.Damaged
-            → IfSome (F.bytes file) (λ bytes. take 8 bytes ≢ head)) }
+            → (records : List (List ℕ)) → ¬ IsKept (F.bytes file) records) }
+        ensures taken { IfErr result (λ refused. refused.0 ≢ LogFault.Refused) }
         ensures opened { IfOk result (λ log. F.faults log.file ≡ F.faults file) }
         ensures later { IfErr result (λ refused. F.faults file ≤ F.faults refused.1) }
         ensures device { IfErr result (λ refused. refused.0 ≡ LogFault.Device
@@ -61,7 +104,12 @@ impl<F: LogFile> FileLog<F> {
             → F.faults refused.1 ≡ F.faults file) }
     {
         match cut_tail(alloc, &mut file) {
-            Ok(()) => Ok(FileLog { alloc, file }),
+            Ok((store, next)) => Ok(FileLog {
+                alloc,
+                file,
+                store,
+                next,
+            }),
             Err(fault) => Err((fault, file)),
         }
     }
@@ -77,22 +125,31 @@ impl<F: LogFile> FileLog<F> {
 impl<F: LogFile> Log for FileLog<F> {
     ghost use Rattle.commit_log.specs.Held.{IsHeld};
 
-    ghost holds = { λ log records. IsHeld (F.bytes log.file) (F.is_stopped log.file) records };
+    ghost holds = { λ log records.
+        IsHeld (F.bytes log.file) (F.is_stopped log.file) log.store log.next records };
 
     ghost faults = { λ log. F.faults log.file };
 
-    fn append(&mut self, payload: &[u8]) -> Result<(), LogFault> {
-        let frame = frame_of(self.alloc, payload)?;
-        self.file.write(&frame)
+    fn append(&mut self, kind: RecordKind, stamp: Stamp, body: &[u8]) -> Result<(), LogFault> {
+        let frame = frame_to_append(self.alloc, self.next, kind, stamp, body)?;
+        self.file.write(&frame)?;
+        self.next += 1;
+        Ok(())
     }
 
     fn records(&mut self) -> Result<Vec<Vec<u8>>, LogFault> {
         let bytes = self.file.read(self.alloc)?;
-        Ok(read_log(self.alloc, &bytes)?.records)
+        Ok(read_store_log(self.alloc, &bytes)?.records)
     }
 
-    fn reset(&mut self) -> Result<(), LogFault> {
-        self.file.cut(HEAD_BYTES)
+    fn renew(&mut self, kind: RecordKind, stamp: Stamp, body: &[u8]) -> Result<(), LogFault> {
+        if self.next >= NO_NUMBER {
+            return Err(LogFault::Refused);
+        }
+        let all = log_of_one(self.alloc, self.store, self.next, kind, stamp, body)?;
+        self.file.renew(&all)?;
+        self.next += 1;
+        Ok(())
     }
 
     fn faults(&self) -> u64 {

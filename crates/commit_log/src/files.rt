@@ -2,18 +2,18 @@
 
 ghost use Rattle.std.specs.Prelude.{◌≡◌, ℕ, List, Option, IfErr, IfOk, IfSome, IsErr, IsErrOf, OnErr, OnOk};
 ghost use Rattle.commit_log.specs.Faults.{HasFaultCause};
-ghost use Rattle.commit_log.specs.Files.{GrowsInPart, MayBeCut, with_first, with_more};
+ghost use Rattle.commit_log.specs.Files.{GrowsInPart, MayBeAll, with_all, with_more};
 
 use crate::faults::LogFault;
 use std::alloc::Global;
 
-/// A file of bytes that grow at the end. Nobody else writes it. Once a write or a cut failed it takes no more of them until it
-/// is opened anew: what the device has of its end is not known any more.
+/// A file of bytes that grow at the end, or are put anew. Nobody else writes it. Once that failed it takes no more bytes until
+/// it is opened anew: what the device has of it is not known any more.
 pub trait LogFile {
     /// Its bytes, or none if it does not say, as on a real disk.
     ghost bytes: { Self → Option (List ℕ) };
 
-    /// An earlier write or cut failed.
+    /// An earlier write or renewal failed.
     ghost is_stopped: { Self → Type 0 };
 
     /// How often a device has failed, up to the greatest number.
@@ -26,6 +26,7 @@ pub trait LogFile {
         ensures same { bytes self.new ≡ bytes self.old }
         ensures stays { is_stopped self.old → is_stopped self.new }
         ensures intact { ¬ IsErrOf result LogFault.Damaged }
+        ensures taken { ¬ IsErrOf result LogFault.Refused }
         ensures cause { HasFaultCause (faults self.old) (faults self.new) result };
 
     /// Writes bytes at the end, and forces them to the disk. After an `Err` a beginning of them may stand there.
@@ -38,10 +39,11 @@ pub trait LogFile {
         ensures fault { IfErr result (λ fault. fault ≡ LogFault.Device) }
         ensures cause { HasFaultCause (faults self.old) (faults self.new) result };
 
-    /// Keeps the first bytes, this many if there are more. After an `Err` all may stand there still.
-    fn cut(&mut self, len: u64) -> Result<(), LogFault>
-        ensures ok { OnOk result (bytes self.new ≡ with_first len (bytes self.old)) }
-        ensures err { OnErr result (MayBeCut len (bytes self.old) (bytes self.new)) }
+    /// Puts these bytes in the place of all, and forces them to the disk. After an `Err` all may stand there as before, or
+    /// these.
+    fn renew(&mut self, all: &[u8]) -> Result<(), LogFault>
+        ensures ok { OnOk result (bytes self.new ≡ with_all all.now (bytes self.old)) }
+        ensures err { OnErr result (MayBeAll all.now (bytes self.old) (bytes self.new)) }
         ensures stops { OnErr result (is_stopped self.new) }
         ensures refused { is_stopped self.old → IsErr result }
         ensures still { is_stopped self.old → bytes self.new ≡ bytes self.old }

@@ -1,48 +1,78 @@
-//! A log in a folder.
+//! A log in a folder: its file, the sign of its store, and what was cut of it.
 
-ghost use Rattle.std.specs.Prelude.{◌≡◌, ◌≢◌, Err, IfErr, IfOk, IfSome, IsErr, IsErrOf, IsOk, None, Ok, OnErr, OnOk, true};
+ghost use Rattle.std.specs.Prelude.{◌≡◌, ◌≢◌, ◌<◌, ◌^◌, Err, IfErr, IfOk, IfSome, IsErr, IsErrOf, IsOk, None, Ok, OnErr, OnOk, Some, true};
 ghost use Rattle.std.specs.Io.KnownBytes.{Appends};
 ghost use Rattle.std.specs.IoError.{error_kind};
 ghost use Rattle.commit_log.specs.Faults.{HasFaultCause};
+ghost use Rattle.commit_log.specs.Numbered.{store_sign};
 
+use crate::checksums::crc32;
 use crate::faults::LogFault;
 use crate::file_log::FileLog;
 use crate::files::LogFile;
 use crate::frames::{HEAD, read_log};
-use std::alloc::Global;
+use crate::numbers::number_bytes;
+use crate::store_log::{new_log, read_store_log, upgrade_log};
+use std::alloc::{AllocError, Global};
 use std::fs::{File, OpenFile, OpenOptions};
 use std::io::{ErrorKind, Read, Seek, SeekFrom, Write};
+use std::os::unix::fs::OpenOptionsExt;
 use std::rt::Files as Folders;
 use std::{fs, io};
 
-/// A log in the file `commit.log` of a folder. Nothing is known of its bytes.
-pub type DirLog<F> = FileLog<DirFile<F>>;
+/// The name of a log.
+const LOG: &str = "commit.log";
 
-/// A file that was opened to read it and to write at its end. What is written is forced to the disk before the call answers.
-/// After a write or a cut that failed it takes no more: the system may have dropped bytes that it could not write.
+/// The name of the sign that a folder has a log, and of which store.
+const SIGN: &str = "commit.id";
+
+/// The name of what was cut of a log.
+const CUT: &str = "commit.cut";
+
+/// The name under which each of them is written first.
+const BESIDE: &str = "commit.new";
+
+/// The bytes with which the sign of a store begins.
+const SIGN_HEAD: [u8; 8] = *b"TABSTORE";
+
+/// Who may read and write these files: their owner alone.
+const OWNER_ALONE: u32 = 0o600;
+
+/// A log in the file `commit.log` of a folder. Nothing is known of its bytes.
+pub type DirLog<R> = FileLog<DirFile<R>>;
+
+/// The file of a folder's log. What is written is forced to the disk before the call answers.
+/// After a write or a renewal that failed it takes no more: the system may have dropped bytes that it could not write.
 #[derive(Drop)]
-pub struct DirFile<F> {
-    file: F,
+pub struct DirFile<R> {
+    rt: R,
+    folder: String,
+    file: File,
     is_stopped: bool,
     faults: u64,
 }
 
-/// Opens the file of a folder's log, if there is one.
-fn open_file<R: Folders + AllocGlobal>(rt: &R, folder: &str) -> io::Result<Option<DirFile<R::File>>>
-    ensures { IfOk result (λ found. IfSome found (λ file. file.faults ≡ 0)) }
-{
-    let path = format!(in rt.alloc(); "{folder}/commit.log")?;
+/// The log of a folder that was opened.
+#[derive(Drop)]
+pub struct OpenLog<R> {
+    /// The log.
+    pub log: DirLog<R>,
+    /// How many bytes stood behind its last whole frame. They were cut, and stand in the folder's file `commit.cut` if there
+    /// were any.
+    pub cut: usize,
+}
+
+/// The path of a file in a folder.
+fn path_of(alloc: Global, folder: &str, name: &str) -> io::Result<String> {
+    Ok(format!(in alloc; "{folder}/{name}")?)
+}
+
+/// Opens the file of a folder's log, to read it and to write at its end.
+fn open_file<R: Folders<File = File> + AllocGlobal>(rt: &R, folder: &str) -> io::Result<File> {
+    let path = path_of(rt.alloc(), folder, LOG)?;
     let mut how = OpenOptions::new();
     how.read(true).append(true);
-    match how.open(rt, path.as_str()) {
-        Ok(file) => Ok(Some(DirFile {
-            file,
-            is_stopped: false,
-            faults: 0,
-        })),
-        Err(error) if error.kind() == ErrorKind::NotFound => Ok(None),
-        Err(error) => Err(error),
-    }
+    how.open(rt, path.as_str())
 }
 
 /// Writes bytes behind those of a file, and forces them to the disk.
@@ -53,14 +83,6 @@ fn write_synced<W: Write + OpenFile>(file: &mut W, bytes: &[u8]) -> io::Result<(
     file.sync_data()
 }
 
-/// Keeps the first bytes of a file, and forces its length to the disk.
-fn cut_synced<W: OpenFile>(file: &W, len: u64) -> io::Result<()> {
-    if file.metadata()?.len() > len {
-        file.set_len(len)?;
-    }
-    file.sync_all()
-}
-
 /// All bytes of a file.
 fn read_all<S: Read + Seek>(alloc: Global, file: &mut S) -> io::Result<Vec<u8>> {
     let mut bytes = Vec::new(alloc);
@@ -69,16 +91,59 @@ fn read_all<S: Read + Seek>(alloc: Global, file: &mut S) -> io::Result<Vec<u8>> 
     Ok(bytes)
 }
 
-/// Makes the file of a log with these bytes: it is written beside its place, forced to the disk and put there, and the folder
-/// is forced to the disk too.
-fn make_file<R: Folders + AllocGlobal>(rt: &R, folder: &str, bytes: &[u8]) -> io::Result<()> {
-    let path = format!(in rt.alloc(); "{folder}/commit.log")?;
-    let beside = format!(in rt.alloc(); "{folder}/commit.new")?;
-    let mut file = File::create(rt, beside.as_str())?;
-    write_synced(&mut file, bytes)?;
-    fs::rename(rt, beside.as_str(), path.as_str())?;
+/// The bytes of a file that was opened, if it was there. Any other failure is passed on.
+fn read_opened<S: Read + Seek + Drop>(
+    alloc: Global,
+    opened: io::Result<S>,
+) -> io::Result<Option<Vec<u8>>>
+    ensures missing { IfErr opened (λ error.
+        error_kind error ≡ ErrorKind.NotFound → result ≡ Ok None) }
+    ensures failed { IfErr opened (λ error.
+        error_kind error ≢ ErrorKind.NotFound → result ≡ Err error) }
+{
+    let mut file = match opened {
+        Ok(file) => file,
+        Err(error) if error.kind() == ErrorKind::NotFound => return Ok(None),
+        Err(error) => return Err(error),
+    };
+    Ok(Some(read_all(alloc, &mut file)?))
+}
+
+/// The bytes of a file of a folder, if it is there.
+fn read_file<R: Folders + AllocGlobal>(
+    rt: &R,
+    folder: &str,
+    name: &str,
+) -> Result<Option<Vec<u8>>, LogFault> {
+    let path = path_of(rt.alloc(), folder, name).map_err(fault_of)?;
+    read_opened(rt.alloc(), File::open(rt, path.as_str())).map_err(fault_of)
+}
+
+/// Forces a folder to the disk: which names it has.
+fn sync_folder<R: Folders>(rt: &R, folder: &str) -> io::Result<()> {
     let folder = File::open(rt, folder)?;
     folder.sync_all()
+}
+
+/// Makes or replaces a file of a folder: it is written beside its place, forced to the disk and put there, and the folder is
+/// forced to the disk too.
+fn place_file<R: Folders + AllocGlobal>(
+    rt: &R,
+    folder: &str,
+    name: &str,
+    bytes: &[u8],
+) -> io::Result<()> {
+    let path = path_of(rt.alloc(), folder, name)?;
+    let beside = path_of(rt.alloc(), folder, BESIDE)?;
+    let mut how = OpenOptions::new();
+    how.write(true)
+        .create(true)
+        .truncate(true)
+        .mode(OWNER_ALONE);
+    let mut file = how.open(rt, beside.as_str())?;
+    write_synced(&mut file, bytes)?;
+    fs::rename(rt, beside.as_str(), path.as_str())?;
+    sync_folder(rt, folder)
 }
 
 /// The fault that a failure of the system is.
@@ -93,58 +158,168 @@ fn fault_of(error: io::Error) -> LogFault
     }
 }
 
-/// Writes the records of a file's log anew: what a program that was killed, or whose write failed, left in the system's memory
-/// is on the disk then.
-fn force_records<R: Folders + AllocGlobal>(
-    rt: &R,
-    folder: &str,
-    file: &mut DirFile<R::File>,
-) -> Result<(), LogFault> {
-    let bytes = file.read(rt.alloc())?;
-    let end = read_log(rt.alloc(), &bytes)?.end;
-    if end <= HEAD.len() {
-        return Ok(());
-    }
-    make_file(rt, folder, &bytes[..end]).map_err(fault_of)
+/// A number for a store, and one for the first record of its log, which nobody can guess.
+fn draw_numbers<R: Folders>(rt: &R) -> io::Result<(u64, u64)>
+    ensures { IfOk result (λ drawn. drawn.1 < 2 ^ 62) }
+{
+    let mut source = File::open(rt, "/dev/urandom")?;
+    let mut store = [0u8; 8];
+    source.read_exact(&mut store)?;
+    let mut first = [0u8; 8];
+    source.read_exact(&mut first)?;
+    Ok((u64::from_be_bytes(store), u64::from_be_bytes(first) / 4))
 }
 
-/// The log of a folder, if there is one, with all its records on the disk. The folder is this program's alone.
+/// The sign of a store.
+fn sign_of(alloc: Global, store: u64) -> Result<Vec<u8>, AllocError>
+    ensures { IfOk result (λ bytes. bytes.items ≡ store_sign store) }
+{
+    let number = number_bytes(store);
+    let mut bytes = Vec::from_slice(alloc, &SIGN_HEAD)?;
+    bytes.extend_from_slice(&number)?;
+    bytes.extend_from_slice(&crc32(&SIGN_HEAD, &number).to_be_bytes())?;
+    Ok(bytes)
+}
+
+/// Compares the sign of a folder, if it has one, with that of its log's store. If it has none, it gets it.
 ///
 /// # Errors
 ///
-/// `Damaged` if its file doesn't begin as a log does; `Device`; `Memory`.
-pub fn open_log<R: Folders + AllocGlobal>(
+/// `Damaged` if the sign is another; `Device`; `Memory`.
+fn keep_sign<R: Folders + AllocGlobal>(
     rt: &R,
     folder: &str,
-) -> Result<Option<DirLog<R::File>>, LogFault> {
-    let Some(mut found) = open_file(rt, folder).map_err(fault_of)? else {
-        return Ok(None);
+    store: u64,
+    found: Option<Vec<u8>>,
+) -> Result<(), LogFault> {
+    let sign = sign_of(rt.alloc(), store)?;
+    match found {
+        Some(found) if found.as_slice() == sign.as_slice() => Ok(()),
+        Some(_) => Err(LogFault::Damaged),
+        None => place_file(rt, folder, SIGN, &sign).map_err(fault_of),
+    }
+}
+
+/// Keeps what is to be cut of a log, if that is anything.
+fn keep_cut<R: Folders + AllocGlobal>(rt: &R, folder: &str, cut: &[u8]) -> Result<(), LogFault> {
+    if cut.is_empty() {
+        return Ok(());
+    }
+    place_file(rt, folder, CUT, cut).map_err(fault_of)
+}
+
+/// Puts a log in the place of one of format 1, with its records. It answers how many bytes were cut.
+fn upgrade_file<R: Folders + AllocGlobal>(
+    rt: &R,
+    folder: &str,
+    bytes: &[u8],
+) -> Result<usize, LogFault> {
+    let (store, first) = draw_numbers(rt).map_err(fault_of)?;
+    let cut = &bytes[read_log(rt.alloc(), bytes)?.end..];
+    let upgraded = upgrade_log(rt.alloc(), bytes, store, first)?;
+    keep_cut(rt, folder, cut)?;
+    place_file(rt, folder, LOG, &upgraded).map_err(fault_of)?;
+    keep_sign(rt, folder, store, None)?;
+    Ok(cut.len())
+}
+
+/// Writes the records of a log anew: what a program that was killed, or whose write failed, left in the system's memory is on
+/// the disk then. The first record came there with the file. It answers how many bytes were cut.
+fn force_records<R: Folders + AllocGlobal>(
+    rt: &R,
+    folder: &str,
+    bytes: &[u8],
+    sign: Option<Vec<u8>>,
+) -> Result<usize, LogFault> {
+    let found = read_store_log(rt.alloc(), bytes)?;
+    let (whole, cut) = bytes.split_at(found.end);
+    keep_sign(rt, folder, found.store, sign)?;
+    keep_cut(rt, folder, cut)?;
+    if cut.is_empty() && found.records.len() == 1 {
+        sync_folder(rt, folder).map_err(fault_of)?;
+    } else {
+        place_file(rt, folder, LOG, whole).map_err(fault_of)?;
+    }
+    Ok(cut.len())
+}
+
+/// The log of a folder, if there is one, with all its records on the disk. A log of format 1 comes to be one of format 2. The
+/// folder is this program's alone.
+///
+/// # Errors
+///
+/// `Damaged` if its file is no log, a whole frame stands behind bytes that are none, or the folder's sign is of another log;
+/// `Refused` if a record of format 1 is too long; `Device`; `Memory`.
+pub fn open_log<R: Folders<File = File> + AllocGlobal + Drop>(
+    rt: R,
+    folder: &str,
+) -> Result<Option<OpenLog<R>>, LogFault> {
+    let sign = read_file(&rt, folder, SIGN)?;
+    let Some(bytes) = read_file(&rt, folder, LOG)? else {
+        return match sign {
+            Some(_) => Err(LogFault::Damaged),
+            None => Ok(None),
+        };
     };
-    force_records(rt, folder, &mut found)?;
-    let Some(file) = open_file(rt, folder).map_err(fault_of)? else {
-        return Ok(None);
+    let cut = if !bytes.starts_with(&HEAD) {
+        force_records(&rt, folder, &bytes, sign)?
+    } else if sign.is_none() {
+        upgrade_file(&rt, folder, &bytes)?
+    } else {
+        return Err(LogFault::Damaged);
     };
-    match FileLog::open(rt.alloc(), file) {
-        Ok(log) => Ok(Some(log)),
+    let file = DirFile::open(rt, folder).map_err(fault_of)?;
+    let alloc = file.rt.alloc();
+    match FileLog::open(alloc, file) {
+        Ok(log) => Ok(Some(OpenLog { log, cut })),
         Err((fault, _file)) => Err(fault),
     }
 }
 
-/// Makes a log without records in a folder, in the place of the one that is there.
+/// Makes a log over whichever root is there in a folder that has none, and then the folder's sign.
 ///
 /// # Errors
 ///
 /// `Device`; `Memory`.
 pub fn make_log<R: Folders + AllocGlobal>(rt: &R, folder: &str) -> Result<(), LogFault> {
-    make_file(rt, folder, &HEAD).map_err(fault_of)
+    let (store, first) = draw_numbers(rt).map_err(fault_of)?;
+    let log = new_log(rt.alloc(), store, first)?;
+    place_file(rt, folder, LOG, &log).map_err(fault_of)?;
+    keep_sign(rt, folder, store, None)
 }
 
-impl<F: Read + Write + Seek + OpenFile> DirFile<F> {
+impl<R: Folders<File = File> + AllocGlobal + Drop> DirFile<R> {
+    /// The file of a folder's log, which is there.
+    fn open(rt: R, folder: &str) -> io::Result<DirFile<R>>
+        ensures { IfOk result (λ file. file.faults ≡ 0) }
+    {
+        let file = open_file(&rt, folder)?;
+        let folder = String::from_str(rt.alloc(), folder)?;
+        Ok(DirFile {
+            rt,
+            folder,
+            file,
+            is_stopped: false,
+            faults: 0,
+        })
+    }
+
+    /// Puts a file of these bytes in the place of this one, and goes on with it.
+    fn replace(&mut self, bytes: &[u8]) -> io::Result<()>
+        ensures stopped { self.new.is_stopped ≡ self.old.is_stopped }
+        ensures faults { self.new.faults ≡ self.old.faults }
+    {
+        place_file(&self.rt, self.folder.as_str(), LOG, bytes)?;
+        self.file = open_file(&self.rt, self.folder.as_str())?;
+        Ok(())
+    }
+
     /// What a read answered, or its fault, which is counted if it is a device's.
     fn count_fault<T: Drop>(&mut self, called: io::Result<T>) -> Result<T, LogFault>
         ensures cause { HasFaultCause self.old.faults self.new.faults result }
         ensures stays { self.new.is_stopped ≡ self.old.is_stopped }
         ensures intact { ¬ IsErrOf result LogFault.Damaged }
+        ensures taken { ¬ IsErrOf result LogFault.Refused }
         ensures same { IfOk result (λ value. called ≡ Ok value) }
         ensures memory { IfErr called (λ error.
             error_kind error ≡ ErrorKind.OutOfMemory → result ≡ Err LogFault.Memory) }
@@ -161,7 +336,7 @@ impl<F: Read + Write + Seek + OpenFile> DirFile<F> {
         Err(fault)
     }
 
-    /// What a write or a cut answered. After a failed one the file is stopped.
+    /// What a write or a renewal answered. After a failed one the file is stopped.
     fn stop_if_failed(&mut self, called: io::Result<()>) -> Result<(), LogFault>
         ensures cause { HasFaultCause self.old.faults self.new.faults result }
         ensures stops { OnErr result (self.new.is_stopped ≡ true) }
@@ -179,7 +354,7 @@ impl<F: Read + Write + Seek + OpenFile> DirFile<F> {
     }
 }
 
-impl<F: Read + Write + Seek + OpenFile> LogFile for DirFile<F> {
+impl<R: Folders<File = File> + AllocGlobal + Drop> LogFile for DirFile<R> {
     ghost use Rattle.std.specs.Prelude.{◌≡◌, true};
 
     ghost bytes = { λ _. None };
@@ -202,11 +377,11 @@ impl<F: Read + Write + Seek + OpenFile> LogFile for DirFile<F> {
         self.stop_if_failed(called)
     }
 
-    fn cut(&mut self, len: u64) -> Result<(), LogFault> {
+    fn renew(&mut self, all: &[u8]) -> Result<(), LogFault> {
         let called = if self.is_stopped {
             Err(io::Error::from(ErrorKind::Other))
         } else {
-            cut_synced(&self.file, len)
+            self.replace(all)
         };
         self.stop_if_failed(called)
     }

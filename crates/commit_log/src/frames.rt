@@ -1,21 +1,21 @@
-//! Frames: how the records of a log are spelled as bytes, and read again.
+//! Frames: how the records of a log are spelled as bytes, and read again; and the log of format 1.
 
 ghost use Rattle.std.specs.Prelude.{◌≡◌, ◌≢◌, ◌+◌, ◌≤◌, ◌++◌, ◌↔◌, take, drop, length, IfOk, IfSome, IfNone, IsErrOf, IsTrue};
 ghost use Rattle.std.specs.Int.{from_be_bytes, to_be_bytes, w32};
 ghost use Rattle.commit_log.specs.Frames.{IsLog, IsRecord, IsTail, bytes_of, checksum, frame, head};
 
-use crate::crc32::crc32;
+use crate::checksums::crc32;
 use crate::faults::LogFault;
 use std::alloc::{AllocError, Global};
 
 /// The most bytes of a record.
 pub const LONGEST_RECORD: usize = 134_217_728;
 
-/// The bytes with which a log begins.
+/// The bytes with which a log of format 1 begins.
 pub const HEAD: [u8; 8] = *b"TABLOG01";
 
 /// How many bytes of a frame stand before its record: a length and a checksum.
-const PREFIX: usize = 8;
+pub(crate) const PREFIX: usize = 8;
 
 /// The frame of a record.
 pub fn frame_of(alloc: Global, payload: &[u8]) -> Result<Vec<u8>, AllocError>
@@ -92,7 +92,7 @@ pub struct Reading {
     pub end: usize,
 }
 
-/// Reads a log. What stands behind its last whole frame is left out.
+/// Reads a log of format 1. What stands behind its last whole frame is left out.
 ///
 /// # Errors
 ///
@@ -103,6 +103,7 @@ pub fn read_log(alloc: Global, bytes: &[u8]) -> Result<Reading, LogFault>
     ensures end { IfOk result (λ found. found.end ≤ length bytes.now) }
     ensures damaged { IsErrOf result LogFault.Damaged ↔ (take 8 bytes.now ≢ head) }
     ensures device { ¬ IsErrOf result LogFault.Device }
+    ensures taken { ¬ IsErrOf result LogFault.Refused }
 {
     let Some(mut rest) = bytes.strip_prefix(&HEAD) else {
         return Err(LogFault::Damaged);

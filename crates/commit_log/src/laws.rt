@@ -1,11 +1,13 @@
 //! What holds of the bytes of all logs.
 
-ghost use Rattle.std.specs.Prelude.{◌≡◌, ◌≤◌, ◌⊎◌, ◌++◌, ◌∷◌, [], ℕ, List, codes, length, replicate, take};
+ghost use Rattle.std.specs.Prelude.{◌≡◌, ◌≢◌, ◌+◌, ◌<◌, ◌≤◌, ◌⊎◌, ◌++◌, ◌∷◌, [], ℕ, List, codes, length, replicate, take};
 ghost use Rattle.std.specs.List.{AllByRecursion};
 ghost use Rattle.commit_log.specs.Crc32.{crc32};
 ghost use Rattle.cell_key.specs.declared.edits.Edit.{Edit};
 ghost use Rattle.commit_log.specs.Edits.{IsStoredEdit, LogsEdits, spelled_edits};
 ghost use Rattle.commit_log.specs.Frames.{IsLog, IsRecord, IsTail, frame, log_of};
+ghost use Rattle.commit_log.specs.Records.{NamesRoots};
+ghost use Rattle.commit_log.specs.Numbered.{Hides, IsBroken, IsNumberedLog, IsShort, frames_from, numbered};
 
 use cell_key::one_key_a_text;
 
@@ -19,7 +21,7 @@ pub fn zeros_are_a_tail()
     ensures { (n : ℕ) → IsTail (replicate n 0) }
 {}
 
-/// The bytes of a log are read in one way.
+/// The bytes of a log of format 1 are read in one way.
 pub fn one_reading()
     ensures { (bytes : List ℕ) (first second : List (List ℕ)) (left other : List ℕ)
         → IsLog bytes first left → IsLog bytes second other → (first ≡ second) × (left ≡ other) }
@@ -37,14 +39,6 @@ pub fn torn_log()
         → (k : ℕ) × (tail : List ℕ) × IsLog (take n (log_of records)) (take k records) tail }
 {}
 
-/// A log to whose end a beginning of a frame came is a log of the same records, or of one more.
-pub fn torn_append()
-    ensures { (records : List (List ℕ)) (payload : List ℕ) (n : ℕ)
-        → AllByRecursion IsRecord records → IsRecord payload
-        → IsLog (log_of records ++ take n (frame payload)) records (take n (frame payload))
-        ⊎ IsLog (log_of records ++ take n (frame payload)) (records ++ payload ∷ []) [] }
-{}
-
 /// How records hold edits, and that edits of one spelling make the same of cells.
 pub fn logs_edits()
     ensures { LogsEdits }
@@ -52,8 +46,52 @@ pub fn logs_edits()
     one_key_a_text();
 }
 
+/// What more records do to which root a log is over, and to its stamps.
+pub fn names_roots()
+    ensures { NamesRoots }
+{}
+
 /// Edits of one spelling are as many.
 pub fn as_many_edits()
     ensures { (a b : List Edit) → AllByRecursion IsStoredEdit a → AllByRecursion IsStoredEdit b
         → spelled_edits a ≡ spelled_edits b → length a ≡ length b }
+{}
+
+/// Numbered frames are read in one way.
+pub fn one_numbered_reading()
+    ensures { (first : ℕ) (bytes : List ℕ) (some other : List (List ℕ)) (left rest : List ℕ)
+        → IsNumberedLog first bytes some left → IsNumberedLog first bytes other rest
+        → (some ≡ other) × (left ≡ rest) }
+{}
+
+/// What is a log isn't broken.
+pub fn log_or_broken()
+    ensures { (first : ℕ) (bytes : List ℕ) (records : List (List ℕ)) (tail : List ℕ)
+        → IsNumberedLog first bytes records tail → ¬ IsBroken first bytes }
+{}
+
+/// What a kill leaves of an append is a log of the same records, or of one more: it is never broken. The payload hides no
+/// frame of this log: it has no whole frame in it with one of the next numbers.
+pub fn torn_numbered_append()
+    ensures { (first n : ℕ) (records : List (List ℕ)) (payload : List ℕ)
+        → AllByRecursion IsShort records → IsShort payload
+        → ¬ Hides (first + length records) payload
+        → IsNumberedLog first
+        (frames_from first records ++ take n (frame (numbered (first + length records) payload)))
+        records (take n (frame (numbered (first + length records) payload)))
+        ⊎ IsNumberedLog first
+        (frames_from first records ++ take n (frame (numbered (first + length records) payload)))
+        (records ++ payload ∷ []) [] }
+{}
+
+/// Bytes that aren't the next frame, whatever they are, with a later frame behind them, are damage.
+pub fn damage_is_told()
+    ensures { (first : ℕ) (records : List (List ℕ)) (junk payload behind : List ℕ) (m : ℕ)
+        → AllByRecursion IsShort records → IsShort payload
+        → first + length records ≤ m → m < first + length records + 131072
+        → ((other rest : List ℕ) → IsShort other
+        → junk ++ (frame (numbered m payload) ++ behind)
+        ≢ frame (numbered (first + length records) other) ++ rest)
+        → IsBroken first
+        (frames_from first records ++ (junk ++ (frame (numbered m payload) ++ behind))) }
 {}

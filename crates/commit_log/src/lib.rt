@@ -1,7 +1,7 @@
 //! A log of records that outlast a kill: frames of bytes, a log in memory, and one in a file of a folder.
 #![tactic(auto)]
 
-mod crc32;
+mod checksums;
 mod edits;
 mod faults;
 mod file_log;
@@ -12,15 +12,22 @@ pub mod laws;
 mod logs;
 mod mem_file;
 mod memory;
+mod numbered;
+mod numbers;
+mod records;
+mod store_log;
 #[cfg(test)]
 mod tests;
 
+pub use checksums::crc32;
 pub use edits::{edited_key, edits_in, push_edits};
 pub use faults::LogFault;
 pub use file_log::FileLog;
 pub use files::LogFile;
-pub use folder::{DirFile, DirLog, make_log, open_log};
+pub use folder::{DirFile, DirLog, OpenLog, make_log, open_log};
 pub use frames::{HEAD, LONGEST_RECORD, Reading, first_record, frame_of, read_log};
 pub use logs::Log;
 pub use mem_file::MemFile;
 pub use memory::MemLog;
+pub use records::{RecordKind, are_up_to, is_over_any, names_root, root_sum_bytes};
+pub use store_log::{new_log, upgrade_log};

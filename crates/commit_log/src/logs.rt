@@ -1,11 +1,14 @@
 //! Logs: what they promise.
 
-ghost use Rattle.std.specs.Prelude.{◌≡◌, ℕ, List, IfOk, IsErrOf, OnErr, OnOk};
+ghost use Rattle.std.specs.Prelude.{◌≡◌, ◌⊎◌, ℕ, List, IfOk, IsErrOf, OnErr, OnOk};
 ghost use Rattle.commit_log.specs.Faults.{HasFaultCause};
-ghost use Rattle.commit_log.specs.Frames.{IsRecord, bytes_of};
-ghost use Rattle.commit_log.specs.Held.{Empties, Gains, Keeps, MayEmpty, MayGain};
+ghost use Rattle.commit_log.specs.Frames.{IsBody, bytes_of};
+ghost use Rattle.commit_log.specs.Held.{Gains, Keeps, MayGain, MayRenew, Renews};
+ghost use Rattle.commit_log.specs.Records.{spelled_record};
 
 use crate::faults::LogFault;
+use crate::records::RecordKind;
+use cell_key::Stamp;
 
 /// Records of bytes, in the order in which they were appended, which outlast a kill.
 pub trait Log {
@@ -16,12 +19,15 @@ pub trait Log {
     ghost faults: { Self → ℕ };
 
     /// Puts a record at the end, and forces it to the disk. After an `Err` the log holds what it held, or that and this
-    /// record: a part of it is never held. If memory was refused, it holds what it held.
-    fn append(&mut self, payload: &[u8]) -> Result<(), LogFault>
-        requires { IsRecord payload.now }
-        ensures ok { OnOk result (Gains (holds self.old) (holds self.new) payload.now) }
-        ensures err { OnErr result (MayGain (holds self.old) (holds self.new) payload.now) }
-        ensures memory { IsErrOf result LogFault.Memory → Keeps (holds self.old) (holds self.new) }
+    /// record: a part of it is never held. If memory or the record was refused, it holds what it held.
+    fn append(&mut self, kind: RecordKind, stamp: Stamp, body: &[u8]) -> Result<(), LogFault>
+        requires { IsBody body.now }
+        ensures ok { OnOk result (Gains (holds self.old) (holds self.new)
+            (spelled_record kind stamp body.now)) }
+        ensures err { OnErr result (MayGain (holds self.old) (holds self.new)
+            (spelled_record kind stamp body.now)) }
+        ensures refused { IsErrOf result LogFault.Memory ⊎ IsErrOf result LogFault.Refused
+            → Keeps (holds self.old) (holds self.new) }
         ensures intact { ¬ IsErrOf result LogFault.Damaged }
         ensures cause { HasFaultCause (faults self.old) (faults self.new) result };
 
@@ -32,12 +38,16 @@ pub trait Log {
         ensures same { Keeps (holds self.old) (holds self.new) }
         ensures damaged { IsErrOf result LogFault.Damaged
             → (records : List (List ℕ)) → ¬ holds self.old records }
+        ensures taken { ¬ IsErrOf result LogFault.Refused }
         ensures cause { HasFaultCause (faults self.old) (faults self.new) result };
 
-    /// Takes all records out. After an `Err` the log holds what it held, or none.
-    fn reset(&mut self) -> Result<(), LogFault>
-        ensures ok { OnOk result (Empties (holds self.old) (holds self.new)) }
-        ensures err { OnErr result (MayEmpty (holds self.old) (holds self.new)) }
+    /// Puts this record in the place of all. After an `Err` the log holds what it held, or this record alone.
+    fn renew(&mut self, kind: RecordKind, stamp: Stamp, body: &[u8]) -> Result<(), LogFault>
+        requires { IsBody body.now }
+        ensures ok { OnOk result (Renews (holds self.old) (holds self.new)
+            (spelled_record kind stamp body.now)) }
+        ensures err { OnErr result (MayRenew (holds self.old) (holds self.new)
+            (spelled_record kind stamp body.now)) }
         ensures intact { ¬ IsErrOf result LogFault.Damaged }
         ensures cause { HasFaultCause (faults self.old) (faults self.new) result };
 

@@ -63,11 +63,14 @@ impl LogFile for MemFile {
         Ok(())
     }
 
-    fn cut(&mut self, len: u64) -> Result<(), LogFault> {
+    fn renew(&mut self, all: &[u8]) -> Result<(), LogFault> {
         if self.is_stopped {
             return Err(self.fail());
         }
-        self.bytes.truncate(len as usize);
+        let Ok(bytes) = Vec::from_slice(*self.bytes.allocator(), all) else {
+            return Err(self.fail());
+        };
+        self.bytes = bytes;
         Ok(())
     }
 

@@ -1,12 +1,15 @@
 //! A log in memory.
 
-ghost use Rattle.std.specs.Prelude.{◌≡◌, ◌++◌, ◌∷◌, [], IfErr, IfOk, IsOk, OnErr, OnOk};
-ghost use Rattle.commit_log.specs.Frames.{IsRecord, bytes_of};
+ghost use Rattle.std.specs.Prelude.{◌≡◌, ◌++◌, ◌∷◌, [], IfErr, IfOk, OnErr, OnOk};
+ghost use Rattle.commit_log.specs.Frames.{IsBody, bytes_of};
 ghost use Rattle.commit_log.specs.Memory.{recorded};
+ghost use Rattle.commit_log.specs.Records.{any_root, spelled_record};
 
 use crate::faults::LogFault;
 use crate::logs::Log;
-use std::alloc::Global;
+use crate::records::{RecordKind, record_of};
+use cell_key::Stamp;
+use std::alloc::{AllocError, Global};
 
 /// A log in memory. Its records are known, and no device of it fails.
 #[derive(Drop)]
@@ -16,15 +19,28 @@ pub struct MemLog {
 }
 
 impl MemLog {
-    /// A log without records.
-    pub fn new(alloc: Global) -> MemLog
-        ensures { recorded result ≡ [] }
+    /// A log over whichever root is there.
+    pub fn new(alloc: Global) -> Result<MemLog, AllocError>
+        ensures { IfOk result (λ log. recorded log ≡ any_root ∷ []) }
     {
-        MemLog {
-            alloc,
-            records: Vec::new(alloc),
-        }
+        let records = alone(alloc, RecordKind::AnyRoot, 0, &[])?;
+        Ok(MemLog { alloc, records })
     }
+}
+
+/// A record, alone.
+fn alone(
+    alloc: Global,
+    kind: RecordKind,
+    stamp: Stamp,
+    body: &[u8],
+) -> Result<Vec<Vec<u8>>, AllocError>
+    ensures { IfOk result (λ records.
+        bytes_of records.items ≡ spelled_record kind stamp body.now ∷ []) }
+{
+    let mut records = Vec::with_capacity(alloc, 1)?;
+    records.push(record_of(alloc, kind, stamp, body)?)?;
+    Ok(records)
 }
 
 impl Log for MemLog {
@@ -35,14 +51,15 @@ impl Log for MemLog {
 
     ghost faults = { λ _. 0 };
 
-    fn append(&mut self, payload: &[u8]) -> Result<(), LogFault>
-        requires { IsRecord payload.now }
-        ensures ok { OnOk result (recorded self.new ≡ recorded self.old ++ payload.now ∷ []) }
+    fn append(&mut self, kind: RecordKind, stamp: Stamp, body: &[u8]) -> Result<(), LogFault>
+        requires { IsBody body.now }
+        ensures ok { OnOk result (recorded self.new
+            ≡ recorded self.old ++ spelled_record kind stamp body.now ∷ []) }
         ensures err { OnErr result (recorded self.new ≡ recorded self.old) }
         ensures memory { IfErr result (λ fault. fault ≡ LogFault.Memory) }
     {
-        let copy = Vec::from_slice(self.alloc, payload)?;
-        self.records.push(copy)?;
+        let bytes = record_of(self.alloc, kind, stamp, body)?;
+        self.records.push(bytes)?;
         Ok(())
     }
 
@@ -54,11 +71,13 @@ impl Log for MemLog {
         copy_of(self.alloc, &self.records)
     }
 
-    fn reset(&mut self) -> Result<(), LogFault>
-        ensures ok { IsOk result }
-        ensures empty { recorded self.new ≡ [] }
+    fn renew(&mut self, kind: RecordKind, stamp: Stamp, body: &[u8]) -> Result<(), LogFault>
+        requires { IsBody body.now }
+        ensures ok { OnOk result (recorded self.new ≡ spelled_record kind stamp body.now ∷ []) }
+        ensures err { OnErr result (recorded self.new ≡ recorded self.old) }
+        ensures memory { IfErr result (λ fault. fault ≡ LogFault.Memory) }
     {
-        self.records.clear();
+        self.records = alone(self.alloc, kind, stamp, body)?;
         Ok(())
     }
 

@@ -41,7 +41,7 @@ of_reopened st next mark r = record {
 module _ {F M : Type 0} (files : Files F) (marks : MarkStore M) (recover : Recovers) (reopens_shown : (cells : Cells) (st : State) → ShowsCells cells st → ShowsCells cells (reopened st)) where
   pub serves_from : (rows : Recorded F) (server : Server F M) (last : ℕ) (mark : Option ℕ) (root : RootView) (base : Cells) (edits : List Edit) (st : State) → FollowsLog files.contents root base edits rows → IsReached st
       → machine_places root.places ≡ st.places → Covers mark root.top → ShowsCells (after_edits base edits) (reopened st) → st.next_tablet ≡ length st.places + 1 → Covers mark st.top → IfSome mark (λ m. last ≡ m) → last < end_of_stamps
-      → rows_of server ≡ rows → last_of server ≡ last → marks.mark (marks_of server) ≡ mark → ((now : State) → ShowsNoSession files.contents rows last last (last + 1) now → Shows files.contents server now) → ServesFrom files marks base edits st server
+      → rows_of server ≡ rows → last_of server ≡ last → marks.mark (marks_of server) ≡ mark → ((now : State) → ShowsNoSession files.contents rows last last (last + 1) now → Shows files.contents server now) → ServesFrom files marks root base edits st server
   serves_from rows server last mark root base edits st follows reached placed covered shows next_tablet top_covered is low same_rows same_last same_mark shown =
       let r = recover (after_edits base edits) (reopened st) last (reopens reached) shows (not_below mark st.top last top_covered is) low in
       let now = r.0 in
@@ -67,7 +67,6 @@ module _ {F M : Type 0} (files : Files F) (marks : MarkStore M) (recover : Recov
           collectors = rec.collectors;
         });
         rooted = record {
-          root = root;
           base = base;
           has = subst (λ (x : Recorded F). HasRoot files.contents root base x.cluster) (sym same_rows) follows.has;
           placed = follows.placed ∙ ap (λ (x : Recorded F). machine_places x.cluster.places) (sym same_rows);
@@ -77,7 +76,6 @@ module _ {F M : Type 0} (files : Files F) (marks : MarkStore M) (recover : Recov
         keeps = record {
           kept = follows.has.kept;
           on_disk = ap (λ (x : Recorded F). files.contents x.cluster.files) same_rows ∙ follows.has.on_disk;
-          root = root;
           keeps = follows.has.keeps;
           placed = placed ∙ sym rec.places;
           covered = subst (λ (m : Option ℕ). Covers m root.top) (sym same_mark) covered;

@@ -1,6 +1,7 @@
 -- A server that an opening makes of files, a mark and a log.
 use Rattle.std.proofs.Common.{◌≡◌, ◌≤◌, ◌<◌, ◌⊎◌, ℕ, List, [], Option, None, Some, inl, inr, refl, sym, subst, arith}
 use Rattle.std.specs.Prelude.{IfSome, IsSome}
+use Rattle.std.proofs.lemmas.Bool.{cases_lt}
 use Rattle.std.specs.FinMap.{empty, get}
 use Rattle.cell_key.specs.Cells.{after_edits}
 use Rattle.cell_key.specs.declared.edits.Edit.{Edit}
@@ -9,28 +10,46 @@ use Rattle.row_atomic.specs.Open.{IsDamaged}
 use Rattle.row_atomic.specs.Roots.{root_name}
 use Rattle.si_model.specs.Machine.{new_machine, reopened}
 use Rattle.si_model.specs.ShowsCells.{ShowsCells}
-use Rattle.durable.specs.Devices.{Covers}
+use Rattle.commit_log.specs.Records.{AreUpTo, NamesRoots}
+use Rattle.durable.specs.Devices.{Covers, CoversEach}
 use Rattle.durable.specs.LastingOpening.{LacksBase, NamesTop}
 use Rattle.server_loop.specs.Opening.{IsLost, below, damaged}
 use Rattle.server_loop.proofs.SessionSteps.{new_cells}
 
-pub damage_named : (told : Option Contents) (mark : Option ℕ) (edits : List Edit) → IfSome told (λ m. IsDamaged m ⊎ LacksBase m edits) → IfSome told (λ m. IfSome mark (λ n. IsLost m n ⊎ LacksBase m edits))
-damage_named None mark edits is = tt
-damage_named (Some m) None edits is = tt
-damage_named (Some m) (Some n) edits (inl is) = inl (damaged is)
-damage_named (Some m) (Some n) edits (inr is) = inr is
+-- why files and a mark with these records are damaged
+abbrev pub DamageWith : List (List ℕ) → Contents → ℕ → Type 0
+DamageWith records m n = IsLost m n ⊎ LacksBase m records ⊎ ¬ AreUpTo n records
 
-pub too_low : (result last top named : ℕ) → result ≡ last → result < named → top ≤ last → named ≡ top → {A : Type 0} → A
-too_low result last top named is less low same = absurd (omega (arith, is, less, low, same))
+pub damage_named : (told : Option Contents) (mark : Option ℕ) (records : List (List ℕ)) → IfSome told (λ m. IsDamaged m ⊎ LacksBase m records) → IfSome told (λ m. IfSome mark (DamageWith records m))
+damage_named None mark records is = tt
+damage_named (Some m) None records is = tt
+damage_named (Some m) (Some n) records (inl is) = inl (damaged is)
+damage_named (Some m) (Some n) records (inr is) = inr (inl is)
 
-pub below_named : (told : Option Contents) (mark : Option ℕ) (edits : List Edit) (top last : ℕ) → IfSome told (λ m. NamesTop (get m root_name) top) → IfSome mark (λ n. last ≡ n) → last < top → IfSome told (λ m. IfSome mark (λ n. IsLost m n ⊎ LacksBase m edits))
-below_named None mark edits top last named goes less = tt
-below_named (Some m) None edits top last named goes less = tt
-below_named (Some m) (Some n) edits top last named goes less = inl (at (get m root_name) refl named)
+-- a mark that covers a root's stamps and those of records
+pub covers_all : NamesRoots → (mark : Option ℕ) (last top named : ℕ) (records : List (List ℕ)) → CoversEach (Covers mark) records → IfSome mark (λ n. last ≡ n) → top ≤ last → named ≡ top → (named ≤ last) × AreUpTo last records
+covers_all names None last top named records covers goes low same = absurd covers.1
+covers_all names (Some n) last top named records covers goes low same = (omega (arith, low, same), let at = covers.1 in names.higher records covers.0 last (omega (arith, at, goes)) covers.2)
+
+pub behind_named : (told : Option Contents) (mark : Option ℕ) (records : List (List ℕ)) (top last : ℕ) → IfSome told (λ m. NamesTop (get m root_name) top) → IfSome mark (λ n. last ≡ n) → ¬ ((top ≤ last) × AreUpTo last records) → IfSome told (λ m. IfSome mark (DamageWith records m))
+behind_named None mark records top last named goes behind = tt
+behind_named (Some m) None records top last named goes behind = tt
+behind_named (Some m) (Some n) records top last named goes behind = elim (cases_lt last top) [
+  | inl less ↦ inl (at less (get m root_name) refl named)
+  | inr low ↦ inr (inr (subst (λ (k : ℕ). ¬ AreUpTo k records) goes (λ up. behind (low, up))))
+]
   where
-    at : (o : Option (List ℕ)) → get m root_name ≡ o → NamesTop o top → IsLost m n
-    at None there named = absurd (omega (arith, named, less))
-    at (Some image) there named = let same = named.2 in below image named.0 there named.1 (omega (arith, same, goes, less))
+    at : last < top → (o : Option (List ℕ)) → get m root_name ≡ o → NamesTop o top → IsLost m n
+    at less None there named = absurd (omega (arith, named, less))
+    at less (Some image) there named = let same = named.2 in below image named.0 there named.1 (omega (arith, same, goes, less))
+
+-- the last stamp of a server covers those of records
+pub covers_here : NamesRoots → (old new : Option ℕ) (last : ℕ) (records : List (List ℕ)) → new ≡ old → IfSome old (λ mark. last ≡ mark) → IsSome old → AreUpTo last records → CoversEach (Covers new) records
+covers_here names old new last records same goes known up = (last, subst (λ (o : Option ℕ). Covers o last) (sym same) (at old goes known), up)
+  where
+    at : (o : Option ℕ) → IfSome o (λ mark. last ≡ mark) → IsSome o → Covers o last
+    at None goes known = cc
+    at (Some mark) goes known = omega (arith, goes)
 
 pub goes_on : (old new : Option ℕ) (last : ℕ) → new ≡ old → IfSome old (λ n. last ≡ n) → IfSome new (λ n. last ≡ n)
 goes_on old new last same goes = subst (λ (o : Option ℕ). IfSome o (λ n. last ≡ n)) (sym same) goes

@@ -1,26 +1,35 @@
 -- The rows that an opening makes of files and a log's edits.
-use Rattle.std.proofs.Common.{◌≡◌, ◌⊎◌, ℕ, Bool, true, false, not, List, [], ◌∷◌, ◌==◌, length, map, Option, None, Some, inl, refl, sym, ap, ◌∙◌, subst, arith}
+use Rattle.std.proofs.Common.{◌≡◌, ◌⊎◌, ℕ, Bool, true, false, not, List, [], ◌∷◌, ◌==◌, length, map, Option, None, Some, inl, inr, refl, sym, ap, ◌∙◌, subst, arith}
 use Rattle.std.proofs.lemmas.Bool.Decides.{nat_tests}
-use Rattle.std.specs.Prelude.{IfSome, is_some}
+use Rattle.std.specs.Prelude.{◌↔◌, IfSome, IsTrue, is_some}
+use Rattle.std.specs.List.{AllByRecursion}
 use Rattle.std.specs.FinMap.{get}
 use Rattle.cell_key.specs.Cells.{Cells}
 use Rattle.cell_key.specs.declared.edits.Edit.{Edit}
+use Rattle.commit_log.specs.Edits.{HoldEdits, IsStoredEdit, LogsEdits}
+use Rattle.commit_log.specs.Records.{HasRecord, any_root}
 use Rattle.cell_key.specs.declared.refusals.Refusal.{Refusal}
-use Rattle.cell_key.specs.declared.refusals.Refusal.TheVariants.{MemtableFull}
+use Rattle.cell_key.specs.declared.refusals.Refusal.TheVariants.{Damaged, MemtableFull, NoMemory}
 use Rattle.file_store.specs.Store.{Contents}
 use Rattle.metadata_table.specs.Places.{PlaceView}
 use Rattle.metadata_table.specs.Roots.{RootView}
 use Rattle.row_atomic.specs.Clusters.{ClusterState, Spot, cells_in, spots_of}
 use Rattle.row_atomic.specs.Commands.{cells_shown}
-use Rattle.row_atomic.specs.Open.{IsDamaged, IsNewStore, Reopens}
+use Rattle.row_atomic.specs.Open.{IsDamaged, IsNewStore, IsStore, Reopens}
 use Rattle.rows.specs.Refusals.{IsReadRefusal}
 use Rattle.row_atomic.specs.Roots.{KeepsCells, root_at, root_name}
 use Rattle.row_atomic.specs.declared.recorded.Recorded.{Recorded}
 use Rattle.row_atomic.proofs.Fresh.{new_cells as none_in}
-use Rattle.durable.specs.LastingOpening.{LacksBase, OpensNew}
+use Rattle.durable.specs.Devices.{IsOver}
+use Rattle.durable.specs.LastingOpening.{HasRootFile, LacksBase, NamesTop, OpensNew, no_root, other_root}
 use Rattle.server_loop.specs.Opening.{LacksRoot}
 use Rattle.durable.specs.Replaying.{FollowsLog, ShowsRoot}
 use Rattle.server_loop.specs.Server.{machine_place, machine_places}
+use Rattle.durable.proofs.Logged.{AsManyEdits, true_not_false}
+use Rattle.durable.proofs.OpensLogs.{holds_none}
+
+pub never_full_here : (refusal : Refusal) → (refusal ≡ Damaged) ⊎ (refusal ≡ NoMemory) → refusal ≡ MemtableFull → {A : Type 0} → A
+never_full_here refusal which is = elim which [ inl e ↦ let f = sym e ∙ is in cc | inr e ↦ let f = sym e ∙ is in cc ]
 
 pub never_full : (refusal : Refusal) → IsReadRefusal refusal → refusal ≡ MemtableFull → {A : Type 0} → A
 never_full refusal read is {A} = absurd (subst IsReadRefusal is read)
@@ -35,10 +44,10 @@ pub lacks_new : (told : Option Contents) (is_there : Bool) → IfSome told (λ m
 lacks_new None is_there found lacks = absurd lacks
 lacks_new (Some m) is_there found lacks = ap not (found ∙ ap is_some lacks)
 
-pub damage_or : (old new : Option Contents) (edits : List Edit) → new ≡ old → IfSome new IsDamaged → IfSome old (λ m. IsDamaged m ⊎ LacksBase m edits)
-damage_or old new edits same is = by old (subst (λ (o : Option Contents). IfSome o IsDamaged) same is)
+pub damage_or : (old new : Option Contents) (records : List (List ℕ)) → new ≡ old → IfSome new IsDamaged → IfSome old (λ m. IsDamaged m ⊎ LacksBase m records)
+damage_or old new records same is = by old (subst (λ (o : Option Contents). IfSome o IsDamaged) same is)
   where
-    by : (old : Option Contents) → IfSome old IsDamaged → IfSome old (λ m. IsDamaged m ⊎ LacksBase m edits)
+    by : (old : Option Contents) → IfSome old IsDamaged → IfSome old (λ m. IsDamaged m ⊎ LacksBase m records)
     by None is = tt
     by (Some m) is = inl is
 
@@ -63,9 +72,61 @@ module _ {F : Type 0} (contents : F → Option Contents) where
         no_edits = no_edits;
       }
 
-pub no_edits : (b : Bool) (n : ℕ) (edits : List Edit) → n ≡ length edits → b ≡ (n == 0) → b ≡ true → edits ≡ []
-no_edits b n [] size is told = refl
-no_edits b n (x ∷ edits) size is told = absurd (grind (arith, nat_tests))
+-- the log of a store without a root file that isn't of a new one
+pub not_of_new : LogsEdits → AsManyEdits → (records : List (List ℕ)) (edits : List Edit) (b : Bool) → HoldEdits records edits → AllByRecursion IsStoredEdit edits → (IsTrue b ↔ (edits ≡ []) × HasRecord records any_root) → b ≡ false → (¬ HoldEdits records []) ⊎ ¬ HasRecord records any_root
+not_of_new laws as_many records [] b held stored told is = inr (λ any. true_not_false b (told.1 (refl, any)) is)
+not_of_new laws as_many records (e ∷ edits) b held stored told is = inl (λ none. some_edit (holds_none laws as_many records (e ∷ edits) held stored none))
+  where
+    some_edit : e ∷ edits ≡ [] → ⊥
+    some_edit same = cc
+
+-- damage of a store without a root file
+pub lacks_root : (disk : Option Contents) (is_there : Bool) (records : List (List ℕ)) → IfSome disk (λ m. is_there ≡ is_some (get m root_name)) → not is_there ≡ true → (¬ HoldEdits records []) ⊎ ¬ HasRecord records any_root → IfSome disk (λ m. IsDamaged m ⊎ LacksBase m records)
+lacks_root None is_there records found none why = tt
+lacks_root (Some m) is_there records found none why = inr (no_root (none_at (get m root_name) is_there found none) why)
+  where
+    none_at : (o : Option (List ℕ)) (b : Bool) → b ≡ is_some o → not b ≡ true → o ≡ None
+    none_at None b is lacks = refl
+    none_at (Some image) b is lacks = cc
+
+-- and of one over whose root the log isn't
+pub other_root_there : {F : Type 0} (contents : F → Option Contents) (old now : Option Contents) (is_there : Bool) (records : List (List ℕ)) (top floor : ℕ) (state : ClusterState F) → now ≡ old → IfSome old (λ m. is_there ≡ is_some (get m root_name)) → not is_there ≡ false
+    → IfSome now (λ m. IsStore m (get m root_name) top floor state) → ¬ IsOver records (root_at top floor state) → IfSome old (λ m. IsDamaged m ⊎ LacksBase m records)
+other_root_there contents None now is_there records top floor state same found there store other = tt
+other_root_there contents (Some m) now is_there records top floor state same found there store other =
+    inr (at (get m root_name) refl (subst (λ (o : Option Contents). IfSome o (λ m. IsStore m (get m root_name) top floor state)) same store))
+  where
+    at : (o : Option (List ℕ)) → get m root_name ≡ o → IsStore m o top floor state → LacksBase m records
+    at None is s = none_here (found ∙ ap is_some is) there
+      where
+        none_here : {A : Type 0} → is_there ≡ false → not is_there ≡ false → A
+        none_here lacks has = cc
+    at (Some image) is s = other_root image (root_at top floor state) is s.form other
+
+-- the greatest stamp of the root that was opened
+pub names_top : {F : Type 0} (told now : Option Contents) (top floor : ℕ) (state : ClusterState F) → now ≡ told → IfSome now (λ m. IsStore m (get m root_name) top floor state) → IfSome told (λ m. NamesTop (get m root_name) top)
+names_top {F} told now top floor state same store = by told (subst (λ (o : Option Contents). IfSome o (λ m. IsStore m (get m root_name) top floor state)) same store)
+  where
+    at : (m : Contents) (o : Option (List ℕ)) → IsStore m o top floor state → NamesTop o top
+    at m None s = s.no_top
+    at m (Some image) s = (root_at top floor state, s.form, refl)
+
+    by : (told : Option Contents) → IfSome told (λ m. IsStore m (get m root_name) top floor state) → IfSome told (λ m. NamesTop (get m root_name) top)
+    by None s = tt
+    by (Some m) s = at m (get m root_name) s
+
+-- files with a root file aren't new
+pub rooted_not_new : (told : Option Contents) (is_there : Bool) → IfSome told (λ m. is_there ≡ is_some (get m root_name)) → HasRootFile told → not is_there ≡ false
+rooted_not_new None is_there found there = absurd there
+rooted_not_new (Some m) is_there found there = at (get m root_name) is_there found there
+  where
+    at : (o : Option (List ℕ)) (b : Bool) → b ≡ is_some o → (o ≡ None → ⊥) → not b ≡ false
+    at None b is some = absurd (some refl)
+    at (Some image) b is some = ap not is
+
+-- the log of a new store
+pub new_begun : (edits lent : List Edit) (records : List (List ℕ)) (b : Bool) → lent ≡ edits → (IsTrue b ↔ (lent ≡ []) × HasRecord records any_root) → b ≡ true → (edits ≡ []) × HasRecord records any_root
+new_begun edits lent records b same told is = let h = told.0 is in (sym same ∙ h.0, h.1)
 
 pub never_new : (b : Bool) → not b ≡ true → b ≡ true → {A : Type 0} → A
 never_new true lacks there = cc

@@ -15,7 +15,9 @@ use Rattle.row_atomic.specs.Recorded.{logged_of, waiting_of}
 use Rattle.row_atomic.specs.Roots.{root_name}
 use Rattle.si_model.specs.Machine.{Place, State, reopened}
 use Rattle.si_model.specs.ShowsCells.{ShowsCells}
-use Rattle.durable.specs.Devices.{Covers, KeepsUnder, Lasts}
+use Rattle.commit_log.specs.Records.{AreUpTo, edit_bytes}
+use Rattle.metadata_table.specs.Roots.{RootView}
+use Rattle.durable.specs.Devices.{Covers, CoversEach, IsOver, KeepsUnder, Lasts}
 use Rattle.durable.specs.LastingOpening.{HasRootFile, LacksBase, OpensFrom, ServesFrom}
 use Rattle.durable.specs.Lasts.{HoldsLogged}
 use Rattle.server_loop.specs.Opening.{IsLost}
@@ -25,6 +27,7 @@ use Rattle.durable.specs.Stored.{IsRooted, StoresCells}
 use Rattle.durable.specs.declared.lasting.LastingServer.{LastingServer}
 use Rattle.server_loop.specs.declared.server.Server.{Server}
 use Rattle.durable.proofs.Logged.{AsManyEdits}
+use Rattle.durable.proofs.OpenedLogs.{DamageWith}
 
 -- edits of the same records are of one spelling
 pub one_spelling : LogsEdits → (records : List (List ℕ)) (a b : List Edit) → HoldEdits records a → HoldEdits records b → spelled_edits a ≡ spelled_edits b
@@ -52,12 +55,15 @@ no_room_lost [] none = record { edits = omega arith; bytes = omega arith }
 no_room_lost (e ∷ edits) none = cc
 
 -- what lasts does so over a log that holds the records too
-pub lasts_on_log : (keeps : Cells → List Place → Type 0) (old new : List (List ℕ) → Type 0) (covers : ℕ → Type 0) (st : State) → ((records : List (List ℕ)) → old records → new records) → Lasts keeps old covers st → Lasts keeps new covers st
+pub lasts_on_log : (keeps : RootView → Cells → List Place → Type 0) (old new : List (List ℕ) → Type 0) (covers : ℕ → Type 0) (st : State) → ((records : List (List ℕ)) → old records → new records) → Lasts keeps old covers st → Lasts keeps new covers st
 lasts_on_log keeps old new covers st same lasts = record {
+  root = lasts.root;
   base = lasts.base;
   kept = lasts.kept;
   records = lasts.records;
   in_log = same lasts.records lasts.in_log;
+  over = lasts.over;
+  stamps = lasts.stamps;
   edits = lasts.edits;
   held = lasts.held;
   stored = lasts.stored;
@@ -67,35 +73,39 @@ lasts_on_log keeps old new covers st same lasts = record {
   top = lasts.top;
 }
 
-pub has_root_file : (disk : Option Contents) (mark : Option ℕ) (base : Cells) (places : List Place) → KeepsUnder disk mark base places → HasRootFile disk
-has_root_file disk mark base places keeps = subst HasRootFile (sym keeps.on_disk) (λ none. some_none keeps.keeps.image (sym keeps.keeps.there ∙ none))
+pub has_root_file : (disk : Option Contents) (mark : Option ℕ) (root : RootView) (base : Cells) (places : List Place) → KeepsUnder disk mark root base places → HasRootFile disk
+has_root_file disk mark root base places keeps = subst HasRootFile (sym keeps.on_disk) (λ none. some_none keeps.keeps.image (sym keeps.keeps.there ∙ none))
   where
     some_none : (image : List ℕ) → Some image ≡ None → ⊥
     some_none image is = cc
 
-pub damage_of_log : LogsEdits → AsManyEdits → (holds : List (List ℕ) → Type 0) (told : Option Contents) (mark : Option ℕ) (edits : List Edit) → ((records : List (List ℕ)) → holds records → HoldEdits records edits) → AllByRecursion IsStoredEdit edits
-    → IfSome told (λ m. IfSome mark (λ n. IsLost m n ⊎ LacksBase m edits)) → IfSome told (λ m. IfSome mark (λ n. IsLost m n ⊎ ((get m root_name ≡ None) × ((records : List (List ℕ)) → holds records → ¬ HoldEdits records []))))
-damage_of_log laws as_many holds None mark edits held stored is = tt
-damage_of_log laws as_many holds (Some m) None edits held stored is = tt
-damage_of_log laws as_many holds (Some m) (Some n) edits held stored (inl is) = inl is
-damage_of_log laws as_many holds (Some m) (Some n) edits held stored (inr is) = inr (is.0, λ records in_log none. is.1 (holds_none laws as_many records edits (held records in_log) stored none))
+-- of records that a log holds
+pub damage_of_log : (holds : List (List ℕ) → Type 0) (told : Option Contents) (mark : Option ℕ) (found : List (List ℕ)) → ((records : List (List ℕ)) → holds records → found ≡ records) → IfSome told (λ m. IfSome mark (DamageWith found m))
+    → IfSome told (λ m. IfSome mark (λ n. IsLost m n ⊎ ((records : List (List ℕ)) → holds records → LacksBase m records) ⊎ ((records : List (List ℕ)) → holds records → ¬ AreUpTo n records)))
+damage_of_log holds None mark found same is = tt
+damage_of_log holds (Some m) None found same is = tt
+damage_of_log holds (Some m) (Some n) found same (inl lost) = inl lost
+damage_of_log holds (Some m) (Some n) found same (inr (inl lacks)) = inr (inl (λ records held. subst (LacksBase m) (same records held) lacks))
+damage_of_log holds (Some m) (Some n) found same (inr (inr later)) = inr (inr (λ records held. subst (λ (rs : List (List ℕ)). ¬ AreUpTo n rs) (same records held) later))
 
 module _ {F M L : Type 0} (files : Files F) (marks : MarkStore M) (log : Log L) where
-  pub opens_from : LogsEdits → (st : State) (server : Server F M) (kept : L) (opened : LastingServer (Server F M) L) → opened.server ≡ server → opened.log ≡ kept → (base : Cells) (edits given : List Edit) (records : List (List ℕ)) → ServesFrom files marks base edits st server
-      → HoldEdits records edits → AllByRecursion IsStoredEdit edits → log.holds kept records → HoldEdits records given → AllByRecursion IsStoredEdit given → HasRoomFor empty_journal given → st.next_tablet ≡ length st.places + 1
-      → (is_some (journal_of server) ≡ true → IsRooted files.contents server → waiting_of (journal_of server) ≡ [] → HoldsLogged (StoresCells files.contents) (λ s. logged_of (journal_of s)) last_of log.holds opened → IsSettledOver files log opened) → OpensFrom files marks log st opened
-  opens_from laws st server kept opened same_server same_log base edits given records s held stored in_log held_given stored_given room next settle =
+  pub opens_from : LogsEdits → (st : State) (server : Server F M) (kept : L) (opened : LastingServer (Server F M) L) → opened.server ≡ server → opened.log ≡ kept → (root : RootView) (base : Cells) (edits given : List Edit) (records : List (List ℕ)) → ServesFrom files marks root base edits st server
+      → HoldEdits records edits → AllByRecursion IsStoredEdit edits → log.holds kept records → IsOver records root → AreUpTo (last_of server) records → CoversEach (Covers (marks.mark (marks_of server))) records → HoldEdits records given → AllByRecursion IsStoredEdit given → HasRoomFor empty_journal given → st.next_tablet ≡ length st.places + 1
+      → ((there : RootView) → is_some (journal_of server) ≡ true → IsRooted files.contents server there → waiting_of (journal_of server) ≡ [] → HoldsLogged (StoresCells files.contents) (λ s. logged_of (journal_of s)) last_of log.holds opened there → IsSettledOver files log opened) → OpensFrom files marks log st opened
+  opens_from laws st server kept opened same_server same_log root base edits given records s held stored in_log over stamps covers held_given stored_given room next settle =
       let now = s.next in
       let in_log_now : log.holds opened.log records = subst (λ (l : L). log.holds l records) (sym same_log) in_log in
-      let bytes : flat_map (λ bytes. bytes) records ≡ logged_of (journal_of opened.server) = laws.whole records edits held ∙ (ap logged_of (sym s.journal) ∙ ap (λ (x : Server F M). logged_of (journal_of x)) (sym same_server)) in
+      let bytes : flat_map edit_bytes records ≡ logged_of (journal_of opened.server) = laws.whole records edits held ∙ (ap logged_of (sym s.journal) ∙ ap (λ (x : Server F M). logged_of (journal_of x)) (sym same_server)) in
       record {
         next = now;
         reached = s.reached;
         recovered = rw same_server s.recovered;
         shown = subst (λ (x : Server F M). Shows files.contents x now) (sym same_server) s.shown;
-        settled = settle (ap is_some s.journal) s.rooted (ap waiting_of s.journal) (record {
+        settled = settle root (ap is_some s.journal) s.rooted (ap waiting_of s.journal) (record {
           records = records;
           in_log = in_log_now;
+          over = over;
+          stamps = subst (λ (x : Server F M). AreUpTo (last_of x) records) (sym same_server) stamps;
           edits = given;
           held = held_given;
           stored = stored_given;
@@ -103,10 +113,13 @@ module _ {F M L : Type 0} (files : Files F) (marks : MarkStore M) (log : Log L) 
           bytes = bytes;
         });
         lasts = record {
+          root = root;
           base = base;
-          kept = subst (λ (x : Server F M). KeepsUnder (files.contents (cluster_of x).files) (marks.mark (marks_of x)) base now.places) (sym same_server) s.keeps;
+          kept = subst (λ (x : Server F M). KeepsUnder (files.contents (cluster_of x).files) (marks.mark (marks_of x)) root base now.places) (sym same_server) s.keeps;
           records = records;
           in_log = in_log_now;
+          over = over;
+          stamps = subst (λ (x : Server F M). CoversEach (Covers (marks.mark (marks_of x))) records) (sym same_server) covers;
           edits = given;
           held = held_given;
           stored = stored_given;

@@ -34,7 +34,7 @@ use Rattle.server_loop.specs.Commands.{HasOutcome, checkpointed, command_of, out
 use Rattle.durable.specs.Lasts as lasts
 use Rattle.durable.specs.Lasts.{HasNewRoot, KeepsRecording, MovesTablets, NeedsRoot, StaysRooted, StaysStored}
 use Rattle.server_loop.specs.Runs.{StampsGoOn}
-use Rattle.server_loop.specs.Server.{Shows, cluster_of, floor_of, forgets, journal_of, last_of, machine_place, machine_places, top_of}
+use Rattle.server_loop.specs.Server.{Shows, cluster_of, floor_of, forgets, journal_of, last_of, machine_place, machine_places, next_root, top_of}
 use Rattle.durable.specs.Stored.{IsClean, IsRooted, StoresCells}
 use Rattle.server_loop.specs.Tending.{IsTended, MergesWhere}
 use Rattle.server_loop.specs.declared.server.Server.{Server}
@@ -61,18 +61,17 @@ same_machine_places old new is = ap (λ (spots : List Spot). map machine_place s
 
 module _ {F M : Type 0} (contents : F → Option Contents) where
   -- what is written down follows what is shown
-  pub follows_in : OneRoot → ((cells : Cells) (st : State) → ShowsCells cells st → ShowsCells cells (reopened st)) → (server : Server F M) (st : State) (journal : Option JournalView) → is_some journal ≡ true → Follows contents (cluster_of server) journal
-      → IsRooted contents server → Shows contents server st → lasts.Follows (StoresCells contents server) (logged_of journal) (waiting_of journal) (edits_written journal) (last_of server) st
-  follows_in one reopens server st None is follows rooted shown = cc
-  follows_in one reopens server st (Some journal) is follows rooted shown =
-      let same = same_root contents one rooted.root follows.such.root rooted.base follows.such.base (cluster_of server) rooted.has follows.such.has in
+  pub follows_in : OneRoot → ((cells : Cells) (st : State) → ShowsCells cells st → ShowsCells cells (reopened st)) → (server : Server F M) (root : RootView) (st : State) (journal : Option JournalView) → is_some journal ≡ true → Follows contents (cluster_of server) journal
+      → IsRooted contents server root → Shows contents server st → lasts.Follows (StoresCells contents server root) (logged_of journal) (waiting_of journal) (edits_written journal) (last_of server) st
+  follows_in one reopens server root st None is follows rooted shown = cc
+  follows_in one reopens server root st (Some journal) is follows rooted shown =
+      let same = same_root contents one root follows.such.root rooted.base follows.such.base (cluster_of server) rooted.has follows.such.has in
       record {
         base = follows.such.base;
         kept = record {
-          root = follows.such.root;
-          has = follows.such.has;
-          placed = ap (λ (root : RootView). machine_places root.places) (sym same) ∙ (rooted.placed ∙ shown.places);
-          low = subst (λ (root : RootView). root.top ≤ last_of server) same rooted.low;
+          has = subst (λ (r : RootView). HasRoot contents r follows.such.base (cluster_of server)) (sym same) follows.such.has;
+          placed = rooted.placed ∙ shown.places;
+          low = rooted.low;
         };
         first = follows.logged;
         then = follows.waiting;
@@ -85,31 +84,40 @@ module _ {F M : Type 0} (contents : F → Option Contents) where
         top = shown.shows.top;
       }
 
+  -- the root that files keep is the one that is there
+  pub one_stored : OneRoot → (server : Server F M) (root other : RootView) (base : Cells) (places : List machine.Place) → StoresCells contents server root base places → IsRooted contents server other → root ≡ other
+  one_stored one server root other base places stored rooted = same_root contents one root other base rooted.base (cluster_of server) stored.has rooted.has
+
   -- ---- what stays
 
   pub stays_rooted : (old new : Server F M) → ((root : RootView) (cells : Cells) → HasRoot contents root cells (cluster_of old) → HasRoot contents root cells (cluster_of new)) → last_of old ≤ last_of new → machine_places (cluster_of new).places ≡ machine_places (cluster_of old).places
       → StaysRooted (StoresCells contents) (IsRooted contents) last_of old new
   stays_rooted old new stays later places = record {
-    stored = record { kept = λ base ps s. record { root = s.root; has = stays s.root base s.has; placed = s.placed; low = let low = s.low in omega (arith, low, later) }; later = later };
-    rooted = λ r. record { root = r.root; base = r.base; has = stays r.root r.base r.has; placed = r.placed ∙ sym places; low = let low = r.low in omega (arith, low, later) };
+    stored = record { kept = λ root base ps s. record { has = stays root base s.has; placed = s.placed; low = let low = s.low in omega (arith, low, later) }; later = later };
+    rooted = λ root r. record { base = r.base; has = stays root r.base r.has; placed = r.placed ∙ sym places; low = let low = r.low in omega (arith, low, later) };
   }
 
   -- ---- a new root
 
-  pub new_root : ((cells : Cells) (st : State) → ShowsCells cells st → ShowsCells cells (reopened st)) → (old new : Server F M) (st : State) → Rests contents (top_of old) (floor_of old) (cluster_of old) (cluster_of new) → machine_places (cluster_of new).places ≡ machine_places (cluster_of old).places → last_of new ≡ last_of old
-      → Shows contents old st → HasNewRoot (StoresCells contents) (IsRooted contents) last_of new st
-  new_root reopens old new st rests places last shown =
+  -- no stamp of the root that is put next is above the last one
+  pub next_low : (server : Server F M) (st : State) → Shows contents server st → top_of server ≤ last_of server
+  next_low server st shown = let top = shown.shows.top in let is = shown.shows.sessions.top in omega (arith, is, top)
+
+  pub new_root : ((cells : Cells) (st : State) → ShowsCells cells st → ShowsCells cells (reopened st)) → (old new : Server F M) (st : State) → Rests contents (top_of old) (floor_of old) (cluster_of old) (cluster_of new) → machine_places (cluster_of new).places ≡ machine_places (cluster_of old).places → last_of new ≡ last_of old → next_root new ≡ root_at (top_of old) (floor_of old) (cluster_of new)
+      → Shows contents old st → HasNewRoot (StoresCells contents) (IsRooted contents) last_of (next_root new) new st
+  new_root reopens old new st rests places last next shown =
       let keeps = rests shown.in_order.0 in
       let top : st.top ≤ last_of new = let below = shown.shows.top in omega (arith, below, last) in
-      let low : top_of old ≤ last_of new = let is = shown.shows.sessions.top in omega (arith, is, top) in
-      record {
-        rooted = record { root = root_at (top_of old) (floor_of old) (cluster_of new); base = cells_shown contents (cluster_of old); has = keeps.has; placed = refl; low = low };
+      let low : top_of old ≤ last_of new = let is = next_low old st shown in omega (arith, is, last) in
+      subst (λ (root : RootView). HasNewRoot (StoresCells contents) (IsRooted contents) last_of root new st) (sym next) (record {
+        rooted = record { base = cells_shown contents (cluster_of old); has = keeps.has; placed = refl; low = low };
         base = cells_shown contents (cluster_of old);
-        kept = record { root = root_at (top_of old) (floor_of old) (cluster_of new); has = keeps.has; placed = places ∙ shown.places; low = low };
+        kept = record { has = keeps.has; placed = places ∙ shown.places; low = low };
         shows = reopens _ st shown.shows.store;
         next = shown.next;
         top = top;
-      }
+        low = low;
+      })
 
   -- ---- sweeps
 
@@ -195,7 +203,7 @@ module _ {F M : Type 0} (files : Files F) (marks : MarkStore M) (stored : RootIs
       let later = stamps_rise (replied reply) (last_of old) (last_of new) plain.stamps.last in
       let roots = answer_root request reply old new (moves_not_checkpoint request of) (moves_not_sweep request of) plain.tablets in
       let same = moved_journal request (journal_of old) (journal_of new) of plain.logged in (
-        record { kept = λ base ps s. record { root = s.root; has = roots s.root base s.has; placed = s.placed; low = let low = s.low in omega (arith, low, later) }; later = later },
+        record { kept = λ root base ps s. record { has = roots root base s.has; placed = s.placed; low = let low = s.low in omega (arith, low, later) }; later = later },
         record { goes_on = ap (λ (j : Option JournalView). is_some j) same; has = ap (λ (j : Option JournalView). logged_of j) same; waits = ap (λ (j : Option JournalView). waiting_of j) same; later = later },
       )
 
@@ -262,23 +270,30 @@ module _ {F M : Type 0} (contents : F → Option Contents) where
 -- ---- checkpoints
 
 module _ {F M : Type 0} (files : Files F) (marks : MarkStore M) (reopens : (cells : Cells) (st : State) → ShowsCells cells st → ShowsCells cells (reopened st)) (old new : Server F M) (spots : spots_of (cluster_of new) ≡ spots_of (cluster_of old)) where
+  abbrev NewRoot : State → Type 0
+  NewRoot st = HasNewRoot (StoresCells files.contents) (IsRooted files.contents) last_of (next_root new) new st
+
   abbrev Checked : Result (Unit {0}) Refusal → Type 0
   Checked result = IsPlainAnswer files marks old lent.Checkpoint (checkpointed result) (forgets new)
 
+  -- a checkpoint leaves the two stamps of the root that is next
+  same_root_next : {reply : CodecReply} → IsPlainAnswer files marks old lent.Checkpoint reply (forgets new) → next_root new ≡ root_at (top_of old) (floor_of old) (cluster_of new)
+  same_root_next plain = λ i. root_at (plain.sessions.sessions.top i) (plain.sessions.collectors.floor i) (cluster_of new)
+
   pub checkpoint_done : (result : Result (Unit {0}) Refusal) → Checked result → OnOk result (Holds files.contents (cluster_of old) → IsClean files.contents new)
-      → OnOk result ((st : State) → Shows files.contents old st → HasNewRoot (StoresCells files.contents) (IsRooted files.contents) last_of new st × IsClean files.contents new)
-  checkpoint_done (Ok done) plain clean = λ st shown. (new_root files.contents reopens old new st (plain.tablets.1 refl) (same_machine_places (cluster_of old).places (cluster_of new).places spots) (ap (λ o. o.last) plain.sessions.oracle) shown, clean shown.in_order.0)
+      → OnOk result ((st : State) → Shows files.contents old st → NewRoot st × IsClean files.contents new)
+  checkpoint_done (Ok done) plain clean = λ st shown. (new_root files.contents reopens old new st (plain.tablets.1 refl) (same_machine_places (cluster_of old).places (cluster_of new).places spots) (ap (λ o. o.last) plain.sessions.oracle) (same_root_next plain) shown, clean shown.in_order.0)
   checkpoint_done (Err refusal) plain clean = tt
 
   pub checkpoint_undone : files.replaces → (result : Result (Unit {0}) Refusal) → Checked result
-      → OnErr result (StaysRooted (StoresCells files.contents) (IsRooted files.contents) last_of old new ⊎ ((st : State) → Shows files.contents old st → HasNewRoot (StoresCells files.contents) (IsRooted files.contents) last_of new st))
+      → OnErr result (StaysRooted (StoresCells files.contents) (IsRooted files.contents) last_of old new ⊎ ((st : State) → Shows files.contents old st → NewRoot st))
   checkpoint_undone replaces (Ok done) plain = tt
   checkpoint_undone replaces (Err refusal) plain =
       let places = same_machine_places (cluster_of old).places (cluster_of new).places spots in
       let last : last_of new ≡ last_of old = ap (λ o. o.last) plain.sessions.oracle in
       elim (plain.tablets.2 replaces refusal refl) [
         | inl stays ↦ inl (stays_rooted files.contents old new (λ root cells. (stays root cells).0) (omega (arith, last)) places)
-        | inr rests ↦ inr (λ st shown. new_root files.contents reopens old new st rests places last shown)
+        | inr rests ↦ inr (λ st shown. new_root files.contents reopens old new st rests places last (same_root_next plain) shown)
       ]
 
 -- ---- sweeps

@@ -4,23 +4,36 @@ use Rattle.std.specs.List.{AllByRecursion}
 use Rattle.cell_key.specs.Cells.{Cells, after_edits}
 use Rattle.cell_key.specs.declared.edits.Edit.{Edit}
 use Rattle.commit_log.specs.Edits.{HoldEdits, IsStoredEdit}
+use Rattle.commit_log.specs.Records.{AreUpTo, NamesRoot}
 use Rattle.file_store.specs.Store.{Contents}
 use Rattle.metadata_table.specs.Roots.{RootView}
 use Rattle.row_atomic.specs.Journals.{HasRoomFor, empty_journal}
-use Rattle.row_atomic.specs.Roots.{KeepsCells}
+use Rattle.row_atomic.specs.Roots.{KeepsCells, root_sum}
 use Rattle.si_model.specs.Machine.{Place, State, reopened}
 use Rattle.si_model.specs.ShowsCells.{ShowsCells}
 use Rattle.server_loop.specs.Server.{machine_places}
 
--- Cells are kept under a root with the places of a state's tablets. The edits in the records of a log
--- make of them cells that show the state after a clean restart. They are at most as many, with at most
--- as many bytes, as a server writes down. The state's greatest stamp isn't above the mark.
-pub record Lasts (keeps : Cells → List Place → Type 0) (holds : List (List ℕ) → Type 0)
+-- a log of these records is over a root
+abbrev pub IsOver : List (List ℕ) → RootView → Type 0
+IsOver records root = NamesRoot records root.top (root_sum root)
+
+-- the mark isn't below a stamp that is at least those of all records
+abbrev pub CoversEach : (ℕ → Type 0) → List (List ℕ) → Type 0
+CoversEach covers records = (last : ℕ) × covers last × AreUpTo last records
+
+-- Cells are kept under a root with the places of a state's tablets. A log is over this root, and the
+-- edits in its records make of the cells others that show the state after a clean restart. They are at
+-- most as many, with at most as many bytes, as a server writes down. The mark isn't below the state's
+-- greatest stamp, nor below one of a record.
+pub record Lasts (keeps : RootView → Cells → List Place → Type 0) (holds : List (List ℕ) → Type 0)
     (covers : ℕ → Type 0) (st : State) : Type 0 where
+  pub root : RootView
   pub base : Cells
-  pub kept : keeps base st.places
+  pub kept : keeps root base st.places
   pub records : List (List ℕ)
   pub in_log : holds records
+  pub over : IsOver records root
+  pub stamps : CoversEach covers records
   pub edits : List Edit
   pub held : HoldEdits records edits
   pub stored : AllByRecursion IsStoredEdit edits
@@ -35,11 +48,10 @@ Covers mark top = IsSomeAnd mark (λ number. top ≤ number)
 
 -- Files keep cells under a root whose tablets have these places, and whose greatest stamp isn't above
 -- the mark.
-pub record KeepsUnder (disk : Option Contents) (mark : Option ℕ) (cells : Cells)
+pub record KeepsUnder (disk : Option Contents) (mark : Option ℕ) (root : RootView) (cells : Cells)
     (places : List Place) : Type 0 where
   pub kept : Contents
   pub on_disk : disk ≡ Some kept
-  pub root : RootView
   pub keeps : KeepsCells kept root cells
   pub placed : machine_places root.places ≡ places
   pub covered : Covers mark root.top

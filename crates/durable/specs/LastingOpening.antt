@@ -1,5 +1,5 @@
 -- What a server with a log opens of its devices.
-use Rattle.std.specs.Prelude.{◌≡◌, ◌≢◌, ℕ, List, [], Option, None, Some, Result, Err, IsSomeAnd}
+use Rattle.std.specs.Prelude.{◌≡◌, ◌≢◌, ◌⊎◌, ℕ, List, [], Option, None, Some, Result, Err, IsSomeAnd}
 use Rattle.std.specs.FinMap.{get, empty}
 use Rattle.std.specs.List.{AllByRecursion}
 use Rattle.cell_key.specs.Cells.{Cells, after_edits}
@@ -7,6 +7,7 @@ use Rattle.cell_key.specs.declared.edits.Edit.{Edit}
 use Rattle.cell_key.specs.declared.refusals.Refusal.{Refusal}
 use Rattle.cell_key.specs.declared.refusals.Refusal.TheVariants.{Damaged, Device, NoMemory}
 use Rattle.commit_log.specs.Edits.{HoldEdits, IsStoredEdit}
+use Rattle.commit_log.specs.Records.{HasRecord, any_root}
 use Rattle.commit_log.specs.declared.faults.LogFault.{LogFault}
 use Rattle.commit_log.specs.declared.faults.LogFault.TheVariants as log
 use Rattle.commit_log.specs.declared.logs.Log.{Ghosts as Log}
@@ -19,7 +20,7 @@ use Rattle.row_atomic.specs.declared.recorded.Recorded.{Recorded}
 use Rattle.si_model.specs.Machine.{IsReached, State, new_machine, reopened}
 use Rattle.si_model.specs.Recovered.{IsRecovered}
 use Rattle.si_model.specs.ShowsCells.{ShowsCells}
-use Rattle.durable.specs.Devices.{Covers, KeepsUnder, LastsOn}
+use Rattle.durable.specs.Devices.{Covers, IsOver, KeepsUnder, LastsOn}
 use Rattle.durable.specs.Replaying.{FollowsLog, logged_journal}
 use Rattle.server_loop.specs.Server.{Shows, cluster_of, journal_of, last_of, machine_places, marks_of}
 use Rattle.durable.specs.ServesLogged.{IsSettledOver}
@@ -32,6 +33,7 @@ abbrev pub log_refusal : LogFault → Refusal
 log_refusal log.Device = Device
 log_refusal log.Memory = NoMemory
 log_refusal log.Damaged = Damaged
+log_refusal log.Refused = Device
 
 -- a refusal by itself, without what comes back with it
 abbrev pub refused_with : Refusal → Result (Unit {0}) Refusal
@@ -47,9 +49,13 @@ IsLostLog holds =
 abbrev pub HasRootFile : Option Contents → Type 0
 HasRootFile disk = IsSomeAnd disk (λ m. get m root_name ≢ None)
 
--- there are edits of a store whose root file isn't there
-abbrev pub LacksBase : Contents → List Edit → Type 0
-LacksBase m edits = (get m root_name ≡ None) × (edits ≢ [])
+-- A log of these records isn't over what is there: no root file is, and the records hold edits or name
+-- a root, or the root file says another root.
+pub data LacksBase (m : Contents) (records : List (List ℕ)) : Type 0 where
+  no_root : get m root_name ≡ None
+      → (¬ HoldEdits records []) ⊎ ¬ HasRecord records any_root → LacksBase m records
+  other_root : (image : List ℕ) (root : RootView) → get m root_name ≡ Some image → IsRoot root image
+      → ¬ IsOver records root → LacksBase m records
 
 -- the greatest stamp that a root file names, and 0 without one
 abbrev pub NamesTop : Option (List ℕ) → ℕ → Type 0
@@ -67,18 +73,18 @@ pub record OpensNew {F : Type 0} (contents : F → Option Contents) (top : ℕ) 
   pub no_edits : edits ≡ []
 
 module _ {F M : Type 0} (files : Files F) (marks : MarkStore M) where
-  -- A server over such cells and edits shows a state to which the machine can come by itself from the
+  -- A server over such cells under a root, and edits, shows a state to which the machine can come by itself from the
   -- one that they show. The edits are logged, and its files and its mark keep the cells.
-  pub record ServesFrom (base : Cells) (edits : List Edit) (st : State) (server : Server F M)
-      : Type 0 where
+  pub record ServesFrom (root : RootView) (base : Cells) (edits : List Edit) (st : State)
+      (server : Server F M) : Type 0 where
     pub next : State
     pub reached : IsReached next
     pub recovered : IsRecovered (last_of server) st next
     pub shown : Shows files.contents server next
-    pub rooted : IsRooted files.contents server
+    pub rooted : IsRooted files.contents server root
     pub journal : journal_of server ≡ Some (logged_journal edits)
     pub keeps : KeepsUnder (files.contents (cluster_of server).files) (marks.mark (marks_of server))
-        base next.places
+        root base next.places
     pub shows : ShowsCells (after_edits base edits) (reopened next)
     pub covered : Covers (marks.mark (marks_of server)) next.top
 

@@ -1,12 +1,15 @@
 -- What a server with a log keeps over a kill.
-use Rattle.std.specs.Prelude.{◌≡◌, ◌≤◌, ◌+◌, ◌⊎◌, ℕ, List, ◌++◌, length, Bool, true, flat_map, ⊤}
+use Rattle.std.specs.Prelude.{◌≡◌, ◌≤◌, ◌+◌, ◌⊎◌, ℕ, List, [], ◌∷◌, ◌++◌, length, Bool, true, flat_map, ⊤}
 use Rattle.std.specs.List.{AllByRecursion}
 use Rattle.cell_key.specs.Cells.{Cells, after_edits}
 use Rattle.cell_key.specs.declared.edits.Edit.{Edit}
 use Rattle.cell_key.specs.declared.refusals.Refusal.{Refusal}
 use Rattle.cell_key.specs.declared.refusals.Refusal.TheVariants.{Device}
 use Rattle.commit_log.specs.Edits.{HoldEdits, IsStoredEdit, spelled_edits}
+use Rattle.commit_log.specs.Records.{AreUpTo, any_root, edit_bytes, root_record}
+use Rattle.metadata_table.specs.Roots.{RootView}
 use Rattle.row_atomic.specs.Journals.{HasRoomFor, empty_journal}
+use Rattle.row_atomic.specs.Roots.{root_sum}
 use Rattle.request_codec.specs.Replies.{replied}
 use Rattle.request_codec.specs.Requests.{asked}
 use Rattle.request_codec.specs.declared.replies.Reply.{Reply}
@@ -15,9 +18,10 @@ use Rattle.request_codec.specs.declared.requests.Request.{Request}
 use Rattle.request_codec.specs.declared.requests.Request.TheVariants.{Split, Move, Sweep, Checkpoint}
 use Rattle.si_model.specs.Machine.{Place, State, reopened}
 use Rattle.si_model.specs.ShowsCells.{ShowsCells}
-use Rattle.durable.specs.Devices.{Lasts}
+use Rattle.durable.specs.Devices.{IsOver, Lasts}
 use Rattle.durable.specs.Lasting.{GoesOn, Settles}
 use Rattle.durable.specs.declared.lasting.LastingServer.{LastingServer}
+use Rattle.server_loop.specs.declared.upkeep.RootName.{RootName}
 
 -- requests around which roots are put
 abbrev pub MovesTablets : Request → Type 0
@@ -51,27 +55,29 @@ pub record Follows (stores : Cells → List Place → Type 0) (logged waiting : 
   pub top : st.top ≤ last
 
 -- what is stored stays, and the last stamp doesn't fall
-pub record StaysStored {S : Type 0} (stores : S → Cells → List Place → Type 0) (last : S → ℕ)
-    (old new : S) : Type 0 where
-  pub kept : (base : Cells) (places : List Place) → stores old base places
-      → stores new base places
+pub record StaysStored {S : Type 0} (stores : S → RootView → Cells → List Place → Type 0)
+    (last : S → ℕ) (old new : S) : Type 0 where
+  pub kept : (root : RootView) (base : Cells) (places : List Place) → stores old root base places
+      → stores new root base places
   pub later : last old ≤ last new
 
 -- and the root has the places of the tablets still
-pub record StaysRooted {S : Type 0} (stores : S → Cells → List Place → Type 0)
-    (is_rooted : S → Type 0) (last : S → ℕ) (old new : S) : Type 0 where
+pub record StaysRooted {S : Type 0} (stores : S → RootView → Cells → List Place → Type 0)
+    (is_rooted : S → RootView → Type 0) (last : S → ℕ) (old new : S) : Type 0 where
   pub stored : StaysStored stores last old new
-  pub rooted : is_rooted old → is_rooted new
+  pub rooted : (root : RootView) → is_rooted old root → is_rooted new root
 
--- a root was put that keeps cells which show the state after a clean restart
-pub record HasNewRoot {S : Type 0} (stores : S → Cells → List Place → Type 0)
-    (is_rooted : S → Type 0) (last : S → ℕ) (new : S) (st : State) : Type 0 where
-  pub rooted : is_rooted new
+-- this root was put, and keeps cells which show the state after a clean restart
+pub record HasNewRoot {S : Type 0} (stores : S → RootView → Cells → List Place → Type 0)
+    (is_rooted : S → RootView → Type 0) (last : S → ℕ) (root : RootView) (new : S) (st : State)
+    : Type 0 where
+  pub rooted : is_rooted new root
   pub base : Cells
-  pub kept : stores new base st.places
+  pub kept : stores new root base st.places
   pub shows : ShowsCells base (reopened st)
   pub next : st.next_tablet ≡ length st.places + 1
   pub top : st.top ≤ last new
+  pub low : root.top ≤ last new
 
 -- what is written down stays so
 pub record KeepsRecording {S : Type 0} (recording : S → Bool) (logged waiting : S → List ℕ)
@@ -81,36 +87,52 @@ pub record KeepsRecording {S : Type 0} (recording : S → Bool) (logged waiting 
   pub waits : waiting new ≡ waiting old
   pub later : last old ≤ last new
 
+-- the name of a root in the records of a log
+abbrev pub named : RootView → List ℕ
+named root = root_record root.top (root_sum root)
+
+-- A log holds one record: the name of a root, or that it is over whichever is there.
+abbrev pub HoldsRoot : (List (List ℕ) → Type 0) → RootView → Type 0
+HoldsRoot holds root = holds (named root ∷ []) ⊎ holds (any_root ∷ [])
+
+-- this is the name of a root
+abbrev pub IsNameOf : RootName → RootView → Type 0
+IsNameOf name root = (name.top ≡ root.top) × (name.sum ≡ root_sum root)
+
 -- ---- a server with a log
 
-module _ {S L : Type 0} (stores : S → Cells → List Place → Type 0) (logged : S → List ℕ)
-    (last : S → ℕ) (holds : L → List (List ℕ) → Type 0) where
+module _ {S L : Type 0} (stores : S → RootView → Cells → List Place → Type 0)
+    (logged : S → List ℕ) (last : S → ℕ) (holds : L → List (List ℕ) → Type 0) where
   -- The log holds records. Unless it failed, they are those that the server takes to be there.
   abbrev pub HoldsRecords : LastingServer S L → List (List ℕ) → Type 0
   HoldsRecords server records =
       holds server.log records
       × ((server.is_stopped ≡ true)
-      ⊎ (flat_map (λ bytes. bytes) records ≡ logged server.server))
+      ⊎ (flat_map edit_bytes records ≡ logged server.server))
 
   -- Its devices keep a state, whatever it shows itself by now.
   pub record LastsIn (server : LastingServer S L) (st : State) : Type 0 where
     pub kept : Lasts (stores server.server) (HoldsRecords server) (λ top. top ≤ last server.server) st
 
-  -- The log holds what the server takes it to have.
-  pub record HoldsLogged (server : LastingServer S L) : Type 0 where
+  -- The log holds what the server takes it to have, over a root. No record has a later stamp than the
+  -- oracle's last one.
+  pub record HoldsLogged (server : LastingServer S L) (root : RootView) : Type 0 where
     pub records : List (List ℕ)
     pub in_log : holds server.log records
+    pub over : IsOver records root
+    pub stamps : AreUpTo (last server.server) records
     pub edits : List Edit
     pub held : HoldEdits records edits
     pub stored : AllByRecursion IsStoredEdit edits
     pub room : HasRoomFor empty_journal edits
-    pub bytes : flat_map (λ bytes. bytes) records ≡ logged server.server
+    pub bytes : flat_map edit_bytes records ≡ logged server.server
 
-  -- So it does, and the root has the places of the tablets. Or the log failed: then no reply leaves the
-  -- server any more.
-  abbrev pub Logs : (S → Type 0) → LastingServer S L → Type 0
+  -- So it does over the root that is there, which has the places of the tablets. Or the log failed: then
+  -- no reply leaves the server any more.
+  abbrev pub Logs : (S → RootView → Type 0) → LastingServer S L → Type 0
   Logs is_rooted server =
-      (server.is_stopped ≡ true) ⊎ (is_rooted server.server × HoldsLogged server)
+      (server.is_stopped ≡ true)
+      ⊎ ((root : RootView) × is_rooted server.server root × HoldsLogged server root)
 
 -- a server with a log shows what its server does
 abbrev pub shown_by : {S L : Type 0} → (S → State → Type 0) → LastingServer S L → State → Type 0

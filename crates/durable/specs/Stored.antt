@@ -15,17 +15,16 @@ use Rattle.server_loop.specs.Server.{cluster_of, forgets, last_of, machine_place
 use Rattle.server_loop.specs.declared.server.Server.{Server}
 
 module _ {F M : Type 0} (contents : F → Option Contents) where
-  -- They keep these cells, and the root names these places. No stamp of it is above the oracle's
+  -- They keep these cells under a root that names these places. No stamp of it is above the oracle's
   -- last one.
-  pub record StoresCells (server : Server F M) (base : Cells) (places : List Place) : Type 0 where
-    pub root : RootView
+  pub record StoresCells (server : Server F M) (root : RootView) (base : Cells) (places : List Place)
+      : Type 0 where
     pub has : HasRoot contents root base (cluster_of server)
     pub placed : machine_places root.places ≡ places
     pub low : root.top ≤ last_of server
 
-  -- The root names the places of the server's tablets.
-  pub record IsRooted (server : Server F M) : Type 0 where
-    pub root : RootView
+  -- This root names the places of the server's tablets.
+  pub record IsRooted (server : Server F M) (root : RootView) : Type 0 where
     pub base : Cells
     pub has : HasRoot contents root base (cluster_of server)
     pub placed : machine_places root.places ≡ machine_places (cluster_of server).places

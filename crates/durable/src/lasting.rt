@@ -1,6 +1,6 @@
 //! A server whose answers outlast a kill: what it answers is on a log before a reply leaves.
 
-ghost use Rattle.std.specs.Prelude.{◌≡◌, ◌⊎◌, ◌↔◌, [], true, false, IfErr, IsTrue, OnOk};
+ghost use Rattle.std.specs.Prelude.{◌≡◌, ◌⊎◌, ◌↔◌, [], true, false, IfErr, IsTrue, OnErr, OnOk, ℕ, List};
 ghost use Rattle.cell_key.specs.Cells.{Cells};
 ghost use Rattle.commit_log.specs.Edits.{LogsEdits};
 ghost use Rattle.request_codec.specs.Replies.{replied};
@@ -9,15 +9,17 @@ ghost use Rattle.request_codec.specs.declared.requests.Request.{Request as Lent}
 ghost use Rattle.durable.specs.Due.{IsRootDue};
 ghost use Rattle.durable.specs.Lasting.{GoesOn, IsSettled, Settles};
 ghost use Rattle.server_loop.specs.Commands.{checkpointed};
-ghost use Rattle.durable.specs.Lasts.{AnswersLasting, HasNewRoot, HoldsLogged, IsLastingAnswer, LastsIn, Logs, MovesTablets, NeedsRoot, PutsRoot, StaysRooted, shown_by};
+ghost use Rattle.durable.specs.Lasts.{AnswersLasting, HasNewRoot, HoldsLogged, HoldsRoot, IsLastingAnswer, LastsIn, Logs, MovesTablets, NeedsRoot, PutsRoot, StaysRooted, shown_by};
+ghost use Rattle.metadata_table.specs.Roots.{RootView};
 ghost use Rattle.server_loop.specs.Runs.{KeepsToLimits, StepsAs};
 ghost use Rattle.si_model.specs.Machine.{IsReached, IsStorageRefusal, State, Checkpoint as CheckpointAsked};
 
 use crate::batches::Lasting;
+use crate::lasting_opening::refused_by;
 use crate::recording::Recording;
 use cell_key::Refusal;
-use commit_log::Log;
-use commit_log::laws::{as_many_edits, logs_edits};
+use commit_log::laws::{as_many_edits, logs_edits, names_roots};
+use commit_log::{Log, LogFault, RecordKind, is_over_any, root_sum_bytes};
 use request_codec::{Reply, Request};
 use server_loop::{Answering, ServeFault};
 use std::alloc::Global;
@@ -47,6 +49,20 @@ fn tried_after(done: &Result<(), Refusal>, written: usize) -> usize {
     }
 }
 
+/// Puts the name of the root that is there in the place of all that a log has, for the root has it. If memory for it is
+/// refused, the log is over whichever root is there.
+fn renew_log<S: Recording, L: Log>(server: &S, log: &mut L) -> Result<(), LogFault>
+    ensures ok { OnOk result ((records : List (List ℕ)) → L.holds log.old records
+        → HoldsRoot (L.holds log.new) (S.next_root server.now)) }
+    ensures err { OnErr result ((records : List (List ℕ)) → L.holds log.old records
+        → L.holds log.new records ⊎ HoldsRoot (L.holds log.new) (S.next_root server.now)) }
+{
+    match server.root_name() {
+        Ok(name) => log.renew(RecordKind::Root, name.top, &root_sum_bytes(name.sum)),
+        Err(_) => log.renew(RecordKind::AnyRoot, 0, &[]),
+    }
+}
+
 impl<S: Recording, L: Log> LastingServer<S, L> {
     /// Puts on the log what waits for it. Whether that was done.
     fn log_waiting(&mut self) -> bool
@@ -58,7 +74,8 @@ impl<S: Recording, L: Log> LastingServer<S, L> {
         ensures on { result ≡ true → self.new.is_stopped ≡ false }
         ensures ok { result ≡ true → (now : State) → S.shows self.old.server now
             → Logs S.stores S.logged S.last L.holds S.is_rooted self.old
-            → (S.is_rooted self.new.server × HoldsLogged S.stores S.logged S.last L.holds self.new)
+            → ((root : RootView) × S.is_rooted self.new.server root
+            × HoldsLogged S.stores S.logged S.last L.holds self.new root)
             × ((st : State) → S.shows self.new.server st
             → LastsIn S.stores S.logged S.last L.holds self.new st) }
         ensures stopped { result ≡ false → self.new.is_stopped ≡ true }
@@ -70,6 +87,7 @@ impl<S: Recording, L: Log> LastingServer<S, L> {
     {
         as_many_edits();
         logs_edits();
+        names_roots();
         S::recording_laws();
         if self.is_stopped {
             return false;
@@ -81,7 +99,11 @@ impl<S: Recording, L: Log> LastingServer<S, L> {
         if self.server.waiting().is_empty() {
             return true;
         }
-        match self.log.append(self.server.waiting()) {
+        let stamp = self.server.last();
+        match self
+            .log
+            .append(RecordKind::Edits, stamp, self.server.waiting())
+        {
             Ok(()) => {
                 self.server.settled();
                 true
@@ -102,20 +124,23 @@ impl<S: Recording, L: Log> LastingServer<S, L> {
         ensures clean { S.is_clean self.old.server → S.is_clean self.new.server }
         ensures recording { S.recording self.new.server ≡ S.recording self.old.server }
         ensures waiting { S.waiting self.old.server ≡ [] → S.waiting self.new.server ≡ [] }
-        ensures kept { (st : State) → HasNewRoot S.stores S.is_rooted S.last self.old.server st
+        ensures kept { (st : State) → HasNewRoot S.stores S.is_rooted S.last
+            (S.next_root self.old.server) self.old.server st
             → LastsIn S.stores S.logged S.last L.holds self.old st
             → LastsIn S.stores S.logged S.last L.holds self.new st
             × Logs S.stores S.logged S.last L.holds S.is_rooted self.new }
     {
         logs_edits();
+        names_roots();
         S::recording_laws();
-        match self.log.reset() {
+        match renew_log(&self.server, &mut self.log) {
             Ok(()) => self.server.emptied(),
             Err(_) => self.is_stopped = true,
         }
     }
 
-    /// Puts what waits on the log, then a root that keeps what is shown, and takes out of the log what the root has.
+    /// Puts what waits on the log, then a root that keeps what is shown, and takes out of the log what the root has. Before
+    /// the root is put, the log says that it is over whichever root is there.
     ///
     /// # Errors
     ///
@@ -136,8 +161,13 @@ impl<S: Recording, L: Log> LastingServer<S, L> {
             × (S.recording self.new.server ≡ true) × (S.waiting self.new.server ≡ [])) }
     {
         logs_edits();
+        names_roots();
         S::recording_laws();
         if !self.log_waiting() {
+            return Err(Refusal::Device);
+        }
+        if self.log.append(RecordKind::AnyRoot, 0, &[]).is_err() {
+            self.is_stopped = true;
             return Err(Refusal::Device);
         }
         match self.server.checkpoint_now() {
@@ -154,8 +184,8 @@ impl<S: Recording, L: Log> LastingServer<S, L> {
         ensures shown { (st : State) → S.shows self.old.server st → S.shows self.new.server st }
         ensures answered { (reply : CodecReply)
             × PutsRoot S.same S.checkpoints self.old.server reply self.new.server }
-        ensures kept { (before after : State) → S.shows self.old.server after
-            → HoldsLogged S.stores S.logged S.last L.holds self.old
+        ensures kept { (before after : State) (root : RootView) → S.shows self.old.server after
+            → HoldsLogged S.stores S.logged S.last L.holds self.old root
             → S.waiting self.old.server ≡ [] → S.recording self.old.server ≡ true
             → LastsIn S.stores S.logged S.last L.holds self.old before
             → (LastsIn S.stores S.logged S.last L.holds self.new before
@@ -163,11 +193,43 @@ impl<S: Recording, L: Log> LastingServer<S, L> {
             × Logs S.stores S.logged S.last L.holds S.is_rooted self.new }
     {
         logs_edits();
+        names_roots();
         S::recording_laws();
+        if self.log.append(RecordKind::AnyRoot, 0, &[]).is_err() {
+            self.is_stopped = true;
+            return;
+        }
         match self.server.checkpoint_now() {
             Ok(()) => self.empty_log(),
             Err(_) => self.is_stopped = true,
         }
+    }
+
+    /// Puts a root if the log is over whichever root is there, so that it is over this one alone from then on. If the root is
+    /// refused, the log stays over whichever is there.
+    ///
+    /// # Errors
+    ///
+    /// Those of a checkpoint, and `Device` or `NoMemory` if the log can't be read.
+    pub fn name_root(&mut self) -> Result<(), Refusal>
+        ensures settles { Settles (shown_by S.shows) (LastsIn S.stores S.logged S.last L.holds)
+            (Logs S.stores S.logged S.last L.holds S.is_rooted) self.old self.new }
+        ensures rooted { S.same self.old.server self.new.server
+            ⊎ PutsRoot S.same S.checkpoints self.old.server (checkpointed result)
+            self.new.server }
+        ensures refusal { IfErr result IsStorageRefusal }
+    {
+        logs_edits();
+        names_roots();
+        S::recording_laws();
+        let records = match self.log.records() {
+            Ok(records) => records,
+            Err(fault) => return Err(refused_by(fault)),
+        };
+        if is_over_any(&records) {
+            return self.root();
+        }
+        Ok(())
     }
 
     /// Removes the files that no tablet has, after a root that names none of them.
@@ -179,6 +241,7 @@ impl<S: Recording, L: Log> LastingServer<S, L> {
             self.new }
     {
         logs_edits();
+        names_roots();
         S::recording_laws();
         match self.root() {
             Ok(()) => self.server.sweep_now(),
@@ -196,6 +259,7 @@ impl<S: Recording, L: Log> LastingServer<S, L> {
             self.new }
     {
         logs_edits();
+        names_roots();
         S::recording_laws();
         match self.root() {
             Ok(()) => {
@@ -244,6 +308,7 @@ impl<S: Recording, L: Log> LastingServer<S, L> {
             self.new }
     {
         logs_edits();
+        names_roots();
         S::recording_laws();
         self.server.reply_to(request)
     }
@@ -273,6 +338,7 @@ impl<S: Recording, L: Log> Answering for LastingServer<S, L> {
 
     fn tend(&mut self) {
         logs_edits();
+        names_roots();
         S::recording_laws();
         self.server.tend();
         let written = self.server.written();

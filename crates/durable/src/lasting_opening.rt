@@ -1,13 +1,15 @@
 //! Opening a server with a log on what a kill left.
 
-ghost use Rattle.std.specs.Prelude.{◌≡◌, ◌≢◌, ◌≤◌, ◌⊎◌, ◌+◌, ℕ, List, IfErr, IfOk, IfSome, IsErrOf, IsSome, MatchResult, None, OnOk, Some, false, is_some, length, true, []};
+ghost use Rattle.std.specs.Prelude.{◌≡◌, ◌≢◌, ◌<◌, ◌≤◌, ◌⊎◌, ◌↔◌, ◌+◌, ℕ, List, IfErr, IfOk, IfSome, IsErrOf, IsSome, IsTrue, MatchResult, None, OnOk, Some, false, is_some, length, true, []};
 ghost use Rattle.std.specs.FinMap.{empty, get};
 ghost use Rattle.std.specs.List.{AllByRecursion};
 ghost use Rattle.cell_key.specs.Cells.{Cells, after_edits};
 ghost use Rattle.cell_key.specs.Faults.{HasReason, HasRisen};
 ghost use Rattle.cell_key.specs.declared.edits.Edit.{Edit as CellEdit};
 ghost use Rattle.commit_log.specs.Edits.{HoldEdits, IsStoredEdit};
+ghost use Rattle.commit_log.specs.Frames.{bytes_of};
 ghost use Rattle.commit_log.specs.Held.{Keeps};
+ghost use Rattle.commit_log.specs.Records.{AreUpTo, HasRecord, any_root};
 ghost use Rattle.file_store.specs.Store.{Contents};
 ghost use Rattle.metadata_table.specs.Roots.{RootView};
 ghost use Rattle.row_atomic.specs.Changes.{Holds, IsEmptied};
@@ -20,7 +22,7 @@ ghost use Rattle.row_atomic.specs.Roots.{KeepsCells, root_at, root_name};
 ghost use Rattle.si_model.specs.Machine.{IsReached, IsStorageRefusal, State, new_machine, reopened};
 ghost use Rattle.sorted_file.specs.Limits.{IsFileLimit};
 ghost use Rattle.si_model.specs.ShowsCells.{ShowsCells};
-ghost use Rattle.durable.specs.Devices.{Covers, KeepsUnder, LastsOn};
+ghost use Rattle.durable.specs.Devices.{Covers, CoversEach, IsOver, KeepsUnder, LastsOn};
 ghost use Rattle.durable.specs.Lasting.{IsSettled};
 ghost use Rattle.durable.specs.LastingOpening.{HasRootFile, IsLostLog, LacksBase, NamesTop, OpensFrom, OpensNew, ServesFrom, log_refusal, refused_with};
 ghost use Rattle.durable.specs.Lasts.{HoldsLogged, LastsIn, Logs, shown_by};
@@ -33,8 +35,8 @@ use crate::recording::Recording;
 use crate::replaying::replay;
 use crate::whole_files::WholeFiles;
 use cell_key::{Edit, Refusal, Stamp};
-use commit_log::laws::{as_many_edits, logs_edits};
-use commit_log::{Log, LogFault, edits_in};
+use commit_log::laws::{as_many_edits, logs_edits, names_roots};
+use commit_log::{Log, LogFault, are_up_to, edits_in, is_over_any, names_root};
 use file_store::Files;
 use metadata_table::one_root;
 use oracle::{MarkStore, Oracle};
@@ -51,34 +53,38 @@ const ROOT_NAME: u64 = 0;
 const ROOT_BYTES: usize = 33_554_432;
 
 /// The refusal of a fault of a log.
-fn refused_by(fault: LogFault) -> Refusal
+pub(crate) fn refused_by(fault: LogFault) -> Refusal
     ensures { result ≡ log_refusal fault }
 {
     match fault {
         LogFault::Device => Refusal::Device,
         LogFault::Memory => Refusal::NoMemory,
         LogFault::Damaged => Refusal::Damaged,
+        LogFault::Refused => Refusal::Device,
     }
 }
 
-/// The edits that a log holds.
+/// The records that a log holds, and the edits in them.
 ///
 /// # Errors
 ///
 /// `Damaged` if what it holds are no edits within the limits; `Device` and `NoMemory`.
-fn edits_on<L: Log>(alloc: Global, log: &mut L) -> Result<Vec<Edit>, Refusal>
-    ensures held { IfOk result (λ edits. (records : List (List ℕ)) → L.holds log.old records
-        → HoldEdits records edits.items) }
-    ensures stored { IfOk result (λ edits. AllByRecursion IsStoredEdit edits.items) }
+fn logged_on<L: Log>(alloc: Global, log: &mut L) -> Result<(Vec<Vec<u8>>, Vec<Edit>), Refusal>
+    ensures records { IfOk result (λ logged. (records : List (List ℕ)) → L.holds log.old records
+        → bytes_of logged.0.items ≡ records) }
+    ensures held { IfOk result (λ logged. HoldEdits (bytes_of logged.0.items) logged.1.items) }
+    ensures stored { IfOk result (λ logged. AllByRecursion IsStoredEdit logged.1.items) }
     ensures same { Keeps (L.holds log.old) (L.holds log.new) }
     ensures damaged { IsErrOf result Refusal.Damaged → IsLostLog (L.holds log.old) }
     ensures refusal { IfErr result IsReadRefusal }
     ensures reason { HasReason (L.faults log.old) (L.faults log.new) result }
 {
-    match log.records() {
-        Ok(records) => edits_in(alloc, &records),
-        Err(fault) => Err(refused_by(fault)),
-    }
+    let records = match log.records() {
+        Ok(records) => records,
+        Err(fault) => return Err(refused_by(fault)),
+    };
+    let edits = edits_in(alloc, &records)?;
+    Ok((records, edits))
 }
 
 /// Whether there is a root file.
@@ -128,33 +134,73 @@ fn fill_rows<F: Files>(
     replay(alloc, rows, edits)
 }
 
+/// Whether these records may be those of a store without a root file: none holds edits, and the log names no root.
+fn is_of_new_store(records: &[Vec<u8>], edits: &[Edit]) -> bool
+    ensures { IsTrue result ↔ (edits.now ≡ []) × HasRecord (bytes_of records.now) any_root }
+{
+    edits.is_empty() && is_over_any(records)
+}
+
+/// Looks whether the log of a cluster that was just opened is over its root, with these two stamps. A new store has none.
+///
+/// # Errors
+///
+/// `Damaged` if the log is over another root; `NoMemory`.
+fn check_root<F: Files>(
+    is_new: bool,
+    cluster: &Cluster<F>,
+    top: Stamp,
+    floor: Stamp,
+    records: &[Vec<u8>],
+) -> Result<(), Refusal>
+    ensures ok { OnOk result ((is_new ≡ true)
+        ⊎ IsOver (bytes_of records.now) (root_at top floor cluster.now)) }
+    ensures damaged { IsErrOf result Refusal.Damaged → (is_new ≡ false)
+        × ¬ IsOver (bytes_of records.now) (root_at top floor cluster.now) }
+    ensures refusal { IfErr result (λ refusal. (refusal ≡ Refusal.Damaged)
+        ⊎ (refusal ≡ Refusal.NoMemory)) }
+{
+    if is_new {
+        return Ok(());
+    }
+    let sum = cluster.root_sum(top, floor)?;
+    if names_root(records, top, sum) {
+        Ok(())
+    } else {
+        Err(Refusal::Damaged)
+    }
+}
+
 /// The rows that files keep, with the edits of a log, and the greatest stamp that their root names. Without a root file
 /// they are those of a new store, whose root is put.
 ///
 /// # Errors
 ///
-/// `Damaged` if `Cluster::open` answers it, or if there are edits and no root file; those of a checkpoint. The files
-/// come back.
+/// `Damaged` if `Cluster::open` answers it, or if the log's records are over another root, or over one if no root file is
+/// there; those of a checkpoint. The files come back.
 fn open_rows<F: Files>(
     alloc: Global,
     files: F,
+    records: &[Vec<u8>],
     edits: Vec<Edit>,
     file_limit: u64,
 ) -> Result<(Recorded<F>, Stamp), (Refusal, F)>
     requires limit { IsFileLimit file_limit }
+    requires held { HoldEdits (bytes_of records.now) edits.items }
     requires stored { AllByRecursion IsStoredEdit edits.items }
     ensures kept { (m : Contents) (root : RootView) (base : Cells) → F.contents files ≡ Some m
-        → KeepsCells m root base
+        → KeepsCells m root base → IsOver (bytes_of records.now) root
         → MatchResult result
         (λ opened. FollowsLog F.contents root base edits.items opened.0 × (opened.1 ≡ root.top))
         (λ refused. (refused.0 ≢ Refusal.Damaged)
         × (refused.0 ≡ Refusal.MemtableFull → ¬ HasRoomFor empty_journal edits.items)) }
     ensures new { LacksRoot (F.contents files) → IfOk result (λ opened.
-        OpensNew F.contents opened.1 edits.items opened.0) }
+        HasRecord (bytes_of records.now) any_root
+        × OpensNew F.contents opened.1 edits.items opened.0) }
     ensures named { IfOk result (λ opened. IfSome (F.contents files) (λ m.
         NamesTop (get m root_name) opened.1)) }
     ensures damaged { IfErr result (λ refused. refused.0 ≡ Refusal.Damaged
-        → IfSome (F.contents files) (λ m. IsDamaged m ⊎ LacksBase m edits.items)) }
+        → IfSome (F.contents files) (λ m. IsDamaged m ⊎ LacksBase m (bytes_of records.now))) }
     ensures rooted { HasRootFile (F.contents files) → MatchResult result
         (λ opened. F.contents opened.0.cluster.files ≡ F.contents files)
         (λ refused. F.contents refused.1 ≡ F.contents files) }
@@ -165,23 +211,36 @@ fn open_rows<F: Files>(
         (λ refused. HasReason
         (F.faults files) (F.faults refused.1) (refused_with refused.0)) }
 {
+    logs_edits();
+    as_many_edits();
     let mut files = files;
     let is_new = match has_root(&mut files) {
         Ok(is_there) => !is_there,
         Err(refusal) => return Err((refusal, files)),
     };
-    if is_new && !edits.is_empty() {
+    if is_new && !is_of_new_store(records, &edits) {
         return Err((Refusal::Damaged, files));
     }
-    let (cluster, top, _floor) = match Cluster::open(alloc, files, file_limit) {
+    let (cluster, top, floor) = match Cluster::open(alloc, files, file_limit) {
         Ok(opened) => opened,
         Err(refused) => return Err(refused),
     };
+    match check_root(is_new, &cluster, top, floor, records) {
+        Ok(()) => {}
+        Err(refusal) => return Err((refusal, cluster.into_files())),
+    }
     let mut rows = Recorded::new(cluster);
     match fill_rows(alloc, &mut rows, is_new, edits) {
         Ok(()) => Ok((rows, top)),
         Err(refusal) => Err((refusal, rows.into_files())),
     }
+}
+
+/// Whether the oracle's last stamp isn't before the greatest that a root names, nor before one of these records.
+fn covers(last: Stamp, top: Stamp, records: &[Vec<u8>]) -> bool
+    ensures { IsTrue result ↔ (top ≤ last) × AreUpTo last (bytes_of records.now) }
+{
+    top <= last && are_up_to(records, last)
 }
 
 /// A server over rows and an oracle. All stamps up to the oracle's last one count as answered.
@@ -197,7 +256,7 @@ fn server_over<F: WholeFiles + Drop, M: MarkStore + Drop>(
         → ShowsCells (after_edits base edits) (reopened st)
         → st.next_tablet ≡ length st.places + 1 → Covers (M.mark oracle.marks) st.top
         → IfSome (M.mark oracle.marks) (λ mark. oracle.last ≡ mark)
-        → ServesFrom F.Files M.MarkStore base edits st result }
+        → ServesFrom F.Files M.MarkStore root base edits st result }
     ensures rows { rows_of result ≡ rows }
     ensures last { last_of result ≡ oracle.last }
     ensures marks { marks_of result ≡ oracle.marks }
@@ -215,24 +274,30 @@ fn open_server<F: WholeFiles + Drop, M: MarkStore + Drop>(
     alloc: Global,
     files: F,
     marks: M,
+    records: &[Vec<u8>],
     edits: Vec<Edit>,
     config: Config,
 ) -> Result<Server<F, M>, (Refusal, F, M)>
     requires config { IsConfig config }
+    requires held { HoldEdits (bytes_of records.now) edits.items }
     requires stored { AllByRecursion IsStoredEdit edits.items }
-    ensures kept { (base : Cells) (st : State) → IsReached st
-        → KeepsUnder (F.contents files) (M.mark marks) base st.places
+    ensures kept { (root : RootView) (base : Cells) (st : State) → IsReached st
+        → KeepsUnder (F.contents files) (M.mark marks) root base st.places
+        → IsOver (bytes_of records.now) root
+        → CoversEach (Covers (M.mark marks)) (bytes_of records.now)
         → ShowsCells (after_edits base edits.items) (reopened st)
         → st.next_tablet ≡ length st.places + 1 → Covers (M.mark marks) st.top
-        → MatchResult result (ServesFrom F.Files M.MarkStore base edits.items st)
+        → MatchResult result (ServesFrom F.Files M.MarkStore root base edits.items st)
         (λ refused. (refused.0 ≢ Refusal.Damaged)
         × (refused.0 ≡ Refusal.MemtableFull → ¬ HasRoomFor empty_journal edits.items)) }
     ensures new { LacksRoot (F.contents files) → IsSome (M.mark marks)
-        → IfOk result (λ server. (edits.items ≡ [])
-        × ServesFrom F.Files M.MarkStore empty edits.items new_machine server) }
+        → IfOk result (λ server. (edits.items ≡ []) × HasRecord (bytes_of records.now) any_root
+        × (root : RootView) × ServesFrom F.Files M.MarkStore root empty edits.items new_machine server) }
+    ensures stamps { IfOk result (λ server. AreUpTo (last_of server) (bytes_of records.now)) }
     ensures damaged { IfErr result (λ refused. refused.0 ≡ Refusal.Damaged
         → IfSome (F.contents files) (λ m. IfSome (M.mark marks) (λ mark.
-        IsLost m mark ⊎ LacksBase m edits.items))) }
+        IsLost m mark ⊎ LacksBase m (bytes_of records.now)
+        ⊎ ¬ AreUpTo mark (bytes_of records.now)))) }
     ensures rooted { HasRootFile (F.contents files) → MatchResult result
         (λ server. F.contents (cluster_of server).files ≡ F.contents files)
         (λ refused. F.contents refused.1 ≡ F.contents files) }
@@ -254,7 +319,8 @@ fn open_server<F: WholeFiles + Drop, M: MarkStore + Drop>(
         ⊎ HasRisen (M.faults marks) (M.faults refused.2)) }
 {
     one_root();
-    let (rows, top) = match open_rows(alloc, files, edits, config.file_limit) {
+    names_roots();
+    let (rows, top) = match open_rows(alloc, files, records, edits, config.file_limit) {
         Ok(opened) => opened,
         Err((refusal, files)) => return Err((refusal, files, marks)),
     };
@@ -262,7 +328,7 @@ fn open_server<F: WholeFiles + Drop, M: MarkStore + Drop>(
         Ok(oracle) => oracle,
         Err((refusal, marks)) => return Err((refusal, rows.into_files(), marks)),
     };
-    if oracle.last() < top {
+    if !covers(oracle.last(), top, records) {
         return Err((Refusal::Damaged, rows.into_files(), oracle.into_mark()));
     }
     Ok(server_over(alloc, rows, oracle, config))
@@ -274,12 +340,13 @@ impl<S: Recording, L: Log> LastingServer<S, L> {
         ensures server { result.server ≡ server }
         ensures log { result.log ≡ log }
         ensures root_bytes { result.root_bytes ≡ 33554432 }
-        ensures settled { S.recording server ≡ true → S.is_rooted server → S.waiting server ≡ []
-            → HoldsLogged S.stores S.logged S.last L.holds result
+        ensures settled { (root : RootView) → S.recording server ≡ true → S.is_rooted server root
+            → S.waiting server ≡ [] → HoldsLogged S.stores S.logged S.last L.holds result root
             → IsSettled (shown_by S.shows) (LastsIn S.stores S.logged S.last L.holds)
             (Logs S.stores S.logged S.last L.holds S.is_rooted) result }
     {
         logs_edits();
+        names_roots();
         S::recording_laws();
         LastingServer {
             alloc,
@@ -300,10 +367,10 @@ impl<F: WholeFiles + Drop, M: MarkStore + Drop, L: Log + Drop> LastingServer<Ser
     /// # Errors
     ///
     /// `Damaged` if the root file is out of form, if a file that it names is missing or out of form, if the mark is below
-    /// the greatest stamp that the root names, if what the log holds are no edits, or if it holds edits and there is no
-    /// root file; `Device` if the files, the mark or the log can't be read, `NoMemory`, `MemtableFull` if the log has more
-    /// edits than a server writes down, and of a new store the refusals of its first checkpoint. The files, the mark store
-    /// and the log are given back.
+    /// the greatest stamp that the root names or below one of the log, if what the log holds are no edits, if the log is
+    /// over another root, or if it is over one or holds edits and there is no root file; `Device` if the files, the mark
+    /// or the log can't be read, `NoMemory`, `MemtableFull` if the log has more edits than a server writes down, and of a
+    /// new store the refusals of its first checkpoint. The files, the mark store and the log are given back.
     pub fn open(
         alloc: Global,
         files: F,
@@ -325,8 +392,9 @@ impl<F: WholeFiles + Drop, M: MarkStore + Drop, L: Log + Drop> LastingServer<Ser
         ensures damaged { IfErr result (λ refused. refused.0 ≡ Refusal.Damaged
             → IsLostLog (L.holds log)
             ⊎ IfSome (F.contents files) (λ m. IfSome (M.mark marks) (λ mark.
-            IsLost m mark ⊎ ((get m root_name ≡ None)
-            × ((records : List (List ℕ)) → L.holds log records → ¬ HoldEdits records []))))) }
+            IsLost m mark
+            ⊎ ((records : List (List ℕ)) → L.holds log records → LacksBase m records)
+            ⊎ ((records : List (List ℕ)) → L.holds log records → ¬ AreUpTo mark records)))) }
         ensures last { IfOk result (λ opened.
             IfSome (M.mark marks) (λ mark. last_of opened.server ≡ mark)) }
         ensures limit { IfOk result (λ opened.
@@ -349,12 +417,13 @@ impl<F: WholeFiles + Drop, M: MarkStore + Drop, L: Log + Drop> LastingServer<Ser
     {
         logs_edits();
         as_many_edits();
+        names_roots();
         let mut log = log;
-        let edits = match edits_on(alloc, &mut log) {
-            Ok(edits) => edits,
+        let (records, edits) = match logged_on(alloc, &mut log) {
+            Ok(logged) => logged,
             Err(refusal) => return Err((refusal, files, marks, log)),
         };
-        match open_server(alloc, files, marks, edits, config) {
+        match open_server(alloc, files, marks, &records, edits, config) {
             Ok(server) => Ok(LastingServer::over(alloc, server, log)),
             Err((refusal, files, marks)) => Err((refusal, files, marks, log)),
         }

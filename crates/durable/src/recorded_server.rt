@@ -5,7 +5,7 @@ ghost use Rattle.row_atomic.specs.Journals.{IsWithin};
 
 use crate::recording::Recording;
 use crate::whole_files::WholeFiles;
-use cell_key::Refusal;
+use cell_key::{Refusal, Stamp};
 use commit_log::laws::logs_edits;
 use metadata_table::one_root;
 use oracle::MarkStore;
@@ -13,7 +13,7 @@ use request_codec::Reply;
 use row_atomic::{
     keeps_following, root_is_stored, root_outlasts_flushes, root_outlasts_merges, root_stays,
 };
-use server_loop::Server;
+use server_loop::{RootName, Server};
 use si_model::shows_reopened;
 
 /// The bytes that are counted for an edit: of the most edits, as many as the most bytes.
@@ -22,13 +22,15 @@ const BYTES_OF_EDIT: usize = 671;
 impl<F: WholeFiles + Drop, M: MarkStore + Drop> Recording for Server<F, M> {
     ghost use Rattle.std.specs.Prelude.{is_some};
     ghost use Rattle.row_atomic.specs.Recorded.{edits_written, logged_of, waiting_of};
-    ghost use Rattle.server_loop.specs.Server.{journal_of, last_of};
+    ghost use Rattle.server_loop.specs.Server.{journal_of, last_of, next_root};
     ghost use Rattle.durable.specs.Stored.{AnswersCheckpoint, AnswersSweep, IsClean, IsRooted, IsSame, StoresCells};
     ghost use Rattle.std.proofs.Common.{refl, ◌∙◌};
 
     ghost stores = { StoresCells F.contents };
 
     ghost is_rooted = { IsRooted F.contents };
+
+    ghost next_root = { next_root };
 
     ghost is_clean = { IsClean F.contents };
 
@@ -64,6 +66,14 @@ impl<F: WholeFiles + Drop, M: MarkStore + Drop> Recording for Server<F, M> {
     fn settled(&mut self) {
         logs_edits();
         self.settled();
+    }
+
+    fn last(&self) -> Stamp {
+        self.last_stamp()
+    }
+
+    fn root_name(&self) -> Result<RootName, Refusal> {
+        self.root_name()
     }
 
     fn checkpoint_now(&mut self) -> Result<(), Refusal> {

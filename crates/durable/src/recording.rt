@@ -1,28 +1,32 @@
 //! What a server with a log is made of: a server whose edits are written down.
 
-ghost use Rattle.std.specs.Prelude.{◌≡◌, ◌≢◌, ◌≤◌, ◌⊎◌, ◌++◌, ℕ, List, [], Bool, length, true, IfErr, OnErr, OnOk};
+ghost use Rattle.std.specs.Prelude.{◌≡◌, ◌≢◌, ◌≤◌, ◌⊎◌, ◌++◌, ℕ, List, [], Bool, length, true, IfErr, IfOk, OnErr, OnOk};
 ghost use Rattle.cell_key.specs.Cells.{Cells};
 ghost use Rattle.row_atomic.specs.Journals.{IsWithin};
 ghost use Rattle.request_codec.specs.Replies.{replied};
 ghost use Rattle.request_codec.specs.declared.replies.Reply.{Reply as CodecReply};
 ghost use Rattle.request_codec.specs.declared.requests.Request.{Request as Lent};
+ghost use Rattle.metadata_table.specs.Roots.{RootView};
+ghost use Rattle.durable.specs.Lasts.{Follows, HasNewRoot, IsNameOf, KeepsRecording, MovesTablets, NeedsRoot, StaysRooted, StaysStored};
 ghost use Rattle.server_loop.specs.Commands.{checkpointed};
-ghost use Rattle.durable.specs.Lasts.{Follows, HasNewRoot, KeepsRecording, MovesTablets, NeedsRoot, StaysRooted, StaysStored};
 ghost use Rattle.server_loop.specs.Runs.{KeepsToLimits, StepsAs};
 ghost use Rattle.si_model.specs.Machine.{IsReached, IsStorageRefusal, Place, State, Checkpoint as CheckpointAsked, Sweep as SweepAsked, Step, Refused};
 ghost use Rattle.cell_key.specs.declared.refusals.Refusal.TheVariants.{Damaged};
 
-use cell_key::Refusal;
+use cell_key::{Refusal, Stamp};
 use request_codec::Reply;
-use server_loop::Answering;
+use server_loop::{Answering, RootName};
 
 /// A server whose edits are written down: those that a log has, and those that wait for it.
 pub(crate) trait Recording: Answering {
-    /// Its files keep these cells under a root whose tablets have these places, and whose stamps aren't above the oracle's.
-    ghost stores: { Self → Cells → List Place → Type 0 };
+    /// Its files keep these cells under this root, whose tablets have these places, and whose stamps aren't above the oracle's.
+    ghost stores: { Self → RootView → Cells → List Place → Type 0 };
 
-    /// The root has the places of the tablets.
-    ghost is_rooted: { Self → Type 0 };
+    /// The root is this one, and has the places of the tablets.
+    ghost is_rooted: { Self → RootView → Type 0 };
+
+    /// What a root says that is put now.
+    ghost next_root: { Self → RootView };
 
     /// What it shows is what the files keep under their root.
     ghost is_clean: { Self → Type 0 };
@@ -76,6 +80,14 @@ pub(crate) trait Recording: Answering {
         ensures stays { StaysRooted stores is_rooted last self.old self.new }
         ensures same { same self.old self.new };
 
+    /// The oracle's last stamp.
+    fn last(&self) -> Stamp
+        ensures { result ≡ last self.now };
+
+    /// The name of the root that is there, behind a checkpoint that was done.
+    fn root_name(&self) -> Result<RootName, Refusal>
+        ensures { IfOk result (λ name. IsNameOf name (next_root self.now)) };
+
     /// Puts a root that keeps what is shown.
     fn checkpoint_now(&mut self) -> Result<(), Refusal>
         ensures step { StepsAs Self.shows self.old self.new CheckpointAsked
@@ -85,10 +97,11 @@ pub(crate) trait Recording: Answering {
         ensures says { checkpoints self.old (checkpointed result) self.new }
         ensures keeps { KeepsRecording recording logged waiting last self.old self.new }
         ensures done { OnOk result ((st : State) → Self.shows self.old st
-            → HasNewRoot stores is_rooted last self.new st × is_clean self.new) }
+            → HasNewRoot stores is_rooted last (next_root self.new) self.new st
+            × is_clean self.new) }
         ensures undone { OnErr result (StaysRooted stores is_rooted last self.old self.new
             ⊎ ((st : State) → Self.shows self.old st
-            → HasNewRoot stores is_rooted last self.new st)) };
+            → HasNewRoot stores is_rooted last (next_root self.new) self.new st)) };
 
     /// Nothing is written down any more.
     fn emptied(&mut self)
@@ -112,12 +125,15 @@ pub(crate) trait Recording: Answering {
         ensures stays { (st : State) → Self.shows self.old st → is_clean self.old
             → StaysRooted stores is_rooted last self.old self.new };
 
-    /// What is written down follows what is shown. An answer leaves what is kept, but for checkpoints and sweeps, and the
+    /// What is written down follows what is shown. There is one root. An answer leaves what is kept, but for checkpoints and sweeps, and the
     /// places of the root, but for what moves tablets. So does what comes between two answers.
     fn recording_laws()
-        ensures follows { (server : Self) (st : State) → recording server ≡ true
-            → is_rooted server → Self.shows server st
-            → Follows (stores server) (logged server) (waiting server) (count server) (last server) st }
+        ensures follows { (server : Self) (root : RootView) (st : State) → recording server ≡ true
+            → is_rooted server root → Self.shows server st
+            → Follows (stores server root) (logged server) (waiting server) (count server) (last server)
+            st }
+        ensures one { (server : Self) (root other : RootView) (base : Cells) (places : List Place)
+            → stores server root base places → is_rooted server other → root ≡ other }
         ensures leaves { (old new : Self) (request : Lent) (reply : CodecReply)
             → ¬ NeedsRoot request → Self.says old request reply new
             → (now : State) → IsReached now → Self.shows old now

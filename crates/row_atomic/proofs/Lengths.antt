@@ -1,14 +1,16 @@
 -- The lengths of files.
-use Rattle.std.proofs.Common.{◌≡◌, ◌≢◌, ◌⊎◌, inl, inr, ℕ, List, [], ◌∷◌, ◌++◌, length, Option, Some, None, IfSome, refl, sym, ap, subst, ◌∙◌, arith}
-use Rattle.std.specs.Prelude.{IsSome}
+use Rattle.std.proofs.Common.{◌≡◌, ◌≢◌, ◌⊎◌, inl, inr, ℕ, suc, List, [], ◌∷◌, ◌++◌, length, Option, Some, None, IfSome, refl, sym, ap, subst, ◌∙◌, arith, append-nil}
+use Rattle.std.specs.Prelude.{IsSome, replicate}
 use Rattle.std.specs.List.{AllByRecursion}
 use Rattle.std.specs.FinMap.{get}
 use Rattle.std.proofs.lemmas.List.Concat.{flat_map-append}
 use Rattle.file_store.specs.Store.{Contents}
 use Rattle.metadata_table.specs.Places.{PlaceView}
-use Rattle.metadata_table.specs.Roots.{file_names}
+use Rattle.metadata_table.specs.Roots.{RootView, file_names, root_bytes}
+use Rattle.metadata_table.specs.declared.root.format.RootFormat.TheVariants.{Two}
+use Rattle.commit_log.specs.Crc32.{crc32}
 use Rattle.sorted_file.specs.File.{HasFile}
-use Rattle.row_atomic.specs.Roots.{AreMeasured}
+use Rattle.row_atomic.specs.Roots.{AreMeasured, root_sum}
 use Rattle.row_atomic.specs.Open.{AreCounted, LacksFile}
 
 -- ---- names that are joined
@@ -26,6 +28,20 @@ told_joined (Some m) xs ys ms ns e h k = measured_joined m xs ys ms ns e h k
 pub one_told : (told : Option Contents) (name n : ℕ) → IfSome told (λ m. IfSome (get m name) (λ image. length image ≡ n)) → IfSome told (λ m. AreMeasured m (name ∷ []) (n ∷ []))
 one_told None name n h = tt
 one_told (Some m) name n h = (h, tt)
+
+-- ---- lengths of 0
+
+-- the checksum of a root's bytes with these lengths
+pub sum_of_root : (sum : ℕ) (root : RootView) (image lengths : List ℕ) → sum ≡ crc32 (image ++ []) → image ≡ root_bytes Two root lengths → lengths ≡ replicate {A = ℕ} (length (file_names root.places)) 0 → sum ≡ root_sum root
+unfolding root_sum
+sum_of_root sum root image lengths is wrote zeros = is ∙ ap crc32 (append-nil image ∙ wrote ∙ ap (root_bytes Two root) zeros)
+
+pub zeros_counted : (lengths names : List ℕ) → lengths ≡ replicate {A = ℕ} (length names) 0 → length lengths ≡ length names
+zeros_counted lengths names is = ap length is ∙ counted names
+  where
+    counted : (names : List ℕ) → length (replicate {A = ℕ} (length names) 0) ≡ length names
+    counted [] = refl
+    counted (n ∷ ns) = ap suc (counted ns)
 
 pub more_names : (ps : List PlaceView) (p : PlaceView) → file_names (ps ++ p ∷ []) ≡ file_names ps ++ p.files
 more_names ps p = flat_map-append (λ (x : PlaceView). x.files) ps (p ∷ []) ∙ ap (λ (l : List ℕ). file_names ps ++ l) (nil_end p.files)

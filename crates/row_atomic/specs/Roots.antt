@@ -1,13 +1,14 @@
 -- What the files keep of a cluster, and the checkpoint that leaves it there.
-use Rattle.std.specs.Prelude.{◌≡◌, ◌≤◌, ◌⊎◌, ℕ, List, [], ◌∷◌, length, Option, None, Some, IfSome}
+use Rattle.std.specs.Prelude.{◌≡◌, ◌≤◌, ◌⊎◌, ℕ, List, [], ◌∷◌, length, replicate, Option, None, Some, IfSome}
 use Rattle.std.specs.List.{AllByRecursion}
 use Rattle.std.specs.FinMap.{get}
 use Rattle.cell_key.specs.Cells.{Cells}
 use Rattle.cell_key.specs.declared.refusals.Refusal.{Refusal}
 use Rattle.cell_key.specs.declared.refusals.Refusal.TheVariants as refused
+use Rattle.commit_log.specs.Crc32.{crc32}
 use Rattle.file_store.specs.Store.{Contents, KeepsOthers, with_file}
 use Rattle.metadata_table.specs.Places.{PlaceView}
-use Rattle.metadata_table.specs.Roots.{IsRoot, IsRootIn, RootView, file_names}
+use Rattle.metadata_table.specs.Roots.{IsRoot, IsRootIn, RootView, file_names, root_bytes}
 use Rattle.metadata_table.specs.declared.root.format.RootFormat.TheVariants.{Two}
 use Rattle.tablet.specs.Views.{Holds as HoldsAt}
 use Rattle.tablet.specs.declared.tablet.Tablet.{Tablet}
@@ -29,6 +30,10 @@ root_name = 0
 abbrev pub root_at : {F : Type 0} → ℕ → ℕ → ClusterState F → RootView
 root_at top floor state =
     record { top = top; floor = floor; next_name = state.next_name; places = state.places }
+
+-- The checksum of what a root says: that of its bytes in format 2, where the length of each file is 0.
+unfoldable pub root_sum : RootView → ℕ
+root_sum root = crc32 (root_bytes Two root (replicate (length (file_names root.places)) 0))
 
 -- ---- files that keep cells
 

@@ -5,10 +5,12 @@ use Rattle.cell_key.specs.Cells.{Cells}
 use Rattle.cell_key.specs.Faults.{HasRisen}
 use Rattle.file_store.specs.Store.{Contents}
 use Rattle.metadata_table.specs.Places.{PlaceView}
+use Rattle.metadata_table.specs.Roots.{RootView}
 use Rattle.row_atomic.specs.Clusters.{ClusterState, Spot, cells_in, spot_of}
 use Rattle.row_atomic.specs.Commands.{cells_shown}
 use Rattle.row_atomic.specs.Journals.{JournalView}
 use Rattle.row_atomic.specs.Recorded.{seen_recorded}
+use Rattle.row_atomic.specs.Roots.{root_at}
 use Rattle.row_atomic.specs.declared.recorded.Recorded.{Recorded}
 use Rattle.sorted_file.specs.Limits.{IsFileLimit}
 use Rattle.si_model.specs.Machine as machine
@@ -60,6 +62,10 @@ top_of server = server.clients.top
 
 abbrev pub floor_of : {F M : Type 0} → Server F M → ℕ
 floor_of server = server.collectors.greatest_floor
+
+-- what the root says that a checkpoint would put if all tablets were flushed
+abbrev pub next_root : {F M : Type 0} → Server F M → RootView
+next_root server = root_at (top_of server) (floor_of server) (cluster_of server)
 
 -- when it compacts by itself
 abbrev pub tending_of : {F M : Type 0} → Server F M → Tending

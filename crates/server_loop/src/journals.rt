@@ -5,17 +5,25 @@ ghost use Rattle.row_atomic.specs.Journals.{IsWithin, all_logged, empty_journal}
 ghost use Rattle.row_atomic.specs.Recorded.{bytes_written, edits_written, waiting_of};
 
 use crate::server::Server;
+use cell_key::Stamp;
 use file_store::Files;
 use oracle::MarkStore;
 
 impl<F: Files + Drop, M: MarkStore + Drop> Server<F, M> {
-    ghost use Rattle.server_loop.specs.Server.{journal_of, rows_of};
+    ghost use Rattle.server_loop.specs.Server.{journal_of, last_of, rows_of};
 
     /// Whether edits are written down.
     pub fn is_recording(&self) -> bool
         ensures { result ≡ is_some (journal_of self.now) }
     {
         self.rows.is_recording()
+    }
+
+    /// The greatest stamp that was answered.
+    pub fn last_stamp(&self) -> Stamp
+        ensures { result ≡ last_of self.now }
+    {
+        self.oracle.last()
     }
 
     /// The bytes of the edits that wait for the log: a record of it. None wait if edits aren't written down.

@@ -21,3 +21,4 @@ pub use row_atomic::FlushLimits;
 pub use server::{Config, Server};
 pub use serving::{Answering, LONGEST_PIECE, Rest, reply_to_body, zeros};
 pub use statuses::{End, ServeFault, end_status, open_status};
+pub use upkeep::RootName;

@@ -1,9 +1,10 @@
 //! What a server does for the upkeep of its tablets, and raw reads, one step of the snapshot machine each.
 
-ghost use Rattle.std.specs.Prelude.{◌≡◌, [], IfErr, OnOk};
+ghost use Rattle.std.specs.Prelude.{◌≡◌, [], IfErr, IfOk, OnOk};
 ghost use Rattle.row_atomic.specs.Changes.{Holds};
 ghost use Rattle.row_atomic.specs.Clusters.{spots_of};
 ghost use Rattle.row_atomic.specs.Recorded.{Follows, FollowsListed, TracksListed};
+ghost use Rattle.row_atomic.specs.Roots.{root_sum};
 ghost use Rattle.server_loop.specs.Commands.{checkpointed};
 ghost use Rattle.si_model.specs.Machine.{IsStorageRefusal, State};
 
@@ -14,9 +15,18 @@ use oracle::MarkStore;
 use request_codec::{Reply, Request};
 use row_atomic::{Rows, keeps_following, root_is_stored};
 
+/// The name of a root: its greatest stamp, and a checksum of what it says but for the lengths of files.
+#[derive(Clone, Copy, Debug, PartialEq, Eq)]
+pub struct RootName {
+    /// The greatest stamp that it has.
+    pub top: Stamp,
+    /// The CRC-32 of `Cluster::root_sum`.
+    pub sum: u32,
+}
+
 impl<F: Files + Drop, M: MarkStore + Drop> Server<F, M> {
     ghost use Rattle.server_loop.specs.Answer.{IsPlainAnswer};
-    ghost use Rattle.server_loop.specs.Server.{Shows, cluster_of, forgets, journal_of};
+    ghost use Rattle.server_loop.specs.Server.{Shows, cluster_of, forgets, journal_of, next_root};
 
     pub(crate) fn minor(&mut self, tablet: u32) -> Reply
         ensures { IsPlainAnswer F.Files M.MarkStore self.old
@@ -101,6 +111,23 @@ impl<F: Files + Drop, M: MarkStore + Drop> Server<F, M> {
         let reply = self.sweep_files();
         self.rows.forget();
         reply
+    }
+
+    /// The name of the root that a checkpoint would put if all tablets were flushed: behind one that was done, of the root
+    /// that is there.
+    ///
+    /// # Errors
+    ///
+    /// `NoMemory`.
+    pub fn root_name(&self) -> Result<RootName, Refusal>
+        ensures top { IfOk result (λ name. name.top ≡ (next_root self.now).top) }
+        ensures sum { IfOk result (λ name. name.sum ≡ root_sum (next_root self.now)) }
+        ensures refusal { IfErr result (λ refusal. refusal ≡ Refusal.NoMemory) }
+    {
+        let top = self.clients.top();
+        let floor = self.collectors.greatest_floor();
+        let sum = self.rows.cluster.root_sum(top, floor)?;
+        Ok(RootName { top, sum })
     }
 
     /// Puts a root that keeps what is shown. What is written down stays.

@@ -8,7 +8,7 @@ ghost use Rattle.std.specs.Prelude.{◌≡◌, ◌≤◌, IfOk, IfSome};
 use cell_key::Refusal;
 use clap::error::ErrorKind;
 use command_line::{Options, options};
-use commit_log::{DirLog, Log, LogFault, make_log, open_log};
+use commit_log::{DirLog, Log, LogFault, OpenLog, make_log, open_log};
 use durable::{LastingServer, WholeFiles};
 use file_store::{DirFiles, FileFault, Files, MemFiles};
 use oracle::{DirMark, MarkStore, MemMark};
@@ -31,6 +31,9 @@ const NO_MEMORY_LINE: &str = "tabletd: no memory";
 
 /// How many bytes of replies wait, at most, for the standard output. They leave before each read.
 const WAITING: usize = 65_536;
+
+/// The name of the root file.
+const ROOT_NAME: u64 = 0;
 
 /// The most bytes of a sorted file.
 const FILE_LIMIT: u64 = 68_719_476_736;
@@ -75,27 +78,79 @@ fn folder_status(fault: &FileFault) -> (u8, &'static str) {
     }
 }
 
+/// The fault of a log beside files that failed so.
+fn fault_of_files(fault: FileFault) -> LogFault {
+    match fault {
+        FileFault::Device => LogFault::Device,
+        FileFault::Memory => LogFault::Memory,
+    }
+}
+
 /// What the program says if a folder's log can't be opened or made.
 fn log_status(fault: &LogFault) -> (u8, &'static str) {
     match fault {
         LogFault::Device => open_status(&Refusal::Device),
         LogFault::Memory => open_status(&Refusal::NoMemory),
-        LogFault::Damaged => open_status(&Refusal::Damaged),
+        LogFault::Damaged | LogFault::Refused => open_status(&Refusal::Damaged),
     }
 }
 
-/// The log of a folder, if it has one or is to get one.
-fn log_of<R: AllocGlobal + Folders>(
+/// Whether files without a root are those of a store that had one: there is another file, or the oracle's mark is above 0.
+fn lacks_root<F: Files, M: MarkStore>(
+    alloc: Global,
+    files: &mut F,
+    marks: &mut M,
+) -> Result<bool, LogFault> {
+    if files.size(ROOT_NAME).map_err(fault_of_files)?.is_some() {
+        return Ok(false);
+    }
+    let mut names = Vec::new(alloc);
+    files.list(&mut names).map_err(fault_of_files)?;
+    if !names.is_empty() {
+        return Ok(true);
+    }
+    match marks.load() {
+        Ok(mark) => Ok(mark > 0),
+        Err(_) => Err(LogFault::Device),
+    }
+}
+
+/// The log of a folder with these files and this mark, if it has one or is to get one. What was cut of it is said on the
+/// standard error.
+///
+/// # Errors
+///
+/// Those of `open_log` and `make_log`, and `Damaged` if the folder lacks its root.
+fn log_of<R, F: Files, M: MarkStore>(
     rt: &R,
     folder: &str,
     makes: bool,
-) -> Result<Option<DirLog<R::File>>, LogFault> {
-    let found = open_log(rt, folder)?;
-    if found.is_some() || !makes {
-        return Ok(found);
+    files: &mut F,
+    marks: &mut M,
+) -> Result<Option<DirLog<R>>, LogFault>
+where
+    R: AllocGlobal + Eprint + Folders<File = File> + Clone + Drop,
+{
+    let mut found = open_log(rt.clone()?, folder)?;
+    if found.is_none() && !makes {
+        return Ok(None);
     }
-    make_log(rt, folder)?;
-    open_log(rt, folder)
+    if lacks_root(rt.alloc(), files, marks)? {
+        return Err(LogFault::Damaged);
+    }
+    if found.is_none() {
+        make_log(rt, folder)?;
+        found = open_log(rt.clone()?, folder)?;
+    }
+    let Some(OpenLog { log, cut }) = found else {
+        return Ok(None);
+    };
+    if cut > 0 {
+        let _ = eprintln!(rt;
+            "tabletd: {cut} bytes at the end of the log were cut and kept in commit.cut"
+        );
+    }
+    Ok(Some(log))
 }
 
 /// Serves the standard input with a server that was made or opened, and gives the exit status with its line on the
@@ -141,6 +196,9 @@ fn serve_logged<
         Ok(server) => server,
         Err((refusal, _, _, _)) => return open_status(&refusal),
     };
+    if let Err(refusal @ (Refusal::Device | Refusal::NoMemory)) = server.name_root() {
+        return open_status(&refusal);
+    }
     server.checkpoint_at(options.log_bytes as usize);
     if let Some(most) = options.merge {
         server.merge_at(most);
@@ -176,7 +234,7 @@ fn serve_memory<R: AllocGlobal + Input + Print>(
 }
 
 /// Serves the store of a folder, with its log if it has one.
-fn serve_folder<R: AllocGlobal + Input + Print + Folders<File = File> + Clone + Drop>(
+fn serve_folder<R: AllocGlobal + Input + Print + Eprint + Folders<File = File> + Clone + Drop>(
     rt: &R,
     folder: &str,
     config: Config,
@@ -188,15 +246,15 @@ fn serve_folder<R: AllocGlobal + Input + Print + Folders<File = File> + Clone + 
         (1048576 ≤ bytes) × (bytes ≤ 67108864)) }
     requires limit { config.file_limit ≡ FILE_LIMIT }
 {
-    let files = match DirFiles::open(rt.clone()?, folder) {
+    let mut files = match DirFiles::open(rt.clone()?, folder) {
         Ok(files) => files,
         Err(fault) => return Ok(folder_status(&fault)),
     };
-    let Ok(marks) = DirMark::open(rt.clone()?, folder) else {
+    let Ok(mut marks) = DirMark::open(rt.clone()?, folder) else {
         return Ok(open_status(&Refusal::Device));
     };
     let alloc = rt.alloc();
-    match log_of(rt, folder, options.log) {
+    match log_of(rt, folder, options.log, &mut files, &mut marks) {
         Ok(Some(log)) => {
             let opened = LastingServer::open(alloc, files, marks, log, config);
             Ok(serve_logged(rt, opened, options))
@@ -207,7 +265,7 @@ fn serve_folder<R: AllocGlobal + Input + Print + Folders<File = File> + Clone + 
 }
 
 /// Serves the store that the command line names.
-fn serve_options<R: AllocGlobal + Input + Print + Folders<File = File> + Clone + Drop>(
+fn serve_options<R: AllocGlobal + Input + Print + Eprint + Folders<File = File> + Clone + Drop>(
     rt: &R,
     options: &Options<'_>,
 ) -> Result<(u8, &'static str), AllocError>
@@ -232,7 +290,7 @@ fn serve_options<R: AllocGlobal + Input + Print + Folders<File = File> + Clone +
 /// Serves as the words of the command line say, and gives the exit status with its line on the standard error.
 fn serve_line<R>(rt: &R) -> Result<(u8, &'static str), LineError>
 where
-    R: Env + AllocGlobal + Input + Print + Folders<File = File> + Clone + Drop,
+    R: Env + AllocGlobal + Input + Print + Eprint + Folders<File = File> + Clone + Drop,
 {
     let args: Vec<String> = env::args(rt)?.collect(rt.alloc())?;
     let words: Vec<&str> = args.iter().map(|arg| arg.as_str()).collect(rt.alloc())?;

@@ -363,19 +363,19 @@ fn calls_of(alloc: Global, upkeep: Upkeep) -> Result<Vec<Result<u64, u64>>, Refu
 /// The numbers of calls.
 type Calls = [Result<u64, u64>; 7];
 
-const ASKED_CALLS: Calls = [Ok(72), Ok(70), Ok(78), Ok(78), Ok(78), Ok(29), Ok(29)];
+const ASKED_CALLS: Calls = [Ok(78), Ok(76), Ok(84), Ok(84), Ok(84), Ok(29), Ok(29)];
 
 const CHECKPOINT_CALLS: Calls = [
-    Ok(453),
-    Ok(453),
-    Ok(453),
-    Ok(453),
-    Ok(453),
+    Ok(475),
+    Ok(475),
+    Ok(475),
+    Ok(475),
+    Ok(475),
     Ok(101),
     Ok(101),
 ];
 
-const OWN_CALLS: Calls = [Ok(182), Ok(181), Ok(186), Ok(186), Ok(186), Ok(17), Ok(17)];
+const OWN_CALLS: Calls = [Ok(192), Ok(191), Ok(196), Ok(196), Ok(196), Ok(17), Ok(17)];
 
 #[test]
 fn a_server_is_killed(rt: HostRuntime) -> Result<(), Fail> {

@@ -3,9 +3,9 @@
 use crate::tests::FLUSH;
 use crate::tests::stopping::{Life, Stopping};
 use cell_key::Refusal;
-use commit_log::{FileLog, HEAD, LogFault, LogFile, MemFile};
+use commit_log::{FileLog, LogFault, LogFile, MemFile, new_log};
 use durable::LastingServer;
-use file_store::MemFiles;
+use file_store::{Files, MemFiles};
 use oracle::{MarkStore, MemMark};
 use server_loop::{Config, FlushLimits, ServeFault, Server};
 use std::alloc::{AllocError, Global};
@@ -35,6 +35,16 @@ pub const ON_REQUEST: Upkeep = Upkeep {
     checkpoint: None,
 };
 
+/// The number of a store, and that of the first record of its log.
+const STORE: u64 = 0x0102_0304_0506_0708;
+
+const FIRST: u64 = 1;
+
+/// The name of the root file, and more bytes than it has.
+const ROOT_NAME: u64 = 0;
+
+const MOST_ROOT: usize = 256;
+
 /// Files, a mark and a log in memory, which outlast the server that they are lent to.
 #[derive(Drop)]
 pub struct Devices {
@@ -55,8 +65,13 @@ impl Devices {
             log: Cell::new(None),
             life: Life::new(),
         };
-        devices.set_log(HEAD.as_slice())?;
+        devices.set_new_log()?;
         Ok(devices)
+    }
+
+    /// Puts a new log in the place of the log.
+    pub fn set_new_log(&self) -> Result<(), Refusal> {
+        self.set_log(&new_log(self.alloc, STORE, FIRST)?)
     }
 
     /// Puts a log of these bytes in the place of the log, as it is opened after a kill.
@@ -82,6 +97,38 @@ impl Devices {
         };
         self.set_log(&bytes)?;
         Ok(bytes)
+    }
+
+    /// The bytes of the root file, which is shorter than `MOST_ROOT`.
+    pub fn root_bytes(&self) -> Result<Vec<u8>, Refusal> {
+        let Some(mut files) = self.files.take() else {
+            return Err(Refusal::Device);
+        };
+        let mut bytes = [0; MOST_ROOT];
+        let read = files.read_at(ROOT_NAME, 0, &mut bytes);
+        self.files.set(Some(files));
+        let Ok(length) = read else {
+            return Err(Refusal::Device);
+        };
+        Ok(Vec::from_slice(self.alloc, bytes.get(..length).unwrap_or_default())?)
+    }
+
+    /// Puts these bytes in the place of the root file.
+    pub fn set_root(&self, bytes: &[u8]) -> Result<(), Refusal> {
+        let Some(mut files) = self.files.take() else {
+            return Err(Refusal::Device);
+        };
+        let put = files.put(ROOT_NAME, bytes);
+        self.files.set(Some(files));
+        put.map_err(|_| Refusal::Device)
+    }
+
+    /// Puts a mark store with this number in the place of the mark store.
+    pub fn set_mark(&self, number: u32) -> Result<(), Refusal> {
+        let mut marks = MemMark::new();
+        marks.store(u64::from(number))?;
+        self.marks.set(Some(marks));
+        Ok(())
     }
 
     /// The number that the mark store has.

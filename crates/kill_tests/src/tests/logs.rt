@@ -4,7 +4,7 @@ use crate::tests::FLUSH;
 use crate::tests::lasting::{Devices, ON_REQUEST, StoppingServer, Upkeep, reads, states};
 use crate::tests::stopping::Written;
 use cell_key::Refusal;
-use commit_log::{HEAD, MemLog};
+use commit_log::MemLog;
 use durable::LastingServer;
 use file_store::MemFiles;
 use oracle::MemMark;
@@ -17,22 +17,36 @@ use testing::frames::{push_frame, streams_of};
 use testing::rows::{Exchange, FIRST_CELL, Row, TRANSFER};
 use testing::streams::{Holding, Pieces};
 
+/// A new log, over whichever root is there.
+const NEW_LOG: &[u8] = b"TABLOG02\x01\x02\x03\x04\x05\x06\x07\x08\
+    \0\0\0\x11\x41\xC1\x6C\xCA\0\0\0\0\0\0\0\x01\x02\0\0\0\0\0\0\0\0";
+
 /// The log after a cell was held and committed, one record for each: a value and a lock, and a record and no lock.
-pub const TWO_RECORDS: &[u8] = b"TABLOG01\
-    \0\0\0\x42\xA4\xE2\xF8\x82\
+const TWO_RECORDS: &[u8] = b"TABLOG02\x01\x02\x03\x04\x05\x06\x07\x08\
+    \0\0\0\x11\x41\xC1\x6C\xCA\0\0\0\0\0\0\0\x01\x02\0\0\0\0\0\0\0\0\
+    \0\0\0\x53\x6D\xF1\x43\x32\0\0\0\0\0\0\0\x02\0\0\0\0\0\0\0\0\x01\
     \0\0\0\x14r\0\0c\0\0data\0\0\xFF\xFF\xFF\xFF\xFF\xFF\xFF\xFE\x01\0\0\0\x01v\
     \0\0\0\x14r\0\0c\0\0lock\0\0\xFF\xFF\xFF\xFF\xFF\xFF\xFF\xFE\x01\0\0\0\x07r\0\0c\0\0S\
-    \0\0\0\x40\xA8\x98\xBF\x81\
+    \0\0\0\x51\xC7\x3A\xD5\x24\0\0\0\0\0\0\0\x03\0\0\0\0\0\0\0\0\x02\
     \0\0\0\x15r\0\0c\0\0write\0\0\xFF\xFF\xFF\xFF\xFF\xFF\xFF\xFD\x01\0\0\0\x09\0\0\0\0\0\0\0\x01S\
     \0\0\0\x14r\0\0c\0\0lock\0\0\xFF\xFF\xFF\xFF\xFF\xFF\xFF\xFE\0";
 
 /// The same edits as one record.
-const ONE_RECORD: &[u8] = b"TABLOG01\
-    \0\0\0\x82\xB6\x78\x26\x90\
+const ONE_RECORD: &[u8] = b"TABLOG02\x01\x02\x03\x04\x05\x06\x07\x08\
+    \0\0\0\x11\x41\xC1\x6C\xCA\0\0\0\0\0\0\0\x01\x02\0\0\0\0\0\0\0\0\
+    \0\0\0\x93\x62\xEB\xA1\xD4\0\0\0\0\0\0\0\x02\0\0\0\0\0\0\0\0\x03\
     \0\0\0\x14r\0\0c\0\0data\0\0\xFF\xFF\xFF\xFF\xFF\xFF\xFF\xFE\x01\0\0\0\x01v\
     \0\0\0\x14r\0\0c\0\0lock\0\0\xFF\xFF\xFF\xFF\xFF\xFF\xFF\xFE\x01\0\0\0\x07r\0\0c\0\0S\
     \0\0\0\x15r\0\0c\0\0write\0\0\xFF\xFF\xFF\xFF\xFF\xFF\xFF\xFD\x01\0\0\0\x09\0\0\0\0\0\0\0\x01S\
     \0\0\0\x14r\0\0c\0\0lock\0\0\xFF\xFF\xFF\xFF\xFF\xFF\xFF\xFE\0";
+
+/// The log after those two records and a Checkpoint: the root has the greatest stamp 3.
+const ROOT_AFTER_TWO: &[u8] = b"TABLOG02\x01\x02\x03\x04\x05\x06\x07\x08\
+    \0\0\0\x15\x93\x86\xE8\x99\0\0\0\0\0\0\0\x05\x01\0\0\0\0\0\0\0\x03\xD1\x15\xF1\x49";
+
+/// The log after those two records with a checkpoint behind each: the root has the greatest stamp 2.
+const ROOT_AFTER_EACH: &[u8] = b"TABLOG02\x01\x02\x03\x04\x05\x06\x07\x08\
+    \0\0\0\x15\xE1\xF9\x21\x92\0\0\0\0\0\0\0\x07\x01\0\0\0\0\0\0\0\x02\x25\x7C\x54\x24";
 
 /// The log that a server leaves which reads this many bytes at most of the first cell's requests, and then a stream more. It
 /// gets all calls that set how it works.
@@ -63,8 +77,8 @@ const LOGS: [(Upkeep, usize, &[u8], &[u8]); 4] = [
     (ON_REQUEST, 1, b"", TWO_RECORDS),
     (ON_REQUEST, usize::MAX, b"", ONE_RECORD),
     // Checkpoint
-    (ON_REQUEST, 1, b"\0\0\0\x01\x12", &HEAD),
-    (CHECKPOINTS, 1, b"", &HEAD),
+    (ON_REQUEST, 1, b"\0\0\0\x01\x12", ROOT_AFTER_TWO),
+    (CHECKPOINTS, 1, b"", ROOT_AFTER_EACH),
 ];
 
 #[test]
@@ -126,7 +140,7 @@ fn devices_are_handed_on(rt: HostRuntime) -> Result<(), Fail> {
         alloc,
         MemFiles::new(alloc),
         MemMark::new(),
-        MemLog::new(alloc),
+        MemLog::new(alloc)?,
     )?;
     assert!(rt; is_met(alloc, &mut server, &FIRST_CELL)?);
     let (files, marks, log) = server.into_devices();
@@ -138,10 +152,10 @@ fn devices_are_handed_on(rt: HostRuntime) -> Result<(), Fail> {
 /// More frames than a log has.
 const MOST_FRAMES: usize = 100;
 
-/// Where the head of a log ends, and each of its frames.
+/// Where the first frame of a log ends, and each behind it.
 fn ends_of(alloc: Global, log: &[u8]) -> Result<Vec<usize>, Refusal> {
     let mut ends = Vec::new(alloc);
-    let mut end = HEAD.len();
+    let mut end = NEW_LOG.len();
     for _ in 0..MOST_FRAMES {
         ends.push(end)?;
         let frame = log.get(end..).unwrap_or_default();
@@ -154,8 +168,8 @@ fn ends_of(alloc: Global, log: &[u8]) -> Result<Vec<usize>, Refusal> {
     Ok(ends)
 }
 
-/// The devices after the transfer with one record for each request that made edits, the log, where its head and frames end, and
-/// what is read after each of them.
+/// The devices after the transfer with one record for each request that made edits, the log, where its frames end, and what is
+/// read after each of them.
 #[derive(Drop)]
 struct Logged {
     devices: Devices,
@@ -188,15 +202,20 @@ impl Logged {
         })
     }
 
-    /// Whether the devices with this log open as after the frames that end at a place or before it.
-    fn opens_to(&self, log: &[u8], place: usize) -> Result<bool, Refusal> {
-        if place < HEAD.len() {
+    /// How many frames end at a place or before it, behind the one with which the log begins; none if that one doesn't.
+    fn frames_to(&self, place: usize) -> Option<usize> {
+        let ended = self.ends.iter().filter(|end| **end <= place);
+        ended.count().checked_sub(1)
+    }
+
+    /// Whether the devices with this log open as after so many frames, or without a number, whether it is refused as damaged.
+    fn opens_to(&self, log: &[u8], frames: Option<usize>) -> Result<bool, Refusal> {
+        let Some(frames) = frames else {
             return Ok(self.devices.set_log(log) == Err(Refusal::Damaged));
-        }
+        };
         self.devices.set_log(log)?;
         let read = self.devices.replies(ON_REQUEST, &self.reads)?;
-        let frames = self.ends.iter().skip(1).filter(|end| **end <= place);
-        Ok(self.states.get(frames.count()) == Some(&read))
+        Ok(self.states.get(frames) == Some(&read))
     }
 }
 
@@ -251,9 +270,25 @@ fn a_log_is_cut_at_each_byte(rt: HostRuntime) -> Result<(), Fail> {
     assert!(rt; logged.ends.len() == FRAMES + 1 && logged.states.len() == FRAMES + 1);
     for len in 0..=logged.log.len() {
         let (log, _) = logged.log.split_at(len);
-        assert!(rt; logged.opens_to(log, len)?, "{len}");
+        assert!(rt; logged.opens_to(log, logged.frames_to(len))?, "{len}");
     }
     Ok(())
+}
+
+/// Where the number of the store stands in a log, and the first frame. A log in memory may be of any store.
+const STORE_AT: usize = 8;
+
+const FRAMES_AT: usize = 16;
+
+/// How many frames are left of a log whose byte at a place is garbled: none if the frame there is before the last.
+fn frames_without(logged: &Logged, at: usize) -> Option<usize> {
+    if STORE_AT <= at && at < FRAMES_AT {
+        return Some(FRAMES);
+    }
+    match logged.frames_to(at) {
+        Some(count) if count == FRAMES - 1 => Some(count),
+        _ => None,
+    }
 }
 
 #[test]
@@ -264,27 +299,45 @@ fn a_byte_of_a_log_is_garbled(rt: HostRuntime) -> Result<(), Fail> {
         if let Some(byte) = log.get_mut(at) {
             *byte ^= 0x20;
         }
-        assert!(rt; logged.opens_to(&log, at)?, "{at}");
+        let frames = frames_without(&logged, at);
+        assert!(rt; logged.opens_to(&log, frames)?, "{at}");
     }
     Ok(())
 }
 
 /// Logs of which a record is no edits.
-const NO_EDITS: [&[u8]; 5] = [
+const NO_EDITS: [&[u8]; 6] = [
     // x
-    b"TABLOG01\0\0\0\x01\x81\xE7\x3F\x52x",
+    b"TABLOG02\x01\x02\x03\x04\x05\x06\x07\x08\
+        \0\0\0\x11\x41\xC1\x6C\xCA\0\0\0\0\0\0\0\x01\x02\0\0\0\0\0\0\0\0\
+        \0\0\0\x12\xD0\x76\xFD\x95\0\0\0\0\0\0\0\x02\0\0\0\0\0\0\0\0\x01\
+        x",
     // a put that is cut short
-    b"TABLOG01\0\0\0\x1D\xA5\xB6\xF6\x38\
+    b"TABLOG02\x01\x02\x03\x04\x05\x06\x07\x08\
+        \0\0\0\x11\x41\xC1\x6C\xCA\0\0\0\0\0\0\0\x01\x02\0\0\0\0\0\0\0\0\
+        \0\0\0\x2E\xF7\x40\x31\x45\0\0\0\0\0\0\0\x02\0\0\0\0\0\0\0\0\x01\
         \0\0\0\x14r\0\0c\0\0data\0\0\xFF\xFF\xFF\xFF\xFF\xFF\xFF\xFE\x01\0\0\0\x01",
-    // a put, and then x
-    b"TABLOG01\0\0\0\x1E\x50\xEB\x0C\x9F\
+    // a put, and then x in a record of its own
+    b"TABLOG02\x01\x02\x03\x04\x05\x06\x07\x08\
+        \0\0\0\x11\x41\xC1\x6C\xCA\0\0\0\0\0\0\0\x01\x02\0\0\0\0\0\0\0\0\
+        \0\0\0\x2F\x50\x94\x22\x76\0\0\0\0\0\0\0\x02\0\0\0\0\0\0\0\0\x01\
         \0\0\0\x14r\0\0c\0\0data\0\0\xFF\xFF\xFF\xFF\xFF\xFF\xFF\xFE\x01\0\0\0\x01v\
-        \0\0\0\x01\x81\xE7\x3F\x52x",
+        \0\0\0\x12\x11\xF8\x22\x55\0\0\0\0\0\0\0\x03\0\0\0\0\0\0\0\0\x01\
+        x",
     // neither a put nor an erasure
-    b"TABLOG01\0\0\0\x19\xE0\x34\x69\xCA\
+    b"TABLOG02\x01\x02\x03\x04\x05\x06\x07\x08\
+        \0\0\0\x11\x41\xC1\x6C\xCA\0\0\0\0\0\0\0\x01\x02\0\0\0\0\0\0\0\0\
+        \0\0\0\x2A\x07\x41\x59\xD2\0\0\0\0\0\0\0\x02\0\0\0\0\0\0\0\0\x01\
         \0\0\0\x14r\0\0c\0\0data\0\0\xFF\xFF\xFF\xFF\xFF\xFF\xFF\xFE\x02",
     // an erasure of a key that is none
-    b"TABLOG01\0\0\0\x06\x9C\x91\x2C\x0F\0\0\0\x01r\0",
+    b"TABLOG02\x01\x02\x03\x04\x05\x06\x07\x08\
+        \0\0\0\x11\x41\xC1\x6C\xCA\0\0\0\0\0\0\0\x01\x02\0\0\0\0\0\0\0\0\
+        \0\0\0\x18\x11\x86\x27\xDC\0\0\0\0\0\0\0\x02\0\0\0\0\0\0\0\0\x01\
+        \0\0\0\x02r\0\0",
+    // a kind that is none
+    b"TABLOG02\x01\x02\x03\x04\x05\x06\x07\x08\
+        \0\0\0\x11\x41\xC1\x6C\xCA\0\0\0\0\0\0\0\x01\x02\0\0\0\0\0\0\0\0\
+        \0\0\0\x11\xCA\x8A\xF3\x1C\0\0\0\0\0\0\0\x02\x03\0\0\0\0\0\0\0\x01",
 ];
 
 /// Whether an open of a store with this log, which is new or was opened before, is refused as damaged, and opened without
@@ -296,7 +349,7 @@ fn is_refused(alloc: Global, log: &[u8], is_new: bool) -> Result<bool, Refusal> 
     }
     devices.set_log(log)?;
     let refused = devices.replies(ON_REQUEST, b"");
-    devices.set_log(HEAD.as_slice())?;
+    devices.set_new_log()?;
     Ok(refused == Err(Refusal::Damaged) && devices.replies(ON_REQUEST, b"")?.is_empty())
 }
 
@@ -311,6 +364,112 @@ fn records_that_are_no_edits(rt: HostRuntime) -> Result<(), Fail> {
 #[test]
 fn edits_without_a_root(rt: HostRuntime) -> Result<(), Fail> {
     assert!(rt; is_refused(rt.alloc(), TWO_RECORDS, true)?);
+    Ok(())
+}
+
+/// Whether the devices open, and else are damaged.
+fn opens(devices: &Devices) -> Result<bool, Refusal> {
+    match devices.replies(ON_REQUEST, b"") {
+        Ok(_) => Ok(true),
+        Err(Refusal::Damaged) => Ok(false),
+        Err(refusal) => Err(refusal),
+    }
+}
+
+/// Marks, and whether a store opens whose log has records of stamps 1 and 2.
+const MARKS: [(u32, bool); 3] = [(0, false), (1, false), (2, true)];
+
+#[test]
+fn a_mark_before_a_record(rt: HostRuntime) -> Result<(), Fail> {
+    for (mark, is_opened) in MARKS {
+        let devices = Devices::new(rt.alloc())?;
+        devices.replies(ON_REQUEST, b"")?;
+        devices.set_log(TWO_RECORDS)?;
+        devices.set_mark(mark)?;
+        assert!(rt; opens(&devices)? == is_opened, "{mark}");
+    }
+    Ok(())
+}
+
+/// A Begin and a Checkpoint, whose root has the Begin's stamp.
+const BEGIN_AND_CHECKPOINT: [&[u8]; 2] = [b"\x01", b"\x12"];
+
+/// The root file and the log after each of two checkpoints of these devices.
+fn two_roots(alloc: Global, devices: &Devices) -> Result<[(Vec<u8>, Vec<u8>); 2], Refusal> {
+    let mut server = devices.open(ON_REQUEST)?;
+    for body in BEGIN_AND_CHECKPOINT {
+        serve_one(alloc, &mut server, body)?;
+    }
+    let old = (devices.root_bytes()?, devices.log_bytes()?);
+    for body in BEGIN_AND_CHECKPOINT {
+        serve_one(alloc, &mut server, body)?;
+    }
+    Ok([old, (devices.root_bytes()?, devices.log_bytes()?)])
+}
+
+#[test]
+fn a_log_over_another_root(rt: HostRuntime) -> Result<(), Fail> {
+    let devices = Devices::new(rt.alloc())?;
+    let pairs = two_roots(rt.alloc(), &devices)?;
+    for (root_at, (root, _)) in pairs.iter().enumerate() {
+        devices.set_root(root)?;
+        for (log_at, (_, log)) in pairs.iter().enumerate() {
+            devices.set_log(log)?;
+            assert!(rt;
+                opens(&devices)? == (root_at == log_at),
+                "{root_at} {log_at}"
+            );
+        }
+        devices.set_new_log()?;
+        assert!(rt; opens(&devices)?, "{root_at}");
+    }
+    Ok(())
+}
+
+/// The log of a new store that names the root of its opening.
+const NAMED_LOG: &[u8] = b"TABLOG02\x01\x02\x03\x04\x05\x06\x07\x08\
+    \0\0\0\x15\x76\x4A\x44\x3B\0\0\0\0\0\0\0\x03\x01\0\0\0\0\0\0\0\0\x14\xA7\x75\x1F";
+
+#[test]
+fn a_root_is_named(rt: HostRuntime) -> Result<(), Fail> {
+    let devices = Devices::new(rt.alloc())?;
+    let mut server = devices.open(ON_REQUEST)?;
+    server.name_root()?;
+    assert!(rt; devices.log_bytes()?.as_slice() == NAMED_LOG);
+    server.name_root()?;
+    assert!(rt; devices.log_bytes()?.as_slice() == NAMED_LOG);
+    Ok(())
+}
+
+/// Whether new devices open after a kill at this call while their root is named, and whether there is such a call.
+fn naming_survives(alloc: Global, at: u64, makes_last: bool) -> Result<(bool, bool), Refusal> {
+    let devices = Devices::new(alloc)?;
+    let mut server = devices.open(ON_REQUEST)?;
+    devices.life.begin(at, makes_last);
+    let is_named = server.name_root().is_ok();
+    let is_over = devices.life.is_over();
+    devices.life.begin(u64::MAX, false);
+    Ok((opens(&devices)? && is_named != is_over, is_over))
+}
+
+/// How many calls a naming makes, after a kill at each of which the devices open; or the first after which they don't.
+fn naming_calls(alloc: Global, makes_last: bool) -> Result<Result<u64, u64>, Refusal> {
+    for at in 1..=MOST_CALLS {
+        match naming_survives(alloc, at, makes_last)? {
+            (false, _) => return Ok(Err(at)),
+            (true, true) => {}
+            (true, false) => return Ok(Ok(at.saturating_sub(1))),
+        }
+    }
+    Ok(Err(MOST_CALLS))
+}
+
+#[test]
+fn naming_a_root_is_killed(rt: HostRuntime) -> Result<(), Fail> {
+    for makes_last in [false, true] {
+        let calls = naming_calls(rt.alloc(), makes_last)?;
+        assert!(rt; calls == Ok(4), "{calls:?}");
+    }
     Ok(())
 }
 

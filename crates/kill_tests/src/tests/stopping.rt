@@ -3,11 +3,11 @@
 ghost use Rattle.std.specs.Prelude.{◌≡◌, ◌≤◌, ◌<◌, ◌^◌, IfOk, IsErrOf, None, OnErr, OnOk, false, ⊤};
 ghost use Rattle.cell_key.specs.Faults.{HasRisen};
 ghost use Rattle.commit_log.specs.Faults.{HasFaultCause as HasLogCause};
-ghost use Rattle.commit_log.specs.Frames.{IsRecord};
+ghost use Rattle.commit_log.specs.Frames.{IsBody};
 ghost use Rattle.file_store.specs.Store.{HasFaultCause};
 
 use cell_key::Stamp;
-use commit_log::{Log, LogFault};
+use commit_log::{Log, LogFault, RecordKind};
 use durable::WholeFiles;
 use file_store::{FileFault, Files};
 use oracle::{MarkFault, MarkStore};
@@ -165,6 +165,7 @@ impl<'a, D: Drop> Stopping<'a, D> {
         is_last: bool,
     ) -> Result<T, LogFault>
         ensures intact { ¬ IsErrOf called LogFault.Damaged → ¬ IsErrOf result LogFault.Damaged }
+        ensures taken { ¬ IsErrOf called LogFault.Refused → ¬ IsErrOf result LogFault.Refused }
         ensures cause { HasLogCause self.old.faults self.new.faults result }
     {
         if is_last || matches!(&called, Err(LogFault::Device)) {
@@ -269,11 +270,11 @@ impl<L: Log + Drop> Log for Stopping<'_, L> {
 
     ghost faults = { λ stopping. stopping.faults };
 
-    fn append(&mut self, payload: &[u8]) -> Result<(), LogFault> {
+    fn append(&mut self, kind: RecordKind, stamp: Stamp, body: &[u8]) -> Result<(), LogFault> {
         let Some((mut log, is_last)) = self.to_write() else {
             return self.log_answer(Err(LogFault::Device), false);
         };
-        let called = log.append(payload);
+        let called = log.append(kind, stamp, body);
         self.cell.set(Some(log));
         self.log_answer(called, is_last)
     }
@@ -287,11 +288,11 @@ impl<L: Log + Drop> Log for Stopping<'_, L> {
         self.log_answer(called, false)
     }
 
-    fn reset(&mut self) -> Result<(), LogFault> {
+    fn renew(&mut self, kind: RecordKind, stamp: Stamp, body: &[u8]) -> Result<(), LogFault> {
         let Some((mut log, is_last)) = self.to_write() else {
             return self.log_answer(Err(LogFault::Device), false);
         };
-        let called = log.reset();
+        let called = log.renew(kind, stamp, body);
         self.cell.set(Some(log));
         self.log_answer(called, is_last)
     }

@@ -1,6 +1,6 @@
 //! Checkpoints: what a cluster shows is put into its files, and the root file has the lengths of the others.
 
-ghost use Rattle.std.specs.Prelude.{◌≡◌, ◌⊎◌, IfErr, IfOk, IfSome, IsErrOf, OnErr, OnOk, length};
+ghost use Rattle.std.specs.Prelude.{◌≡◌, ◌⊎◌, IfErr, IfOk, IfSome, IsErrOf, OnErr, OnOk, length, replicate};
 ghost use Rattle.std.specs.FinMap.{get};
 ghost use Rattle.cell_key.specs.Faults.{HasReason};
 ghost use Rattle.metadata_table.specs.Roots.{file_names};
@@ -8,11 +8,12 @@ ghost use Rattle.row_atomic.specs.Changes.{Holds, IsRefusalOf};
 ghost use Rattle.row_atomic.specs.Commands.{TellsFaults, done_of};
 ghost use Rattle.row_atomic.specs.Compactions.{minor as minor_compaction};
 ghost use Rattle.row_atomic.specs.Flushes.{KeepsShown, numbers_of};
-ghost use Rattle.row_atomic.specs.Roots.{AreFlushed, AreMeasured, Checkpoints, FlushesEach, PutsRoot, PutsRootOrNone, Rests, StaysOrRests};
+ghost use Rattle.row_atomic.specs.Roots.{AreFlushed, AreMeasured, Checkpoints, FlushesEach, PutsRoot, PutsRootOrNone, Rests, StaysOrRests, root_at, root_sum};
 
 use crate::cluster::Cluster;
 use crate::cluster::laws::{root_is_stored, root_outlasts_flushes};
 use cell_key::{Refusal, Stamp};
+use commit_log::crc32;
 use file_store::Files;
 use metadata_table::MetadataTable;
 use sorted_file::refusal_of;
@@ -79,7 +80,40 @@ pub(crate) fn file_lengths<F: Files>(
     Ok(lengths)
 }
 
+/// A length of 0 for each file of a table.
+fn zero_lengths(alloc: Global, table: &MetadataTable) -> Result<Vec<u64>, Refusal>
+    ensures zeros { IfOk result (λ lengths.
+        lengths.items ≡ replicate (length (file_names table.now)) 0) }
+    ensures refusal { IfErr result (λ refusal. refusal ≡ Refusal.NoMemory) }
+{
+    let mut lengths = Vec::new(alloc);
+    let mut rest = table.places();
+    'places: while let Some((place, after)) = rest.split_first() {
+        let own = vec![in alloc; 0; place.files.len()]?;
+        lengths.extend_from_slice(&own)?;
+        rest = after;
+    }
+    Ok(lengths)
+}
+
 impl<F: Files> Cluster<F> {
+    /// The checksum of what a root says that has these stamps and the cluster's places and next name: the CRC-32 of its
+    /// bytes in format 2, but with 0 in place of each file's length.
+    ///
+    /// # Errors
+    ///
+    /// `NoMemory` if a growth was refused.
+    pub fn root_sum(&self, top: Stamp, floor: Stamp) -> Result<u32, Refusal>
+        ensures sum { IfOk result (λ sum. sum ≡ root_sum (root_at top floor self.now)) }
+        ensures refusal { IfErr result (λ refusal. refusal ≡ Refusal.NoMemory) }
+    {
+        let lengths = zero_lengths(self.alloc, &self.table)?;
+        let mut image = Vec::new(self.alloc);
+        self.table
+            .write_root(top, floor, self.next_name, &lengths, &mut image)?;
+        Ok(crc32(&image, &[]))
+    }
+
     /// Compacts every tablet as `minor` does, in the order of their ends, up to one that is refused.
     fn flush_each(&mut self) -> Result<(), Refusal>
         ensures flushes { FlushesEach F.contents F.faults

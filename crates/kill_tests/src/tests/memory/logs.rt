@@ -80,10 +80,11 @@ pub struct Logged {
 
 impl Logged {
     /// Those of a new store.
-    fn new(alloc: Global) -> Logged {
-        Logged {
-            devices: Some((MemFiles::new(alloc), MemMark::new(), MemLog::new(alloc))),
-        }
+    fn new(alloc: Global) -> Result<Logged, Refusal> {
+        let log = MemLog::new(alloc)?;
+        Ok(Logged {
+            devices: Some((MemFiles::new(alloc), MemMark::new(), log)),
+        })
     }
 
     /// A server over the devices. If it is refused they come back.
@@ -121,7 +122,7 @@ impl Logged {
 
 impl Subject for Logged {
     fn set_up(alloc: Global) -> Result<Logged, Refusal> {
-        let mut logged = Logged::new(alloc);
+        let mut logged = Logged::new(alloc)?;
         let stream = stream_of(alloc, &SET_UP)?;
         logged.written(alloc, &stream)?;
         Ok(logged)
@@ -132,7 +133,7 @@ impl Subject for Logged {
             let server = self.open(alloc)?;
             self.devices = Some(server.into_devices());
         } else {
-            Logged::new(alloc).open(alloc)?;
+            Logged::new(alloc)?.open(alloc)?;
         }
         Ok(wanted.is_empty())
     }

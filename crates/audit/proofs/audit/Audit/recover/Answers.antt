@@ -7,23 +7,27 @@ returns c = λ st kept.
     let again = c.reopen.ensures st kept in
     let mid = reopened st in (
       record mid { top = c.args.mark; floor = c.args.mark + 1 },
-      (omega (arith, c.if-mark-self.false, kept.top), omega (arith, c.if-mark-gt-MOST_STAMP.false), record {
-        top = refl;
-        floor = refl;
-        begun = inl refl;
-        active = refl;
-        commits = refl;
-        dead = refl;
-        marks = refl;
-        reads = refl;
-        scans = refl;
-        cleaners = refl;
-        next_cleaner = refl;
-        collectors = refl;
-        next_collector = refl;
-        places = refl;
-        next_tablet = refl;
-      }),
+      (
+        omega (arith, c.if-mark-self.false, kept.top),
+        omega (arith, c.if-mark-gt-MOST_STAMP.false),
+        record {
+          top = refl;
+          floor = refl;
+          begun = inl refl;
+          active = refl;
+          commits = refl;
+          dead = refl;
+          marks = refl;
+          reads = refl;
+          scans = refl;
+          cleaners = refl;
+          next_cleaner = refl;
+          collectors = refl;
+          next_collector = refl;
+          places = refl;
+          next_tablet = refl;
+        },
+      ),
       record {
         top = refl;
         begun = again.begun;

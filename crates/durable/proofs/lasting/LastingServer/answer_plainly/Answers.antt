@@ -15,7 +15,7 @@ returns-clause-says g c =
             step = step;
             shown = shows;
             whole = whole;
-            logged = logs_on g.S.Recording.stores g.S.Recording.logged g.S.Recording.waiting g.S.Recording.last g.L.Log.holds g.S.Recording.is_rooted c.logs_edits.ensures g.S.Recording.count c.args.self.now c.reply_to.new.self leaves.0.rooted leaves.1;
-            lasting = λ logs st lasts. inl (still_lasts g.S.Recording.stores g.S.Recording.logged g.S.Recording.waiting g.S.Recording.last g.L.Log.holds g.S.Recording.is_rooted c.logs_edits.ensures g.S.Recording.count c.args.self.now c.reply_to.new.self st leaves.0.stored leaves.1 lasts);
+            logged = logs_on g.S.Recording.stores g.S.Recording.logged g.S.Recording.waiting g.S.Recording.last g.L.Log.holds g.S.Recording.is_rooted c.logs_edits.ensures c.names_roots.ensures g.S.Recording.count c.args.self.now c.reply_to.new.self leaves.0 leaves.1;
+            lasting = λ logs st lasts. inl (still_lasts g.S.Recording.stores g.S.Recording.logged g.S.Recording.waiting g.S.Recording.last g.L.Log.holds g.S.Recording.is_rooted c.logs_edits.ensures c.names_roots.ensures g.S.Recording.count c.args.self.now c.reply_to.new.self st leaves.0.stored leaves.1 lasts);
           };
     }

@@ -22,11 +22,11 @@ returns-then-not-self-clause-says g c =
             whole = whole;
             logged = λ logs. elim (c.root.ensures.settles.logged now reached shown logs) [
               | inl stopped ↦ true_not_false _ stopped c.if-not-self.true
-              | inr h ↦ let k = c.in-Ok.ensures.kept now shown logs in (c.root_moved.ensures.kept now next shows (holds_on g.S.Recording.stores g.S.Recording.logged g.S.Recording.waiting g.S.Recording.last g.L.Log.holds g.S.Recording.is_rooted c.logs_edits.ensures g.S.Recording.count c.root.new.self c.reply_to-reply.new.self h.1 moves.1.has) (moves.1.waits ∙ k.2) (moves.1.goes_on ∙ k.1) (still_lasts g.S.Recording.stores g.S.Recording.logged g.S.Recording.waiting g.S.Recording.last g.L.Log.holds g.S.Recording.is_rooted c.logs_edits.ensures g.S.Recording.count c.root.new.self c.reply_to-reply.new.self now moves.0 moves.1.has k.0)).1
+              | inr h ↦ let k = c.in-Ok.ensures.kept now shown logs in (c.root_moved.ensures.kept now next h.0 shows (holds_on g.S.Recording.stores g.S.Recording.logged g.S.Recording.waiting g.S.Recording.last g.L.Log.holds g.S.Recording.is_rooted c.logs_edits.ensures c.names_roots.ensures g.S.Recording.count c.root.new.self c.reply_to-reply.new.self h.0 moves.0.later h.2 moves.1.has) (moves.1.waits ∙ k.2) (moves.1.goes_on ∙ k.1) (still_lasts g.S.Recording.stores g.S.Recording.logged g.S.Recording.waiting g.S.Recording.last g.L.Log.holds g.S.Recording.is_rooted c.logs_edits.ensures c.names_roots.ensures g.S.Recording.count c.root.new.self c.reply_to-reply.new.self now moves.0 moves.1.has k.0)).1
             ];
             lasting = λ logs st lasts. inr (elim (c.root.ensures.settles.logged now reached shown logs) [
               | inl stopped ↦ true_not_false _ stopped c.if-not-self.true
-              | inr h ↦ let k = c.in-Ok.ensures.kept now shown logs in (c.root_moved.ensures.kept now next shows (holds_on g.S.Recording.stores g.S.Recording.logged g.S.Recording.waiting g.S.Recording.last g.L.Log.holds g.S.Recording.is_rooted c.logs_edits.ensures g.S.Recording.count c.root.new.self c.reply_to-reply.new.self h.1 moves.1.has) (moves.1.waits ∙ k.2) (moves.1.goes_on ∙ k.1) (still_lasts g.S.Recording.stores g.S.Recording.logged g.S.Recording.waiting g.S.Recording.last g.L.Log.holds g.S.Recording.is_rooted c.logs_edits.ensures g.S.Recording.count c.root.new.self c.reply_to-reply.new.self now moves.0 moves.1.has k.0)).0
+              | inr h ↦ let k = c.in-Ok.ensures.kept now shown logs in (c.root_moved.ensures.kept now next h.0 shows (holds_on g.S.Recording.stores g.S.Recording.logged g.S.Recording.waiting g.S.Recording.last g.L.Log.holds g.S.Recording.is_rooted c.logs_edits.ensures c.names_roots.ensures g.S.Recording.count c.root.new.self c.reply_to-reply.new.self h.0 moves.0.later h.2 moves.1.has) (moves.1.waits ∙ k.2) (moves.1.goes_on ∙ k.1) (still_lasts g.S.Recording.stores g.S.Recording.logged g.S.Recording.waiting g.S.Recording.last g.L.Log.holds g.S.Recording.is_rooted c.logs_edits.ensures c.names_roots.ensures g.S.Recording.count c.root.new.self c.reply_to-reply.new.self now moves.0 moves.1.has k.0)).0
             ]);
           };
     }
@@ -46,7 +46,7 @@ returns-else-not-self-clause-says g c =
             shown = shows;
             whole = whole;
             logged = λ logs. inl c.if-not-self.false;
-            lasting = λ logs st lasts. inr (inl (still_lasts g.S.Recording.stores g.S.Recording.logged g.S.Recording.waiting g.S.Recording.last g.L.Log.holds g.S.Recording.is_rooted c.logs_edits.ensures g.S.Recording.count c.root.new.self c.reply_to-reply.new.self now moves.0 moves.1.has (c.in-Ok.ensures.kept now shown logs).0));
+            lasting = λ logs st lasts. inr (inl (still_lasts g.S.Recording.stores g.S.Recording.logged g.S.Recording.waiting g.S.Recording.last g.L.Log.holds g.S.Recording.is_rooted c.logs_edits.ensures c.names_roots.ensures g.S.Recording.count c.root.new.self c.reply_to-reply.new.self now moves.0 moves.1.has (c.in-Ok.ensures.kept now shown logs).0));
           };
     }
 

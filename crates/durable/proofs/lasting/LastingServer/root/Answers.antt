@@ -1,12 +1,38 @@
-use Rattle.std.proofs.Common.{◌∙◌, inl, inr}
+use Rattle.std.proofs.Common.{◌∙◌, inl, inr, refl, sym}
+use Rattle.metadata_table.specs.Roots.{RootView}
 use Rattle.si_model.specs.Machine.{State, refuses}
 use Rattle.si_model.specs.Refusing.{gives_up}
 use Rattle.durable.specs.Lasts.{Logs}
-use Rattle.durable.proofs.Logged.{holds_on, root_lasts, still_lasts}
+use Rattle.durable.proofs.Logged.{holds_any, lasts_any, lasts_on, on_err, on_ok, root_lasts, stays_stored, true_not_false}
 use Rattle.durable.proofs.lasting.LastingServer.root.Goals as goal
 
 pub returns-then-not-log_waiting-clause-step : goal.returns-then-not-log_waiting-clause-step
 returns-then-not-log_waiting-clause-step g c = λ before reached shown. (before, refuses (gives_up tt), c.log_waiting.ensures.shown before shown, λ e. cc)
+
+pub returns-then-not-log_waiting-clause-settles : goal.returns-then-not-log_waiting-clause-settles
+returns-then-not-log_waiting-clause-settles g c =
+    let is = c.if-not-log_waiting.true in
+    let w = c.log_waiting.ensures in
+    record { shown = w.shown; logged = λ now reached shown logs. inl (w.stopped is); lasting = λ now reached shown logs. w.err is now shown logs }
+
+pub returns-then-is_err-clause-step : goal.returns-then-is_err-clause-step
+returns-then-is_err-clause-step g c = λ before reached shown. (before, refuses (gives_up tt), c.log_waiting.ensures.shown before shown, λ e. cc)
+
+pub returns-then-is_err-clause-settles : goal.returns-then-is_err-clause-settles
+returns-then-is_err-clause-settles g c =
+    let is = c.if-not-log_waiting.false in
+    let w = c.log_waiting.ensures in
+    let may = on_err c.append.result c.is_err.result c.is_err.ensures.value c.if-is_err.true c.append.ensures.err in
+    record {
+      shown = w.shown;
+      logged = λ now reached shown logs. inl refl;
+      lasting = λ now reached shown logs st lasts.
+          let before = (w.ok is now shown logs).1 now (w.shown now shown) in
+          inr (elim (may before.kept.records before.kept.in_log.0) [
+            | inl same ↦ lasts_on g.S.Recording.stores g.S.Recording.logged g.S.Recording.waiting g.S.Recording.last g.L.Log.holds g.S.Recording.is_rooted c.logs_edits.ensures c.names_roots.ensures g.S.Recording.count c.log_waiting.new.self _ now (stays_stored _ _ _) before same (inl refl)
+            | inr more ↦ lasts_any g.S.Recording.stores g.S.Recording.logged g.S.Recording.waiting g.S.Recording.last g.L.Log.holds g.S.Recording.is_rooted c.logs_edits.ensures c.names_roots.ensures g.S.Recording.count c.log_waiting.new.self _ now (stays_stored _ _ _) before more (inl refl)
+          ]);
+    }
 
 pub returns-in-Ok-clause-step : goal.returns-in-Ok-clause-step
 returns-in-Ok-clause-step g c = λ before reached shown.
@@ -19,12 +45,20 @@ returns-in-Ok-clause-settles g c =
     let is = c.if-not-log_waiting.false in
     let w = c.log_waiting.ensures in
     let p = c.checkpoint_now.ensures in
+    let mid = record c.log_waiting.new.self { log = c.append.new.self } in
+    let new = record mid { server = c.checkpoint_now.new.self } in
+    let gains = on_ok c.append.result c.is_err.result c.is_err.ensures.value c.if-is_err.false c.append.ensures.ok in
     let kept = λ (now : State) (shown : g.S.Answering.shows c.args.self.now.server now) (logs : Logs g.S.Recording.stores g.S.Recording.logged g.S.Recording.last g.L.Log.holds g.S.Recording.is_rooted c.args.self.now).
     let held = w.ok is now shown logs in
-    let mid = w.shown now shown in
-    let done = c.in-Ok.ensures.done now mid in
-    let follows = c.recording_laws.ensures.follows c.checkpoint_now.new.self now (p.keeps.goes_on ∙ w.recording is) done.0.rooted (p.shown now mid) in
-    c.empty_log.ensures.kept now done.0 (root_lasts g.S.Recording.stores g.S.Recording.logged g.S.Recording.waiting g.S.Recording.last g.L.Log.holds g.S.Recording.is_rooted c.logs_edits.ensures g.S.Recording.count c.log_waiting.new.self c.checkpoint_now.new.self now follows held.0.1 p.keeps.has (p.keeps.waits ∙ w.waiting is)) in
+    let shows = w.shown now shown in
+    let put = (c.in-Ok.ensures.done now shows).0 in
+    let root = g.S.Recording.next_root c.checkpoint_now.new.self in
+    let goes = p.keeps.goes_on ∙ w.recording is in
+    let none = p.keeps.waits ∙ w.waiting is in
+    let follows = c.recording_laws.ensures.follows c.checkpoint_now.new.self root now goes put.rooted (p.shown now shows) in
+    let holds = holds_any g.S.Recording.stores g.S.Recording.logged g.S.Recording.waiting g.S.Recording.last g.L.Log.holds g.S.Recording.is_rooted c.logs_edits.ensures c.names_roots.ensures g.S.Recording.count c.log_waiting.new.self new held.0.0 root p.keeps.later held.0.2 p.keeps.has (gains held.0.2.records held.0.2.in_log) in
+    let kept = c.empty_log.ensures.kept now put (root_lasts g.S.Recording.stores g.S.Recording.logged g.S.Recording.waiting g.S.Recording.last g.L.Log.holds g.S.Recording.is_rooted c.logs_edits.ensures c.names_roots.ensures g.S.Recording.count new root now follows holds none) in
+    kept in
     record {
       shown = λ st shown. let mid = w.shown st shown in c.empty_log.ensures.shown (c.in-Ok.ensures.done st mid).1 st (p.shown st mid);
       logged = λ now reached shown logs. (kept now shown logs).1;
@@ -36,14 +70,22 @@ returns-in-Ok-clause-kept g c = λ now shown logs.
     let is = c.if-not-log_waiting.false in
     let w = c.log_waiting.ensures in
     let p = c.checkpoint_now.ensures in
+    let mid = record c.log_waiting.new.self { log = c.append.new.self } in
+    let new = record mid { server = c.checkpoint_now.new.self } in
+    let gains = on_ok c.append.result c.is_err.result c.is_err.ensures.value c.if-is_err.false c.append.ensures.ok in
     let held = w.ok is now shown logs in
-    let mid = w.shown now shown in
-    let done = c.in-Ok.ensures.done now mid in
+    let shows = w.shown now shown in
+    let put = (c.in-Ok.ensures.done now shows).0 in
+    let root = g.S.Recording.next_root c.checkpoint_now.new.self in
     let goes = p.keeps.goes_on ∙ w.recording is in
     let none = p.keeps.waits ∙ w.waiting is in
-    let follows = c.recording_laws.ensures.follows c.checkpoint_now.new.self now goes done.0.rooted (p.shown now mid) in
-    let kept = c.empty_log.ensures.kept now done.0 (root_lasts g.S.Recording.stores g.S.Recording.logged g.S.Recording.waiting g.S.Recording.last g.L.Log.holds g.S.Recording.is_rooted c.logs_edits.ensures g.S.Recording.count c.log_waiting.new.self c.checkpoint_now.new.self now follows held.0.1 p.keeps.has none) in
+    let follows = c.recording_laws.ensures.follows c.checkpoint_now.new.self root now goes put.rooted (p.shown now shows) in
+    let holds = holds_any g.S.Recording.stores g.S.Recording.logged g.S.Recording.waiting g.S.Recording.last g.L.Log.holds g.S.Recording.is_rooted c.logs_edits.ensures c.names_roots.ensures g.S.Recording.count c.log_waiting.new.self new held.0.0 root p.keeps.later held.0.2 p.keeps.has (gains held.0.2.records held.0.2.in_log) in
+    let kept = c.empty_log.ensures.kept now put (root_lasts g.S.Recording.stores g.S.Recording.logged g.S.Recording.waiting g.S.Recording.last g.L.Log.holds g.S.Recording.is_rooted c.logs_edits.ensures c.names_roots.ensures g.S.Recording.count new root now follows holds none) in
     (kept.0, c.empty_log.ensures.recording ∙ goes, c.empty_log.ensures.waiting none)
+
+pub returns-in-Ok-clause-clean : goal.returns-in-Ok-clause-clean
+returns-in-Ok-clause-clean g c = λ now shown. c.empty_log.ensures.clean (c.in-Ok.ensures.done now (c.log_waiting.ensures.shown now shown)).1
 
 pub returns-in-Err-clause-step : goal.returns-in-Err-clause-step
 returns-in-Err-clause-step g c = λ before reached shown. c.in-Err.ensures.step before reached (c.log_waiting.ensures.shown before shown)
@@ -53,22 +95,25 @@ returns-in-Err-clause-settles g c =
     let is = c.if-not-log_waiting.false in
     let w = c.log_waiting.ensures in
     let p = c.checkpoint_now.ensures in
+    let mid = record c.log_waiting.new.self { log = c.append.new.self } in
+    let new = record mid { server = c.checkpoint_now.new.self } in
+    let gains = on_ok c.append.result c.is_err.result c.is_err.ensures.value c.if-is_err.false c.append.ensures.ok in
     record {
       shown = λ st shown. p.shown st (w.shown st shown);
       logged = λ now reached shown logs.
           let held = w.ok is now shown logs in
-          let on = holds_on g.S.Recording.stores g.S.Recording.logged g.S.Recording.waiting g.S.Recording.last g.L.Log.holds g.S.Recording.is_rooted c.logs_edits.ensures g.S.Recording.count c.log_waiting.new.self c.checkpoint_now.new.self held.0.1 p.keeps.has in
-          inr (elim c.in-Err.ensures.undone [ inl stays ↦ (stays.rooted held.0.0, on) | inr put ↦ ((put now (w.shown now shown)).rooted, on) ]);
+          let any = λ (root : RootView). holds_any g.S.Recording.stores g.S.Recording.logged g.S.Recording.waiting g.S.Recording.last g.L.Log.holds g.S.Recording.is_rooted c.logs_edits.ensures c.names_roots.ensures g.S.Recording.count c.log_waiting.new.self new held.0.0 root p.keeps.later held.0.2 p.keeps.has (gains held.0.2.records held.0.2.in_log) in
+          inr (elim c.in-Err.ensures.undone [
+            | inl stays ↦ (held.0.0, stays.rooted held.0.0 held.0.1, any held.0.0)
+            | inr put ↦ (_, (put now (w.shown now shown)).rooted, any _)
+          ]);
       lasting = λ now reached shown logs st lasts.
           let held = w.ok is now shown logs in
-          let mid = w.shown now shown in
+          let shows = w.shown now shown in
+          let any = λ (root : RootView). holds_any g.S.Recording.stores g.S.Recording.logged g.S.Recording.waiting g.S.Recording.last g.L.Log.holds g.S.Recording.is_rooted c.logs_edits.ensures c.names_roots.ensures g.S.Recording.count c.log_waiting.new.self new held.0.0 root p.keeps.later held.0.2 p.keeps.has (gains held.0.2.records held.0.2.in_log) in
+          let follows = λ (root : RootView) (rooted : g.S.Recording.is_rooted c.checkpoint_now.new.self root). c.recording_laws.ensures.follows c.checkpoint_now.new.self root now (p.keeps.goes_on ∙ w.recording is) rooted (p.shown now shows) in
           inr (elim c.in-Err.ensures.undone [
-            | inl stays ↦ still_lasts g.S.Recording.stores g.S.Recording.logged g.S.Recording.waiting g.S.Recording.last g.L.Log.holds g.S.Recording.is_rooted c.logs_edits.ensures g.S.Recording.count c.log_waiting.new.self c.checkpoint_now.new.self now stays.stored p.keeps.has (held.1 now mid)
-            | inr put ↦
-                let follows = c.recording_laws.ensures.follows c.checkpoint_now.new.self now (p.keeps.goes_on ∙ w.recording is) (put now mid).rooted (p.shown now mid) in
-                root_lasts g.S.Recording.stores g.S.Recording.logged g.S.Recording.waiting g.S.Recording.last g.L.Log.holds g.S.Recording.is_rooted c.logs_edits.ensures g.S.Recording.count c.log_waiting.new.self c.checkpoint_now.new.self now follows held.0.1 p.keeps.has (p.keeps.waits ∙ w.waiting is)
+            | inl stays ↦ root_lasts g.S.Recording.stores g.S.Recording.logged g.S.Recording.waiting g.S.Recording.last g.L.Log.holds g.S.Recording.is_rooted c.logs_edits.ensures c.names_roots.ensures g.S.Recording.count new held.0.0 now (follows held.0.0 (stays.rooted held.0.0 held.0.1)) (any held.0.0) (p.keeps.waits ∙ w.waiting is)
+            | inr put ↦ root_lasts g.S.Recording.stores g.S.Recording.logged g.S.Recording.waiting g.S.Recording.last g.L.Log.holds g.S.Recording.is_rooted c.logs_edits.ensures c.names_roots.ensures g.S.Recording.count new (g.S.Recording.next_root c.checkpoint_now.new.self) now (follows _ (put now shows).rooted) (any _) (p.keeps.waits ∙ w.waiting is)
           ]);
     }
-
-pub returns-in-Ok-clause-clean : goal.returns-in-Ok-clause-clean
-returns-in-Ok-clause-clean g c = λ now shown. c.empty_log.ensures.clean (c.in-Ok.ensures.done now (c.log_waiting.ensures.shown now shown)).1

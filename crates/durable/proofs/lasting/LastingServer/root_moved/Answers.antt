@@ -1,7 +1,20 @@
-use Rattle.std.proofs.Common.{◌∙◌, inl, inr, refl, sym}
+use Rattle.std.proofs.Common.{◌∙◌, inl, inr, refl}
 use Rattle.request_codec.specs.declared.replies.Reply.TheVariants as codec
-use Rattle.durable.proofs.Logged.{lasts_on, none_waits, root_lasts, shown_lasts, stays_stored}
+use Rattle.durable.proofs.Logged.{holds_any, lasts_any, lasts_on, on_err, on_ok, root_lasts, stays_stored}
 use Rattle.durable.proofs.lasting.LastingServer.root_moved.Goals as goal
+
+pub returns-then-is_err-clause-answered : goal.returns-then-is_err-clause-answered
+returns-then-is_err-clause-answered g c = (_, inl (refl, g.met.S.Recording.same_self c.args.self.now.server))
+
+pub returns-then-is_err-clause-kept : goal.returns-then-is_err-clause-kept
+returns-then-is_err-clause-kept g c = λ before after root shown held none goes lasts.
+    let may = on_err c.append.result c.is_err.result c.is_err.ensures.value c.if-is_err.true c.append.ensures.err in (
+      inl (elim (may lasts.kept.records lasts.kept.in_log.0) [
+        | inl same ↦ lasts_on g.S.Recording.stores g.S.Recording.logged g.S.Recording.waiting g.S.Recording.last g.L.Log.holds g.S.Recording.is_rooted c.logs_edits.ensures c.names_roots.ensures g.S.Recording.count c.args.self.now _ before (stays_stored _ _ _) lasts same (inl refl)
+        | inr more ↦ lasts_any g.S.Recording.stores g.S.Recording.logged g.S.Recording.waiting g.S.Recording.last g.L.Log.holds g.S.Recording.is_rooted c.logs_edits.ensures c.names_roots.ensures g.S.Recording.count c.args.self.now _ before (stays_stored _ _ _) lasts more (inl refl)
+      ]),
+      inl refl,
+    )
 
 pub returns-in-Ok-clause-answered : goal.returns-in-Ok-clause-answered
 returns-in-Ok-clause-answered g c = (codec.Checkpoint, inr (c.args.self.now.server, c.checkpoint_now.new.self, g.met.S.Recording.same_self c.args.self.now.server, c.in-Ok.ensures.says, c.empty_log.ensures.same))
@@ -10,22 +23,26 @@ pub returns-in-Err-clause-answered : goal.returns-in-Err-clause-answered
 returns-in-Err-clause-answered g c = (codec.Refused c.in-Err.field-0, inr (c.args.self.now.server, c.checkpoint_now.new.self, g.met.S.Recording.same_self c.args.self.now.server, c.in-Err.ensures.says, g.met.S.Recording.same_self c.checkpoint_now.new.self))
 
 pub returns-in-Ok-clause-kept : goal.returns-in-Ok-clause-kept
-returns-in-Ok-clause-kept g c = λ before after shown held none goes lasts.
+returns-in-Ok-clause-kept g c = λ before after old shown held none goes lasts.
     let p = c.checkpoint_now.ensures in
-    let done = c.in-Ok.ensures.done after shown in
-    let follows = c.recording_laws.ensures.follows c.checkpoint_now.new.self after (p.keeps.goes_on ∙ goes) done.0.rooted (p.shown after shown) in
-    let kept = c.empty_log.ensures.kept after done.0 (root_lasts g.S.Recording.stores g.S.Recording.logged g.S.Recording.waiting g.S.Recording.last g.L.Log.holds g.S.Recording.is_rooted c.logs_edits.ensures g.S.Recording.count c.args.self.now c.checkpoint_now.new.self after follows held p.keeps.has (p.keeps.waits ∙ none)) in
+    let gains = on_ok c.append.result c.is_err.result c.is_err.ensures.value c.if-is_err.false c.append.ensures.ok in
+    let new = record c.args.self.now { server = c.checkpoint_now.new.self; log = c.append.new.self } in
+    let put = (c.in-Ok.ensures.done after shown).0 in
+    let root = g.S.Recording.next_root c.checkpoint_now.new.self in
+    let follows = c.recording_laws.ensures.follows c.checkpoint_now.new.self root after (p.keeps.goes_on ∙ goes) put.rooted (p.shown after shown) in
+    let holds = holds_any g.S.Recording.stores g.S.Recording.logged g.S.Recording.waiting g.S.Recording.last g.L.Log.holds g.S.Recording.is_rooted c.logs_edits.ensures c.names_roots.ensures g.S.Recording.count c.args.self.now new old root p.keeps.later held p.keeps.has (gains held.records held.in_log) in
+    let kept = c.empty_log.ensures.kept after put (root_lasts g.S.Recording.stores g.S.Recording.logged g.S.Recording.waiting g.S.Recording.last g.L.Log.holds g.S.Recording.is_rooted c.logs_edits.ensures c.names_roots.ensures g.S.Recording.count new root after follows holds (p.keeps.waits ∙ none)) in
     (inr kept.0, kept.1)
 
 pub returns-in-Err-clause-kept : goal.returns-in-Err-clause-kept
-returns-in-Err-clause-kept g c = λ before after shown held none goes lasts.
-    let p = c.checkpoint_now.ensures in (
+returns-in-Err-clause-kept g c = λ before after old shown held none goes lasts.
+    let p = c.checkpoint_now.ensures in
+    let gains = on_ok c.append.result c.is_err.result c.is_err.ensures.value c.if-is_err.false c.append.ensures.ok in (
       elim c.in-Err.ensures.undone [
-        | inl stays ↦ inl (lasts_on g.S.Recording.stores g.S.Recording.logged g.S.Recording.waiting g.S.Recording.last g.L.Log.holds g.S.Recording.is_rooted c.logs_edits.ensures g.S.Recording.count c.args.self.now _ before stays.stored lasts lasts.kept.in_log.0 (inl refl))
+        | inl stays ↦ inl (lasts_any g.S.Recording.stores g.S.Recording.logged g.S.Recording.waiting g.S.Recording.last g.L.Log.holds g.S.Recording.is_rooted c.logs_edits.ensures c.names_roots.ensures g.S.Recording.count c.args.self.now _ before stays.stored lasts (gains lasts.kept.records lasts.kept.in_log.0) (inl refl))
         | inr put ↦
-            let follows = c.recording_laws.ensures.follows c.checkpoint_now.new.self after (p.keeps.goes_on ∙ goes) (put after shown).rooted (p.shown after shown) in
-            inr (shown_lasts g.S.Recording.stores g.S.Recording.logged g.S.Recording.waiting g.S.Recording.last g.L.Log.holds g.S.Recording.is_rooted c.logs_edits.ensures g.S.Recording.count c.checkpoint_now.new.self _ after follows (stays_stored _ _ _) held.records held.in_log held.edits held.held held.stored held.room
-            (none_waits held.records (g.S.Recording.logged c.checkpoint_now.new.self) (g.S.Recording.waiting c.checkpoint_now.new.self) (p.keeps.waits ∙ none) (held.bytes ∙ sym p.keeps.has)) (inl refl))
+            let follows = c.recording_laws.ensures.follows c.checkpoint_now.new.self _ after (p.keeps.goes_on ∙ goes) (put after shown).rooted (p.shown after shown) in
+            inr (root_lasts g.S.Recording.stores g.S.Recording.logged g.S.Recording.waiting g.S.Recording.last g.L.Log.holds g.S.Recording.is_rooted c.logs_edits.ensures c.names_roots.ensures g.S.Recording.count _ (g.S.Recording.next_root c.checkpoint_now.new.self) after follows (holds_any g.S.Recording.stores g.S.Recording.logged g.S.Recording.waiting g.S.Recording.last g.L.Log.holds g.S.Recording.is_rooted c.logs_edits.ensures c.names_roots.ensures g.S.Recording.count c.args.self.now _ old _ p.keeps.later held p.keeps.has (gains held.records held.in_log)) (p.keeps.waits ∙ none))
       ],
       inl refl,
     )

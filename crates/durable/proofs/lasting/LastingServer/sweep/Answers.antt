@@ -17,8 +17,8 @@ returns-in-Ok-clause-says g c = record {
         step = step;
         shown = shows;
         whole = whole;
-        logged = λ logs. logs_on g.S.Recording.stores g.S.Recording.logged g.S.Recording.waiting g.S.Recording.last g.L.Log.holds g.S.Recording.is_rooted c.logs_edits.ensures g.S.Recording.count c.root.new.self c.sweep_now.new.self stays.rooted c.sweep_now.ensures.keeps.has (c.root.ensures.settles.logged now reached shown logs);
-        lasting = λ logs st lasts. inr (inl (still_lasts g.S.Recording.stores g.S.Recording.logged g.S.Recording.waiting g.S.Recording.last g.L.Log.holds g.S.Recording.is_rooted c.logs_edits.ensures g.S.Recording.count c.root.new.self c.sweep_now.new.self now stays.stored c.sweep_now.ensures.keeps.has (c.in-Ok.ensures.kept now shown logs).0));
+        logged = λ logs. logs_on g.S.Recording.stores g.S.Recording.logged g.S.Recording.waiting g.S.Recording.last g.L.Log.holds g.S.Recording.is_rooted c.logs_edits.ensures c.names_roots.ensures g.S.Recording.count c.root.new.self c.sweep_now.new.self stays c.sweep_now.ensures.keeps.has (c.root.ensures.settles.logged now reached shown logs);
+        lasting = λ logs st lasts. inr (inl (still_lasts g.S.Recording.stores g.S.Recording.logged g.S.Recording.waiting g.S.Recording.last g.L.Log.holds g.S.Recording.is_rooted c.logs_edits.ensures c.names_roots.ensures g.S.Recording.count c.root.new.self c.sweep_now.new.self now stays.stored c.sweep_now.ensures.keeps.has (c.in-Ok.ensures.kept now shown logs).0));
       };
 }
 

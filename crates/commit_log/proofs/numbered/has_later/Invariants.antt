@@ -1,0 +1,13 @@
+use Rattle.std.proofs.Common.{length}
+use Rattle.commit_log.specs.Numbered.{HasLater}
+use Rattle.commit_log.proofs.numbered.has_later.Given as goal
+
+-- what stands in the bytes stands in what is left
+abbrev pub invariant-loop-after : goal.invariant-loop-after
+invariant-loop-after l = record {
+  ahead : HasLater l.next l.bytes → HasLater l.next l.rest;
+  back : HasLater l.next l.rest → HasLater l.next l.bytes;
+}
+
+abbrev pub decreases-loop-after : goal.decreases-loop-after
+decreases-loop-after l = length l.rest

@@ -1,0 +1,62 @@
+-- The records of a log: each has its kind, the greatest stamp that was answered by then, and a body.
+use Rattle.std.specs.Prelude.{◌≡◌, ◌≤◌, ◌<◌, ◌^◌, ◌⊎◌, ℕ, zero, List, [], ◌∷◌, ◌++◌, drop}
+use Rattle.std.specs.List.{AllByRecursion}
+use Rattle.std.specs.Int.{to_be_bytes, w32, w64}
+use Rattle.commit_log.specs.declared.records.RecordKind.{RecordKind}
+use Rattle.commit_log.specs.declared.records.RecordKind.TheVariants.{Edits, Root, AnyRoot}
+
+-- a number in eight bytes
+unfoldable pub spelled_number : ℕ → List ℕ
+spelled_number number = to_be_bytes w64 number
+
+abbrev pub kind_byte : RecordKind → ℕ
+kind_byte Edits = 0
+kind_byte Root = 1
+kind_byte AnyRoot = 2
+
+abbrev pub spelled_record : RecordKind → ℕ → List ℕ → List ℕ
+spelled_record kind stamp body = kind_byte kind ∷ (spelled_number stamp ++ body)
+
+-- the name of a root: its greatest stamp, and the checksum of what it says
+abbrev pub root_record : ℕ → ℕ → List ℕ
+root_record top sum = spelled_record Root top (to_be_bytes w32 sum)
+
+-- the log is over whichever root is there
+abbrev pub any_root : List ℕ
+any_root = spelled_record AnyRoot 0 []
+
+abbrev pub HasRecord : List (List ℕ) → List ℕ → Type 0
+HasRecord records one = (first then : List (List ℕ)) × (records ≡ first ++ one ∷ then)
+
+-- A log of these records is over a root of this greatest stamp and checksum.
+abbrev pub NamesRoot : List (List ℕ) → ℕ → ℕ → Type 0
+NamesRoot records top sum =
+    HasRecord records (root_record top sum) ⊎ HasRecord records any_root
+
+-- a record has no greater stamp
+abbrev pub IsUpTo : ℕ → List ℕ → Type 0
+IsUpTo mark one =
+    (kind : RecordKind) (stamp : ℕ) (body : List ℕ) → stamp < 2 ^ 64
+    → one ≡ spelled_record kind stamp body → stamp ≤ mark
+
+abbrev pub AreUpTo : ℕ → List (List ℕ) → Type 0
+AreUpTo mark records = AllByRecursion (IsUpTo mark) records
+
+-- the bytes of the edits that a record holds
+abbrev pub edit_bytes : List ℕ → List ℕ
+edit_bytes [] = []
+edit_bytes (zero ∷ more) = drop 8 more
+edit_bytes (other ∷ more) = []
+
+-- What more records do to what a log names, and to its stamps.
+pub record NamesRoots : Type 0 where
+  pub stays : (records : List (List ℕ)) (one : List ℕ) (top sum : ℕ)
+      → NamesRoot records top sum → NamesRoot (records ++ one ∷ []) top sum
+  pub more : (records : List (List ℕ)) (top sum : ℕ)
+      → NamesRoot (records ++ root_record top sum ∷ []) top sum
+  pub any : (records : List (List ℕ)) (top sum : ℕ) → NamesRoot (records ++ any_root ∷ []) top sum
+  pub up_to : (records : List (List ℕ)) (kind : RecordKind) (stamp mark : ℕ) (body : List ℕ)
+      → AreUpTo mark records → stamp ≤ mark
+      → AreUpTo mark (records ++ spelled_record kind stamp body ∷ [])
+  pub higher : (records : List (List ℕ)) (low high : ℕ) → low ≤ high → AreUpTo low records
+      → AreUpTo high records

@@ -1,0 +1,174 @@
+//! Format 2 of a log's frames: each record has a number, and behind a frame that isn't whole no whole one may stand.
+
+ghost use Rattle.std.specs.Prelude.{◌≡◌, ◌≢◌, ◌+◌, ◌*◌, ◌≤◌, ◌<◌, ◌^◌, ◌⊎◌, ◌++◌, ◌↔◌, ℕ, List, drop, length, take, IfErr, IfNone, IfOk, IfSome, IsErrOf, IsTrue, OnOk};
+ghost use Rattle.commit_log.specs.Frames.{IsBody, IsRecord, bytes_of, frame};
+ghost use Rattle.commit_log.specs.Numbered.{HasLater, Hides, IsBroken, IsNumbered, IsNumberedLog, IsShort, StandsFrom, numbered};
+ghost use Rattle.commit_log.specs.Records.{spelled_number, spelled_record};
+
+use crate::faults::LogFault;
+use crate::frames::{PREFIX, Reading, first_record, frame_of};
+use crate::numbers::{NUMBER, number_bytes, number_in, split_number};
+use crate::records::{RecordKind, push_record};
+use cell_key::Stamp;
+use std::alloc::{AllocError, Global};
+
+/// How many bytes of a frame stand before its payload: a length, a checksum and a number.
+const BEFORE: usize = PREFIX + NUMBER;
+
+/// How many numbers from the next one on are taken for this log's. A log has fewer records.
+const WINDOW: u64 = 131_072;
+
+/// The number from which on a frame has none.
+pub(crate) const NO_NUMBER: u64 = 9_223_372_036_854_775_808;
+
+/// The frame of a record with its number.
+pub(crate) fn numbered_frame(
+    alloc: Global,
+    number: u64,
+    kind: RecordKind,
+    stamp: Stamp,
+    body: &[u8],
+) -> Result<Vec<u8>, AllocError>
+    requires { IsBody body.now }
+    ensures { IfOk result (λ bytes.
+        bytes.items ≡ frame (numbered number (spelled_record kind stamp body.now))) }
+{
+    let mut bytes = Vec::new(alloc);
+    bytes.extend_from_slice(&number_bytes(number))?;
+    push_record(&mut bytes, kind, stamp, body)?;
+    frame_of(alloc, &bytes)
+}
+
+/// The number and the payload whose whole frame stands at the front of bytes, if one does.
+pub(crate) fn first_numbered(bytes: &[u8]) -> Option<(u64, &[u8])>
+    ensures found { IfSome result (λ p. IsShort p.1.now) }
+    ensures front { IfSome result (λ p. bytes.now
+        ≡ frame (numbered p.0 p.1.now) ++ drop (16 + length p.1.now) bytes.now) }
+    ensures within { IfSome result (λ p. 16 + length p.1.now ≤ length bytes.now) }
+    ensures none { IfNone result ((number : ℕ) (payload behind : List ℕ) → IsShort payload
+        → bytes.now ≢ frame (numbered number payload) ++ behind) }
+{
+    let Some(record) = first_record(bytes) else {
+        return None;
+    };
+    split_number(record)
+}
+
+/// The number that a frame at the front has. What stands there may be none.
+fn number_at(bytes: &[u8]) -> Option<u64>
+    ensures found { IfSome result (λ number. spelled_number number ≡ take 8 (drop 8 bytes.now)) }
+    ensures none { IfNone result (length bytes.now < 16) }
+{
+    let (_, rest) = bytes.split_first_chunk::<8>()?;
+    let (number, _) = rest.split_first_chunk::<8>()?;
+    Some(number_in(*number))
+}
+
+/// Whether a number is one of the next.
+fn is_next(number: u64, next: u64) -> bool
+    ensures { IsTrue result ↔ IsNumbered next number }
+{
+    number >= next && number - next < WINDOW
+}
+
+/// Whether a whole frame with one of the next numbers stands at the front. The number is looked at first.
+fn stands_from(bytes: &[u8], next: u64) -> bool
+    requires { next + 131072 ≤ 2 ^ 64 }
+    ensures { IsTrue result ↔ StandsFrom next bytes.now }
+{
+    let Some(number) = number_at(bytes) else {
+        return false;
+    };
+    if !is_next(number, next) {
+        return false;
+    }
+    match first_numbered(bytes) {
+        Some(_) => true,
+        None => false,
+    }
+}
+
+/// Whether a whole frame with one of the next numbers stands anywhere in bytes.
+fn has_later(bytes: &[u8], next: u64) -> bool
+    requires { next + 131072 ≤ 2 ^ 64 }
+    ensures { IsTrue result ↔ HasLater next bytes.now }
+{
+    let mut rest = bytes;
+    while let Some((_, after)) = rest.split_first() {
+        if stands_from(rest, next) {
+            return true;
+        }
+        rest = after;
+    }
+    false
+}
+
+/// The payload whose whole frame with this number stands at the front, if it does.
+fn next_payload(bytes: &[u8], next: u64) -> Option<&[u8]>
+    ensures found { IfSome result (λ payload. IsShort payload.now) }
+    ensures front { IfSome result (λ payload. bytes.now
+        ≡ frame (numbered next payload.now) ++ drop (16 + length payload.now) bytes.now) }
+    ensures within { IfSome result (λ payload. 16 + length payload.now ≤ length bytes.now) }
+    ensures none { IfNone result ((payload behind : List ℕ) → next < 2 ^ 64 → IsShort payload
+        → bytes.now ≢ frame (numbered next payload) ++ behind) }
+{
+    let Some((number, payload)) = first_numbered(bytes) else {
+        return None;
+    };
+    if number != next {
+        return None;
+    }
+    Some(payload)
+}
+
+/// The bytes behind the first ones.
+fn behind(bytes: &[u8], len: usize) -> &[u8]
+    requires { len ≤ length bytes.now }
+    ensures { result.now ≡ drop len bytes.now }
+{
+    &bytes[len..]
+}
+
+/// Whether a whole frame with one of the next numbers stands in the frame of a payload with this number, behind its first
+/// byte.
+pub(crate) fn hides(bytes: &[u8], number: u64) -> bool
+    requires { number < 2 ^ 63 }
+    ensures { (payload : List ℕ) → bytes.now ≡ frame (numbered number payload)
+        → (IsTrue result ↔ Hides number payload) }
+{
+    match bytes.split_first() {
+        Some((_, rest)) => has_later(rest, number),
+        None => false,
+    }
+}
+
+/// Reads what stands behind the head of a log whose first record has this number.
+///
+/// # Errors
+///
+/// `Damaged` if a whole frame stands behind bytes that are none; `Memory`.
+pub(crate) fn read_numbered(alloc: Global, bytes: &[u8], first: u64) -> Result<Reading, LogFault>
+    requires { first < 2 ^ 63 }
+    ensures ok { IfOk result (λ found. IsNumberedLog first bytes.now
+        (bytes_of found.records.items) (drop found.end bytes.now)) }
+    ensures end { IfOk result (λ found. found.end ≤ length bytes.now) }
+    ensures few { IfOk result (λ found. 16 * length found.records.items ≤ length bytes.now) }
+    ensures whole { OnOk result (¬ IsBroken first bytes.now) }
+    ensures damaged { IsErrOf result LogFault.Damaged → IsBroken first bytes.now }
+    ensures fault { IfErr result (λ fault. (fault ≡ LogFault.Damaged)
+        ⊎ (fault ≡ LogFault.Memory)) }
+{
+    let mut rest = bytes;
+    let mut next = first;
+    let mut records = Vec::new(alloc);
+    while let Some(payload) = next_payload(rest, next) {
+        records.push(Vec::from_slice(alloc, payload)?)?;
+        rest = behind(rest, BEFORE + payload.len());
+        next += 1;
+    }
+    if has_later(rest, next) {
+        return Err(LogFault::Damaged);
+    }
+    let end = bytes.len() - rest.len();
+    Ok(Reading { records, end })
+}

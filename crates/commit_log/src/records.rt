@@ -1,0 +1,172 @@
+//! The records of a log: what each says, and which root a log of records is over.
+
+ghost use Rattle.std.specs.Prelude.{◌≡◌, ◌≢◌, ◌⊎◌, ◌<◌, ◌^◌, ◌↔◌, ◌++◌, ℕ, List, IfNone, IfOk, IfSome, IsTrue, OnOk};
+ghost use Rattle.std.specs.Int.{to_be_bytes, w32};
+ghost use Rattle.commit_log.specs.Frames.{bytes_of};
+ghost use Rattle.commit_log.specs.Records.{AreUpTo, HasRecord, IsUpTo, NamesRoot, any_root, kind_byte, root_record, spelled_record};
+ghost use Rattle.commit_log.specs.declared.records.RecordKind.{RecordKind as Kind};
+
+use crate::numbers::{number_bytes, split_number};
+use cell_key::Stamp;
+use std::alloc::{AllocError, Global};
+
+/// What a record says.
+#[derive(Clone, Copy, Debug, PartialEq, Eq)]
+pub enum RecordKind {
+    /// Its body are edits that were made.
+    Edits,
+    /// The log is over a root, or one is to be put: its greatest stamp stands in the record, and its body is a checksum.
+    Root,
+    /// The log is over whichever root is there. There is no body.
+    AnyRoot,
+}
+
+/// The byte of a kind.
+fn kind_byte(kind: RecordKind) -> u8
+    ensures { result ≡ kind_byte kind }
+{
+    match kind {
+        RecordKind::Edits => 0,
+        RecordKind::Root => 1,
+        RecordKind::AnyRoot => 2,
+    }
+}
+
+/// The kind that a byte is, if it is one.
+fn kind_of(byte: u8) -> Option<RecordKind>
+    ensures found { IfSome result (λ kind. byte ≡ kind_byte kind) }
+    ensures none { IfNone result ((kind : Kind) → byte ≢ kind_byte kind) }
+{
+    match byte {
+        0 => Some(RecordKind::Edits),
+        1 => Some(RecordKind::Root),
+        2 => Some(RecordKind::AnyRoot),
+        _ => None,
+    }
+}
+
+/// Appends the bytes of a record. After an `Err` a part of them may stand there.
+pub(crate) fn push_record(
+    out: &mut Vec<u8>,
+    kind: RecordKind,
+    stamp: Stamp,
+    body: &[u8],
+) -> Result<(), AllocError>
+    ensures { OnOk result
+        (out.new.items ≡ out.old.items ++ spelled_record kind stamp body.now) }
+{
+    out.extend_from_slice(&[kind_byte(kind)])?;
+    out.extend_from_slice(&number_bytes(stamp))?;
+    out.extend_from_slice(body)?;
+    Ok(())
+}
+
+/// The bytes of a record.
+pub(crate) fn record_of(
+    alloc: Global,
+    kind: RecordKind,
+    stamp: Stamp,
+    body: &[u8],
+) -> Result<Vec<u8>, AllocError>
+    ensures { IfOk result (λ bytes. bytes.items ≡ spelled_record kind stamp body.now) }
+{
+    let mut bytes = Vec::new(alloc);
+    push_record(&mut bytes, kind, stamp, body)?;
+    Ok(bytes)
+}
+
+/// The kind, the stamp and the body of a record, if it has them.
+pub(crate) fn split_record(bytes: &[u8]) -> Option<(RecordKind, Stamp, &[u8])>
+    ensures found { IfSome result (λ p. bytes.now ≡ spelled_record p.0 p.1 p.2.now) }
+    ensures none { IfNone result ((kind : Kind) (stamp : ℕ) (body : List ℕ)
+        → bytes.now ≢ spelled_record kind stamp body) }
+{
+    let (byte, after) = bytes.split_first()?;
+    let kind = kind_of(*byte)?;
+    let (stamp, body) = split_number(after)?;
+    Some((kind, stamp, body))
+}
+
+/// The checksum of a root, as the body of a record.
+pub fn root_sum_bytes(sum: u32) -> [u8; 4]
+    ensures { result ≡ to_be_bytes w32 sum }
+{
+    sum.to_be_bytes()
+}
+
+/// Whether a record says that the log is over whichever root is there.
+fn is_any_root(bytes: &[u8]) -> bool
+    ensures { IsTrue result ↔ (bytes.now ≡ any_root) }
+{
+    let Some((kind, stamp, body)) = split_record(bytes) else {
+        return false;
+    };
+    match kind {
+        RecordKind::Edits | RecordKind::Root => false,
+        RecordKind::AnyRoot => stamp == 0 && body.is_empty(),
+    }
+}
+
+/// Whether a log of these records is over whichever root is there.
+pub fn is_over_any(records: &[Vec<u8>]) -> bool
+    ensures { IsTrue result ↔ HasRecord (bytes_of records.now) any_root }
+{
+    for record in records {
+        if is_any_root(record) {
+            return true;
+        }
+    }
+    false
+}
+
+/// Whether a record says that the log is over this root, or over whichever is there.
+fn is_over(bytes: &[u8], top: Stamp, sum: u32) -> bool
+    ensures { IsTrue result
+        ↔ (bytes.now ≡ root_record top sum) ⊎ (bytes.now ≡ any_root) }
+{
+    let Some((kind, stamp, body)) = split_record(bytes) else {
+        return false;
+    };
+    match kind {
+        RecordKind::Edits => false,
+        RecordKind::Root => stamp == top && body == root_sum_bytes(sum).as_slice(),
+        RecordKind::AnyRoot => stamp == 0 && body.is_empty(),
+    }
+}
+
+/// Whether a log of these records is over a root of this greatest stamp and checksum.
+pub fn names_root(records: &[Vec<u8>], top: Stamp, sum: u32) -> bool
+    ensures { IsTrue result ↔ NamesRoot (bytes_of records.now) top sum }
+{
+    for record in records {
+        if is_over(record, top, sum) {
+            return true;
+        }
+    }
+    false
+}
+
+/// Whether a record has no greater stamp.
+fn is_up_to(bytes: &[u8], mark: Stamp) -> bool
+    ensures { IsTrue result ↔ IsUpTo mark bytes.now }
+{
+    let Some((_, stamp, _)) = split_record(bytes) else {
+        return true;
+    };
+    if stamp > mark {
+        return false;
+    }
+    true
+}
+
+/// Whether no record has a greater stamp.
+pub fn are_up_to(records: &[Vec<u8>], mark: Stamp) -> bool
+    ensures { IsTrue result ↔ AreUpTo mark (bytes_of records.now) }
+{
+    for record in records {
+        if !is_up_to(record, mark) {
+            return false;
+        }
+    }
+    true
+}

@@ -1,0 +1,171 @@
+//! The log of a store as bytes, in format 2: made, read, and made of one of format 1.
+
+ghost use Rattle.std.specs.Prelude.{◌≡◌, ◌≢◌, ◌+◌, ◌*◌, ◌≤◌, ◌<◌, ◌^◌, ◌⊎◌, ◌++◌, ◌∷◌, ◌↔◌, [], ℕ, List, drop, length, take, IfErr, IfNone, IfOk, IfSome, IsErrOf, OnOk};
+ghost use Rattle.std.specs.List.{AllByRecursion};
+ghost use Rattle.commit_log.specs.Frames.{IsBody, IsLog, bytes_of, frame, head};
+ghost use Rattle.commit_log.specs.Numbered.{IsShort, IsStoreLog, numbered, store_head, store_log, upgraded};
+ghost use Rattle.commit_log.specs.Records.{any_root, spelled_record};
+ghost use Rattle.commit_log.specs.declared.records.RecordKind.TheVariants.{Edits};
+
+use crate::faults::LogFault;
+use crate::frames::{LONGEST_RECORD, read_log};
+use crate::numbered::{NO_NUMBER, first_numbered, numbered_frame, read_numbered};
+use crate::numbers::{NUMBER, number_bytes, split_number};
+use crate::records::RecordKind;
+use cell_key::Stamp;
+use std::alloc::{AllocError, Global};
+
+/// The bytes with which a log of format 2 begins.
+const STORE_HEAD: [u8; 8] = *b"TABLOG02";
+
+/// How many bytes stand before the frames of a log: those and the store's number.
+const HEAD_BYTES: usize = 8 + NUMBER;
+
+/// The most bytes of a record's body: a number, a kind and a stamp stand before it.
+const LONGEST_BODY: usize = LONGEST_RECORD - 17;
+
+/// What stands in the log of a store.
+#[derive(Drop)]
+pub(crate) struct StoreReading {
+    /// The number of the store.
+    pub store: u64,
+    /// The number of the first record.
+    pub first: u64,
+    /// The records of the whole frames.
+    pub records: Vec<Vec<u8>>,
+    /// Where they end.
+    pub end: usize,
+}
+
+/// The number of the store in the head of a log, and what follows.
+fn split_head(bytes: &[u8]) -> Option<(u64, &[u8])>
+    ensures found { IfSome result (λ p. bytes.now ≡ store_head p.0 ++ p.1.now) }
+    ensures none { IfNone result ((store : ℕ) (frames : List ℕ)
+        → bytes.now ≢ store_head store ++ frames) }
+{
+    let Some(rest) = bytes.strip_prefix(&STORE_HEAD) else {
+        return None;
+    };
+    split_number(rest)
+}
+
+/// The number of the whole frame at the front of bytes, if a log may begin with it.
+fn first_number(bytes: &[u8]) -> Option<u64>
+    ensures found { IfSome result (λ number. (payload behind : List ℕ) × IsShort payload
+        × (bytes.now ≡ frame (numbered number payload) ++ behind)) }
+    ensures within { IfSome result (λ number. number < 2 ^ 63) }
+    ensures none { IfNone result ((number : ℕ) (payload behind : List ℕ) → number < 2 ^ 63
+        → IsShort payload → bytes.now ≢ frame (numbered number payload) ++ behind) }
+{
+    let Some((number, _)) = first_numbered(bytes) else {
+        return None;
+    };
+    if number >= NO_NUMBER {
+        return None;
+    }
+    Some(number)
+}
+
+/// Reads the log of a store. What stands behind its last whole frame is left out.
+///
+/// # Errors
+///
+/// `Damaged` if the bytes are none; `Memory`.
+pub(crate) fn read_store_log(alloc: Global, bytes: &[u8]) -> Result<StoreReading, LogFault>
+    ensures ok { IfOk result (λ found. IsStoreLog found.store found.first bytes.now
+        (bytes_of found.records.items) (drop found.end bytes.now)) }
+    ensures end { IfOk result (λ found. found.end ≤ length bytes.now) }
+    ensures few { IfOk result (λ found. 16 * length found.records.items ≤ length bytes.now) }
+    ensures damaged { IsErrOf result LogFault.Damaged → (store first : ℕ)
+        (records : List (List ℕ)) (tail : List ℕ)
+        → ¬ IsStoreLog store first bytes.now records tail }
+    ensures fault { IfErr result (λ fault. (fault ≡ LogFault.Damaged)
+        ⊎ (fault ≡ LogFault.Memory)) }
+{
+    let Some((store, frames)) = split_head(bytes) else {
+        return Err(LogFault::Damaged);
+    };
+    let Some(first) = first_number(frames) else {
+        return Err(LogFault::Damaged);
+    };
+    let found = read_numbered(alloc, frames, first)?;
+    Ok(StoreReading {
+        store,
+        first,
+        records: found.records,
+        end: HEAD_BYTES + found.end,
+    })
+}
+
+/// The bytes of a store's log of one record, which has this number.
+pub(crate) fn log_of_one(
+    alloc: Global,
+    store: u64,
+    number: u64,
+    kind: RecordKind,
+    stamp: Stamp,
+    body: &[u8],
+) -> Result<Vec<u8>, AllocError>
+    requires { IsBody body.now }
+    ensures { IfOk result (λ bytes.
+        bytes.items ≡ store_log store number (spelled_record kind stamp body.now ∷ [])) }
+{
+    let mut bytes = Vec::from_slice(alloc, &STORE_HEAD)?;
+    bytes.extend_from_slice(&number_bytes(store))?;
+    bytes.extend_from_slice(&numbered_frame(alloc, number, kind, stamp, body)?)?;
+    Ok(bytes)
+}
+
+/// The bytes of a new log of a store. It is over whichever root is there, and the record that says so has this number.
+pub fn new_log(alloc: Global, store: u64, first: u64) -> Result<Vec<u8>, AllocError>
+    requires { first < 2 ^ 63 }
+    ensures spelled { IfOk result (λ bytes. bytes.items ≡ store_log store first (any_root ∷ [])) }
+    ensures is_log { IfOk result (λ bytes.
+        IsStoreLog store first bytes.items (any_root ∷ []) []) }
+{
+    log_of_one(alloc, store, first, RecordKind::AnyRoot, 0, &[])
+}
+
+/// The frame of edits that were a record of format 1.
+///
+/// # Errors
+///
+/// `Refused` if they are too long; `Memory`.
+fn upgraded_frame(alloc: Global, number: u64, edits: &[u8]) -> Result<Vec<u8>, LogFault>
+    ensures ok { IfOk result (λ bytes.
+        bytes.items ≡ frame (numbered number (spelled_record Edits 0 edits.now))) }
+    ensures body { OnOk result (IsBody edits.now) }
+    ensures refused { IsErrOf result LogFault.Refused → ¬ IsBody edits.now }
+    ensures fault { IfErr result (λ fault. (fault ≡ LogFault.Refused)
+        ⊎ (fault ≡ LogFault.Memory)) }
+{
+    if edits.len() > LONGEST_BODY {
+        return Err(LogFault::Refused);
+    }
+    Ok(numbered_frame(alloc, number, RecordKind::Edits, 0, edits)?)
+}
+
+/// The bytes of a store's log of the records of a log of format 1: each is one of edits, of stamp 0. The record before them has
+/// this number.
+///
+/// # Errors
+///
+/// `Damaged` if the bytes don't begin as a log of format 1 does; `Refused` if a record is too long; `Memory`.
+pub fn upgrade_log(alloc: Global, bytes: &[u8], store: u64, first: u64) -> Result<Vec<u8>, LogFault>
+    requires { first < 2 ^ 63 }
+    ensures ok { IfOk result (λ made. (records : List (List ℕ)) (tail : List ℕ)
+        → IsLog bytes.now records tail → IsStoreLog store first made.items (upgraded records) []) }
+    ensures damaged { IsErrOf result LogFault.Damaged ↔ (take 8 bytes.now ≢ head) }
+    ensures refused { IsErrOf result LogFault.Refused → (records : List (List ℕ)) (tail : List ℕ)
+        → IsLog bytes.now records tail → ¬ AllByRecursion IsBody records }
+    ensures device { ¬ IsErrOf result LogFault.Device }
+{
+    let found = read_log(alloc, bytes)?;
+    let mut made = new_log(alloc, store, first)?;
+    let mut number = first;
+    for edits in &found.records {
+        number += 1;
+        made.extend_from_slice(&upgraded_frame(alloc, number, edits)?)?;
+    }
+    Ok(made)
+}
