@@ -10,8 +10,8 @@ import unittest
 from duqishom.program import default_program
 from tests.pages import TOP, Ends, Exchange, Got, Sent, commands, exchanges, fenced
 
-README, PROTOCOL, CLIENT = "README.md", "docs/PROTOCOL.md", "docs/CLIENT.md"
-PAGES = (README, PROTOCOL, CLIENT)
+README, PROTOCOL, CLIENT, OPERATIONS = "README.md", "docs/PROTOCOL.md", "docs/CLIENT.md", "docs/OPERATIONS.md"
+PAGES = (README, PROTOCOL, CLIENT, OPERATIONS)
 
 
 class Conversation:
