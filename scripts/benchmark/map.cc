@@ -1,0 +1,247 @@
+// map: answers requests as tabletd does, from one ordered map of C++'s standard library with the same three columns, but with no
+// limits, no files and no proof: Begin, Get, Set, Step and Stop, and Minor and Major, which change nothing here.
+#include <cstdint>
+#include <cstdio>
+#include <cstdlib>
+#include <cstring>
+#include <functional>
+#include <map>
+#include <string>
+#include <string_view>
+#include <unordered_map>
+#include <vector>
+
+#include <unistd.h>
+
+namespace {
+
+using std::string;
+using std::string_view;
+
+constexpr uint64_t kAny = UINT64_MAX;
+constexpr size_t kPiece = 262144;
+
+// What the key of a cell's column has behind its place: a value by its start, a lock, a record of a commit.
+constexpr string_view kData("data\0\0", 6), kLock("lock\0\0", 6), kWrite("write\0\0", 7);
+
+uint64_t Number(const char* at, int size) {
+  uint64_t number = 0;
+  for (int i = 0; i < size; i++) number = number << 8 | static_cast<unsigned char>(at[i]);
+  return number;
+}
+
+void Add(string& out, uint64_t number, int size) {
+  for (int i = size - 1; i >= 0; i--) out.push_back(static_cast<char>(number >> 8 * i));
+}
+
+void AddField(string& out, string_view text) {
+  Add(out, text.size(), 4);
+  out.append(text);
+}
+
+// The fields of a request.
+struct Fields {
+  const char* at;
+  uint64_t Stamp() { return at += 8, Number(at - 8, 8); }
+  string_view Text() {
+    size_t size = Number(at, 4);
+    at += 4 + size;
+    return {at - size, size};
+  }
+};
+
+// The three columns of all cells, in one map by key: place, column and stamp, the newest first.
+class Cells {
+ public:
+  // The newest entry of a column with a stamp from `least` to `most`.
+  bool Newest(string_view place, string_view column, uint64_t least, uint64_t most, string_view* value) {
+    SetKey(place, column, most);
+    auto found = map_.lower_bound(key_);
+    if (found == map_.end() || found->first.size() != key_.size()) return false;
+    if (found->first.compare(0, key_.size() - 8, key_, 0, key_.size() - 8) != 0) return false;
+    *value = found->second;
+    return ~Number(found->first.data() + key_.size() - 8, 8) >= least;
+  }
+
+  void Put(string_view place, string_view column, uint64_t stamp, string_view value) {
+    SetKey(place, column, stamp);
+    map_.insert_or_assign(key_, string(value));
+  }
+
+  void Erase(string_view place, string_view column, uint64_t stamp) {
+    SetKey(place, column, stamp);
+    map_.erase(key_);
+  }
+
+ private:
+  void SetKey(string_view place, string_view column, uint64_t stamp) {
+    key_.assign(place);
+    key_.append(column);
+    Add(key_, ~stamp, 8);
+  }
+
+  std::map<string, string, std::less<>> map_;
+  string key_;
+};
+
+struct Buffered {
+  string place, value;
+};
+
+struct Session {
+  size_t next = 0;
+  uint64_t commit = 0;
+  std::vector<Buffered> writes;
+};
+
+class Server {
+ public:
+  void Answer(string_view request, string& out) {
+    Fields fields{request.data() + 1};
+    out.push_back(static_cast<char>(request[0] | 0x80));
+    switch (request[0]) {
+      case 0x01:
+        sessions_.emplace(++last_, Session());
+        return Add(out, last_, 8);
+      case 0x02:
+        return Get(fields, out);
+      case 0x03:
+        return Set(fields);
+      case 0x04:
+        return Step(fields.Stamp(), out);
+      case 0x05:
+        sessions_.erase(fields.Stamp());
+        return;
+      case 0x0A:
+      case 0x0C:
+        return;
+    }
+    std::fprintf(stderr, "map: a request that it doesn't know\n");
+    std::exit(1);
+  }
+
+ private:
+  // The place of a cell: its row, in which a byte 0 is followed by FF, and its family, each with two bytes 0 behind it.
+  const string& Place(Fields& fields) {
+    place_.clear();
+    for (char byte : fields.Text()) {
+      place_.push_back(byte);
+      if (byte == 0) place_.push_back('\xFF');
+    }
+    place_.append(2, '\0');
+    place_.append(fields.Text());
+    place_.append(2, '\0');
+    return place_;
+  }
+
+  void Get(Fields& fields, string& out) {
+    uint64_t start = fields.Stamp();
+    const string& place = Place(fields);
+    string_view value;
+    if (cells_.Newest(place, kLock, 0, start, &value)) {
+      std::fprintf(stderr, "map: a lock that is read\n");
+      std::exit(1);
+    }
+    bool is_there = cells_.Newest(place, kWrite, 0, start, &value);
+    if (is_there) {
+      uint64_t written = Number(value.data(), 8);
+      cells_.Newest(place, kData, written, written, &value);
+    }
+    out.push_back(is_there);
+    if (is_there) AddField(out, value);
+  }
+
+  void Set(Fields& fields) {
+    Session& session = sessions_.at(fields.Stamp());
+    const string& place = Place(fields);
+    string_view value = fields.Text();
+    for (Buffered& write : session.writes)
+      if (write.place == place) return void(write.value.assign(value));
+    session.writes.push_back({place, string(value)});
+  }
+
+  void Step(uint64_t start, string& out) {
+    auto found = sessions_.find(start);
+    Session& session = found->second;
+    size_t count = session.writes.size();
+    if (session.commit != 0) {
+      Settle(start, session);
+      out.push_back(session.next == 1 ? 4 : 6);
+      if (session.next == 1) Add(out, session.commit, 8);
+      if (session.next > 1) Add(out, session.next << 16 | count, 4);
+      if (session.next == count) sessions_.erase(found);
+    } else if (session.next < count) {
+      bool is_held = Hold(start, session);
+      out.push_back(is_held ? 1 : 2);
+      Add(out, is_held ? session.next << 16 | count : session.next, is_held ? 4 : 2);
+      if (!is_held) sessions_.erase(found);
+    } else {
+      session.commit = ++last_;
+      session.next = 0;
+      out.push_back(3);
+      Add(out, session.commit, 8);
+    }
+  }
+
+  // Puts value and lock, if the cell has no lock and no newer record.
+  bool Hold(uint64_t start, Session& session) {
+    const Buffered& write = session.writes[session.next++];
+    string_view value;
+    if (cells_.Newest(write.place, kLock, 0, kAny, &value)) return false;
+    if (cells_.Newest(write.place, kWrite, start, kAny, &value)) return false;
+    cells_.Put(write.place, kData, start, write.value);
+    cells_.Put(write.place, kLock, start, session.writes[0].place);
+    return true;
+  }
+
+  // Puts the record of the commit in place of the lock.
+  void Settle(uint64_t start, Session& session) {
+    const Buffered& write = session.writes[session.next++];
+    string_view lock;
+    if (!cells_.Newest(write.place, kLock, start, start, &lock)) {
+      std::fprintf(stderr, "map: a lock that is gone\n");
+      std::exit(1);
+    }
+    char text[8];
+    for (int i = 0; i < 8; i++) text[i] = static_cast<char>(start >> 8 * (7 - i));
+    cells_.Put(write.place, kWrite, session.commit, string_view(text, 8));
+    cells_.Erase(write.place, kLock, start);
+  }
+
+  Cells cells_;
+  std::unordered_map<uint64_t, Session> sessions_;
+  uint64_t last_ = 0;
+  string place_;
+};
+
+void Write(const string& out) {
+  for (size_t at = 0; at < out.size();) {
+    ssize_t written = write(1, out.data() + at, out.size() - at);
+    if (written <= 0) std::exit(1);
+    at += written;
+  }
+}
+
+}  // namespace
+
+int main() {
+  Server& server = *new Server;
+  std::vector<char> piece(kPiece);
+  string in, out;
+  for (ssize_t came; (came = read(0, piece.data(), kPiece)) > 0;) {
+    in.append(piece.data(), came);
+    size_t at = 0;
+    for (size_t size; in.size() - at >= 4 && in.size() - at - 4 >= (size = Number(&in[at], 4)); at += 4 + size) {
+      size_t head = out.size();
+      out.append(4, '\0');
+      server.Answer(string_view(in).substr(at + 4, size), out);
+      string length;
+      Add(length, out.size() - head - 4, 4);
+      out.replace(head, 4, length);
+    }
+    in.erase(0, at);
+    Write(out);
+    out.clear();
+  }
+  _exit(0);
+}
