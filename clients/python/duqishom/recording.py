@@ -2,6 +2,7 @@
 
 from __future__ import annotations
 
+import os
 from io import BufferedWriter
 from os import PathLike
 from pathlib import Path
@@ -22,9 +23,13 @@ class Recording:
         """Begins a recording, or goes on with one. The folder is made where there is none. The store, which isn't opened yet, is in
         its own folder, if one is named. OSError where the recording can't be written."""
         place = Path(folder)
-        place.mkdir(parents=True, exist_ok=True)
-        self._requests = open(place / "requests", "ab")
-        self._replies = open(place / "replies", "ab")
+        place.mkdir(mode=0o700, parents=True, exist_ok=True)
+        self._requests = private(place / "requests")
+        try:
+            self._replies = private(place / "replies")
+        except OSError:
+            self._requests.close()
+            raise
         if self._replies.tell() > 0:
             note_reopened(place, store)
 
@@ -42,6 +47,12 @@ class Recording:
             close(self._requests)
         finally:
             close(self._replies)
+
+
+def private(path: str | PathLike[str]) -> BufferedWriter:
+    """A file to add to, which is made if it isn't there, and which only its owner may read. OSError at a link or a pipe."""
+    flags = os.O_NOFOLLOW | os.O_NONBLOCK
+    return open(path, "ab", opener=lambda name, mode: os.open(name, mode | flags, 0o600))
 
 
 def write(file: BufferedWriter, data: bytes) -> None:

@@ -3,6 +3,7 @@
 from __future__ import annotations
 
 import os
+import stat
 import subprocess
 import tempfile
 import unittest
@@ -56,6 +57,19 @@ class Recordings(unittest.TestCase):
         self.assertEqual(bodies(self.place / "requests"), [b"", b"\x01"])
         self.assertEqual(bodies(self.place / "replies"), [b"\xff\x16", b"\x81" + bytes(7) + b"\x01"])
         self.assertFalse((self.place / "reopened-at").exists())
+
+    def test_its_owner_alone_may_read_it(self) -> None:
+        Store(record=self.place).close()
+        modes = [stat.S_IMODE(path.stat().st_mode) for path in (self.place, self.place / "requests", self.place / "replies")]
+        self.assertEqual(modes, [0o700, 0o600, 0o600])
+
+    def test_no_link_is_followed_and_no_pipe_is_written(self) -> None:
+        for name in ("requests", "replies"):
+            for make in (os.mkfifo, lambda path: os.symlink(self.place / "else", path)):
+                with self.subTest(name), tempfile.TemporaryDirectory() as folder:
+                    make(Path(folder) / name)
+                    self.assertRaises(OSError, Store, record=folder)
+        self.assertFalse((self.place / "else").exists())
 
     def test_a_recording_goes_on(self) -> None:
         with tempfile.TemporaryDirectory() as folder:

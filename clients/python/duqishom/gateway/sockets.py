@@ -10,6 +10,8 @@ from collections.abc import Mapping, MutableMapping
 from contextlib import suppress
 from io import BufferedWriter
 
+from duqishom.recording import private
+
 # How many connections may wait to be accepted.
 BACKLOG = 512
 
@@ -29,7 +31,7 @@ class NoSocket(Exception):
 def lock_beside(path: str) -> BufferedWriter:
     """The lock of a socket's path: a file beside it, which stays, and which one gateway at a time has locked as long as it has it
     open, or lives. NoSocket where another has."""
-    file = open(path + LOCK, "ab", opener=lambda name, flags: os.open(name, flags | os.O_NOFOLLOW, 0o600))
+    file = private(path + LOCK)
     try:
         fcntl.flock(file, fcntl.LOCK_EX | fcntl.LOCK_NB)
     except BlockingIOError:
