@@ -41,6 +41,7 @@ from duqishom.answers import (
 from duqishom.cells import Cell
 from duqishom.columns import BadForm, Kind, Lock, Record, read_lock, read_record
 from duqishom.connection import RequestTimedOut
+from duqishom.copies import NotCopied
 from duqishom.fields import MalformedReply
 from duqishom.folders import FolderDamaged, NotOpened
 from duqishom.program import ProgramEnded
@@ -124,6 +125,7 @@ __all__ = [
     "MemtableFull",
     "More",
     "NoMemory",
+    "NotCopied",
     "NotOpened",
     "Nothing",
     "Patience",

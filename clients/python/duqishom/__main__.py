@@ -7,7 +7,7 @@ import sys
 from collections.abc import Iterator, Sequence
 from contextlib import suppress
 
-from duqishom import inspection, statistics
+from duqishom import backups, dumps, inspection, statistics
 from duqishom.gateway import command as gateway
 from duqishom.program import ProgramEnded
 from duqishom.refusals import Refused
@@ -19,7 +19,15 @@ PROMPT = "> "
 GREETING = "duqishom {version}: {store}. The line help shows all lines; quit or the end of the input ends it."
 
 # The first words that stand for commands of their own, each with what runs it on the words behind.
-COMMANDS = {"inspect": inspection.main, "serve": gateway.main, "stats": statistics.main}
+COMMANDS = {
+    "inspect": inspection.main,
+    "serve": gateway.main,
+    "stats": statistics.main,
+    "verify": backups.verify_main,
+    "restore": backups.restore_main,
+    "dump": dumps.dump_main,
+    "load": dumps.load_main,
+}
 
 
 def lines() -> Iterator[str]:
@@ -47,7 +55,8 @@ def parser() -> argparse.ArgumentParser:
         prog="duqishom",
         description="Asks a store in words: in those of the command line, or a line for each request from the input. The word help"
         " shows all lines. `inspect FOLDER` looks into a folder without a program, `serve` serves a store at a socket, and"
-        " `stats` says what such a gateway counts.",
+        " `stats` says what such a gateway counts. `verify FOLDER` reads all of a folder or of a backup, and `restore BACKUP"
+        " FOLDER` copies one back. `dump` and `load` write the cells of a store as lines of JSON, and read them.",
     )
     made.add_argument("--program", help="the tabletd to start: that of TABLETD, PATH or the repository where none is named")
     place = made.add_mutually_exclusive_group()
@@ -80,7 +89,10 @@ def place_of(options: argparse.Namespace) -> str:
 def main(given: Sequence[str]) -> int:
     """Runs the command. The status is 0 where each line was done, 1 where one was not, and 2 where the program failed."""
     if given[:1] and given[0] in COMMANDS:
-        return COMMANDS[given[0]](given[1:])
+        try:
+            return COMMANDS[given[0]](given[1:])
+        except KeyboardInterrupt:
+            return 130
     parsing = parser()
     options = parsing.parse_args(given)
     if options.log and options.dir is None:

@@ -1,16 +1,13 @@
-"""Folders of stores: what the client looks at beside its program, what of a store isn't kept yet, and copies."""
+"""Folders of stores: what the client looks at beside its program, and what of a store isn't kept yet."""
 
 from __future__ import annotations
 
 import os
 import re
-import shutil
 from collections.abc import Sequence
 from contextlib import suppress
 from datetime import datetime
-from io import BytesIO
 from pathlib import Path
-from typing import BinaryIO
 
 from duqishom.answers import Committed
 from duqishom.columns import BadForm
@@ -28,9 +25,7 @@ from duqishom.files import (
     file_name,
     log_of,
     mark_of,
-    renewed_log,
     root_of,
-    sign_of,
     store_of,
 )
 from duqishom.operations import (
@@ -237,10 +232,15 @@ def read_root(folder: Path) -> Root:
         data = file.read_bytes()
     except FileNotFoundError:
         return NEW_ROOT
+    return root_in(folder, data)
+
+
+def root_in(folder: Path, data: bytes) -> Root:
+    """The root of a folder, by the bytes of its file."""
     try:
         return root_of(data)
     except BadForm as bad:
-        raise FolderDamaged(file, bad.what, bad.at) from None
+        raise FolderDamaged(folder / ROOT_FILE, bad.what, bad.at) from None
 
 
 def read_mark(folder: Path) -> int:
@@ -342,35 +342,3 @@ def check_folder(folder: Path) -> Root:
         except BadForm as bad:
             raise FolderDamaged(file, bad.what, bad.at) from None
     return root
-
-
-def copy_checkpoint(source: str, target: str) -> None:
-    """Copies the last checkpoint of a folder into another, which is made where there is none. If it has a log, the copy has its sign
-    and a log without edits over the root. The root is last: so a copy that was cut short is none. ValueError where the other one
-    has files. Nobody may write to the source meanwhile."""
-    place, copy = Path(source), Path(target)
-    copy.mkdir(exist_ok=True)
-    if any(copy.iterdir()):
-        raise ValueError(f"{target} is not empty")
-    root, log = read_root(place), read_log(place)
-    names = {file_name(reference.name) for tablet in root.tablets for reference in tablet.files}
-    if log is not None:
-        if log.format == 2:
-            write_synced(copy / SIGN_FILE, BytesIO(sign_of(log.store)))
-        write_synced(copy / LOG_FILE, BytesIO(renewed_log(log, root)))
-    for name in (MARK_FILE, *sorted(names), ROOT_FILE):
-        with (place / name).open("rb") as file:
-            write_synced(copy / name, file)
-
-
-def write_synced(path: Path, source: BinaryIO) -> None:
-    """Writes a new file, and forces it and its name to the disk."""
-    with path.open("xb") as file:
-        shutil.copyfileobj(source, file)
-        file.flush()
-        os.fsync(file.fileno())
-    descriptor = os.open(path.parent, os.O_RDONLY)
-    try:
-        os.fsync(descriptor)
-    finally:
-        os.close(descriptor)

@@ -77,7 +77,7 @@ class Folder:
                 check_over(path, self._logged, self.root)
                 self.files = {name: self._opened(name) for name in named_by(self.root)}
                 break
-            except (FileNotFoundError, FolderDamaged):
+            except FolderDamaged:
                 if not left:
                     raise
         self.log = last_edits(path, self._logged)
@@ -86,9 +86,13 @@ class Folder:
 
     def _opened(self, name: int) -> SortedFile:
         """A file, with its head and its foot."""
-        with (self.path / file_name(name)).open("rb") as file:
-            size = os.fstat(file.fileno()).st_size
-            data: Bytes = mmap.mmap(file.fileno(), 0, access=mmap.ACCESS_READ) if size else b""
+        place = self.path / file_name(name)
+        try:
+            with place.open("rb") as file:
+                size = os.fstat(file.fileno()).st_size
+                data: Bytes = mmap.mmap(file.fileno(), 0, access=mmap.ACCESS_READ) if size else b""
+        except FileNotFoundError:
+            raise FolderDamaged(place, "the root names this file, and it isn't there") from None
         return self._checked(name, lambda: SortedFile(data))
 
     def _checked(self, name: int, read: Callable[[], Read]) -> Read:
@@ -99,7 +103,7 @@ class Folder:
             raise FolderDamaged(self.path / file_name(name), bad.what, bad.at) from None
 
     def check(self) -> None:
-        """Reads all of it, as a program does that opens the folder, and each value of a lock or a record too."""
+        """Reads all of it, as a program does that opens the folder. FolderDamaged at the first wrong byte."""
         check_mark(self.path, self.mark, self.root, self._logged)
         for tablet in self.root.tablets:
             for name, length in tablet.files:
@@ -255,8 +259,8 @@ def finished(folder: Folder) -> dict[Cell, Record]:
     }
 
 
-def cells(folder: Folder, prefix: bytes = b"") -> Iterator[str]:
-    """The cells whose rows begin so, each with the value that was committed last: row, family and value, with tabs between."""
+def committed(folder: Folder, prefix: bytes = b"") -> Iterator[tuple[bytes, bytes, bytes]]:
+    """The cells whose rows begin so, each as its row, its family and the value that was committed last."""
     locked = finished(folder)
     for (row, family), group in groupby(folder.versions(), key=lambda found: found.key[:2]):
         if not row.startswith(prefix):
@@ -268,8 +272,16 @@ def cells(folder: Folder, prefix: bytes = b"") -> Iterator[str]:
                 data[stamp] = value
             elif column is Qualifier.WRITE and last is None:
                 last = read_record(value)
-        if last is not None and last.kind is Kind.SET:
-            yield f"{text_of(row)}\t{text_of(family)}\t{text_of(data[last.start])}"
+        if last is None or last.kind is not Kind.SET:
+            continue
+        if last.start not in data:
+            raise FolderDamaged(folder.path, f"{Cell(row, family)} has a record of {last.start}, and no data at that stamp")
+        yield row, family, data[last.start]
+
+
+def cells(folder: Folder, prefix: bytes = b"") -> Iterator[str]:
+    """The same cells, with tabs between their parts."""
+    return ("\t".join(map(text_of, cell)) for cell in committed(folder, prefix))
 
 
 def lines_of(path: Path, what: str, prefix: str) -> Iterator[str]:
@@ -305,29 +317,50 @@ def main(words: Sequence[str]) -> int:
     if options.prefix and options.what != "cells":
         parser.error("only cells takes a prefix")
     path = Path(options.folder)
-    try:
-        if not path.is_dir():
-            print(f"inspect: there is no folder {path}", file=sys.stderr)
-            return 2
-        if not (path / ROOT_FILE).exists():
-            print(f"inspect: {path} has no checkpoint", file=sys.stderr)
-        holder = holder_of(options.folder)
-        if holder is not None:
-            kept = "last checkpoint with its log" if has_log(options.folder) else "last checkpoint"
-            print(f"inspect: {path} is in use by {holder}; this is its {kept}", file=sys.stderr)
+
+    def show() -> int:
+        note_state("inspect", options.folder)
         for line in lines_of(path, options.what, options.prefix):
             print(line)
         if options.what == "log":
             read_log(path)
+        return 0
+
+    return status_of("inspect", options.folder, show)
+
+
+def note_state(command: str, folder: str) -> None:
+    """Says on the standard error where a folder has no checkpoint, and who has it, where somebody does."""
+    if not os.path.exists(os.path.join(folder, ROOT_FILE)):
+        print(f"{command}: {folder} has no checkpoint", file=sys.stderr)
+    holder = holder_of(folder)
+    if holder is not None:
+        kept = "last checkpoint with its log" if has_log(folder) else "last checkpoint"
+        print(f"{command}: {folder} is in use by {holder}; this is its {kept}", file=sys.stderr)
+
+
+def drop_output() -> None:
+    """Has what is still written to the standard output go nowhere, for nobody reads it any more."""
+    os.dup2(os.open(os.devnull, os.O_WRONLY), sys.stdout.fileno())
+
+
+def status_of(command: str, folder: str, work: Callable[[], int]) -> int:
+    """The status of a command that reads a folder: that of its work, 1 where something is outside its form, and 2 where there is no
+    folder or something can't be read or written. The standard error says which."""
+    try:
+        if not os.path.isdir(folder):
+            print(f"{command}: there is no folder {folder}", file=sys.stderr)
+            return 2
+        return work()
     except FolderDamaged as damage:
-        print(f"inspect: {damage}", file=sys.stderr)
+        print(f"{command}: {damage}", file=sys.stderr)
         return 1
     except BadForm as bad:
-        print(f"inspect: a lock or a record is outside its form: {bad}", file=sys.stderr)
+        print(f"{command}: a lock or a record is outside its form: {bad}", file=sys.stderr)
         return 1
     except BrokenPipeError:
-        os.dup2(os.open(os.devnull, os.O_WRONLY), sys.stdout.fileno())
+        drop_output()
+        return 0
     except OSError as failure:
-        print(f"inspect: {failure}", file=sys.stderr)
+        print(f"{command}: {failure}", file=sys.stderr)
         return 2
-    return 0

@@ -31,7 +31,8 @@ from duqishom.answers import (
 )
 from duqishom.columns import read_lock
 from duqishom.connection import Connection
-from duqishom.folders import Unsaved, copy_checkpoint, has_log, started
+from duqishom.copies import NotCopied, copy_checkpoint
+from duqishom.folders import Unsaved, has_log, started
 from duqishom.operations import (
     MOST_CELLS,
     Begin,
@@ -409,9 +410,9 @@ class Store:
 
     def backup(self, path: str | PathLike[str]) -> None:
         """Makes a copy of the store's folder at a path, which must be an empty folder or nothing yet: that of a checkpoint that
-        is made now. Other threads wait meanwhile. ValueError where the store is in memory, or the path has files."""
+        is made now. Other threads wait meanwhile. NotCopied where the store is in memory, or the path has files."""
         if self.folder is None:
-            raise ValueError("a store in memory has no folder to copy")
+            raise NotCopied("a store in memory has no folder to copy")
         with self.alone():
             self.checkpoint()
             copy_checkpoint(self.folder, fspath(path))

@@ -12,10 +12,10 @@ def bytes_of(word: str) -> bytes:
     return ESCAPE.sub(lambda found: bytes.fromhex(found[1].decode()), word.encode())
 
 
-def text_of(given: bytes) -> str:
-    """A word that stands for these bytes."""
+def text_of(given: bytes, marks: str = " \\") -> str:
+    """A word that stands for these bytes. Letters that can't be shown are escaped, and these marks; a backslash is always one."""
     text = given.decode("utf-8", "surrogateescape")
-    return "".join(letter if letter.isprintable() and letter not in " \\" else escaped(letter) for letter in text)
+    return "".join(letter if letter.isprintable() and letter not in marks else escaped(letter) for letter in text)
 
 
 def escaped(letter: str) -> str:

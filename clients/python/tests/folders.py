@@ -1,10 +1,14 @@
-"""A folder for a test, which goes with it."""
+"""A folder for a test, which goes with it, and what the command says of folders."""
 
 from __future__ import annotations
 
 import tempfile
 import unittest
+from contextlib import redirect_stderr, redirect_stdout
+from io import StringIO
 from pathlib import Path
+
+from duqishom.__main__ import main
 
 
 class FolderTest(unittest.TestCase):
@@ -15,3 +19,11 @@ class FolderTest(unittest.TestCase):
         self.addCleanup(folder.cleanup)
         self.folder = folder.name
         self.path = Path(folder.name)
+
+
+def said(*words: object) -> tuple[int, str]:
+    """The status of the command, and what it prints."""
+    out = StringIO()
+    with redirect_stdout(out), redirect_stderr(out):
+        status = main([str(word) for word in words])
+    return status, out.getvalue()

@@ -1,0 +1,97 @@
+"""Copies of folders: of the last checkpoint of a store, also while its program runs, and back from such a copy."""
+
+from __future__ import annotations
+
+import os
+from collections.abc import Callable, Mapping
+from io import BytesIO
+from pathlib import Path
+from typing import BinaryIO
+
+from duqishom.files import LOG_FILE, MARK_FILE, ROOT_FILE, SIGN_FILE, file_name, renewed_log, sign_of
+from duqishom.folders import read_log, root_in
+
+# The bytes that are copied at once.
+PIECE = 1 << 20
+
+
+class NotCopied(ValueError):
+    """A store wasn't copied: the text says why. What there is of the copy has no root, so it is none."""
+
+
+def nothing() -> None:
+    """Goes on."""
+
+
+def copy_checkpoint(source: str, target: str, go_on: Callable[[], None] = nothing) -> None:
+    """Copies the last checkpoint of a folder into another one, which is empty, or is made. If it has a log, the copy has its sign
+    and a log without edits over the root. The program may put another root meanwhile, but may remove no file.
+
+    `go_on` is called before each piece, and may raise what ends the copying. NotCopied where the other folder has files.
+    """
+    place, copy = Path(source), empty_folder(target)
+    data = (place / ROOT_FILE).read_bytes()
+    root, log = root_in(place, data), read_log(place)
+    beside: dict[str, bytes] = {}
+    if log is not None:
+        beside = {SIGN_FILE: sign_of(log.store)} if log.format == 2 else {}
+        beside[LOG_FILE] = renewed_log(log, root)
+    copy_store(place, copy, data, beside, go_on)
+
+
+def restore(backup: str, target: str) -> None:
+    """Copies the store of a folder that no program has, its log with all edits too, into a folder which is empty, or is made.
+    NotCopied where that has files."""
+    place, copy = Path(backup), empty_folder(target)
+    beside = {name: (place / name).read_bytes() for name in (SIGN_FILE, LOG_FILE) if (place / name).exists()}
+    copy_store(place, copy, (place / ROOT_FILE).read_bytes(), beside, nothing)
+
+
+def empty_folder(target: str) -> Path:
+    """A folder without files: one that is made, for its owner alone, where there is nothing. NotCopied where it has some."""
+    copy = Path(target)
+    copy.mkdir(mode=0o700, exist_ok=True)
+    if any(copy.iterdir()):
+        raise NotCopied(f"{target} is not empty")
+    sync_folder(copy.absolute().parent)
+    return copy
+
+
+def copy_store(place: Path, copy: Path, data: bytes, beside: Mapping[str, bytes], go_on: Callable[[], None]) -> None:
+    """Copies what a root of these bytes names, and the mark, beside files of these bytes. The root is last: so a copy that was cut
+    short has none."""
+    root = root_in(place, data)
+    for name, said in beside.items():
+        write_synced(copy / name, BytesIO(said), go_on)
+    named = {file_name(reference.name) for tablet in root.tablets for reference in tablet.files}
+    # A store that has drawn no stamp yet has no mark
+    mark = [MARK_FILE] if (place / MARK_FILE).exists() else []
+    for name in (*mark, *sorted(named)):
+        with (place / name).open("rb") as file:
+            write_synced(copy / name, file, go_on)
+    go_on()
+    write_synced(copy / ROOT_FILE, BytesIO(data))
+
+
+def write_synced(path: Path, source: BinaryIO, go_on: Callable[[], None] = nothing) -> None:
+    """Writes a new file, and forces it and its name to the disk. OSError, which names the file, where that can't be done."""
+    try:
+        with path.open("xb") as file:
+            while piece := source.read(PIECE):
+                go_on()
+                file.write(piece)
+            file.flush()
+            os.fsync(file.fileno())
+        sync_folder(path.parent)
+    except OSError as error:
+        error.filename = error.filename or str(path)
+        raise
+
+
+def sync_folder(path: Path) -> None:
+    """Forces the names of a folder to the disk."""
+    descriptor = os.open(path, os.O_RDONLY)
+    try:
+        os.fsync(descriptor)
+    finally:
+        os.close(descriptor)

@@ -1,0 +1,193 @@
+"""`python3 -m duqishom dump` and `load`: the cells of a store as lines of JSON, and back.
+
+    {"row": "Bob", "family": "bal", "value": "10"}
+
+Each text stands for bytes: it is UTF-8, in which `\\x0a` stands for the byte 0A. So no byte is lost, whatever reads the lines.
+"""
+
+from __future__ import annotations
+
+import argparse
+import json
+import sys
+from collections.abc import Callable, Iterable, Iterator, Sequence
+from contextlib import ExitStack
+from itertools import islice
+from pathlib import Path
+from typing import BinaryIO
+
+from duqishom.fields import MalformedReply
+from duqishom.inspection import Folder, committed, drop_output, note_state, status_of
+from duqishom.program import ProgramEnded
+from duqishom.refusals import BadColumn, BadRow, BadValue, Refused
+from duqishom.store import Store
+from duqishom.texts import bytes_of, text_of
+from duqishom.transactions import MOST_WRITES, Patience, Transaction, TransactionFailed
+
+Entry = tuple[bytes, bytes, bytes]
+NAMES = ("row", "family", "value")
+
+# A dump waits for each lock for a second before it takes that for one that was left behind. A load merges files as it goes.
+DUMP_PATIENCE = Patience(tries=100)
+LOAD_WORDS = ("--merge", "8")
+
+# How many cells are dumped between two reports of progress.
+REPORTED = 1000
+
+
+class BadLine(Exception):
+    """A line isn't that of a cell."""
+
+
+class Progress:
+    """How many cells are done: on the standard error, where that is a terminal."""
+
+    def __init__(self, is_shown: bool = True) -> None:
+        self.cells = 0
+        self._is_shown = is_shown and sys.stderr.isatty()
+
+    def add(self, cells: int) -> None:
+        """Adds cells that are done."""
+        self.cells += cells
+        if self._is_shown:
+            print(f"\r{self.cells:,} cells", end="", file=sys.stderr, flush=True)
+
+    def end(self) -> None:
+        """Ends the line."""
+        if self._is_shown:
+            print(file=sys.stderr)
+
+
+def line_of(cell: Entry) -> bytes:
+    """The line of a cell."""
+    texts = (text_of(part, "\\") for part in cell)
+    return json.dumps(dict(zip(NAMES, texts)), ensure_ascii=False).encode() + b"\n"
+
+
+def cell_of(line: bytes) -> Entry:
+    """The cell of a line. BadLine where it is none."""
+    try:
+        told = json.loads(line)
+    except (ValueError, RecursionError) as why:
+        raise BadLine(f"this is no JSON: {why}") from None
+    if not isinstance(told, dict) or sorted(told) != sorted(NAMES) or not all(isinstance(text, str) for text in told.values()):
+        raise BadLine("a line is an object of the texts row, family and value")
+    try:
+        row, family, value = (bytes_of(told[name]) for name in NAMES)
+    except UnicodeEncodeError:
+        raise BadLine("a byte that is no UTF-8 is written as \\\\xff") from None
+    return row, family, value
+
+
+def dump(cells: Iterable[Entry], out: BinaryIO, progress: Progress) -> None:
+    """Writes cells as lines."""
+    left = iter(cells)
+    while batch := list(islice(left, REPORTED)):
+        out.writelines(map(line_of, batch))
+        progress.add(len(batch))
+    out.flush()
+
+
+def load(store: Store, lines: Iterable[bytes], progress: Progress) -> None:
+    """Sets the cells of lines, as many at a time as a transaction may. BadLine, with its number, at a line that is none."""
+    numbered = enumerate(lines, start=1)
+    while batch := list(islice(numbered, MOST_WRITES)):
+        cells = list(cells_of(batch))
+
+        def write(transaction: Transaction) -> None:
+            for cell in cells:
+                transaction.set(*cell)
+
+        try:
+            store.run(write)
+        except (BadRow, BadColumn, BadValue) as refusal:
+            raise BadLine(f"lines {batch[0][0]} to {batch[-1][0]}: {refusal}") from None
+        progress.add(len(cells))
+
+
+def cells_of(batch: Iterable[tuple[int, bytes]]) -> Iterator[Entry]:
+    """The cells of lines with their numbers."""
+    for number, line in batch:
+        try:
+            yield cell_of(line)
+        except BadLine as bad:
+            raise BadLine(f"line {number}: {bad}") from None
+
+
+def parser_of(command: str, description: str, file: str) -> argparse.ArgumentParser:
+    """The parser of a command that has a store and a file."""
+    parser = argparse.ArgumentParser(prog=f"duqishom {command}", description=description)
+    place = parser.add_mutually_exclusive_group(required=True)
+    place.add_argument("--dir", metavar="FOLDER", help="the folder of the store")
+    place.add_argument("--socket", metavar="PATH", help="the socket of the gateway that serves the store")
+    parser.add_argument("file", metavar="FILE", nargs="?", help=file)
+    return parser
+
+
+def status(command: str, work: Callable[[], None]) -> int:
+    """The status of work at a store: 0, 1 where a line or a transaction came to nothing, 2 where the store or a file failed."""
+    try:
+        work()
+    except BrokenPipeError:
+        drop_output()
+    except (BadLine, TransactionFailed) as why:
+        print(f"{command}: {why}", file=sys.stderr)
+        return 1
+    except (OSError, ProgramEnded, Refused, MalformedReply) as failure:
+        print(f"{command}: {failure}", file=sys.stderr)
+        return 2
+    return 0
+
+
+def dump_main(words: Sequence[str]) -> int:
+    """Dumps a store. The status is 0, 1 where a folder isn't whole, and 2 where the store or the file failed."""
+    options = parser_of(
+        "dump",
+        "Writes the committed cells of one moment, each as a line of JSON. Of a folder it reads the files alone: the last"
+        " checkpoint and the log.",
+        "a new file: the standard output where none is named",
+    ).parse_args(words)
+
+    def write(cells: Iterable[Entry]) -> None:
+        progress = Progress(options.file is not None)
+        with ExitStack() as stack:
+            out = sys.stdout.buffer if options.file is None else stack.enter_context(open(options.file, "xb"))
+            stack.callback(progress.end)
+            dump(cells, out, progress)
+
+    def read_folder() -> int:
+        note_state("dump", options.dir)
+        folder = Folder(Path(options.dir))
+        folder.check()
+        write(committed(folder))
+        return 0
+
+    def read_store() -> None:
+        with Store(socket=options.socket, patience=DUMP_PATIENCE) as store, store.transaction() as transaction:
+            write(transaction.scan())
+
+    return status("dump", read_store) if options.dir is None else status_of("dump", options.dir, read_folder)
+
+
+def load_main(words: Sequence[str]) -> int:
+    """Loads a dump. The status is 0, 1 where a line or a transaction came to nothing, and 2 where the store or the file failed."""
+    options = parser_of(
+        "load",
+        f"Sets the cells of a dump, {MOST_WRITES} in a transaction. Where it ends early, it says how many are set; it may be begun"
+        " anew.",
+        "the lines: the standard input where none is named",
+    ).parse_args(words)
+    progress = Progress()
+
+    def read() -> None:
+        with ExitStack() as stack:
+            lines = sys.stdin.buffer if options.file is None else stack.enter_context(open(options.file, "rb"))
+            tuned = () if options.dir is None else LOAD_WORDS
+            store = stack.enter_context(Store(folder=options.dir, socket=options.socket, words=tuned))
+            stack.callback(progress.end)
+            load(store, lines, progress)
+
+    try:
+        return status("load", read)
+    finally:
+        print(f"{progress.cells:,} cells are set")
