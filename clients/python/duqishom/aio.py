@@ -70,7 +70,7 @@ from duqishom.operations import (
 )
 from duqishom.program import ProgramEnded
 from duqishom.refusals import BadRequest, MemtableFull, Refused, TooManyFiles, UnknownSession, UnknownTablet
-from duqishom.remote import MOST_TABLETS, Fate
+from duqishom.remote import MOST_TABLETS, Backup, Fate, check_copied
 from duqishom.streams import FrameStream
 from duqishom.transactions import (
     MOST_STAMP,
@@ -302,6 +302,16 @@ class Store:
                     raise
             await asyncio.sleep(self._patience.between(attempt - 1))
             attempt += 1
+
+    async def backup(self, path: str | PathLike[str]) -> None:
+        """Has the gateway make a copy of the store's folder at a path, as `Store.backup` of the other twin does. A task that is
+        cancelled meanwhile stops the copy."""
+        asked, stream = Backup(fspath(path)), await FrameStream.open(self._path)
+        try:
+            [reply] = await stream.ask([request_body(asked)])
+        finally:
+            stream.close()
+        check_copied(asked, reply)
 
     async def close(self) -> int:
         """Leaves the gateway, which ends what is open."""

@@ -57,6 +57,10 @@ class FieldReader:
         """The next bytes that stand behind their length."""
         return self.bytes_of(self.number(4))
 
+    def rest(self) -> bytes:
+        """All that is left."""
+        return self.bytes_of(len(self._body) - self._at)
+
     def end(self) -> None:
         """MalformedReply where the body goes on."""
         if self._at < len(self._body):

@@ -2,17 +2,21 @@
 
 from __future__ import annotations
 
+import os
 import socket
 from collections.abc import Iterator, Sequence
 from contextlib import suppress
-from typing import TYPE_CHECKING
+from dataclasses import dataclass
+from typing import TYPE_CHECKING, ClassVar
 
 from duqishom.answers import Committed, Lost, Pending, Qualifier
 from duqishom.columns import read_record
 from duqishom.connection import LONGEST_BODY, Frames, StreamEnded
-from duqishom.operations import Checkpoint
+from duqishom.copies import NotCopied
+from duqishom.fields import FieldReader
+from duqishom.operations import Checkpoint, answer_or_refusal, request_body
 from duqishom.program import ProgramEnded
-from duqishom.refusals import BadRequest, FrameTooLarge, TooManyFiles, UnknownTablet
+from duqishom.refusals import BadRequest, FrameTooLarge, Refused, TooManyFiles, UnknownTablet
 from duqishom.transactions import Patience
 
 if TYPE_CHECKING:
@@ -69,6 +73,40 @@ class Gateway:
         """Leaves. It may be called again."""
         self._frames.close()
         return 0
+
+
+@dataclass(frozen=True)
+class Backup:
+    """Has a gateway copy the folder of its store to a path, and answers why it hasn't: nothing where it has."""
+
+    path: str
+    code: ClassVar[int] = 0x71
+
+    def fields(self) -> bytes:
+        return os.fsencode(os.path.abspath(self.path))
+
+    def read(self, fields: FieldReader) -> str:
+        return fields.rest().decode(errors="replace")
+
+
+def back_up(socket_path: str, path: str) -> None:
+    """Has the gateway at a socket copy its store's folder to a path, over a connection of its own: so others go on meanwhile, and
+    the copy is stopped where this is interrupted. OSError where nobody serves there."""
+    asked, gateway = Backup(path), Gateway(socket_path)
+    try:
+        [reply] = gateway.ask([request_body(asked)])
+    finally:
+        gateway.close()
+    check_copied(asked, reply)
+
+
+def check_copied(asked: Backup, reply: bytes) -> None:
+    """Looks at the reply to a Backup. NotCopied, or a Refused, where it wasn't made."""
+    answer = answer_or_refusal(asked, reply)
+    if isinstance(answer, Refused):
+        raise answer
+    if answer:
+        raise NotCopied(answer)
 
 
 def write_all(store: Store) -> None:

@@ -62,7 +62,7 @@ from duqishom.operations import (
 from duqishom.program import ProgramEnded
 from duqishom.recording import Recording
 from duqishom.refusals import MemtableFull, Refused, TooManyFiles
-from duqishom.remote import ConnectionLost, Fate, Gateway, fate, write_all
+from duqishom.remote import ConnectionLost, Fate, Gateway, back_up, fate, write_all
 from duqishom.tablets import NEW_STORE, Tablet, TabletMap, tablets_of
 from duqishom.transactions import (
     MOST_STAMP,
@@ -127,12 +127,13 @@ class Store:
         self.folder = None if folder is None else fspath(folder)
         self._checkpoint_at_close = checkpoint_at_close and folder is not None
         self._is_closed = True
+        self._socket = None if socket is None else fspath(socket)
         self._is_remote = socket is not None
         if self._is_remote and (program is not None or words or folder is not None or record is not None):
             raise ValueError("a store at a socket has its program and folder already, and is recorded by its gateway")
         if log and folder is None:
             raise ValueError("a log is in a folder, and none is named")
-        self._connection: Connection = Gateway(fspath(socket)) if socket is not None else started(
+        self._connection: Connection = Gateway(self._socket) if self._socket is not None else started(
             program, self.folder, words, None if record is None else Recording(record, self.folder), log
         )
         self._is_closed = False
@@ -410,7 +411,12 @@ class Store:
 
     def backup(self, path: str | PathLike[str]) -> None:
         """Makes a copy of the store's folder at a path, which must be an empty folder or nothing yet: that of a checkpoint that
-        is made now. Other threads wait meanwhile. NotCopied where the store is in memory, or the path has files."""
+        is made now. Other threads wait meanwhile. Where a gateway serves the store, the gateway makes the copy, and nobody waits
+        for it but a Sweep. NotCopied where the store is in memory, the path has files, or the gateway can't copy; OSError where
+        this process can't."""
+        if self._socket is not None:
+            back_up(self._socket, fspath(path))
+            return
         if self.folder is None:
             raise NotCopied("a store in memory has no folder to copy")
         with self.alone():

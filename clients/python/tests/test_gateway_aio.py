@@ -40,7 +40,7 @@ class Aio(unittest.TestCase):
 
     def test_names_are_those_of_the_other_twin(self) -> None:
         ours, theirs = ({name for name in vars(store) if not name.startswith("_")} for store in (Store, PlainStore))
-        self.assertLessEqual(theirs - {"alone", "backup", "has_log", "kill", "tablets"}, ours)
+        self.assertLessEqual(theirs - {"alone", "has_log", "kill", "tablets"}, ours)
 
     def test_tasks_count(self) -> None:
         async def work(store: Store) -> None:

@@ -6,5 +6,6 @@
 `things` the sessions, cleaners and collectors that are open, and whose they are; a `client` is a connection, and the
 `household` asks what the gateway asks for itself; `verdicts` says what the gateway answers itself, `turns` gives turns, and the
 `upstream` is the program. `heirs` ends what a dead client had open, and the `keeper` holds replies back until a checkpoint.
+`backups` are copies of the folder that clients ask for.
 `turned_away` is a connection that there is no place for, a `failure` ends all at once, and `service` starts and ends it all.
 """

@@ -3,15 +3,28 @@
 from __future__ import annotations
 
 import asyncio
+import os
+import threading
 from typing import TYPE_CHECKING, cast
 
 from duqishom.connection import LONGEST_BODY
 from duqishom.gateway.bounds import READ_AHEAD, READ_SIZE, REPLIES_OF_ALL, REPLIES_OF_CLIENT
 from duqishom.gateway.counts import statistics
-from duqishom.gateway.passages import HEAD, LENGTH, NAME_END, READ_ROOM, TOO_LARGE, TURN_WEIGHT, Passage
+from duqishom.gateway.passages import (
+    BACKUP,
+    BACKUP_REPLY,
+    HEAD,
+    LENGTH,
+    NAME_END,
+    READ_ROOM,
+    TOO_LARGE,
+    TURN_WEIGHT,
+    Passage,
+    frame,
+)
 from duqishom.gateway.things import Thing
 from duqishom.gateway.upstream import Run
-from duqishom.gateway.verdicts import STATISTICS_FRAME, verdict_on
+from duqishom.gateway.verdicts import BACK_UP, LATER, STATISTICS_FRAME, verdict_on
 
 if TYPE_CHECKING:
     from duqishom.gateway.exchange import Exchange
@@ -40,6 +53,7 @@ class Client(asyncio.BufferedProtocol):
         self._out: list[bytes] = []
         self._out_size = 0
         self.is_alive = True
+        self._copying: threading.Event | None = None
         self._has_ended = False
         self._is_reading = True
 
@@ -65,10 +79,12 @@ class Client(asyncio.BufferedProtocol):
 
     def eof_received(self) -> bool:
         self._has_ended = True
+        self._stop_copying()
         self.exchange.turns.add(self)
         return True
 
     def connection_lost(self, error: Exception | None) -> None:
+        self._stop_copying()
         if self.is_alive:
             self.is_alive = False
             self._forget(len(self.waiting))
@@ -121,7 +137,7 @@ class Client(asyncio.BufferedProtocol):
 
     def take_turn(self) -> bool:
         self.needs_idle = False
-        if not self.is_alive or self.exchange.is_closing or self in self.exchange.need_room:
+        if not self.is_alive or self.exchange.is_closing or self._copying is not None or self in self.exchange.need_room:
             return False
         runs: list[Run] = []
         at, verdict = self._gather(runs)
@@ -130,7 +146,7 @@ class Client(asyncio.BufferedProtocol):
             goes_on = verdict is None and self.has_whole_frame()
         else:
             goes_on = self.needs_idle
-            if verdict is not None and self.in_flight == 0:
+            if verdict is not None and verdict is not LATER and self.in_flight == 0:
                 self._answer(verdict)
         self._settle()
         return goes_on
@@ -213,9 +229,30 @@ class Client(asyncio.BufferedProtocol):
             end = len(self.waiting)
         else:
             self.exchange.counts.requests[self.waiting[HEAD]] += 1
+        if verdict is BACK_UP:
+            self._back_up(os.fsdecode(self.body(0, end)[1:]))
+        else:
+            self._reply(verdict)
         self._forget(end)
-        self._reply(verdict)
         asyncio.get_running_loop().call_soon(self.exchange.turns.add, self)
+
+    def _back_up(self, path: str) -> None:
+        """Has a copy made, behind which this client is answered and goes on. It is stopped where the client's requests end, for
+        nobody may wait for it then."""
+        self.in_flight += 1
+        self._copying = self.exchange.backups.begin(path, self._copied)
+        if self._has_ended:
+            self._stop_copying()
+
+    def _stop_copying(self) -> None:
+        if self._copying is not None:
+            self._copying.set()
+
+    def _copied(self, why: str) -> None:
+        """Answers what came of a copy."""
+        self._copying = None
+        reply = frame(bytes((BACKUP_REPLY,)) + why.encode(errors="replace"))
+        self.receive(Run(self, self.exchange.table[BACKUP], b"", 0, 0, 0), reply, 1)
 
     # What goes to the client.
 

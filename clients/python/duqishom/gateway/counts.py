@@ -8,7 +8,7 @@ import time
 from pathlib import Path
 from typing import TYPE_CHECKING
 
-from duqishom.gateway.passages import SCAN, STATISTICS, STATISTICS_REPLY, frame
+from duqishom.gateway.passages import BACKUP, SCAN, STATISTICS, STATISTICS_REPLY, frame
 
 if TYPE_CHECKING:
     from duqishom.gateway.exchange import Exchange
@@ -60,6 +60,7 @@ class Counts:
         known = {name: self.requests[code] for code, name in enumerate(NAMES, start=1)}
         known["Scan"] = self.requests[SCAN]
         known["Statistics"] = self.requests[STATISTICS]
+        known["Backup"] = self.requests[BACKUP]
         known["other"] = sum(self.requests) - sum(known.values())
         return known
 

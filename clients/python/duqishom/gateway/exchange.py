@@ -9,6 +9,7 @@ from contextlib import suppress
 from dataclasses import dataclass
 from typing import Any
 
+from duqishom.gateway.backups import Backups
 from duqishom.gateway.bounds import REQUESTS_OF_ALL, Bounds
 from duqishom.gateway.client import Client
 from duqishom.gateway.counts import Counts
@@ -43,7 +44,12 @@ class Exchange:
     """All clients of one program. `ended` is called when the program has ended, or the gateway has failed."""
 
     def __init__(
-        self, rules: Rules, bounds: Bounds, ended: Callable[[ProgramEnded], None], recording: Recording | None = None
+        self,
+        rules: Rules,
+        bounds: Bounds,
+        ended: Callable[[ProgramEnded], None],
+        recording: Recording | None = None,
+        folder: str | None = None,
     ) -> None:
         self.rules, self.bounds = rules, bounds
         self.clients: set[Client] = set()
@@ -59,6 +65,7 @@ class Exchange:
         self.household = Household(self.upstream, self.turns, self.things, self.table, rules.has_log)
         self.heirs = Heirs(self.household, self.things)
         self.keeper = Keeper(self.household, rules.is_durable)
+        self.backups = Backups(folder, self.keeper, self._copied)
         self._ended = ended
         self.gone: asyncio.Future[ProgramEnded] = asyncio.get_running_loop().create_future()
         self._idle = asyncio.Event()
@@ -121,6 +128,12 @@ class Exchange:
         need, self.need_room = self.need_room, set()
         for client in need:
             self.turns.add(client)
+
+    def _copied(self) -> None:
+        """Gives turns behind a copy, for a Sweep may have waited for it."""
+        for client in self.clients:
+            self.turns.add(client)
+        self.turns.call()
 
     def lost(self, client: Client) -> None:
         """Lets a client go."""
@@ -188,6 +201,7 @@ class Exchange:
         """Ends all waiting. What comes first tells why."""
         self.is_closing = True
         self._idle.set()
+        self.backups.stop()
         if not self.gone.done():
             self.household.fail(ended)
             self.gone.set_result(ended)
@@ -203,6 +217,7 @@ class Exchange:
         self.is_closing = True
         for client in list(self.clients):
             client.stop_reading()
+        await self.backups.settle(grace)
         await self._drain()
         kept = not self.rules.is_durable or await self.keeper.checkpoint()
         for client in list(self.clients):

@@ -3,6 +3,7 @@
 from __future__ import annotations
 
 import asyncio
+from collections.abc import Callable
 from contextlib import suppress
 from typing import TYPE_CHECKING
 
@@ -39,6 +40,7 @@ class Keeper:
         self._work: asyncio.Task[None] | None = None
         self.unkept: bytes | None = None
         self.count = 0
+        self.may_sweep: Callable[[], bool] = lambda: True
         household.sees = self._see
 
     def note(self, client: Client, run: Run, reply: bytes) -> None:
@@ -89,12 +91,14 @@ class Keeper:
 
     async def checkpoint(self) -> bool:
         """Makes a checkpoint, and gives whether it was made. Where a tablet has too many files, all of each tablet's become one
-        first, and those that nothing names any more are removed. A refusal is told on the standard error."""
+        first, and those that nothing names any more are removed, unless a copy is being made. A refusal is told on the standard
+        error."""
         reply = await self._ask(CHECKPOINT)
         if reply == TOO_MANY_FILES:
             await self._household.join_files()
             await self._ask(CHECKPOINT)
-            await self._sweep()
+            if self.may_sweep():
+                await self._sweep()
             reply = await self._ask(CHECKPOINT)
         if reply != CHECKPOINT_MADE:
             tell(f"a checkpoint was refused: {body_of(reply)[1]}")

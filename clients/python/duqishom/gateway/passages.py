@@ -50,9 +50,9 @@ SCAN = 0x31
 # The operations whose answers show what was committed, of sessions and of none.
 READS = (GET, RAW, SCAN)
 
-# The one request that the gateway answers itself. The program refuses it as no request.
-STATISTICS = 0x70
-STATISTICS_REPLY = STATISTICS | 0x80
+# The two requests that the gateway answers itself. The program refuses them as no requests.
+STATISTICS, BACKUP = 0x70, 0x71
+STATISTICS_REPLY, BACKUP_REPLY = STATISTICS | 0x80, BACKUP | 0x80
 
 
 class Kind(IntEnum):
@@ -155,6 +155,7 @@ KNOWN = (
     Passage(COLLECT_BEGIN, opens=Kind.COLLECTOR, is_noted=True),
     Passage(COLLECT_STEP, names=Kind.COLLECTOR, tail=4, weight_each=VISIT_WEIGHT, room=BLOCKED_ROOM, is_noted=True),
     Passage(RAW, room=READ_ROOM),
+    Passage(BACKUP, is_for_admin=True),
     *(of_files(code) for code in (MINOR, MERGE, MAJOR, SPLIT, MOVE, SWEEP, ORACLE_RESTART, CHECKPOINT)),
 )
 

@@ -70,7 +70,7 @@ class Service:
         stopped: asyncio.Future[ProgramEnded | None] = loop.create_future()
         recording = None if self.record is None else Recording(self.record, self.folder)
         rules = replace(self.rules, has_admin=any(is_admin for _, is_admin in listening))
-        exchange = Exchange(rules, self.bounds, lambda ended: resolve(stopped, ended), recording)
+        exchange = Exchange(rules, self.bounds, lambda ended: resolve(stopped, ended), recording, self.folder)
         loop.set_exception_handler(exchange.handle)
         for number in (signal.SIGTERM, signal.SIGINT):
             loop.add_signal_handler(number, resolve, stopped, None)

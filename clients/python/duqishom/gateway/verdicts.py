@@ -5,13 +5,29 @@ from __future__ import annotations
 from typing import TYPE_CHECKING
 
 from duqishom.gateway.counts import statistics
-from duqishom.gateway.passages import BAD_REQUEST, HEAD, NAME, NAME_END, STATISTICS, TOO_MANY, UNKNOWN, Kind, Passage, frame
+from duqishom.gateway.passages import (
+    BACKUP,
+    BAD_REQUEST,
+    HEAD,
+    NAME,
+    NAME_END,
+    STATISTICS,
+    SWEEP,
+    TOO_MANY,
+    UNKNOWN,
+    Kind,
+    Passage,
+    frame,
+)
 
 if TYPE_CHECKING:
     from duqishom.gateway.client import Client
 
 # It waits for no turn where nothing of its client is before it: it is answered while the program is at something long, too.
 STATISTICS_FRAME = frame(bytes((STATISTICS,)))
+
+# What stands for the answer to a request that has to wait, and to one for a copy, which is answered behind the copy.
+LATER, BACK_UP = b"", b"copy"
 
 
 def verdict_on(client: Client, passage: Passage, at: int, end: int) -> bytes | None:
@@ -26,9 +42,13 @@ def verdict_on(client: Client, passage: Passage, at: int, end: int) -> bytes | N
     if passage.opens is not None:
         is_full = client.counts[passage.opens] >= exchange.bounds.open[passage.opens]
         return TOO_MANY if is_full and passage.has_form(client.body(at, end)) else None
-    if passage.is_for_admin:
-        return BAD_REQUEST if exchange.rules.has_admin and not client.is_admin else None
-    return statistics(exchange) if end - at == len(STATISTICS_FRAME) else None
+    if passage.is_for_admin and exchange.rules.has_admin and not client.is_admin:
+        return BAD_REQUEST
+    if passage.code == SWEEP:
+        return LATER if exchange.backups.are_made else None
+    if passage.code == BACKUP:
+        return BACK_UP if end - at > len(STATISTICS_FRAME) else None
+    return statistics(exchange) if passage.code == STATISTICS and end - at == len(STATISTICS_FRAME) else None
 
 
 def owns(client: Client, kind: Kind, at: int) -> bool:

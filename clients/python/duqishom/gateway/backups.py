@@ -1,0 +1,74 @@
+"""Copies of the folder that clients ask for, which are made beside all else."""
+
+from __future__ import annotations
+
+import asyncio
+import threading
+from collections.abc import Callable
+
+from duqishom.copies import NotCopied, copy_checkpoint
+from duqishom.folders import FolderDamaged
+from duqishom.gateway.failure import begin
+from duqishom.gateway.keeper import Keeper
+from duqishom.program import ProgramEnded
+
+
+class Backups:
+    """Makes copies, each of a checkpoint of its own, in threads. Whatever root is read behind that, its files are there as long as
+    none is removed, and only a Sweep removes files: none is passed on while a copy is made. `ended` is called behind each copy."""
+
+    def __init__(self, folder: str | None, keeper: Keeper, ended: Callable[[], None]) -> None:
+        self._folder, self._keeper, self._ended = folder, keeper, ended
+        self._works: dict[asyncio.Task[None], threading.Event] = {}
+        keeper.may_sweep = lambda: not self.are_made
+
+    @property
+    def are_made(self) -> bool:
+        """Whether a copy is being made."""
+        return bool(self._works)
+
+    def begin(self, path: str, done: Callable[[str], None]) -> threading.Event:
+        """Begins a copy at a path: what stops it. `done` gets why it wasn't made, and nothing where it was."""
+        stop = threading.Event()
+        work = begin(self._make(path, stop, done))
+        self._works[work] = stop
+        return stop
+
+    async def settle(self, seconds: float) -> None:
+        """Stops all copies, and waits until they have ended, so many seconds at most."""
+        self.stop()
+        if self._works:
+            await asyncio.wait(list(self._works), timeout=seconds)
+
+    def stop(self) -> None:
+        """Stops all copies."""
+        for stop in self._works.values():
+            stop.set()
+
+    async def _make(self, path: str, stop: threading.Event, done: Callable[[str], None]) -> None:
+        """Makes a copy, and says what came of it."""
+        work = asyncio.current_task()
+        try:
+            why = await self._copy(path, stop)
+        finally:
+            if work is not None:
+                self._works.pop(work, None)
+        done(why)
+        self._ended()
+
+    async def _copy(self, path: str, stop: threading.Event) -> str:
+        """Why a copy wasn't made: nothing where it was."""
+
+        def go_on() -> None:
+            if stop.is_set():
+                raise NotCopied("the copy was stopped: its client has left, or the gateway ends")
+
+        if self._folder is None:
+            return "a store in memory has no folder to copy"
+        try:
+            if not await self._keeper.checkpoint():
+                return "the store has refused the checkpoint that was to be copied"
+            await asyncio.to_thread(copy_checkpoint, self._folder, path, go_on)
+        except (OSError, ValueError, FolderDamaged, ProgramEnded) as failure:
+            return str(failure)
+        return ""
