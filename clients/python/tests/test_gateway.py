@@ -134,6 +134,9 @@ class Frames(unittest.TestCase):
         with socket.create_connection(("127.0.0.1", port)) as wire:
             wire.sendall(BEGIN)
             self.assertEqual(wire.recv(100)[:5], b"\0\0\0\x09\x81")
+            # A backup, for which nobody may ask from elsewhere
+            wire.sendall(frame(b"\x71copy"))
+            self.assertEqual(wire.recv(100), b"\0\0\0\x02\xff\x16")
         self.assertEqual(gateway.wire().ask(BEGIN)[0], 0x81)
 
 

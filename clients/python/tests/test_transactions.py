@@ -318,7 +318,7 @@ class Interruptions(FolderTest):
                 os._exit(0)
             began = time.monotonic()
             self.assertEqual(store.close(), 0)
-            self.assertLess(time.monotonic() - began, 20)
+            self.assertLess(time.monotonic() - began, 100)
             os.kill(child, signal.SIGKILL)
             os.waitpid(child, 0)
 

@@ -4,7 +4,9 @@ from __future__ import annotations
 
 import asyncio
 import os
+import socket
 import threading
+from struct import Struct
 from typing import TYPE_CHECKING, cast
 
 from duqishom.connection import LONGEST_BODY
@@ -28,6 +30,9 @@ from duqishom.gateway.verdicts import BACK_UP, LATER, STATISTICS_FRAME, verdict_
 
 if TYPE_CHECKING:
     from duqishom.gateway.exchange import Exchange
+
+# The process, user and group at the other end of a socket.
+CREDENTIALS = Struct("3i")
 
 # What all connections read into, one after the other.
 READ_BUFFER = memoryview(bytearray(READ_SIZE))
@@ -63,6 +68,18 @@ class Client(asyncio.BufferedProtocol):
         self.transport = cast(asyncio.Transport, transport)
         self.transport.set_write_buffer_limits(0)
         self.is_alive = self.exchange.admit(self)
+
+    def is_of_owner(self) -> bool:
+        """Whether the process that connected is one of the gateway's own user, or of root. Of one over TCP nobody knows."""
+        connected = self.transport.get_extra_info("socket")
+        if connected.family != socket.AF_UNIX:
+            return False
+        try:
+            told = connected.getsockopt(socket.SOL_SOCKET, socket.SO_PEERCRED, CREDENTIALS.size)
+        except OSError:
+            return False
+        _, user, _ = CREDENTIALS.unpack(told)
+        return user in (0, os.geteuid())
 
     def get_buffer(self, size: int) -> memoryview:
         return READ_BUFFER

@@ -46,6 +46,8 @@ def verdict_on(client: Client, passage: Passage, at: int, end: int) -> bytes | N
         return BAD_REQUEST
     if passage.code == SWEEP:
         return LATER if exchange.backups.are_made else None
+    if passage.code == BACKUP and not (client.is_admin or client.is_of_owner()):
+        return BAD_REQUEST
     if passage.code == BACKUP:
         return BACK_UP if end - at > len(STATISTICS_FRAME) else None
     return statistics(exchange) if passage.code == STATISTICS and end - at == len(STATISTICS_FRAME) else None
