@@ -441,7 +441,8 @@ fn a_root_is_named(rt: HostRuntime) -> Result<(), Fail> {
     Ok(())
 }
 
-/// Whether new devices open after a kill at this call while their root is named, and whether there is such a call.
+/// Whether new devices open after a kill at this call while their root is named, which nothing else refuses, and whether there is
+/// such a call.
 fn naming_survives(alloc: Global, at: u64, makes_last: bool) -> Result<(bool, bool), Refusal> {
     let devices = Devices::new(alloc)?;
     let mut server = devices.open(ON_REQUEST)?;
@@ -449,7 +450,7 @@ fn naming_survives(alloc: Global, at: u64, makes_last: bool) -> Result<(bool, bo
     let is_named = server.name_root().is_ok();
     let is_over = devices.life.is_over();
     devices.life.begin(u64::MAX, false);
-    Ok((opens(&devices)? && is_named != is_over, is_over))
+    Ok((opens(&devices)? && (is_named || is_over), is_over))
 }
 
 /// How many calls a naming makes, after a kill at each of which the devices open; or the first after which they don't.
