@@ -67,7 +67,7 @@ def draw_map(axes: Axes, figures: dict[str, Any]) -> None:
         axes.text(mine, place - 0.2, f" {mine / its:.1f} times the map", va="center", size=9)
     axes.set_yticks(list(places), list(costs))
     axes.invert_yaxis()
-    axes.set_xlim(0, 1.3 * max(tabletd))
+    axes.set_xlim(0, max(1.3 * max(tabletd), 1.05 * max(other)))
     axes.xaxis.set_major_formatter(PLAIN)
     axes.set_xlabel(f"{UNITS[figures['unit']]} a request")
     axes.legend(loc="lower right", frameon=False)
