@@ -2,8 +2,8 @@
 
 from __future__ import annotations
 
+import os
 import re
-import subprocess
 import unittest
 from collections import Counter
 from collections.abc import Callable, Iterator
@@ -12,6 +12,9 @@ from pathlib import Path, PurePosixPath
 
 from duqishom import operations
 from tests.pages import TOP
+
+# Folders that builds and runs leave, and git's own.
+LEFT = {".git", "out", "__pycache__", "build", ".mypy_cache", ".ruff_cache"}
 
 PAGE = re.compile(r"(?:README|CONTRIBUTING|docs/[^/]+|crates/[^/]+/DESIGN)\.md")
 
@@ -60,10 +63,13 @@ LEAST_COUNT = 10
 
 @cache
 def paths() -> tuple[str, ...]:
-    """The files of the tree: those that git has, and new ones that it would take."""
-    listing = ["git", "ls-files", "-z", "--cached", "--others", "--exclude-standard"]
-    listed = subprocess.run(listing, cwd=TOP, check=True, capture_output=True, text=True).stdout
-    return tuple(path for path in listed.split("\0") if path and (TOP / path).is_file())
+    """The files of the tree, but for those that builds and runs leave."""
+    found: list[str] = []
+    for folder, folders, files in os.walk(TOP):
+        folders[:] = sorted(name for name in folders if name not in LEFT)
+        at = Path(folder).relative_to(TOP)
+        found += [(at / name).as_posix() for name in sorted(files)]
+    return tuple(found)
 
 
 @cache
