@@ -1,6 +1,6 @@
 -- What a request does to the cells, to the room in memory, to sessions, cleaners and collectors and
 -- to the oracle, and what is always answered.
-use Rattle.std.specs.Prelude.{◌≡◌, ◌≢◌, ◌⊎◌, ℕ, Option, Result, Ok, Err, map, ⊤}
+use Rattle.std.specs.Prelude.{◌≡◌, ◌⊎◌, ℕ, Option, Result, Ok, Err, map, ⊤}
 use Rattle.cell_key.specs.declared.refusals.Refusal.{Refusal}
 use Rattle.cell_key.specs.declared.refusals.Refusal.TheVariants.{Device, UnknownSession, UnknownCleaner, UnknownCollector, BadCount, EmptyCommit, TooManySessions}
 use Rattle.file_store.specs.Store.{Contents}
@@ -172,10 +172,9 @@ IsAlwaysTold (CollectStep collector n) reply st =
 IsAlwaysTold request reply st = ⊤
 
 -- A begin, a write, a deletion, a step or an end that is done changes the sessions as the
--- machine's step says, and so does a begin that a device's fault refused. All else leaves them.
+-- machine's step says. All else leaves them.
 abbrev pub KeepsSessions : Request → Reply → Clients → Clients → Type 0
-KeepsSessions Begin reply old new =
-    IfRefused (λ refusal. refusal ≢ Device → SameClients old new) (replied reply)
+KeepsSessions Begin (codec.Begin start) old new = ⊤
 KeepsSessions (Set start row family value) codec.Set old new = ⊤
 KeepsSessions (Delete start row family) codec.Delete old new = ⊤
 KeepsSessions (Step start) (codec.Step progress) old new = ⊤
