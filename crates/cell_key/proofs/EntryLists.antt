@@ -48,7 +48,7 @@ pub filter-list : (test : Entry → Bool) (es : List Entry) → IsEntryList es
 filter-list test es h =
     record { rising = rising-filter test es h.rising; each = each-filter test es h.each }
 
--- a first entry, and those of the others that are kept
+-- a first entry, and some of the others
 pub front-list : (test : Entry → Bool) (e : Entry) (es : List Entry) → IsEntryList (e ∷ es)
     → IsEntryList (e ∷ filter test es)
 front-list test e es h = record { rising = both _ _ (below-filter test e.0 es (first _ _ h.rising)) (rising-filter test es (second _ _ h.rising)); each = (h.each.0, each-filter test es h.each.1) }

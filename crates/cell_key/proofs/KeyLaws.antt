@@ -1,4 +1,4 @@
--- Keys that compare alike, or have the same parts, are one.
+-- Keys that compare as equal, or have equal parts, are equal.
 use Rattle.std.proofs.Common.{◌≡◌, refl, sym}
 use Rattle.std.specs.declared.cmp.Ordering.{Ordering}
 use Rattle.std.specs.declared.cmp.Ordering.TheVariants.{Less, Equal, Greater}
@@ -40,7 +40,7 @@ exact_keys a b e =
     let stamp = sym (nat_cmp-IsAntisymmetric b.stamp a.stamp last.1) in
     λ i. record { row = row i; family = family i; qualifier = qualifier i; stamp = stamp i }
 
--- keys of the same parts are one, as a clone and its source are
+-- keys with equal parts are equal, such as a clone and its source
 pub same_key : (a b : CellKey) → (a.row ≡ b.row)
     × ((a.family ≡ b.family) × ((a.qualifier ≡ b.qualifier) × (a.stamp ≡ b.stamp))) → a ≡ b
 same_key a b e =

@@ -1,4 +1,4 @@
--- Where a text stands in a rising list of entries.
+-- The place of a text in a list of entries in ascending order.
 use Rattle.std.proofs.Common.{◌≡◌, ◌≢◌, ◌<◌, ◌≤◌, ℕ, zero, suc, Bool, true, false, cond, T, List, [], ◌∷◌, length, map, get_or, drop, Some, None, refl, sym, ap, subst, ◌∙◌, arith, ◌&&◌}
 use Rattle.std.specs.declared.cmp.Ordering.{Ordering}
 use Rattle.std.specs.declared.cmp.Ordering.TheVariants.{Less, Equal, Greater}
@@ -89,7 +89,7 @@ module _ {X : Type 0} (f : X → Entry) (name : List ℕ) where
     at_point xs i (omega arith) (λ k d a b. p (suc k) d (omega (arith, a)) (omega (arith, b))) (λ k d a b. q (suc k) d (omega (arith, a)) (omega (arith, b))),
   )
 
-  -- what stands at the place is what is found
+  -- the entry at the place is the one found
   pub found_at : (xs : List X) (i : ℕ) (x : X) → IsPlace name (map f xs) i → i < length xs → x ≡ get_or xs i x → is_eq (byte_cmp name (f x).0) ≡ true → entry_of_key (map f xs) name ≡ Some (f x).1
   found_at [] i x p lt g e = absurd (omega arith)
   found_at (y ∷ xs) zero x p lt g e =
@@ -97,7 +97,7 @@ module _ {X : Type 0} (f : X → Entry) (name : List ℕ) where
       (ap (λ (b : Bool). cond b (Some (f x).1) (find byte_cmp name (map f xs))) e)
   found_at (y ∷ xs) (suc i) x p lt g e = ap (λ (o : Ordering). cond (is_eq o) (Some (f y).1) (find byte_cmp name (map f xs))) p.0 ∙ found_at xs i x p.1 (omega arith) g e
 
-  -- if another text stands there, nothing is
+  -- if the entry at the place has another text, there is none with the text
   pub missed_at : (xs : List X) (i : ℕ) (x : X) → IsRising (map f xs) → IsPlace name (map f xs) i → i < length xs → x ≡ get_or xs i x → is_eq (byte_cmp name (f x).0) ≡ false → entry_of_key (map f xs) name ≡ None
   missed_at [] i x r p lt g n = absurd (omega arith)
   missed_at (y ∷ xs) zero x r p lt g n = go (byte_cmp name (f y).0) refl
@@ -115,7 +115,7 @@ module _ {X : Type 0} (f : X → Entry) (name : List ℕ) where
   missed_end (y ∷ xs) (suc i) p le = ap (λ (o : Ordering). cond (is_eq o) (Some (f y).1) (find byte_cmp name (map f xs))) p.0 ∙ missed_end xs i p.1 (omega arith)
 
 module _ (name : List ℕ) where
-  -- what is left from the place on
+  -- the entries from the place on
   none_below : (e : Entry) (es : List Entry) → byte_cmp name e.0 ≢ Greater → T (below_all byte_cmp e.0 es) → entries_from name es ≡ es
   none_below e [] n b = refl
   none_below e (y ∷ es) n b = go (none_below e es n (second _ _ b)) (byte_cmp name y.0) refl

@@ -26,7 +26,7 @@ module _ (lents : List (Option Entry)) where
   before_some None (Some f) p q h some = absurd h
   before_some (Some e) b p q h some = refl
 
-  -- before a place that is at an entry all are
+  -- all places before one at an entry are at entries
   each_taken : (order : List ℕ) (n : ℕ) → InOrder lents order → n ≤ length order → ((k d : ℕ) → n ≡ suc k → IsSome (entry_at lents (get_or order k d))) → AllByRecursion (λ place. IsSome (entry_at lents place)) (take n order)
   each_taken [] zero r l last = tt
   each_taken [] (suc n) r l last = absurd (omega (arith, l))
@@ -57,7 +57,7 @@ module _ (lents : List (Option Entry)) where
       later (inl (j, l, e)) = inl (suc j, omega (arith, l), e)
       later (inr w) = inr w
 
-  -- what is left is ordered
+  -- the places left are ordered
   pub left_ordered : (order : List ℕ) (n : ℕ) → AreSorted lents order → n ≤ length order → AllByRecursion (λ place. entry_at lents place ≡ None) (drop n order) → ((d : ℕ) → 0 < n → IsSome (entry_at lents (get_or order (n - 1) d))) → IsOrdered lents (take n order)
   left_ordered order n h l ended last = record {
     sorted = record {

@@ -1,4 +1,4 @@
--- What the contents of files that are kept as vectors answer.
+-- The contents of files that are held as vectors.
 use Rattle.std.proofs.Common.{◌≡◌, ℕ, List, [], ◌∷◌, ◌&&◌, map, refl, sym, ap, ◌∙◌, subst, cond, T, true, false, Bool}
 use Rattle.std.specs.Global.{Vec}
 use Rattle.std.specs.Prelude.{Option, Some, None, option_map}
@@ -17,7 +17,7 @@ use Rattle.std.proofs.lemmas.Grind.{common_steps}
 use Rattle.file_store.specs.Store.{part}
 use Rattle.file_store.specs.View.{seen, contents_of}
 
--- what the vectors have at a name
+-- the vector of a name
 abbrev pub vec_at : List (ℕ × Vec ℕ) → ℕ → Option (Vec ℕ)
 vec_at es q = lookup (is_at (nat_cmp q)) es
 
@@ -74,7 +74,7 @@ keys-contents es h =
     get-from_entries nat_cmp_total (seen es) q ∙ sym (get-from_sorted nat_cmp (seen es) q s)) in
     ap keys same ∙ ap (map (λ e. e.0)) (entries-from_sorted nat_cmp (seen es) s) ∙ names-seen es
 
--- what a look-up among the vectors found
+-- a look-up among the vectors is a look-up in the contents
 pub found : (es : List (ℕ × Vec ℕ)) (m : finite.FinMap nat_cmp (List ℕ)) (name : ℕ) (o : Option (Vec ℕ)) → contents_of es ≡ m → o ≡ vec_at es name → finite.get m name ≡ option_map (λ v. v.items) o
 found es m name o view is = ap (λ m. finite.get m name) (sym view) ∙ get-contents es name ∙ ap (option_map (λ v. v.items)) (sym is)
 

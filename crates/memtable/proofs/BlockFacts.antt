@@ -138,7 +138,7 @@ put_chosen name v old new made blocks place at r all p lt last g = go (nat_eq at
         let other = last (λ same. grind (arith, nat_tests)) in
         put_last list_of name v old new made blocks at place r p other.1 other.0 g
 
--- what stands at the text in the chosen block stands there in all
+-- the entry at the text in the chosen block is the entry in all blocks
 pub found_chosen : (name : List ℕ) (old : Block) (blocks : List Block) (place at : ℕ) → IsRising (block_entries blocks) → AllByRecursion IsEntryBlock blocks → IsBlockIndex name (lists_of blocks) place → at < length blocks → (at ≢ place → (at + 1 ≡ length blocks) × (length blocks ≤ place)) → old ≡ get_or blocks at old → entry_of_key (block_entries blocks) name ≡ entry_of_key (list_of old) name
 found_chosen name old blocks place at r all p lt last g = go (nat_eq at place) refl
   where

@@ -47,7 +47,7 @@ pub over-push : (es : List Entry) (e : Entry) (base : List Entry) → over (es +
 over-push [] e base = refl
 over-push (x ∷ es) e base = ap (put byte_cmp x.0 x.1) (over-push es e base)
 
--- the bytes of what stood at a text
+-- the length of the entry at a text
 abbrev pub stood_len : List ℕ → Option (Option (List ℕ)) → ℕ
 stood_len name None = 0
 stood_len name (Some v) = entry_len (name, v)
@@ -162,6 +162,6 @@ drop_one f [] i x lt g = absurd (omega arith)
 drop_one f (y ∷ xs) zero x lt g = ap (λ (z : _). f z ∷ map f xs) (sym g)
 drop_one f (y ∷ xs) (suc i) x lt g = drop_one f xs i x (omega arith) g
 
--- what the entries behind one are put over has its text where the table does
+-- putting the later entries leaves the first one's text as it is in the table
 pub stands_alone : (e : Entry) (es base : List Entry) → IsRising (e ∷ es) → entry_of_key (over es base) e.0 ≡ entry_of_key base e.0
 stands_alone e es base r = find-over e.0 es base ∙ ap (λ (o : Option (Option (List ℕ))). or_else o (entry_of_key base e.0)) (find_below e.0 es (first _ _ r))

@@ -75,7 +75,7 @@ module _ (from : List ℕ) where
         least = λ k le less. ap value_of (find_lower k (n, Some v) es r less);
       }
 
--- what stands in an entry list is an entry
+-- each element of an entry list is an entry
 pub entry_at : (es : List Entry) → AllByRecursion IsEntry es → (name : List ℕ) (o : Option (List ℕ)) → entry_of_key es name ≡ Some o → IsEntry (name, o)
 entry_at [] all name o e = let no : None ≡ Some o = e in cc
 entry_at ((n, v) ∷ es) all name o e = go (entry_at es all.1 name o) (eq_by_cmp byte_cmp name n) refl e

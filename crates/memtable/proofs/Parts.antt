@@ -17,7 +17,7 @@ below_at low [] j d h lt = absurd (omega arith)
 below_at low (x ∷ xs) zero d h lt = less _ (first _ _ h)
 below_at low (x ∷ xs) (suc j) d h lt = below_at low xs j d (second _ _ h) (omega arith)
 
--- of two texts the one that stands first is less
+-- of two entries the earlier one has the lesser text
 in_order : {A : Type 0} (xs : List (Box Slot A)) → IsRising (slot_entries xs) → (i j : ℕ) (d : Box Slot A) → i < j → j < length xs → byte_cmp (get_or xs i d).value.text (get_or xs j d).value.text ≡ Less
 in_order [] r i j d lt within = absurd (omega arith)
 in_order (x ∷ xs) r i zero d lt within = absurd (omega arith)
@@ -25,13 +25,13 @@ in_order (x ∷ xs) r zero (suc j) d lt within = below_at x.value.text xs j d (f
 in_order (x ∷ xs) r (suc i) (suc j) d lt within = in_order xs (second _ _ r) i j d (omega arith) (omega arith)
 
 module _ {A : Type 0} (name : List ℕ) (xs : List (Box Slot A)) (r : IsRising (slot_entries xs)) where
-  -- one that is below shows that all before it are
+  -- if an entry is below the text, all before it are
   pub up_to : (j : ℕ) (x : Box Slot A) → j < length xs → x ≡ get_or xs j x → is_gt (byte_cmp name x.value.text) ≡ true → AreBelow name xs (j + 1)
   up_to j x lt is below = λ k d before within.
       parted (λ (s : Box Slot A). slot_entry s.value) name xs r k j d (omega (arith, before)) lt
       (ap (λ (s : Box Slot A). is_gt (byte_cmp name s.value.text)) (get_or_default xs j d x lt ∙ sym is) ∙ below)
 
-  -- and one that isn't shows that none behind it is
+  -- if an entry isn't below the text, none behind it is
   pub from_on : (j : ℕ) (x : Box Slot A) → j < length xs → x ≡ get_or xs j x → is_gt (byte_cmp name x.value.text) ≡ false → AreNotBelow name xs j
   from_on j x lt is above = λ k d behind within. go k d behind within (is_gt (byte_cmp name (get_or xs k d).value.text)) refl
     where

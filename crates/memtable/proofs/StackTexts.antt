@@ -12,7 +12,7 @@ use Rattle.memtable.proofs.Sizes.{text_len}
 differ : false ≡ true → ⊥
 differ e = cc
 
--- what has no room fails
+-- without room the result is an error
 pub no_room : {A E : Type 0} (r : Result A E) (most : ℕ) (old other : List ℕ) → (IsOk r ↔ (length old + length other ≤ most)) → OnErr r (most < length (old ++ other))
 no_room (Ok a) most old other iff = tt
 no_room (Err e) most old other iff = let over : most < length old + length other = lt_of_not-le (λ le. differ (iff.1 le)) in omega (arith, over, length-append old other)

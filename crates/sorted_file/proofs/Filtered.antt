@@ -1,4 +1,4 @@
--- The bits of a word: what a test of one says, and what setting one leaves.
+-- The bits of a word: testing one and setting one.
 use Rattle.std.proofs.Common.{◌≡◌, ◌↔◌, ◌*◌, ◌%◌, ◌^◌, ◌<◌, ℕ, not, nat_eq, bit_and, bit_or, ap, ◌∙◌, ⊎_elim, arith, tests, w64}
 use Rattle.std.specs.Prelude.{IsTrue}
 use Rattle.std.specs.Int.{bit_at}

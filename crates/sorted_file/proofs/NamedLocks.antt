@@ -10,7 +10,7 @@ use Rattle.cell_key.specs.declared.keys.CellKey.{CellKey}
 use Rattle.cell_key.proofs.EntryLists.{ties_itself}
 use Rattle.sorted_file.specs.Numbers.{AreNamed}
 
--- what the first entries name, and what those after them do
+-- keys with an entry in the first list, and keys with an entry in the second
 pub named_front : (name : List ℕ) (es fs : List Entry) → IsSome (entry_of_key es name) → IsSome (entry_of_key (es ++ fs) name)
 named_front name [] fs some = cc
 named_front name ((n, v) ∷ es) fs some = go (eq_by_cmp byte_cmp name n) some (named_front name es fs)

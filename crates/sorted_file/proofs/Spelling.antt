@@ -76,7 +76,7 @@ pub record GoesOn (done es : List Entry) (rest : List ℕ) : Type 0 where
   pub list : es ≡ done ++ more
   pub bytes : rest ≡ flat_map spelled more
 
--- what was read is the front of each list of these bytes
+-- the entries read are the first ones of each list with these bytes
 pub goes_on : (done es : List Entry) (bytes rest : List ℕ) → length bytes < 2 ^ 32 → bytes ≡ flat_map spelled done ++ rest → bytes ≡ flat_map spelled es → GoesOn done es rest
 goes_on [] es bytes rest p s t = record { more = es; list = refl; bytes = sym s ∙ t }
 goes_on (d ∷ done) [] bytes rest p s t =
@@ -115,7 +115,7 @@ one_short (e ∷ es) (f ∷ fs) p q s =
     let split = spelled_split e f (flat_map spelled es) (flat_map spelled fs) (short e [] (spelled e) (sym (append-nil (spelled e))) p.0) (short f [] (spelled f) (sym (append-nil (spelled f))) q.0) s in
     ap (λ (x : Entry). x ∷ es) split.0 ∙ ap (λ (l : List Entry). f ∷ l) (one_short es fs p.1 q.1 split.1)
 
--- the bytes of the blocks are those of the entries
+-- the bytes of the blocks are the bytes of the entries
 pub body-whole : (blocks : List (List Entry)) → body blocks ≡ flat_map spelled (flat_map (λ es. es) blocks)
 body-whole [] = refl
 body-whole (es ∷ blocks) = ap (λ bytes. block_bytes es ++ bytes) (body-whole blocks) ∙ sym (flat_map-append spelled es (flat_map (λ es. es) blocks))

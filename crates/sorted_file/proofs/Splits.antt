@@ -9,7 +9,7 @@ use Rattle.sorted_file.specs.Grammar.{block_bytes, Fits, IsFullBlock, AreBlocks,
 abbrev flat : List (List Entry) → List Entry
 flat blocks = flat_map (λ es. es) blocks
 
--- the first list goes on past the second, whose rest begins with what it goes on with
+-- the first list goes beyond the second, and `q` begins with the first entry beyond it
 record GoesPast (xs ys q : List Entry) : Type 0 where
   next : Entry
   more : List Entry
@@ -51,7 +51,7 @@ sizes ys more e =
     let all : length (block_bytes (ys ++ e ∷ more)) ≡ length (block_bytes ys) + (length (spelled e) + length (block_bytes more)) = ap length split ∙ length-append (block_bytes ys) (spelled e ++ block_bytes more) ∙ ap (λ n. length (block_bytes ys) + n) (length-append (spelled e) (block_bytes more)) in
     omega (arith, all)
 
--- a block takes what fits, so none goes on past another
+-- a block takes all that fits, so no block is another and more
 too_long : (xs ys : List Entry) (blocks : List (List Entry)) → Fits xs → Fits ys → IsFullBlock ys blocks → AreBlocks blocks → GoesPast xs ys (flat blocks) → ⊥
 too_long xs ys [] f g full b past = no_entry past.next past.after past.there
   where

@@ -19,7 +19,7 @@ is_tie Less e = cc
 is_tie Equal e = refl
 is_tie Greater e = cc
 
--- the last eight bytes decide, where fewer are left behind what both have
+-- the last eight bytes decide, if fewer are left behind a common front
 last_decide : (a b both left right x y : List ℕ) (at : ℕ) (o : Ordering) → at + 8 ≡ length a → length a ≡ length b → a ≡ both ++ left → b ≡ both ++ right → length left < 8 → x ≡ drop at a → y ≡ drop at b
     → byte_cmp x y ≡ ordering_then o (byte_cmp (drop 8 x) (drop 8 y)) → byte_cmp left right ≡ byte_cmp a b → o ≡ byte_cmp a b
 last_decide a b both left right x y at o last long is is' few first second order rest =
