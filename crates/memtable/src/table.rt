@@ -149,10 +149,10 @@ impl Memtable {
         Cursor::new(rest, later)
     }
 
-    /// The version of a cell's column with the greatest stamp in `lo..=hi`, if there is one: its stamp, from 1 to 2^63
-    /// - 1, and its value, of at most 65,536 bytes. An erasure is no version. Searches nothing for a lock if no lock
-    /// has a value, nor outside the range of all entries' stamps. The entries are unchanged; only the hint where the
-    /// next search starts may change. Allocates nothing.
+    /// The version of a cell's column with the greatest stamp in `lo..=hi`, if there is one: its stamp (1 to 2^63 - 1)
+    /// and its value, of at most 65,536 bytes. An erasure is no version. Searches nothing for a lock if no lock has a
+    /// value, nor outside the range of all entries' stamps. The entries are unchanged; only the hint where the next
+    /// search starts may change. Allocates nothing.
     pub fn newest(
         &mut self,
         row: &Row,

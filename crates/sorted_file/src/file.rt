@@ -30,8 +30,7 @@ use lru::LruCache;
 use std::alloc::Global;
 use std::num::NonZeroUsize;
 
-/// A file of entries, open for reading. It reads under its name, and stays valid as long as the file's bytes don't
-/// change.
+/// A file of entries, open for reading. It is valid as long as the bytes under its name don't change.
 #[derive(Drop)]
 pub struct SortedFile {
     alloc: Global,
@@ -320,8 +319,8 @@ impl SortedFile {
     }
 
     /// The greatest stamp from `lo` to the key's at which the file has a value in the key's column. Reads at most one
-    /// block, and none if the block's bounds or the file's columns rule out such a value. The file is unchanged, even
-    /// after an `Err`.
+    /// block, and none if the file's column hashes or the bounds of file or block rule out such a value. The file is
+    /// unchanged, even after an `Err`.
     ///
     /// # Errors
     ///
