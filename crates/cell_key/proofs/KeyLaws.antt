@@ -14,7 +14,7 @@ both_Equal Less s e = cc
 both_Equal Equal s e = (refl, e)
 both_Equal Greater s e = cc
 
--- qualifiers of one name are one
+-- qualifiers with the same name are equal
 pub exact_qualifiers : (q w : Qualifier) → byte_cmp (qualifier_name q) (qualifier_name w) ≡ Equal
     → q ≡ w
 exact_qualifiers Data Data e = refl
@@ -27,7 +27,7 @@ exact_qualifiers Write Data e = cc
 exact_qualifiers Write Lock e = cc
 exact_qualifiers Write Write e = refl
 
--- keys that compare alike are one
+-- keys that compare as equal are equal
 pub exact_keys : IsAntisymmetric key_cmp
 exact_keys a b e =
     let rest = both_Equal (byte_cmp a.row b.row) _ e in

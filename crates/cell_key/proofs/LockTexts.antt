@@ -28,7 +28,7 @@ place_ends row family =
     ap (λ (l : List ℕ). ended (escaped row) ++ l) (sym (append_assoc family (0 ∷ []) (0 ∷ [])))
     ∙ sym (append_assoc (ended (escaped row)) (family ++ (0 ∷ [])) (0 ∷ []))
 
--- which is the byte of no kind
+-- and 0 is no kind's byte
 no_kind : (kind : WriteKind) → 0 ≡ kind_byte kind → ⊥
 no_kind write.Set e = omega (arith, e)
 no_kind write.Delete e = omega (arith, e)

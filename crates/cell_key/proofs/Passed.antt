@@ -8,7 +8,7 @@ use Rattle.cell_key.specs.declared.refusals.Refusal.TheVariants.{Device}
 use Rattle.cell_key.specs.Faults.{HasReason}
 use Rattle.cell_key.proofs.Reasons.{not_refused}
 
--- the `?` hands on the error of its call
+-- the `?` passes on the error of its call
 pub as_err : {T E : Type 0} (r : Result T E) (e : E) → IsErrAnd r (λ f. f ≡ e) → r ≡ Err e
 as_err (Ok x) e by = absurd by
 as_err (Err f) e by = ap Err by
@@ -44,7 +44,7 @@ passed_kept (Err f) P h = h
 pub passed_kind : {B : Type 0} (r : Result B Refusal) (e n : Refusal) (P : Refusal → Type 0) → IsErrAnd r (λ f. f ≡ e) → P e → IsErrOf r n → P n
 passed_kind r e n P by h is = subst P (same_refusal r e n by is) h
 
--- and has the reason that it had
+-- and has the same reason
 pub passed_reason : {A B : Type 0} (r : Result B Refusal) (s : Result A Refusal) (e : Refusal) (before now : ℕ) → IsErrAnd r (λ f. f ≡ e) → s ≡ Err e → HasReason before now s → HasReason before now r
 passed_reason r s e before now by was h = record {
   later = h.later;

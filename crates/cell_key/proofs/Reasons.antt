@@ -12,7 +12,7 @@ not_refused x n is = cc
 at_most_itself : (n : ℕ) → n ≤ n
 at_most_itself n = omega arith
 
--- nothing was counted, and no device is told
+-- no fault was counted, and the answer is no device's fault
 pub reason_none : {B : Type 0} (r : Result B Refusal) (count : ℕ) → ¬ IsErrOf r Device → HasReason count count r
 reason_none r count none = record { later = at_most_itself count; device = λ is. absurd (none is); told = λ other. refl }
 
@@ -25,7 +25,7 @@ reason_passed {A} (Err f) e before now by had = record {
   told = λ other. had.told (λ is. other (let same : e ≡ Device = cc in ap (λ (d : Refusal). Err d) (by ∙ same)));
 }
 
--- of two calls the first was answered
+-- the first of two calls succeeded
 pub reason_then : {A B : Type 0} (r : Result B Refusal) (x : A) (before mid now : ℕ) → HasReason before mid (Ok x) → HasReason mid now r → HasReason before now r
 reason_then r x before mid now first second = subst (λ (k : ℕ). HasReason k now r) (first.told (not_refused x Device)) second
 

@@ -66,7 +66,7 @@ keeps a b (edit ∷ edits) q same = keeps (after_edit a edit) (after_edit b edit
   | inr ne ↦ off_edited a edit q ne ∙ (same ∙ sym (off_edited b edit q ne))
 ])
 
--- and comes about where an edit touches the key
+-- and arises if an edit has the key
 agree_at : (a b : Cells) (edits : List Edit) (q : CellKey) → (IsUntouched q edits → get a q ≡ get b q) → get (after_edits a edits) q ≡ get (after_edits b edits) q
 agree_at a b [] q same = same tt
 agree_at a b (edit ∷ edits) q same = elim (cases_key q (edited_key edit)) [

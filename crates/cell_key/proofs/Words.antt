@@ -77,7 +77,7 @@ same_fronts (suc n) (x ∷ xs) (y ∷ ys) p q a b e =
     let tail = same_fronts n xs ys (omega arith) (omega arith) (λ i. a (suc i)) (λ i. b (suc i)) (nat_cmp-IsAntisymmetric r s both.1) in
     λ i. head i ∷ tail i
 
--- bytes that two texts begin with decide nothing
+-- a common front of two texts decides nothing
 pub cmp_behind : (both xs ys : List ℕ) → byte_cmp (both ++ xs) (both ++ ys) ≡ byte_cmp xs ys
 cmp_behind [] xs ys = refl
 cmp_behind (b ∷ both) xs ys = ap (λ (o : Ordering). ordering_then o (byte_cmp (both ++ xs) (both ++ ys))) (cmp_same b b refl) ∙ cmp_behind both xs ys

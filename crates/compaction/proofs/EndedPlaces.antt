@@ -1,4 +1,4 @@
--- Places that are left out, as their sources are at no entry.
+-- Places that are removed because their sources have no current entry.
 use Rattle.std.proofs.Common.{◌≡◌, ◌≤◌, ◌<◌, ◌-◌, ◌⊎◌, ℕ, zero, suc, T, List, [], ◌∷◌, length, take, drop, get_or, refl, sym, ap, subst, arith, inl, inr, false}
 use Rattle.std.specs.Prelude.{Option, Some, None, IsSome, Contains, is_some, option_map}
 use Rattle.std.specs.List.{AllByRecursion}
@@ -9,7 +9,7 @@ use Rattle.compaction.specs.Order.{AreSorted, InOrder, IsOrdered, lent_cmp, plac
 use Rattle.compaction.specs.OrderLaw.{at_index, not_both}
 use Rattle.compaction.proofs.Tied.{distinct_take}
 
--- one place more at the end
+-- one more place at the end
 one_dropped : (P : ℕ → Type 0) (order : List ℕ) (k d : ℕ) → k < length order → P (get_or order k d) → AllByRecursion P (drop (suc k) order) → AllByRecursion P (drop k order)
 one_dropped P [] k d within here all = absurd (omega (arith, within))
 one_dropped P (p ∷ order) zero d within here all = (here, all)

@@ -133,7 +133,7 @@ module _ (lents : List (Option Entry)) (place : ℕ) where
   rest_behind (x ∷ xs) zero q = (not_before lents x place (q 0 x (omega arith) (omega arith)), rest_behind xs zero (λ k d a b. q (suc k) d (omega (arith, a)) (omega (arith, b))))
   rest_behind (x ∷ xs) (suc i) q = rest_behind xs i (λ k d a b. q (suc k) d (omega (arith, a)) (omega (arith, b)))
 
-  -- all that follow a place that this one doesn't come after
+  -- all places of an order, if this place doesn't come after the first of them
   pub all_behind : (xs : List ℕ) → InOrder lents xs → (0 < length xs → T (is_le (place_cmp lents place (get_or xs 0 0)))) → AllByRecursion (λ other. T (is_le (place_cmp lents place other))) xs
   all_behind [] r h = tt
   all_behind (x ∷ xs) r h = (h (omega arith), more xs r.0)

@@ -157,7 +157,7 @@ past_all {S} {moves} {places} {xs} {ys} p h long = record {
     by place d l (inl in') = h.moved place d in' l
     by place d l (inr e) = absurd (omega (arith, e, l, long))
 
--- the next of distinct places isn't among those before
+-- the next of distinct places isn't among the earlier ones
 pub not_yet : (places : List ℕ) (i d : ℕ) → IsDistinct places → i < length places → ¬ Contains (take i places) (get_or places i d)
 not_yet places i d h l w =
     let lk : w.0 < i = grind (arith, common_steps, w.1) in
@@ -293,7 +293,7 @@ rises_drop lents order zero r = r
 rises_drop lents [] (suc n) r = r
 rises_drop lents (p ∷ order) (suc n) r = rises_drop lents order n r.1
 
--- the places behind those that moved are in order still
+-- the places behind those that moved are still in order
 pub rest_rises : {S : Type 0} (moves : S → S → Type 0) (lent : S → Option Entry) (xs ys : List S) (order : List ℕ) (n : ℕ) → length ys ≡ length xs → IsOrdered (map lent xs) order → HasMoved moves (take n order) xs ys → InOrder (map lent ys) (drop n order)
 rest_rises moves lent xs ys order n size o h = rises_same (map lent xs) (map lent ys) (drop n order) (behind_same moves lent xs ys order n size o.sorted.distinct h) (rises_drop (map lent xs) order n o.sorted.rises)
 

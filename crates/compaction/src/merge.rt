@@ -17,8 +17,8 @@ use sorted_file::Source;
 use std::cmp::Ordering;
 
 /// Sources, newest first, merged into one (Bigtable, tablet serving: the merged view): each key has the entry of the
-/// first source with an entry of it. Entries are lent as the sources lend them. Apart from the sources it has memory
-/// for their numbers, and no advance allocates more.
+/// first source with an entry of it. Entries are lent as the sources lend them. Beyond the sources it keeps a list of
+/// their places, which no advance grows.
 #[derive(Drop)]
 pub struct Merge<S> {
     sources: Vec<S>,

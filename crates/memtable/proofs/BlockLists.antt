@@ -78,7 +78,7 @@ module _ (name : List ℕ) where
   one_place (e ∷ es) zero (suc j) p q lt = p q.0
   one_place (e ∷ es) (suc i) (suc j) p q lt = one_place es i j p.1 q.1 (omega (arith, lt))
 
-  -- and one with its place before the end doesn't end below
+  -- a list with the text's place before its end doesn't end below the text
   pub stays_at_place : (es : List Entry) (i : ℕ) → IsRising es → IsPlace name es i → i < length es → ends_below name es ≡ false
   stays_at_place es i r p lt = go (ends_below name es) refl
     where
@@ -86,7 +86,7 @@ module _ (name : List ℕ) where
       go false e = e
       go true e = absurd (one_place es i (length es) p (place_at_end es r e) lt)
 
-  -- the text is above all that is below an entry before its place
+  -- if an entry is before the text's place, the text is above all that is below the list
   above_first : (es : List Entry) (i : ℕ) → 0 < i → IsPlace name es i → (low : List ℕ) → T (below_all byte_cmp low es) → byte_cmp name low ≡ Greater
   above_first es zero some p low h = absurd (omega (arith, some))
   above_first [] (suc i) some p low h = absurd p
@@ -215,7 +215,7 @@ module _ {X : Type 0} (f : X → List Entry) where
   pub rising_first : (xs : List X) (i : ℕ) (x : X) (later : List X) → IsRising (flat_map f xs) → drop i xs ≡ x ∷ later → IsRising (f x)
   rising_first xs i x later r e = rising_front (f x) (flat_map f later) (subst (λ (zs : List X). IsRising (flat_map f zs)) e (rising_drop xs i r))
 
-  -- a block in two parts
+  -- a block cut in two
   pub cut_in_two : (xs : List X) (i : ℕ) (x lower upper : X) → i < length xs → x ≡ get_or xs i x → f x ≡ f lower ++ f upper → flat_map f (insert (set xs i lower) (suc i) upper) ≡ flat_map f xs
   cut_in_two [] i x lower upper lt g e = absurd (omega arith)
   cut_in_two (y ∷ xs) zero x lower upper lt g e =
@@ -272,7 +272,7 @@ module _ {X : Type 0} (f : X → List Entry) where
         before (x ∷ y ∷ xs) (suc (suc i)) (suc k) d r some lt e place =
             before (y ∷ xs) (suc i) k d (rising_back (f x) (flat_map f (y ∷ xs)) r) some.1 (omega (arith, lt)) (omega (arith, e)) place
 
-    -- and if the last one ends below, none is left
+    -- and if the last list ends below the text, the place is behind all lists
     pub end_point : (xs : List X) (i : ℕ) → IsRising (flat_map f xs) → AreSome xs → suc i ≡ length xs → ((d : X) → is_passed (get_or xs i d) ≡ true) → IsBlockIndex name (map f xs) (length xs)
     end_point xs i r some e ends =
         block_point xs (length xs) (omega arith) (λ k d a b. parted_blocks xs r some k i d (omega (arith, e, b)) (omega (arith, e)) (ends d)) (λ k d a b. absurd (omega (arith, a, b)))
@@ -303,7 +303,7 @@ module _ {X : Type 0} (f : X → List Entry) where
         find_past name (f z) (flat_map f (w ∷ xs)) (rising_front (f z) (flat_map f (w ∷ xs)) r) p.0
         ∙ found_last (w ∷ xs) i j x (rising_back (f z) (flat_map f (w ∷ xs)) r) p.1 (omega arith) (omega (arith, last)) g
 
-    -- if no block is left, each ends below
+    -- if the place is behind all lists, each ends below the text
     pub each_passed : (xs : List X) (i k : ℕ) (d : X) → IsBlockIndex name (map f xs) i → length xs ≤ i → k < length xs → is_passed (get_or xs k d) ≡ true
     each_passed [] i k d p le lt = absurd (omega (arith, lt))
     each_passed (x ∷ xs) zero k d p le lt = absurd (omega (arith, le))

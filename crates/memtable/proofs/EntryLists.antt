@@ -97,7 +97,7 @@ bytes-put name v es r =
 pub stood_within : (name : List ℕ) (es : List Entry) → stood_len name (entry_of_key es name) ≤ bytes_of es
 stood_within name es = rw (bytes-total es, stood-len name (entry_of_key es name)) (stood_below entry_len name es)
 
--- how many values of locks stood at a text
+-- how many values of locks there were at a text
 abbrev pub stood_locks : List ℕ → Option (Option (List ℕ)) → ℕ
 stood_locks name None = 0
 stood_locks name (Some v) = one_lock (name, v)
@@ -117,7 +117,7 @@ locks-put name v es r =
 pub stood_locks_within : (name : List ℕ) (es : List Entry) → stood_locks name (entry_of_key es name) ≤ lock_count es
 stood_locks_within name es = rw (locks-total es, stood-locks name (entry_of_key es name)) (stood_below one_lock name es)
 
--- how many values stood at a text
+-- how many values there were at a text
 abbrev pub stood_value : Option (Option (List ℕ)) → ℕ
 stood_value None = 0
 stood_value (Some v) = one_value v

@@ -84,7 +84,7 @@ lock_count-within (e ∷ es) = let h = lock_count-within es in let one = one_loc
 pub locks_within : (size : Size) (es : List Entry) → IsSizeOf size es → size.locks ≤ size.entries
 locks_within size es is = let h = lock_count-within es in let a = is.entries in let b = is.locks in omega (arith, h, a, b)
 
--- one entry more keeps them few
+-- one more entry keeps them few
 pub locks_fit : (e : Entry) (size : Size) (es : List Entry) → IsSizeOf size es → size.entries ≤ 2 ^ 65 → size.locks + one_lock e < 2 ^ 128
 locks_fit e size es is few = let h = locks_within size es is in let one = one_lock_most e in omega (arith, h, one, few)
 

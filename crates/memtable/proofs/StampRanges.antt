@@ -69,7 +69,7 @@ module _ (range : StampRange) (key : CellKey) (is : IsKey key) (out : IsOutside 
       let stored = subst (λ (k : CellKey). IsStored k) one entry.stored in
       never range key.stamp out (within key stored (sym same))
 
-  -- a list has nothing at a key outside its range
+  -- a list has no entry of a key outside its range
   pub none_outside : (es : List Entry) → AllByRecursion IsEntry es → AllByRecursion (IsEntryWithin range) es → entry_of_key es (text key) ≡ None
   none_outside [] each all = refl
   none_outside (e ∷ es) each all = go (none_outside es each.1 all.1) (eq_by_cmp byte_cmp (text key) e.0) refl

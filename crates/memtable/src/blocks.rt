@@ -1,5 +1,5 @@
 //! Entries in blocks, in the byte order of their texts. Making room moves pointers to some entries of one block, and at
-//! times the blocks' headers.
+//! times the block list's elements.
 
 ghost use Rattle.std.specs.Prelude.{◌≡◌, ◌≢◌, ℕ, ◌+◌, ◌≤◌, ◌<◌, ◌^◌, [], ◌∷◌, ◌++◌, IfSome, OnOk, option_map, length, get_or, vec_len, vec_capacity};
 ghost use Rattle.std.specs.List.{AllByRecursion};

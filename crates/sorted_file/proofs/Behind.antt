@@ -38,7 +38,7 @@ find_above from name (e ∷ es) le = go (is_le (byte_cmp from e.0)) refl (find_a
     go true p more = ap (λ (o : Option (Option (List ℕ))). cond (eq_by_cmp byte_cmp name e.0) (Some e.1) o) more
     go false p more = more ∙ other p (eq_by_cmp byte_cmp name e.0) refl
 
--- two parts of a rising list have no text in common
+-- two parts of a list in ascending order have no text in common
 apart : (xs ys : List Entry) (name : List ℕ) (v : Option (List ℕ)) → IsRising (xs ++ ys) → entry_of_key xs name ≡ Some v → entry_of_key ys name ≡ None
 apart [] ys name v r e = cc
 apart (x ∷ xs) ys name v r e = go (apart xs ys name v (second _ _ r)) (eq_by_cmp byte_cmp name x.0) refl e

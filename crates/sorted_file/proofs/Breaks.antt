@@ -1,4 +1,4 @@
--- Where the entries of a cursor break off.
+-- The place where the entries of a cursor break off.
 use Rattle.std.proofs.Common.{◌≡◌, ◌<◌, ◌≢◌, ℕ, List, [], ◌∷◌, length, sym, ap, subst, ◌∙◌, arith}
 use Rattle.std.specs.Prelude.{Option, IfSome}
 use Rattle.cell_key.specs.Entries.{Entry, IsRising}

@@ -63,11 +63,11 @@ pub last_of_both : (es fs : List Entry) (name : List ℕ) → fs ≢ [] → IsLa
 last_of_both es [] name some h = absurd (some refl)
 last_of_both es (f ∷ fs) name some h = last_behind es f fs name h
 
--- an entry whose text comes after the last one is the next of a list
+-- an entry above the last text can be the next of a list
 pub goes_on : (es : List Entry) (e : Entry) (last : List ℕ) → IsEntryList es → IsLastText es last → IsEntry e → byte_cmp last e.0 ≡ Less → IsEntryList (es ++ e ∷ [])
 goes_on es e last list is one above = record { rising = rising_on es e last list.rising is above; each = all_joined IsEntry es (e ∷ []) list.each (one, tt) }
 
--- and no other is
+-- and no other can
 pub goes_not : (es : List Entry) (e : Entry) (last : List ℕ) → IsLastText es last → (IsEntry e → byte_cmp last e.0 ≢ Less) → IsEntryList (es ++ e ∷ []) → ⊥
 goes_not es e last is none list =
     let one = (all_back IsEntry es (e ∷ []) list.each).0 in
@@ -139,7 +139,7 @@ followed_by blocks es e full small =
     larger : ¬ (length (block_bytes es) + length (spelled e) ≤ 4096) → 4096 < length (block_bytes es) + length (spelled e)
     larger n = omega (arith, n)
 
--- the same entries, with the open block closed
+-- closing the open block leaves the entries unchanged
 pub closed_built : (blocks new : List (List Entry)) (es next : List Entry) → new ≡ blocks ++ es ∷ [] → next ≡ [] → entries_in new ++ next ≡ entries_in blocks ++ es
 closed_built blocks new es next closed none =
     ap (λ (n : List Entry). entries_in new ++ n) none ∙ append-nil (entries_in new) ∙ ap entries_in closed ∙ flat-last blocks es

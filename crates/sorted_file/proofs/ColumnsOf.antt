@@ -24,7 +24,7 @@ use Rattle.sorted_file.proofs.Parsed.{parsed_is}
 pub lent_is : (lent : KeyRef) (k : IsLentKey lent) (key : CellKey) → IsStored key → lent.text.now ≡ text key → k.key ≡ key
 lent_is lent k key stored e = sym (key_of_text-text k.key k.stored) ∙ ap key_of_text (sym k.is ∙ e) ∙ key_of_text-text key stored
 
--- one entry more
+-- one more entry
 pub columns_on : (old new : Columns) (es : List Entry) (e : Entry) → AreWithin old.bounds new.bounds → IsBounded new.bounds e → IsAmong old.numbers.items new.numbers.items → IsNumbered new.numbers.items e
     → IsAmong old.lock_keys.items new.lock_keys.items → IsLockKeyNumbered new.lock_keys.items e
     → IsAmong old.lock_values.items new.lock_values.items → IsLockKept new.lock_values.items e

@@ -90,7 +90,7 @@ from_both text (x ∷ xs) ys = go (is_le (byte_cmp text x.0)) (from_both text xs
     go true e = ap (λ (l : List Entry). x ∷ l) e
     go false e = e
 
--- the row that was first is read
+-- the first row is read
 pub block_step : (told : Option Contents) (name : ℕ) (row : BlockRow) (rows all : List BlockRow) (X : Type 0) → all ≡ row ∷ rows → IsSomeAnd told (λ m. AreBlocksIn m name all) → ((image : List ℕ) → Tells told name image → IsBlockIn image row → X) → IsSomeAnd told (λ m. AreBlocksIn m name rows) × X
 block_step None name row rows all X cut h f = absurd h
 block_step (Some m) name row rows all X cut h f =

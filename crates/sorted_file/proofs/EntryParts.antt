@@ -8,7 +8,7 @@ use Rattle.sorted_file.specs.declared.format.Format.{Format}
 use Rattle.sorted_file.proofs.Widths.{head_length, one_head}
 use Rattle.sorted_file.proofs.Spelling.{number_split, one_short, IsCut, is_cut}
 
--- the foot begins with the place of the index
+-- the foot begins with the offset of the index
 pub index_cut : (f : Format) (es : List Entry) (image : List ℕ) (c : IsCut f es image) → drop (length image - foot_len f) image ≡ number_bytes f (8 + length (flat_map spelled es)) ++ c.numbers
 index_cut f es image c =
     let n : List ℕ = number_bytes f (8 + length (flat_map spelled es)) in

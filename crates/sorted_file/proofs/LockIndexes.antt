@@ -50,7 +50,7 @@ not_some : {A : Type 0} (o : Option A) → o ≡ None → ¬ IsSome o
 not_some None e is = cc
 not_some (Some x) e is = cc
 
--- an entry that is the value of a lock has its key kept
+-- the key of a lock's value is kept
 kept_at : (locks : List CellKey) (es : List Entry) → AllByRecursion (IsLockKept locks) es → (key : CellKey) → IsStored key → key.qualifier ≡ Lock → IsSome (value_of (entry_of_key es (text key))) → Contains locks key
 kept_at locks [] all key stored lock some = cc
 kept_at locks ((name, value) ∷ es) all key stored lock some = go (eq_by_cmp byte_cmp (text key) name) refl some (kept_at locks es all.1 key stored lock)

@@ -26,7 +26,7 @@ first_same x y xs ys e = cc
 
 -- ---- rows
 
--- a row, apart
+-- the parts of a row
 row_apart : (f : Format) (at : ℕ) (e : Entry) (es : List Entry) (x : List ℕ) → row f at (e ∷ es) ++ x ≡ number_bytes f at ++ (number_bytes f (length (block_bytes (e ∷ es))) ++ (field e.0 ++ x))
 row_apart f at e es x =
     let n = number_bytes f (length (block_bytes (e ∷ es))) in
@@ -38,7 +38,7 @@ pub record IsSameRow (r : RowRef) (rest : List ℕ) (at : ℕ) (e : Entry) (es :
   pub first : r.first.now ≡ e.0
   pub rest_is : rest ≡ after
 
--- two rows at the front are one
+-- two rows at the front of the same bytes are equal
 pub same_row : (f : Format) (r : RowRef) (rest : List ℕ) (at : ℕ) (e : Entry) (es : List Entry) (after tail : List ℕ) → r.offset < most f → r.length < most f → length r.first.now < 2 ^ 32 → at < most f → length e.0 < 2 ^ 32 → length (block_bytes (e ∷ es)) < most f
     → tail ≡ row_bytes f r ++ rest → tail ≡ row f at (e ∷ es) ++ after → IsSameRow r rest at e es after
 same_row f r rest at e es after tail so sl sf sa se sb p q =
@@ -175,7 +175,7 @@ module _ (o : Opening) (opening : IsOpening o) (told : Option Contents) (image a
       remains o.format done f.blocks (drop (8 + length (body done)) image) (rows_of ++ end_of) rest [] 8 (blocks_small done opening.grammar opening.list.each) done_small (omega (arith, image_length, small)) (omega arith) opening.grammar f.grammar
       (sym reading.read.bytes ∙ behind_head) (sym reading.read.rows ∙ index_is ∙ sym (append-nil rows_of))
 
--- the block that comes next
+-- the next block
 pub record NextBlock (o : Opening) (image rest : List ℕ) : Type 0 where
   pub first : Entry
   pub others : List Entry
@@ -240,7 +240,7 @@ module _ (o : Opening) (image rest : List ℕ) (n : NextBlock o image rest) (sma
     same : IsSameRow r more o.end n.first n.others n.after
     same = let w = n.within in same_row o.format r more o.end n.first n.others n.after rest so sl sf (omega (arith, w, small)) first_short (omega (arith, w, small)) read n.named
 
-    -- the block that the row names is there
+    -- the block of the row is there
     pub block_there : (none : (es : List Entry) → length (block_bytes es) ≡ r.length → ¬ IsBlock es (part image o.end r.length)) → ⊥
     block_there none =
         none (n.first ∷ n.others) (sym same.length_is) (record { list = n.list; fits = n.fits; spelled = ap (part image o.end) same.length_is ∙ n.there })

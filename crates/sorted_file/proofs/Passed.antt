@@ -21,7 +21,7 @@ module _ {S : Type 0} (steps : Option Contents → S → S → Type 0) (lent : S
   passes_on disk passes_none step is = passes_one step is passes_none
   passes_on disk (passes_one first here more) step is = passes_one first here (passes_on disk more step is)
 
-  -- an entry more
+  -- one more entry
   pub passed_one : (was disk : Option Contents) (s t u : S) (es : List Entry) (e : Entry) → was ≡ disk → steps was t u → lent u ≡ Some e → PassesOver (steps disk) lent s es t → PassesOver (steps disk) lent s (es ++ e ∷ []) u
   passed_one was disk s t u es e same step is h = passes_on disk h (over_same was disk t u same step) is
 

@@ -192,7 +192,7 @@ module _ (text : List ℕ) where
     at_point xs i (omega arith) (λ k d a b. p (suc k) d (omega (arith, a)) (omega (arith, b))) (λ k d a b. q (suc k) d (omega (arith, a)) (omega (arith, b))),
   )
 
--- the first texts of blocks rise
+-- the first texts of blocks are in ascending order
 below_firsts : (name : List ℕ) (rows : List BlockRow) → AllByRecursion IsNamed rows → T (below_all byte_cmp name (entries_in (blocks_of rows))) → T (below_all byte_cmp name (map first_of rows))
 below_firsts name [] is h = tt
 below_firsts name (row ∷ rows) is h =

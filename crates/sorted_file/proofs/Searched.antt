@@ -16,7 +16,7 @@ use Rattle.sorted_file.specs.Block.{first_value}
 use Rattle.sorted_file.proofs.Joining.{both}
 use Rattle.sorted_file.proofs.Spelling.{no_more, short, spelled_length, spelled_split}
 
--- the entry at the front of the bytes of entries is their first
+-- the entry at the front of entries' bytes is the first of them
 pub record IsFront (b : Entry) (after : List ℕ) (es : List Entry) : Type 0 where
   pub more : List Entry
   pub list : es ≡ b ∷ more

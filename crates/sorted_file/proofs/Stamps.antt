@@ -201,7 +201,7 @@ module _ (sought : CellKey) (is_row : IsRow sought.row) (is_family : IsFamily so
     abbrev key : CellKey
     key = entry.key
 
-    -- the first value is none of the column's
+    -- the first value isn't in the column
     pub stamp_other : ((s : ℕ) → e.0 ≢ text (at s)) → IsNewestStamp es sought lo None
     stamp_other other s a b stored = go (byte_cmp (text (at s)) e.0) refl
       where

@@ -8,7 +8,7 @@ use Rattle.cell_key.proofs.text_order.are_same.Goals as goal
 rest_same : (bytes other both left right : List ℕ) → bytes ≡ both ++ left → other ≡ both ++ right → bytes ≡ other → left ≡ right
 rest_same bytes other both left right one two same = append_cancel_left both left right (sym one ∙ same ∙ two)
 
--- eight bytes more that both have
+-- eight more bytes in common
 more : (text both left front now : List ℕ) → text ≡ both ++ left → take 8 left ≡ front → now ≡ drop 8 left → text ≡ (both ++ front) ++ now
 more text both left front now is same rest =
     is ∙ ap (λ (t : List ℕ). both ++ t) (sym (take-append-drop 8 left) ∙ ap (λ (t : List ℕ). t ++ drop 8 left) same ∙ ap (λ (t : List ℕ). front ++ t) (sym rest))
