@@ -20,7 +20,7 @@ module _ {S : Type 0} (steps : S → S → Type 0) (lent : S → Option Entry) w
         → IsMergeOf (Some e) later es end last → IsMergeOf at sources (e ∷ es) end last
 
   module _ (keep_erasures : Bool) where
-    -- no file within a limit has the written ones of the entries that a merge of sources passes
+    -- the entries to be written, of those that a merge of sources passes, have no file within the limit
     pub record MergesTooMuch (limit : ℕ) (sources : List S) : Type 0 where
       pub entries : List Entry
       pub at : Option Entry
@@ -28,7 +28,7 @@ module _ {S : Type 0} (steps : S → S → Type 0) (lent : S → Option Entry) w
       pub merge : IsMergeOf None sources entries at last
       pub large : ¬ FitsIn limit (only_written keep_erasures entries)
 
-    -- the written ones of the entries that a merge of sources passes are no entry list: a source isn't in order
+    -- the entries to be written, of those that a merge of sources passes, are no entry list: a source isn't in order
     pub record MergesNoList (sources : List S) : Type 0 where
       pub entries : List Entry
       pub at : Option Entry
@@ -36,7 +36,7 @@ module _ {S : Type 0} (steps : S → S → Type 0) (lent : S → Option Entry) w
       pub merge : IsMergeOf None sources entries at last
       pub none : ¬ IsEntryList (only_written keep_erasures entries)
 
-    -- the bytes are the file of the written ones of all entries that a merge of sources passes
+    -- the bytes are the file of the entries to be written, of all that a merge of sources passes
     pub record IsFileOfMerge (sources : List S) (image : List ℕ) : Type 0 where
       pub entries : List Entry
       pub at : Option Entry

@@ -251,8 +251,8 @@ fn remove_file<R: Folders>(rt: &R, alloc: Global, folder: &str, name: u64) -> io
     sync_removed(rt, folder, fs::remove_file(rt, path.as_str()))
 }
 
-/// The number in the name of a listed file with this ending, if its name is of this form. A name that isn't valid text
-/// isn't.
+/// The number in the name of a listed file with this ending, if its name is of this form. `None` for a name that isn't
+/// valid text.
 fn name_listed<R: Folders + Drop, A: Allocator + Drop>(
     entry: io::Result<DirEntry<R, A>>,
     ending: &str,

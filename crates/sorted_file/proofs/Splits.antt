@@ -78,6 +78,6 @@ one_split (xs ∷ xss) (ys ∷ yss) a b e =
       | second_longer g ↦ absurd (too_long ys xs xss b.0 a.0 a.1 a.2 g)
     ]
 
--- a list has only one image
+-- a list has at most one image
 pub one_image : OneImage
 one_image format entries x y p q = p.bytes ∙ ap (λ (blocks : List (List Entry)). image_of format blocks (length entries)) (one_split p.blocks q.blocks p.grammar q.grammar (p.whole ∙ sym q.whole)) ∙ sym q.bytes

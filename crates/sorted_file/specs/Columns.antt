@@ -7,8 +7,8 @@ use Rattle.sorted_file.specs.Bounds.{IsBounded}
 use Rattle.sorted_file.specs.Numbers.{IsLockKeyNumbered, IsNumbered, KeepsLocks}
 use Rattle.sorted_file.specs.declared.gathering.Columns.{Columns}
 
--- the bounds contain the entries' values, and the hashes of their columns, the hashes of their locks' keys and the keys
--- of their locks with a value are listed
+-- The bounds contain all values of the entries. The hashes of their columns and of their lock keys, and the keys of
+-- their locks with a value, are listed.
 pub record AreColumnsOf (columns : Columns) (es : List Entry) : Type 0 where
   pub bounded : AllByRecursion (IsBounded columns.bounds) es
   pub numbered : AllByRecursion (IsNumbered columns.numbers.items) es

@@ -95,7 +95,7 @@ pub record IsFile (format : Format) (entries : List Entry) (image : List ℕ) : 
   pub bytes : image ≡ image_of format blocks (length entries)
   pub small : length image < most format
 
--- a list of entries has exactly one image in each format
+-- a list of entries has at most one image in each format
 abbrev pub OneImage : Type 0
 OneImage =
     (format : Format) (entries : List Entry) (x y : List ℕ) → IsFile format entries x

@@ -26,7 +26,7 @@ module _ {S : Type 0} (steps : S → S → Type 0) (lent : S → Option Entry) w
     pub all : EndsAfter entries s
     pub form : IsFile Two entries image
 
-  -- a source passes entries, perhaps not all, whose file would be longer than the limit
+  -- a source passes entries, perhaps not all, that have no file within the limit
   pub record PassesTooMuch (limit : ℕ) (s : S) : Type 0 where
     pub entries : List Entry
     pub last : S

@@ -64,7 +64,7 @@ pub struct KeyFilter {
 }
 
 impl KeyFilter {
-    /// A filter without capacity: once a file is added, it answers that any key may have an entry. Allocates nothing.
+    /// A filter without capacity, which rules out no key. Allocates nothing.
     pub fn without_room(alloc: Global) -> KeyFilter {
         KeyFilter {
             alloc,

@@ -6,7 +6,7 @@ ghost use Rattle.sorted_file.specs.Grammar.{OneImage, OneList};
 ghost use Rattle.sorted_file.specs.Source.{RestIsList};
 ghost use Rattle.sorted_file.specs.File.{StaysOpen, OneListing, OpenIsThere, WrittenIsThere, WrittenIsListed};
 
-/// A list of entries has exactly one image in each format.
+/// A list of entries has at most one image in each format.
 pub fn one_image()
     ensures { OneImage }
 {}
