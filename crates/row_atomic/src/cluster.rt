@@ -26,8 +26,8 @@ use std::alloc::Global;
 use std::marker::Model;
 use tablet::Tablet;
 
-/// Tablets that together have all rows, over one store of files (Bigtable: a table is a set of tablets, each of which has
-/// the data of a range of rows).
+/// Tablets that together have all rows, over one store of files (Bigtable: a table is a set of tablets, each of which
+/// has the data of a range of rows).
 ///
 /// A compaction changes a tablet's file list, its memtable and its place in the table last and together. Room for them
 /// is reserved before its file is put, and none of them grows after the first change. A split and a move begin with a
