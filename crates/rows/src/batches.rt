@@ -8,7 +8,7 @@ use crate::cell_version::CellVersion;
 use cell_key::{Family, Qualifier, Refusal, Row, Stamp};
 use std::alloc::Global;
 
-/// A cell and the newest version of each of its columns at or below a stamp, or `None` for a column that has none there.
+/// A cell with the newest version of each of its columns at or below a stamp; `None` for a column without one.
 #[derive(Drop)]
 pub struct CellVersions {
     pub row: Row,
