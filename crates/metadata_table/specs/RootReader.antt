@@ -1,5 +1,5 @@
 -- The reader of a root's bytes, from left to right. The result is written again and compared with the bytes afterwards,
--- so head, next tablet's number, foot and any bytes behind it are only skipped here.
+-- so head, next tablet's number, foot and any bytes after it are only skipped here.
 use Rattle.std.specs.Prelude.{◌≡◌, ℕ, zero, suc, ◌*◌, List, [], ◌∷◌, length, take, drop, Option, Some, None, Result, Ok, Err, nat_eq, nat_lt, map, flat_map, if◌then◌else◌}
 use Rattle.std.specs.Int.{Width, w32, w64, byte_len, from_be_bytes}
 use Rattle.metadata_table.specs.declared.root.reader.ReadFault.{ReadFault}

@@ -59,7 +59,7 @@ pub read_stays : (o : Option Contents) (t u : Tablet) → IsSameTablet o t u →
 read_stays None t u same held = held
 read_stays (Some m) t u same held = same.still held
 
--- so does one that holds over any files over which it did
+-- so does a new one that holds over all files over which the old one did
 pub over_any : (o : Option Contents) (t u : Tablet) → ((m : Contents) → Holds m t → Holds m u) → IsSomeAnd o (λ m. Holds m t) → IsSomeAnd o (λ m. Holds m u)
 over_any None t u stays held = held
 over_any (Some m) t u stays held = stays m held

@@ -71,14 +71,14 @@ at_told P (Some n) m e h = subst P (same_Some n m e) h
 pub cells_told : (o : Option Contents) (m : Contents) (ts : List Tablet) → o ≡ Some m → cells_in o ts ≡ cells_in (Some m) ts
 cells_told o m ts e = ap (λ (p : Option Contents). cells_in p ts) e
 
--- At the keys of a row the cells are those of the row's tablet.
+-- For the keys of a row the cells are its owner's.
 pub cells_of_row : (m : Contents) (ts : List Tablet) (row : List ℕ) (i : ℕ) (t : Tablet) → OwnsRow ts row i t → (q : CellKey) → q.row ≡ row → get (cells_in (Some m) ts) q ≡ get (cells_at m t) q
 cells_of_row m ts row i t owns q e = joined_at (cells_at m) q ts i t owns.there none
   where
     none : (j : ℕ) (u : Tablet) → j ≢ i → slice_get ts j ≡ Some u → get (cells_at m u) q ≡ None
     none j u other there = outside_none m u q (subst (λ (r : List ℕ). has_row (range_of u) r ≡ false) (sym e) (owns.others j u other there))
 
--- The newest version in the row's tablet is that of the cluster.
+-- The newest version in the row's tablet is the cluster's.
 pub newest_of_row : (m : Contents) (ts : List Tablet) (row family : List ℕ) (qualifier : Qualifier) (lo hi : ℕ) (found : Option (ℕ × List ℕ)) (i : ℕ) (t : Tablet) → OwnsRow ts row i t → IsNewest (cells_at m t) (version row family qualifier) lo hi found → IsNewest (cells_in (Some m) ts) (version row family qualifier) lo hi found
 newest_of_row m ts row family qualifier lo hi found i t owns newest =
     newest_there (cells_at m t) (cells_in (Some m) ts) (version row family qualifier) lo hi found (λ s. cells_of_row m ts row i t owns (version row family qualifier s) refl) newest

@@ -82,8 +82,7 @@ spots_of state = map spot_of state.places
 abbrev pub edits_in : RowRange → List Edit → List Edit
 edits_in range edits = filter (λ edit. has_row range (edited_key edit).row) edits
 
--- The memtable of the tablet that holds the row would exceed a limit with those of the edits that are in the tablet's
--- range.
+-- The memtable of the tablet that holds the row would exceed a limit with the edits that are in the tablet's range.
 pub record Overfills (places : List PlaceView) (tablets : List Tablet) (row : List ℕ)
     (edits : List Edit) : Type 0 where
   pub place : PlaceView

@@ -137,7 +137,7 @@ impl<F: Files> Cluster<F> {
         }
     }
 
-    /// Runs commands in order and answers the outcome of each, all by one cell map, the one that the cluster shows. An
+    /// Runs commands in order and answers the outcome of each, all by the one cell map that the cluster shows. An
     /// accepted command has its effect on tablets and files and exceeds no limit. A refused one changes no cell and has
     /// a cause for its refusal; the commands after it still run. None writes more than one file.
     ///

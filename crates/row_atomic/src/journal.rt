@@ -127,7 +127,7 @@ impl Journal {
         Ok(())
     }
 
-    /// Drops the edits behind the first `len` bytes, which hold `count` edits.
+    /// Drops the edits after the first `len` bytes, which hold `count` edits.
     pub(crate) fn cut(&mut self, len: usize, count: usize)
         requires waiting { length self.old.logged ≤ len }
         requires few { count ≤ self.old.count }

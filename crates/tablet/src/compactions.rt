@@ -1,7 +1,8 @@
-//! Compactions (Bigtable, tablet serving): several sources are merged into one file. The tablet's state changes last.
-//! Room in its list of files is reserved before the file is written, and the file is open once it is written. After
-//! that only the new index of locks may be refused, with `NoMemory`; the tablet is then unchanged and the file is left
-//! over. Calls of lemmas of lower crates, like `stays_open()`, do nothing at run time; the contracts here rest on them.
+//! Compactions (Bigtable, tablet serving): several sources are merged into one file. The tablet changes last. Room for
+//! the file in its list is reserved before the file is written, unless it replaces others, and the file is open once it
+//! is written. After that only the new index of locks may be refused, with `NoMemory`; the tablet is then unchanged and
+//! the file is left over. Calls of lemmas of lower crates, like `stays_open()`, do nothing at run time; the contracts
+//! here rest on them.
 
 ghost use Rattle.std.specs.Prelude.{◌≡◌, ◌≢◌, ◌≤◌, ◌<◌, ◌+◌, ◌^◌, ◌↔◌, ◌⊎◌, [], Option, Some, length, map, take, false, nat_lt, option_map, IfOk, IfErr, OnOk, OnErr, IfSome, IsNone, IsOk, IsSomeAnd, IsErrOf};
 ghost use Rattle.std.specs.Option.{option_copied};

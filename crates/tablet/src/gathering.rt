@@ -16,7 +16,7 @@ use std::alloc::Global;
 /// The most cells that room is reserved for at the start.
 const ROOM: usize = 256;
 
-/// The qualifier and the stamp encoded in these bytes, the part of a key's text behind its place.
+/// The qualifier and the stamp encoded in these bytes, the rest of a key's text after its place.
 fn version_of(bytes: &[u8]) -> Option<(Qualifier, Stamp)>
     ensures found { IfSome result (λ found.
         bytes.now ≡ ended (qualifier_name found.0) ++ stamp_text found.1) }

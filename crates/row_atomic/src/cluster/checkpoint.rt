@@ -163,7 +163,8 @@ impl<F: Files> Cluster<F> {
             F.contents F.faults top floor self.old (done_of result) self.new }
         ensures flushed { OnOk result (AreFlushed self.new) }
         ensures rests { OnOk result (Rests F.contents top floor self.old self.new) }
-        // If puts are atomic, a refusal leaves in the files what they kept before, or all that the cluster showed.
+        // If puts are atomic, a refusal leaves the old root with its cells in the files, or all cells that the cluster
+        // showed.
         ensures whole { F.replaces → OnErr result
             (StaysOrRests F.contents top floor self.old self.new) }
         // Done or refused, tablets that were in order still are, with the same cells.

@@ -8,7 +8,7 @@ use cell_key::replays;
 use file_store::Files;
 use tablet::unnamed_may_go;
 
-/// The cells of a row are those of the tablet that holds it.
+/// The cells of a row are the cells of the tablet that holds it.
 pub fn cells_by_tablet()
     ensures { CellsByTablet }
 {}
