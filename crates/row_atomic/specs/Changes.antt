@@ -62,7 +62,7 @@ pub record IsUndone {F : Type 0} (contents : F → Option Contents)
   pub name : new.next_name ≡ old.next_name
   pub files : contents new.files ≡ contents old.files
 
--- Over its files each tablet is unchanged but for caches, and so is all else.
+-- Over its files each tablet is unchanged except for its caches, and all else is unchanged.
 pub record IsUncached {F : Type 0} (contents : F → Option Contents)
     (old new : ClusterState F) : Type 0 where
   pub tablets : AllZip (IsSameTablet (contents old.files)) old.tablets new.tablets

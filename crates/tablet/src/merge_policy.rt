@@ -26,8 +26,8 @@ fn merged_count(files: &[SortedFile], fewest: usize) -> usize
 impl Tablet {
     ghost use Rattle.tablet.specs.Views.{names_of};
 
-    /// How many of the newest files to merge so that fewer than `most` files are left, and each file left has more
-    /// entries than all newer ones together, at least as far as the merges have reached. So an entry is rewritten a
+    /// How many of the newest files to merge so that fewer than `most` files are left, and the next older file, if
+    /// there is one, has more entries than all newer ones together. With merges chosen so, an entry is rewritten a
     /// logarithmic number of times. Allocates and reads nothing.
     pub fn merge_count(&self, most: usize) -> usize
         requires least { 2 ≤ most }
