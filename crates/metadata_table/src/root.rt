@@ -126,8 +126,8 @@ impl MetadataTable {
         Ok(())
     }
 
-    /// The root with these bytes, or `None` if they are not a root; bytes before the head or after the foot make them
-    /// none. Allocates a few times the size of the bytes.
+    /// The root with these bytes, or `None` if they are not a root; with bytes before the head or after the foot they
+    /// are not. Allocates a few times the size of the bytes.
     ///
     /// # Errors
     ///

@@ -50,8 +50,8 @@ impl<F: Files> Cluster<F> {
         resize_each(&mut self.tablets, most_blocks);
     }
 
-    /// How many calls of `newest`, `has_version` and `apply` found their row among the 128 located last. The count
-    /// saturates at 2^64 - 1. Allocates nothing.
+    /// How many calls of `newest`, `versions`, `has_version` and `apply` found their row among the 128 located last.
+    /// The count saturates at 2^64 - 1. Allocates nothing.
     pub fn place_hits(&self) -> u64 {
         self.place_cache.hits()
     }

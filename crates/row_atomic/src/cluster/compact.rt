@@ -141,7 +141,8 @@ impl<F: Files> Cluster<F> {
     /// # Errors
     ///
     /// `UnknownTablet` if no tablet has the number; then `TooManyFiles` if the tablet already has 64 files,
-    /// `FileTooLarge`, `Exhausted` if no name is left, `Device` and `NoMemory`. The tablets are then unchanged.
+    /// `FileTooLarge`, `Exhausted` if no name is left, `Device` and `NoMemory`; `Damaged` comes only from a store that
+    /// does not keep the bytes it is given. The tablets are then unchanged.
     pub fn minor(&mut self, tablet: u32) -> Result<(), Refusal>
         ensures { IsOutcome
             F.contents F.faults (Command.Minor tablet) (done_of result) self.old self.new }
@@ -156,8 +157,8 @@ impl<F: Files> Cluster<F> {
     /// # Errors
     ///
     /// `UnknownTablet` if no tablet has the number; then `BadCount` if `count` is below 2 or above the tablet's number
-    /// of files; then `FileTooLarge`, `Exhausted` if no name is left, `Device` and `NoMemory`. The tablets are then
-    /// unchanged.
+    /// of files; then `FileTooLarge`, `Exhausted` if no name is left, `Device`, `NoMemory`, and `Damaged` only if one
+    /// of these files has changed since it was opened. The tablets are then unchanged.
     pub fn merge(&mut self, tablet: u32, count: u32) -> Result<(), Refusal>
         ensures { IsOutcome
             F.contents F.faults (Command.Merge tablet count) (done_of result) self.old self.new }
@@ -172,8 +173,8 @@ impl<F: Files> Cluster<F> {
     ///
     /// # Errors
     ///
-    /// `UnknownTablet` if no tablet has the number; then `FileTooLarge`, `Exhausted` if no name is left, `Device` and
-    /// `NoMemory`. The tablets are then unchanged.
+    /// `UnknownTablet` if no tablet has the number; then `FileTooLarge`, `Exhausted` if no name is left, `Device`,
+    /// `NoMemory`, and `Damaged` only if a file has changed since it was opened. The tablets are then unchanged.
     pub fn major(&mut self, tablet: u32) -> Result<(), Refusal>
         ensures { IsOutcome
             F.contents F.faults (Command.Major tablet) (done_of result) self.old self.new }

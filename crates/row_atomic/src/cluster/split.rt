@@ -20,8 +20,8 @@ use tablet::{
     Compaction, RowRange, Tablet, files_are_there, others_stay, same_cells, stays_in_range,
 };
 
-/// The room reserved for a cut: the table after the cut, but with no files recorded yet for the two parts, the number
-/// of the left part, and empty lists with room for the names of both parts' files and for all tablets.
+/// The room reserved for a cut: the table after the cut except for the files of the two parts, the number of the left
+/// part, and empty lists with room for the names of both parts' files and for all tablets.
 #[derive(Drop)]
 struct CutRoom {
     table: MetadataTable,
@@ -146,8 +146,9 @@ impl<F: Files> Cluster<F> {
     ///
     /// # Errors
     ///
-    /// `BadSplit` if the row is already the end of its tablet, or there are 1,024 tablets; then the errors of `minor`.
-    /// The tablets' places are then unchanged, but the minor compaction may have been done.
+    /// `BadSplit` if the row is already the end of its tablet, or there are 1,024 tablets; then the errors of `minor`,
+    /// and `Damaged` only if a file of the tablet is missing or malformed. The tablets' places are then unchanged, but
+    /// the minor compaction may have been done.
     pub fn split(&mut self, row: &Row) -> Result<u32, Refusal>
         ensures { IsOutcome
             F.contents F.faults (Command.Split row.now) (split_of result) self.old self.new }
@@ -222,7 +223,8 @@ impl<F: Files> Cluster<F> {
     /// # Errors
     ///
     /// `UnknownTablet` if no tablet has the number; then `UnknownServer` if the server's number is above 15; then the
-    /// errors of `minor`. The tablets' places are then unchanged, but the minor compaction may have been done.
+    /// errors of `minor`, and `Damaged` only if a file of the tablet is missing or malformed. The tablets' places are
+    /// then unchanged, but the minor compaction may have been done.
     pub fn move_to(&mut self, tablet: u32, server: u8) -> Result<(), Refusal>
         ensures outcome { IsOutcome
             F.contents F.faults (Command.Move tablet server) (done_of result) self.old self.new }
