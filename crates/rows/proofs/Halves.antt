@@ -35,7 +35,7 @@ rest_at_first cells at lo hi found is = record { there = is.2; none = λ s from 
 pub rest_with_older : (cells : Cells) (at : ℕ → CellKey) (lo low middle : ℕ) (found older : ℕ × List ℕ) → IsRest cells at lo low found → IsNewest cells at low middle (Some older) → IsRest cells at lo low older
 rest_with_older cells at lo low middle found older rest is = record { there = is.2; none = rest.none }
 
--- there is none there
+-- the lower half has none
 pub rest_above : (cells : Cells) (at : ℕ → CellKey) (lo low middle : ℕ) (found : ℕ × List ℕ) → IsRest cells at lo low found → IsNewest cells at low middle None → IsRest cells at lo (middle + 1) found
 rest_above cells at lo low middle found rest is = record {
   there = rest.there;

@@ -9,8 +9,8 @@ pub record HasVersion (cells : Cells) (at : ℕ → CellKey) (lo hi : ℕ) (has 
   pub newest : IsNewest cells at lo hi found
   pub is : has ≡ is_some found
 
--- The versions of a column with stamps up to `hi`, the newest first, at most `most` of them. `at` gives the keys by
--- their stamps.
+-- The versions of a column with stamps up to `hi`, the newest first, `most` of them or all if there are fewer. `at`
+-- gives the keys by their stamps.
 abbrev pub AreNewestFirst : Cells → (ℕ → CellKey) → ℕ → ℕ → List (ℕ × List ℕ) → Type 0
 AreNewestFirst cells at hi most [] = 1 ≤ most → IsNewest cells at 0 hi None
 AreNewestFirst cells at hi most (found ∷ rest) =

@@ -53,7 +53,7 @@ pub trait Rows {
         ensures reason { HasReason (faults self.old) (faults self.new) result };
 
     /// The versions of a cell's column with stamps at or below `hi`, the newest first, as repeated calls of `newest`
-    /// would find them, at most `most` of them. They cost one pass up to the last of them.
+    /// would find them, `most` of them or all if there are fewer. They cost one pass up to the last of them.
     ///
     /// # Errors
     ///
@@ -114,7 +114,7 @@ pub trait Rows {
         ensures reason { HasReason (faults self.old) (faults self.new) result };
 
     /// The next cells that have any version, in the order of rows and then of families, after the cell `after`, or from
-    /// the start without one, at most `most` of them. They cost one pass up to the last of them.
+    /// the start without one, `most` of them or all if there are fewer. They cost one pass up to the last of them.
     ///
     /// # Errors
     ///

@@ -60,7 +60,8 @@ pub(crate) fn newest(
     }
 }
 
-/// The versions of a cell's column with stamps at or below `hi`, the newest first, at most `most` of them.
+/// The versions of a cell's column with stamps at or below `hi`, the newest first, `most` of them or all if there are
+/// fewer.
 pub(crate) fn versions(
     alloc: Global,
     slots: &Slots,
@@ -140,7 +141,7 @@ pub(crate) fn next_cell(
     }
 }
 
-/// The next cells after a place, at most `most` of them.
+/// The next cells after a place, `most` of them or all if there are fewer.
 pub(crate) fn next_cells(
     alloc: Global,
     slots: &Slots,
@@ -200,8 +201,8 @@ fn versions_of(
     })
 }
 
-/// The next cells after a place, each with the newest versions of its columns at or below `hi`, at most as many as
-/// `limits` allows.
+/// The next cells after a place, each with the newest versions of its columns at or below `hi`: `limits.cells` of them
+/// or all if there are fewer.
 pub(crate) fn next_versions(
     alloc: Global,
     slots: &Slots,

@@ -146,7 +146,7 @@ module _ (o : Option Contents) (t : Tablet) (row family : List ℕ) (q : Qualifi
         (subst (λ (cells : Cells). IsNewest cells at lo to found) (same_cells o m t w told is held)
         (h (still_at o m t w told is held).0 (subst (λ (r : RowRange). IsTrue (has_row r row)) (sym is.range) has)))) above finds
 
--- the single newest version is outside the range
+-- if the single newest version is outside the range, the range has none
 none_in : (cells : Cells) (at : ℕ → CellKey) (lo hi : ℕ) (v : ℕ × List ℕ) (left : List (ℕ × List ℕ)) → AreNewestFirst cells at hi 1 (v ∷ left) → (lo ≤ v.0 → v.0 ≤ hi → ⊥) → IsNewest cells at lo hi None
 none_in cells at lo hi v left (some, (low, upto, there, later), one, more) outside = λ s a b. later s (below s a (nat_lt v.0 s) refl) b
   where

@@ -1,4 +1,4 @@
-//! The open files of a tablet, with a Bloom filter of their keys and an index of their locks.
+//! The open files of a tablet, with a filter of their keys and an index of their locks.
 
 ghost use Rattle.std.specs.Prelude.{◌≡◌, ◌≤◌, ◌<◌, ◌^◌, ◌∷◌, [], false, Option, option_map, map, drop, length, vec_len, IfOk, IfErr, IfSome, IsErrOf, OnOk, OnErr};
 ghost use Rattle.std.specs.List.{AllByRecursion, AllZip};

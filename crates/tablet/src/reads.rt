@@ -264,8 +264,8 @@ impl Tablet {
         Ok(found.is_some())
     }
 
-    /// The versions of a cell's column with stamps at or below `hi` (Bigtable, timestamps), the newest first, at most
-    /// `most` of them. The memtable and the files are read once, up to the last version answered.
+    /// The versions of a cell's column with stamps at or below `hi` (Bigtable, timestamps), the newest first, `most` of
+    /// them or all if there are fewer. The memtable and the files are read once, up to the last version answered.
     ///
     /// # Errors
     ///
@@ -323,9 +323,9 @@ impl Tablet {
         Ok(found.pop())
     }
 
-    /// The first cells of the tablet that have any version, at most `most` of them, after the cell `after` (which may
-    /// lie outside the tablet's range), or from the tablet's start. The memtable and the files are read once, up to the
-    /// last cell answered.
+    /// The first cells of the tablet that have any version, `most` of them or all if there are fewer, after the cell
+    /// `after` (which may lie outside the tablet's range), or from the tablet's start. The memtable and the files are
+    /// read once, up to the last cell answered.
     ///
     /// # Errors
     ///

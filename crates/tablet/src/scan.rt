@@ -96,8 +96,8 @@ fn next_place<F: Files, S: Source<F>>(
     Ok(None)
 }
 
-/// The next places of values of a source, each once, at most `most` of them. Reads no further than the last one
-/// answered.
+/// The next places of values of a source, each once: `most` of them or all if there are fewer. Reads no further than
+/// the last one answered.
 fn next_places<F: Files, S: Source<F>>(
     alloc: Global,
     source: &mut S,
@@ -122,8 +122,8 @@ fn next_places<F: Files, S: Source<F>>(
 }
 
 /// The places of the values that a memtable and files (the newest first) show together, with texts from `from` on and
-/// below `end`, if one is given: at most `most` of them. One pass over that range, which ends at the last place
-/// answered.
+/// below `end`, if one is given: `most` of them or all if there are fewer. One pass over that range, which ends at the
+/// last place answered.
 pub(crate) fn merged_places<F: Files>(
     alloc: Global,
     memtable: &Memtable,
@@ -269,7 +269,8 @@ fn version_at<F: Files, S: Source<F>>(
     }
 }
 
-/// The next versions of a source, at most `most` of them. Reads no further than the last one answered.
+/// The next versions of a source: `most` of them or all if there are fewer. Reads no further than the last one
+/// answered.
 fn first_versions<F: Files, S: Source<F>>(
     alloc: Global,
     source: &mut S,
@@ -298,7 +299,8 @@ fn first_versions<F: Files, S: Source<F>>(
 }
 
 /// The first versions that a memtable and files (the newest first) show together, with texts from `from` on and below
-/// `end`, if one is given: at most `most` of them. One pass over that range, which ends at the last version answered.
+/// `end`, if one is given: `most` of them or all if there are fewer. One pass over that range, which ends at the last
+/// version answered.
 pub(crate) fn merged_values<F: Files>(
     alloc: Global,
     memtable: &Memtable,

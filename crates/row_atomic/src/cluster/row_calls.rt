@@ -41,8 +41,8 @@ fn precedes(place: &Place, after: Option<(&Row, &Family)>) -> bool
     }
 }
 
-/// The next cells that have any version in these tablets, in the order of their rows, at most `most` of them. A tablet
-/// is asked only for as many cells as are still missing.
+/// The next cells that have any version in these tablets, in the order of their rows, `most` of them or all if there
+/// are fewer. A tablet is asked only for as many cells as are still missing.
 fn next_cells_in<F: Files>(
     alloc: Global,
     places: &[Place],
