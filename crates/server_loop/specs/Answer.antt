@@ -130,9 +130,9 @@ LacksRoom contents (CollectStep collector n) old =
     HasNoRoom OverfillsRecorded (rows_of old) (AreOfVisitsIn n)
 LacksRoom contents request old = ⊤
 
--- When Damaged is answered. For a Get, a Scan, and the beginning or a step of a cleaner: unless the read itself failed,
--- the cells are damaged. For a step of a session: a read failed. For a collector's step: a read failed, or no reached
--- state is shown.
+-- When Damaged is answered. For a Get, a Scan, and the beginning or a step of a cleaner: if the rows that it reads are
+-- readable, the cells are damaged. For a step of a session: its row is not readable. For a step of a collector: its
+-- rows are not readable, or no reached state is shown.
 abbrev pub ReadsDamage : {F M : Type 0} → (F → Option Contents) → Request → Server F M → Server F M
     → Type 0
 ReadsDamage contents (Get start row family) old new =
