@@ -104,8 +104,7 @@ IsUsedUp st = end_of_stamps ≤ st.next_cleaner
 abbrev pub IsStampOf : State → machine.Cleaner → ℕ → Type 0
 IsStampOf st k c = (c ≡ k.start) ⊎ CommittedAt st k.start c
 
--- At most one row's keys change: a key with the start's stamp may be erased, and an added key has the start's stamp or
--- its commit stamp.
+-- At most one row's keys change: an added key has the start's stamp or its commit stamp, and an erased key is a lock's.
 abbrev pub TouchesFor : State → ℕ → Cells → Cells → Type 0
 TouchesFor st i cells cells' =
     (cells' ≡ cells)
