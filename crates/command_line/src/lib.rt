@@ -13,7 +13,7 @@ pub use command_options::{
 };
 use std::alloc::{AllocError, Global};
 
-/// What the program is, where it reads and writes, and how long its data last.
+/// The help text: the program, its input and output, and how durable its data are.
 const ABOUT: &str =
     "A wide-column tablet store with snapshot-isolated transactions over many rows. It reads framed \
     requests from the standard input and writes a framed reply to each to the standard output, until the input ends. \

@@ -47,7 +47,7 @@ pub fn raw_is_longest()
     ensures { RawIsLongest }
 {}
 
-/// The public limits equal those of the definitions.
+/// The public limits are equal to the limits of the definitions.
 pub fn limits()
     ensures body { LONGEST_BODY ≡ longest }
     ensures reply { LONGEST_REPLY ≡ longest_reply }

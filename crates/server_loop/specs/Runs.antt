@@ -59,7 +59,7 @@ pub record RunsTo (before : State) (shown : State → Type 0) (taken : List Take
   pub laws : ObeysLaws after
   pub shows : shown after
 
--- These replies are a run's, from each reached state that is shown before to one that is shown after.
+-- A run gives these replies, from each reached state that is shown before to one that is shown after.
 abbrev pub RunsAs : {S : Type 0} → (S → State → Type 0) → S → S → List Taken → List Reply → Type 0
 RunsAs shows old new taken replies =
     (before : State) → IsReached before → shows old before → RunsTo before (shows new) taken replies
@@ -84,7 +84,7 @@ module _ {S : Type 0} (says : S → Lent → CodecReply → S → Type 0) (betwe
   SaysAll old [] (reply ∷ replies) new = ⊥
   SaysAll old (taken ∷ more) [] new = ⊥
 
--- These replies are those of a run of the machine. Each fulfils the contract of an answer, and is followed by the
+-- These replies are given by a run of the machine. Each fulfils the contract of an answer, and is followed by the
 -- upkeep.
 pub record AnswersAs {S : Type 0} (shows : S → State → Type 0)
     (says : S → Lent → CodecReply → S → Type 0)

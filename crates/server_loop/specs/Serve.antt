@@ -15,7 +15,7 @@ use Rattle.server_loop.specs.declared.statuses.ServeFault.TheVariants as faults
 use Rattle.server_loop.specs.declared.serving.Rest.{Rest}
 use Rattle.server_loop.specs.declared.serving.Rest.TheVariants as rests
 
--- ---- what is taken and written
+-- ---- the bodies taken and the bytes written
 
 abbrev pub is_too_large : List ℕ → Bool
 is_too_large rest = nat_le 4 (length rest) && nat_lt longest (announced rest)
@@ -95,7 +95,7 @@ EndsBy (Err faults.Log) most_reads read rest left held held' = ⊥
 
 -- ---- the effects of bytes
 
--- The bytes are the frames of bodies and a rest. The replies are those of a run of the machine over these, each fulfils
+-- The bytes are the frames of bodies and a rest. The replies are given by a run of the machine over these, each fulfils
 -- the contract of an answer, and the replies' frames were written, the last one only in part if a write failed.
 pub record Handles {S : Type 0} (shows : S → State → Type 0)
     (says : S → Lent → CodecReply → S → Type 0)

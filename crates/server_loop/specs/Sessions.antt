@@ -37,7 +37,7 @@ use Rattle.version_collector.specs.Visits.{Thins}
 use Rattle.version_collector.specs.declared.collectors.Collectors.{Collectors}
 
 -- The effects of a collector's step for n visits on the cells and on its collector: visits, by the rules of collection.
--- Whatever sessions read, each lock and each fate are unchanged.
+-- Every read of a session, each lock and each fate are unchanged.
 pub record MakesVisits {F M : Type 0} (contents : F → Option Contents) (collector n : ℕ)
     (result : Result CollectReply Refusal)
     (old new : Server F M) (st : State) : Type 0 where

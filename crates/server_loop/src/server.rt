@@ -278,7 +278,7 @@ impl<F: Files + Drop, M: MarkStore + Drop> Server<F, M> {
     /// completely before the next frame is taken. After each reply, every memtable that has reached a limit of the
     /// configuration is compacted, and files are merged as `merge_at` says.
     ///
-    /// The bytes read are cut into bodies and a rest, and the replies are those of a run of the snapshot machine over
+    /// The bytes read are cut into bodies and a rest, and the replies are given by a run of the snapshot machine over
     /// them. Each reply fulfils the contract of `answer`, and between two replies only those compactions and merges
     /// take place. Exactly the frames of these replies are written. After a failed read, the replies to all whole
     /// frames were written. After a failed write, all replies but the last were written, and a prefix of the last; no

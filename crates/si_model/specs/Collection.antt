@@ -175,7 +175,7 @@ abbrev pub comes_after : Option Place → Place → Bool
 comes_after None place = true
 comes_after (Some before) place = is_lt (place_cmp before place)
 
--- how many cells with a key come after a place
+-- the number of cells with a key after a place
 abbrev pub cells_after : Cells → Option Place → ℕ
 cells_after cells after = len (retain_keys (places_of cells) (comes_after after))
 

@@ -44,8 +44,8 @@ pub record Range : Type 0 where
   pub end : Option (List ℕ)
   pub family : Option (List ℕ)
 
--- the result for a cell that a scan names: its value; the start of the mark that blocks it; or that it has a value,
--- which isn't sent
+-- the result for a cell that a scan names: its value; the start of the mark that blocks it; or that its value isn't
+-- sent
 pub data Item : Type 0 where
   Valued : (value : Value) → Item
   Locked : (start : ℕ) → Item

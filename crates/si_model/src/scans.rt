@@ -21,7 +21,7 @@ pub enum ScanFound {
     Value(Vec<u8>),
     /// A lock at this stamp, at or below the session's start, blocks the read.
     Pending(Stamp),
-    /// There is a value, which isn't sent: only keys were asked for, or it is too long.
+    /// The cell has a value that isn't sent: only keys were asked for, or it is too long.
     Unsent,
 }
 

@@ -5,7 +5,7 @@ use clap::builder::ValueParser;
 use clap::{Arg, ArgAction, ArgMatches, Command, Error};
 use std::alloc::{AllocError, Global};
 
-/// What the program is.
+/// The help text.
 const ABOUT: &str =
     "Judges a recorded run of a tablet store: whether each reply is a step of the snapshot machine. \
     REQUESTS has the frames that went into the store, REPLIES those that came out. The status is 0 where each reply is a step, 1 where \

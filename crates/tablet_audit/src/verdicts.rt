@@ -19,7 +19,8 @@ pub enum Verdict<'a> {
     BadRequest(u64, Flaw),
     /// The frame of the reply with this number is flawed.
     BadReply(u64, Flaw),
-    /// The mark over which the store was reopened after the reply with this number is below a stamp that was answered.
+    /// The mark over which the store was reopened after the reply with this number is bad: below a stamp that was
+    /// answered, or above the greatest stamp.
     BadMark(u64),
 }
 

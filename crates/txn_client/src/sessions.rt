@@ -236,8 +236,8 @@ impl Clients {
         cells::read_cell(rows, &cell, start)
     }
 
-    /// What is to be scanned for an open session: UnknownSession, WrongPhase, BadRow, BadColumn,
-    /// BadCount, NoMemory.
+    /// Checks a scan's request to an open session. Refusals: UnknownSession, WrongPhase, BadRow, BadColumn, BadCount,
+    /// NoMemory.
     fn open_scan(
         &self,
         start: Stamp,

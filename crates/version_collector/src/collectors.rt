@@ -140,7 +140,7 @@ impl Collectors {
             → InEachShown (R.seen.cells rows.old) self.old (λ st.
             VisitsAt number visits result (R.seen.cells rows.old) self.old (R.seen.cells rows.new)
             self.new) }
-        // Whatever sessions read, each lock and each fate are unchanged.
+        // Every read of a session, each lock and each fate are unchanged.
         ensures leaves { R.seen.holds rows.old
             → InEachShown (R.seen.cells rows.old) self.old (λ st.
             Collects (R.seen.cells rows.old) (R.seen.cells rows.new) st) }
