@@ -132,7 +132,7 @@ module _ (Holds : Type 0) (cells : Cells) (i : ℕ) (cleaner : Cleaner) (held : 
   pub edits_touch : (new : Cells) (row : List ℕ) (edits : List Edit) → EditsOf Holds cells cleaner row edits → new ≡ after_edits cells edits → TouchesFor st i cells new
   edits_touch = touches_in cleaner.fate refl
 
-  -- the edits of the cleaner are those of its next step in a shown state
+  -- the cleaner's edits are the edits of its next step in a shown state
   pub changes_next : (row : List ℕ) (edits : List Edit) → EditsOf Holds cells cleaner row edits → ChangesNext st i row edits
   changes_next row edits at = (cleaner_of cleaner, mine.kept, changes_in cleaner.fate refl row edits at)
 

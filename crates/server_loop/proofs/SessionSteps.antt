@@ -106,7 +106,7 @@ abbrev pub IfTold : (Refusal → Type 0) → CodecReply → Type 0
 IfTold P (codec.Refused refusal) = P refusal
 IfTold P reply = ⊤
 
--- the properties of a call's refusal are those of the reply's, and conversely
+-- a call's refusal and its reply have the same properties
 pub as_err : {A : Type 0} (result : Result A Refusal) (refusal other : Refusal) → result ≡ Err refusal → codec.Refused refusal ≡ codec.Refused other → IsErrOf result other
 as_err result refusal other is same = subst (IfTold (λ (r : Refusal). IsErrOf result r)) same is
 

@@ -96,7 +96,7 @@ pub record ServesSessions {F M : Type 0} (contents : F → Option Contents) (mar
 
 -- The effects of a request on tablets and files. A checkpoint writes the sessions' top and the collectors' greatest
 -- floor, and once it is accepted, the files keep the tablets' cells. If a put replaces files as a whole, a refused
--- checkpoint leaves in the files the cells that they kept before, or those of the tablets.
+-- checkpoint leaves in the files the cells that they kept before, or the tablets' cells.
 abbrev pub TendsTablets : {F M : Type 0} → Files F → Request → Reply → Server F M → Server F M
     → Type 0
 TendsTablets files Checkpoint reply old new =

@@ -46,7 +46,7 @@ pub trait Answering {
         ensures says { says self.old request.entry result self.new }
         ensures limits { KeepsToLimits result };
 
-    /// Does the upkeep between one answer and the next. Each state that is shown stays shown.
+    /// Does the upkeep between one answer and the next. It keeps showing each state that it shows.
     fn tend(&mut self)
         ensures between { between self.old self.new }
         ensures shown { (st : State) → shows self.old st → shows self.new st };

@@ -38,7 +38,7 @@ pub record SaysThere (scan : Scan) (x : Cell) : Type 0 where
   pub is : SaysOf scan x said
   pub free : (t : ℕ) → said ≢ Some (Locked t)
 
--- a Get with this start and cell was answered, or a scan answered for the cell
+-- a Get with this start and cell was answered, or a scan gave an unblocked answer for the cell
 abbrev pub Told : State → Read → Type 0
 Told st r =
     (r ∈ st.reads) ⊎ ((scan : Scan) × (scan ∈ st.scans) × SaysThere scan r.cell × (r.start ≡ scan.start))

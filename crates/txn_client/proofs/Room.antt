@@ -161,7 +161,7 @@ module _ (Holds : Type 0) (cells : Cells) (session : Session) where
     changes_in Stamped is = records_next 0
     changes_in (Finishing k) is = records_next k
 
--- the edits of the stored session are those of its next step in a shown state
+-- the stored session's edits are the edits of its next step in a shown state
 pub changes_shown : (Holds : Type 0) (cells : Cells) (clients : Clients) (t : ℕ) → Holds → (st : State) → IsReached st → ShowsCells cells st → ShowsClients clients st → (row : List ℕ) (edits : List Edit) → EditsOfStep Holds cells clients t row edits → ChangesNext st t row edits
 changes_shown Holds cells clients t held st reached shown kept row edits (session, was, is) =
     let mine = shown_some clients t st session kept was in

@@ -43,7 +43,7 @@ IsFound cells x s Nothing =
     IsClear cells x Lock 0 s × (IsClear cells x Write 0 s ⊎ ReadsDeletion cells x s)
 IsFound cells x s (Value value) = ReadsValue cells x s value.items
 
--- a malformed write record, or a set's record without its data
+-- the last write record is malformed, or is a set's whose data is missing
 abbrev pub IsDamaged : Cells → Cell → ℕ → Type 0
 IsDamaged cells x s =
     (c : ℕ) × (text : List ℕ) × IsLast cells x s c text

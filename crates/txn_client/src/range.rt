@@ -86,7 +86,7 @@ impl Range {
         }
     }
 
-    /// Whether the range has cells of the family.
+    /// Whether the range includes the family.
     pub(crate) fn is_of_family(&self, family: &Family) -> bool
         ensures { IsTrue result ↔ IsOfFamily self.now.family family.now }
     {

@@ -158,7 +158,7 @@ impl Collectors {
         // Nothing is read or changed if no collector has this number, or the number of visits is bad.
         ensures early { IfErr result (λ refusal. IsEarlyRefusal refusal
             → SameCollectors self.old self.new × (rows.new ≡ rows.old)) }
-        // A refused step leaves its collector open with its floor, and its first visit changes nothing.
+        // A refused step leaves its collector open, with its floor. If it asked for one visit, it changes nothing.
         ensures refused { OnErr result (StepLeaves R.seen number visits
             self.old self.new rows.old rows.new) }
         ensures below { KeepsBelow R.seen rows.old rows.new }
