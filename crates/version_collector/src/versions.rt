@@ -99,8 +99,9 @@ fn look_up_records<R: Rows>(
     Ok(found)
 }
 
-/// The newest records of a cell at or below the floor, newest first: at most 129. The first 32 are looked up one by
-/// one. If there are more, all are read again in one pass, which reads a block of each file whose range has the cell.
+/// The newest records of a cell at or below the floor, newest first: at most 129. They are looked up one by one up to
+/// the 32nd. If that many are found, all are read in one pass, which reads a block of each file whose range has the
+/// cell.
 fn newest_records<R: Rows>(
     alloc: Global,
     rows: &mut R,
