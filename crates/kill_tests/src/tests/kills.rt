@@ -82,14 +82,14 @@ const SECOND_PART: [&[Exchange]; 2] = [&COLLECTED, &THREE_CELLS];
 /// A server that compacts and checkpoints on request.
 const ASKED: Upkeep = ON_REQUEST;
 
-/// One that makes a checkpoint whenever the log has edits.
+/// A server that makes a checkpoint whenever the journal isn't empty.
 const CHECKPOINTS: Upkeep = Upkeep {
     flush: 10_000,
     merge: None,
     checkpoint: Some(1),
 };
 
-/// One that compacts memtables of two entries and merges two files, and makes checkpoints now and then.
+/// A server that compacts memtables of two entries and merges two files, and makes checkpoints now and then.
 const BY_ITSELF: Upkeep = Upkeep {
     flush: 2,
     merge: Some(2),

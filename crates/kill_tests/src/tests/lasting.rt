@@ -20,7 +20,7 @@ pub type StoppingServer<'a> = LastingServer<
 >;
 
 /// When a server compacts and checkpoints by itself: the numbers of entries of a memtable, of files of a tablet, and of
-/// bytes of the edits recorded for the log.
+/// bytes of the journal.
 #[derive(Clone, Copy, Debug)]
 pub struct Upkeep {
     pub flush: u32,

@@ -67,7 +67,7 @@ fn log_after(alloc: Global, upkeep: Upkeep, most: usize, more: &[u8]) -> Result<
     }
 }
 
-/// A server that makes a checkpoint whenever the log has edits, and merges files.
+/// A server that makes a checkpoint whenever the journal isn't empty, and merges files.
 const CHECKPOINTS: Upkeep = Upkeep {
     flush: 1,
     merge: Some(2),
