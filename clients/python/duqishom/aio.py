@@ -344,9 +344,9 @@ class Cleanings:
 
 
 class Transaction:
-    """One session, from its begin to its end. Its writes are kept here, and sent when it commits.
+    """One session, from its begin to its end. Its writes are buffered here, and sent when it commits.
 
-    What it has written, and what its steps have done, a transaction without a store keeps.
+    A transaction without a store keeps the writes and the results of the steps.
     """
 
     def __init__(self, asked: Store, patience: Patience) -> None:

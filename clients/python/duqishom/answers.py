@@ -63,7 +63,7 @@ class Scanned:
 
 @dataclass(frozen=True)
 class Held:
-    """The session holds this cell, the n-th of `count`."""
+    """The session holds this cell, number `place` of `count`."""
 
     place: int
     count: int
@@ -98,7 +98,7 @@ class Lost:
 
 @dataclass(frozen=True)
 class Finished:
-    """This cell, the n-th of `count`, has its commit record, and its lock is gone. The session ends with the last
+    """This cell, number `place` of `count`, has its commit record, and its lock is gone. The session ends with the last
     cell."""
 
     place: int

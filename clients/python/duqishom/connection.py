@@ -56,10 +56,10 @@ class RequestTimedOut(Exception):
 
 
 class Trip:
-    """Requests on their way: what of them is written, and what of their replies is read.
+    """Requests in flight: the numbers of bytes written so far, and the pieces of replies read so far.
 
-    Both only grow, each by one call that nothing can interrupt; so whatever stops the one who asked, Ctrl-C too, the trip can be
-    taken to its end later.
+    Both only grow, each by one call that nothing can interrupt. So whatever interrupts the caller, Ctrl-C too, the trip
+    can be completed later.
     """
 
     def __init__(self, bodies: Sequence[bytes]) -> None:
@@ -85,9 +85,9 @@ class Frames:
         OPEN.add(self)
 
     def ask(self, bodies: Sequence[bytes], timeout: float | None = None) -> list[bytes]:
-        """The bodies of the replies to these requests. A trip that was interrupted is taken to its end before.
+        """The bodies of the replies to these requests. A trip that was interrupted is completed first.
 
-        StreamEnded where the other side closes, and RequestTimedOut.
+        StreamEnded if the other side closes, and RequestTimedOut.
         """
         deadline = None if timeout is None else time.monotonic() + timeout
         if self._trip is not None:

@@ -24,10 +24,12 @@ def nothing() -> None:
 
 
 def copy_checkpoint(source: str, target: str, go_on: Callable[[], None] = nothing) -> None:
-    """Copies the last checkpoint of a folder into another one, which is empty, or is made. If it has a log, the copy has its sign
-    and a log without edits over the root. The program may put another root meanwhile, but may remove no file.
+    """Copies the last checkpoint of a folder into another one, which is empty or is created. If it has a log, the copy
+    gets its sign and a log without edits over the root. The program may put another root meanwhile, but must not remove
+    a file.
 
-    `go_on` is called before each piece, and may raise what ends the copying. NotCopied where the other folder has files.
+    `go_on` is called before each piece, and may raise an exception to end the copying. NotCopied if the other folder
+    has files.
     """
     place, copy = Path(source), empty_folder(target)
     data = (place / ROOT_FILE).read_bytes()

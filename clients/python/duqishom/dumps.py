@@ -2,7 +2,8 @@
 
     {"row": "Bob", "family": "bal", "value": "10"}
 
-Each text stands for bytes: it is UTF-8, in which `\\x0a` stands for the byte 0A. So no byte is lost, whatever reads the lines.
+Each text encodes bytes: it is UTF-8, in which `\\x0a` stands for the byte 0A. So no byte is lost, whatever reads the
+lines.
 """
 
 from __future__ import annotations
