@@ -111,10 +111,10 @@ def check_copied(asked: Backup, reply: bytes) -> None:
 
 
 def write_all(store: Store) -> None:
-    """Writes the memtable of each tablet to a file, whoever has split them, and makes a checkpoint, for the log may be what is
-    full. Where a tablet has too many files, all become one.
+    """Writes the memtable of each tablet to a file, whichever client has split them, and makes a checkpoint, since the
+    log may be full. If a tablet has too many files, they are merged into one.
 
-    A gateway that has a socket of the administrator refuses this, and has done it itself when there was no room.
+    A gateway with an administrator's socket refuses this, and has done it itself when a memtable was full.
     """
     with suppress(UnknownTablet, BadRequest):
         for tablet in range(1, MOST_TABLETS + 1):

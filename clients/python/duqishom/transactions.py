@@ -75,7 +75,7 @@ class TransactionConflict(TransactionFailed):
 
 
 class TransactionLost(TransactionFailed):
-    """A cleaner rolled the transaction back before it committed. What the transaction held is free again."""
+    """A cleaner rolled the transaction back before it committed. The transaction's locks are released."""
 
 
 @dataclass(frozen=True)
