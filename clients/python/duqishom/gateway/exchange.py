@@ -73,9 +73,10 @@ class Exchange:
         self.need_room: set[Client] = set()
 
     async def start(self, command: Sequence[str]) -> None:
-        """Starts the program, and waits until it has answered. OSError where it can't be started, ProgramEnded where it ends first.
+        """Starts the program, and waits until it has answered. OSError if it can't be started, ProgramEnded if it ends
+        first.
 
-        What it answers is an empty body, which is no request and changes nothing.
+        The request is an empty body, which isn't in the protocol and changes nothing.
         """
         await self.upstream.start(command)
         await self.household.ask(b"")
@@ -210,11 +211,11 @@ class Exchange:
             self._ended(ended)
 
     async def shut(self, grace: float) -> bool:
-        """Takes no new frame, lets all replies out, ends what is open, makes a checkpoint in a folder, and ends the program's
-        input.
+        """Takes no new frames, sends all replies, ends open sessions, cleaners and collectors, makes a checkpoint in a
+        folder, and ends the program's input.
 
-        Gives whether the store is kept: a refused last checkpoint is told, and with a log nothing is lost by it. No client holds
-        this up for longer than the seconds of grace.
+        Returns whether the store is durable: a refused last checkpoint is reported, and with a log nothing is lost by
+        it. No client delays this for longer than the seconds of grace.
         """
         self.is_closing = True
         for client in list(self.clients):

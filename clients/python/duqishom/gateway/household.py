@@ -45,9 +45,9 @@ class Household:
         self._end: ProgramEnded | None = None
 
     async def ask(self, body: bytes, then: bytes | None = None) -> bytes:
-        """Asks, and gives the frame of the reply. ProgramEnded where the program ends in place of it.
+        """Sends a request, and returns the frame of its reply. ProgramEnded if the program ends instead.
 
-        Where another body is given, that request goes right behind, whatever comes of it.
+        If another body is given, that request follows immediately, and its reply is ignored.
         """
         if self._end is not None:
             raise self._end

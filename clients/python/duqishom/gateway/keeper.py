@@ -27,10 +27,11 @@ PAUSE = 1.0
 class Keeper:
     """With durable answers, each reply that shows a commit waits until a checkpoint has made that commit durable.
 
-    The program does one request after the other, so a checkpoint keeps all commits that were answered before it. From an
-    answered commit on to the next answered checkpoint there are commits that aren't kept: the first of them is at `unkept`.
-    Meanwhile these replies wait, and all that come behind them for the same client: of a commit and its steps after it, of a
-    Conflict, of a cleaner, of a raw read, and of a Get or a Scan in a session that began after the first commit that isn't kept.
+    The program does one request after the other, so a checkpoint makes all commits durable that were answered before
+    it. From an answered commit to the next answered checkpoint there are commits that aren't durable: the first has the
+    stamp `unkept`. Meanwhile these replies wait, with all later ones for the same client: to a commit and its later
+    steps, a Conflict, to a cleaner, to a raw read, and to a Get or a Scan in a session that began after the first
+    commit that isn't durable.
     """
 
     def __init__(self, household: Household, is_durable: bool) -> None:

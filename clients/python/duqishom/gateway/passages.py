@@ -70,10 +70,11 @@ UNKNOWN = (refusal(1), refusal(9), refusal(10))
 
 @dataclass(frozen=True, slots=True)
 class Passage:
-    """An operation as it passes: its number, its weight, the room that its reply may take, what it names or opens, what stands
-    behind that (so many counted fields, so many bytes that are 00 or 01, so many counted fields behind each byte 01 in place of
-    a 00, and other bytes), how much each weighs that its last number counts, whether its reply is looked at, whether it is for
-    the socket of the administrator, and whether the gateway may answer it."""
+    """An operation as the gateway passes it on: its number, its weight, the maximum length of its reply, the kind of
+    thing that it names or opens, the fields after that (the number of counted fields, the number of bytes 00 or 01, the
+    numbers of counted fields after each option's byte 01, and the number of other bytes), the weight of each unit of
+    its last number, whether its reply is looked at, whether it is only for the administrator's socket, and whether the
+    gateway may answer it."""
 
     code: int
     weight: int = 1

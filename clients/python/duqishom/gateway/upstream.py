@@ -16,10 +16,10 @@ MOST_UNTAKEN = 1 << 20
 
 
 class Asker(Protocol):
-    """Whoever asks the program: it gets turns, and the replies to what it sent.
+    """An asker of the program: it gets turns, and the replies to its requests.
 
-    It needs the program idle where its next request is heavy: what is light would wait in the program for the heavy one behind
-    it, for replies to what the program reads in one piece leave together.
+    It needs the program idle if its next request is heavy: light requests would wait in the program for the heavy one
+    after them, since the program sends the replies to all requests of one read together.
     """
 
     is_queued: bool

@@ -32,9 +32,9 @@ LATER, BACK_UP = b"", b"copy"
 
 
 def verdict_on(client: Client, passage: Passage, at: int, end: int) -> bytes | None:
-    """What the gateway answers to a request of a client, by where its frame begins and ends, and None where the program answers it.
+    """The gateway's answer to a client's request, by the offsets of its frame, or None if the program answers it.
 
-    A body that isn't in its form is the program's to answer: BadRequest comes before what is unknown or too many.
+    The program answers malformed bodies: BadRequest comes before refusals of unknown or too many things.
     """
     exchange = client.exchange
     if passage.names is not None:
