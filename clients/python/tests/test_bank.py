@@ -63,7 +63,8 @@ class Bank:
     def committed_start(self, account: bytes) -> int:
         """The start whose data is the account's committed value.
 
-        Where a lock stands, its session's first cell tells whether it has committed: a record there names its start.
+        If the cell is locked, the first cell of the lock's session tells whether it has committed: a record there names
+        its start.
         """
         lock = self.store.raw(account, BALANCE, Qualifier.LOCK)
         if lock is not None:
