@@ -111,9 +111,9 @@ class Runs:
         return self.run(meter, shape.loaded(size), shape.words), self.run(meter, with_them, shape.words)
 
     def in_folder(self, meter: Meter, shape: Shape, size: int) -> tuple[Figures | None, Figures | None]:
-        """What runs of a shape in a folder cost, after the folder was made: without its requests, and with them.
+        """The costs of runs of a shape in a folder, after the folder was made: without its requests, and with them.
 
-        If opening is measured the first run is one in memory.
+        If opening is measured, the first run is in memory.
         """
         folder = self._place / "folder"
         folder.mkdir()

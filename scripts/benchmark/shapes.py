@@ -264,7 +264,7 @@ def missing(rows: list[bytes], number: int) -> Found:
 
 
 def gets(count: int, start: int, found: Callable[[list[bytes], int], Found], passes: int = 1) -> Iterator[Exchange]:
-    """Reads in one session, drawn at random, over as many rows in files: one read a row and pass."""
+    """Random reads in one session, over `count` rows in files: one read per row and pass."""
     rows = shuffled_rows(count)
     draws = random.Random(2)
     yield begin(start)

@@ -90,8 +90,8 @@ def dump(cells: Iterable[Entry], out: BinaryIO, progress: Progress) -> None:
 
 
 def load(store: Store, lines: Iterable[bytes], progress: Progress) -> None:
-    """Sets the cells of lines, in transactions of the maximum size. BadLine, with the line's number, at a malformed
-    line."""
+    """Sets the cells of lines, in transactions of as many cells as possible. BadLine, with the line's number, at a
+    malformed line."""
     numbered = enumerate(lines, start=1)
     while batch := list(islice(numbered, MOST_WRITES)):
         cells = list(cells_of(batch))

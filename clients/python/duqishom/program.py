@@ -29,8 +29,8 @@ ENDS = {
 
 
 class ProgramEnded(Exception):
-    """The program has ended, and what it kept in memory is lost. The status is its exit status, negative if a signal
-    ended it."""
+    """The program has ended, and its state in memory is lost. The status is its exit status, negative if a signal ended
+    it."""
 
     def __init__(self, status: int, lost: str = "") -> None:
         why = f": {ENDS[status]}" if status in ENDS else ""

@@ -1,4 +1,4 @@
-"""The documents' examples: each frame, command and line of Python is run, and gives what the page says."""
+"""The documents' examples: each frame, command and line of Python is run, and gives the output on the page."""
 
 from __future__ import annotations
 

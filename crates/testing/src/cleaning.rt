@@ -215,7 +215,7 @@ pub const ROWS: [Row; 6] = [
     ),
     // a stamped transfer is rolled back
     (STAMPED, &[&SESSION_STOPPED, &ROLLED_BACK]),
-    // so is one whose session still runs
+    // a stamped transfer whose session still runs is rolled back too
     (STAMPED, &[&ROLLED_BACK, &LOST]),
     (0, &[&CLEANED_WHILE_HOLDING]),
     (

@@ -49,7 +49,7 @@ BEGIN, GET, SET, STEP, STOP, CLEAN_BEGIN, CLEAN_STEP, COLLECT_BEGIN, COLLECT_STE
 MINOR, MERGE, MAJOR, SPLIT, MOVE, SWEEP, ORACLE_RESTART, RAW, CHECKPOINT, DELETE = range(10, 20)
 SCAN = 0x31
 
-# The operations whose answers show commits: those of sessions, and those outside sessions.
+# The operations whose answers show commits, in sessions and outside them.
 READS = (GET, RAW, SCAN)
 
 # The two requests that the gateway answers itself. The program refuses them as no requests.
