@@ -430,7 +430,7 @@ fn a_log_over_another_root(rt: HostRuntime) -> Result<(), Fail> {
     Ok(())
 }
 
-/// The log of a new store that names the root put by the open.
+/// The log of a new store after `name_root`: it names the root that was put then.
 const NAMED_LOG: &[u8] = b"TABLOG02\x01\x02\x03\x04\x05\x06\x07\x08\
     \0\0\0\x15\x76\x4A\x44\x3B\0\0\0\0\0\0\0\x03\x01\0\0\0\0\0\0\0\0\x14\xA7\x75\x1F";
 
