@@ -1,4 +1,4 @@
-"""Makes the wheel of this package, for pip: without any other package, so that it needs no network."""
+"""Builds the wheel of this package for pip, without any other package, so that it needs no network."""
 
 from __future__ import annotations
 
@@ -32,17 +32,17 @@ def sources() -> dict[str, bytes]:
 
 
 def build_wheel(wheel_directory: str, config_settings: object = None, metadata_directory: object = None) -> str:
-    """Writes the wheel into a folder: its name."""
+    """Writes the wheel into a folder. Returns its name."""
     return write_wheel(wheel_directory, sources())
 
 
 def build_editable(wheel_directory: str, config_settings: object = None, metadata_directory: object = None) -> str:
-    """Writes a wheel that points to the sources here into a folder: its name."""
+    """Writes a wheel that points to the sources here into a folder. Returns its name."""
     return write_wheel(wheel_directory, {"duqishom.pth": f"{HERE}\n".encode()})
 
 
 def write_wheel(folder: str, files: dict[str, bytes]) -> str:
-    """Writes a wheel of these files: its name."""
+    """Writes a wheel of these files. Returns its name."""
     name, metadata, commands = described()
     info = f"{name}.dist-info"
     entries = "".join(f"{command} = {target}\n" for command, target in commands.items())
@@ -62,12 +62,12 @@ def write_wheel(folder: str, files: dict[str, bytes]) -> str:
 
 
 def digest(data: bytes) -> str:
-    """The checksum of a file, as a wheel has it."""
+    """The checksum of a file, in a wheel's format."""
     return base64.urlsafe_b64encode(hashlib.sha256(data).digest()).rstrip(b"=").decode()
 
 
 def build_sdist(sdist_directory: str, config_settings: object = None) -> str:
-    """Writes the sources as an archive into a folder: its name."""
+    """Writes the sources as an archive into a folder. Returns its name."""
     name = described()[0]
     with tarfile.open(Path(sdist_directory) / f"{name}.tar.gz", "w:gz") as made:
         for file in ("pyproject.toml", "wheel_of.py", *sources()):

@@ -1,4 +1,5 @@
-"""`python3 -m duqishom`: asks a store in words, from a terminal, a pipe or the command line; or looks into a folder."""
+"""`python3 -m duqishom`: a command shell for a store, used from a terminal, a pipe or the command line, and
+subcommands."""
 
 from __future__ import annotations
 
@@ -18,7 +19,7 @@ from duqishom.words import Words, answer_all
 PROMPT = "> "
 GREETING = "duqishom {version}: {store}. The line help shows all lines; quit or the end of the input ends it."
 
-# The first words that stand for commands of their own, each with what runs it on the words behind.
+# The subcommands by their first words, each with the function that runs it on the words after it.
 COMMANDS = {
     "inspect": inspection.main,
     "serve": gateway.main,
@@ -31,7 +32,7 @@ COMMANDS = {
 
 
 def lines() -> Iterator[str]:
-    """The lines of the input; at a terminal with a prompt before each, with editing and a history."""
+    """The lines of the input. At a terminal each has a prompt, editing and a history."""
     is_terminal = sys.stdin.isatty()
     if is_terminal:
         with suppress(ImportError):
@@ -80,14 +81,14 @@ def parser() -> argparse.ArgumentParser:
 
 
 def place_of(options: argparse.Namespace) -> str:
-    """Which store is asked, in words."""
+    """The store that is asked, in words."""
     if options.socket:
         return f"the store that is served at {options.socket}"
     return f"the store of {options.dir}" if options.dir else "a new store in memory, which ends with this command"
 
 
 def main(given: Sequence[str]) -> int:
-    """Runs the command. The status is 0 where each line was done, 1 where one was not, and 2 where the program failed."""
+    """Runs the command. The status is 0 if each line was done, 1 if one was not, and 2 if the program failed."""
     if given[:1] and given[0] in COMMANDS:
         try:
             return COMMANDS[given[0]](given[1:])

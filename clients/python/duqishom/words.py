@@ -1,4 +1,4 @@
-"""The command: a store that is asked in words, a line for each request."""
+"""The command shell: requests to a store in words, one a line."""
 
 from __future__ import annotations
 
@@ -39,7 +39,7 @@ from duqishom.transactions import MOST_STAMP, Transaction, TransactionFailed
 
 
 class Misspelled(Exception):
-    """A line is none of the command's."""
+    """A line isn't one of the command's."""
 
 
 class Quit(Exception):
@@ -47,7 +47,7 @@ class Quit(Exception):
 
 
 class NotDone(Exception):
-    """A line asks for what can't be done, and nothing was."""
+    """A line can't be done, and nothing was."""
 
 
 def number_of(word: str) -> int:
@@ -66,7 +66,7 @@ def qualifier_of(word: str) -> Qualifier:
 
 
 def amount_in(transaction: Transaction, row: bytes, family: bytes) -> int:
-    """The number in a cell, 0 where nothing is."""
+    """The number in a cell, 0 if the cell has no value."""
     value = transaction.get(row, family)
     if value is None:
         return 0
@@ -76,7 +76,7 @@ def amount_in(transaction: Transaction, row: bytes, family: bytes) -> int:
 
 
 def text_of_found(found: Found) -> str:
-    """What a read of a session found, in words."""
+    """The result of a session's read, in words."""
     match found:
         case Nothing():
             return "nothing"
@@ -87,7 +87,7 @@ def text_of_found(found: Found) -> str:
 
 
 def text_of_progress(progress: Progress) -> str:
-    """What a step did, in words."""
+    """The result of a step, in words."""
     match progress:
         case Held(place, count):
             return f"held {place} of {count}"
@@ -104,7 +104,7 @@ def text_of_progress(progress: Progress) -> str:
 
 
 def text_of_cleaned(cleaned: Cleaned) -> str:
-    """What a cleaner did, in words."""
+    """The result of a cleaner, in words."""
     match cleaned:
         case Decided():
             return "decided"
@@ -117,7 +117,7 @@ def text_of_cleaned(cleaned: Cleaned) -> str:
 
 
 def text_of_version(version: Version | None, qualifier: Qualifier) -> str:
-    """What a raw read found, in words: a record names a start, and a lock the first cell of its session."""
+    """The result of a raw read, in words: a record names a start, and a lock the first cell of its session."""
     if version is None:
         return "nothing"
     with suppress(BadForm):
@@ -132,12 +132,13 @@ def text_of_version(version: Version | None, qualifier: Qualifier) -> str:
 
 
 def text_of_kind(kind: Kind) -> str:
-    """What a lock or a record adds where it is that of a deletion."""
+    """The words added to a lock or a record of a deletion."""
     return ", a deletion" if kind is Kind.DELETE else ""
 
 
 def split_words(text: str) -> list[str]:
-    """The words of a line. Between quotes blanks belong to a word; a backslash is nothing special, for escapes begin with it."""
+    """The words of a line. Between quotes blanks belong to a word. A backslash has no special meaning here, since
+    escapes begin with it."""
     parts = shlex.shlex(text, posix=True)
     parts.whitespace_split = True
     parts.commenters = ""
@@ -146,7 +147,7 @@ def split_words(text: str) -> list[str]:
 
 
 def size_of(folder: str | None, name: int) -> int:
-    """The size of a file of a folder: 0 where it is gone."""
+    """The size of a file of a folder, 0 if it is gone."""
     try:
         return (Path(folder or "") / file_name(name)).stat().st_size
     except FileNotFoundError:
@@ -154,14 +155,14 @@ def size_of(folder: str | None, name: int) -> int:
 
 
 def text_of_end(end: bytes | None) -> str:
-    """Where a tablet ends, in words."""
+    """The end of a tablet, in words."""
     return "the last row" if end is None else text_of(end)
 
 
 @dataclass(frozen=True)
 class Line:
-    """A line of the command: its words, what it does, how it is done, and whether all words behind the first one are taken as they
-    come."""
+    """A line of the command: its words, its help text, its method, and whether all words after the first are passed as
+    they are."""
 
     usage: str
     help: str
@@ -169,7 +170,8 @@ class Line:
     is_open: bool = False
 
     def fits(self, words: list[str]) -> bool:
-        """Whether these words are such a line: those in small letters as they stand, and any others in their places."""
+        """Whether these words match this line: its words in small letters must be the same, and any words match the
+        others."""
         form = self.usage.split()
         if self.is_open:
             return form[0] == words[0]
@@ -177,7 +179,7 @@ class Line:
         return len(form) == len(words) and all(name.isupper() or name == word for name, word in pairs)
 
     def arguments(self, words: list[str]) -> list[str]:
-        """The words that stand for something."""
+        """The words that are arguments."""
         if self.is_open:
             return words[1:]
         return [word for name, word in zip(self.usage.split(), words) if name.isupper()]
@@ -187,8 +189,8 @@ SCAN_HELP = "reads the cells from a row to a row, in a transaction; OPTIONS are 
 
 
 class RangeWords(NamedTuple):
-    """The words of a range: its first row, its last one, a prefix and a family, where they are named, and whether keys alone are
-    asked for."""
+    """The words of a range: its first row, its last one, a prefix and a family, if they are given, and whether only
+    keys are asked for."""
 
     start: bytes | None
     end: bytes | None
@@ -198,7 +200,7 @@ class RangeWords(NamedTuple):
 
 
 def range_words(words: Sequence[str]) -> RangeWords:
-    """A range, of the words of a line behind the first one."""
+    """A range, from the words of a line after the first."""
     rows: list[bytes] = []
     options: dict[str, bytes] = {}
     left = list(words)
@@ -217,7 +219,7 @@ def range_words(words: Sequence[str]) -> RangeWords:
 
 
 class Words:
-    """A store that is asked in words."""
+    """A store that takes requests in words."""
 
     def __init__(self, store: Store) -> None:
         self._store = store
@@ -253,8 +255,8 @@ class Words:
         )
 
     def answer(self, text: str) -> tuple[bool, str]:
-        """Whether a line was done, and what there is to say of it: nothing of an empty line. Quotes make one word of several, and
-        of none. Quit where the line ends the command."""
+        """Whether a line was done, and the text to print: none for an empty line. Quotes make one word of several or of
+        none. Quit if the line ends the command."""
         try:
             words = split_words(text)
         except ValueError as why:
@@ -262,7 +264,7 @@ class Words:
         return self.answer_words(words) if words else (True, "")
 
     def answer_words(self, words: list[str]) -> tuple[bool, str]:
-        """Whether a line of these words was done, and what there is to say of it."""
+        """Whether a line of these words was done, and the text to print."""
         try:
             return True, self._do(words)
         except Refused as refusal:
@@ -286,7 +288,7 @@ class Words:
         raise Misspelled("the line is " + ", or ".join(meant))
 
     def help(self) -> str:
-        """All lines that there are."""
+        """All lines of the command."""
         return "\n".join(f"{line.usage:31}{line.help}" for line in self.lines if line.help)
 
     def quit(self) -> str:
@@ -330,7 +332,7 @@ class Words:
         return "\n".join(self._store.run(work)) or "nothing"
 
     def count(self, *words: str) -> str:
-        """How many cells of a range have a value."""
+        """The number of cells of a range that have a value."""
         start, end, prefix, family, _ = range_words(words)
         return str(self._store.run(lambda transaction: transaction.count(start, end, prefix=prefix, family=family)))
 
@@ -375,7 +377,7 @@ class Words:
         return text_of_progress(self._store.step(number_of(start)))
 
     def session_stop(self, start: str) -> str:
-        """Ends a session where it stands."""
+        """Ends a session in its current phase."""
         self._store.stop(number_of(start))
         return "stopped"
 
@@ -396,7 +398,7 @@ class Words:
         return text_of_version(version, qualifier)
 
     def tablets(self) -> str:
-        """The tablets, in the order of their rows. Those of a folder with their servers and files at the last checkpoint."""
+        """The tablets, in the order of their rows. A folder's have their servers and files at the last checkpoint."""
         folder = self._store.folder
         kept = {} if folder is None else {tablet.number: tablet for tablet in read_root(Path(folder)).tablets}
         said = []
@@ -409,7 +411,7 @@ class Words:
         return "\n".join(said)
 
     def split(self, row: str) -> str:
-        """Cuts the tablet that holds a row behind it."""
+        """Splits the tablet that holds a row behind the row."""
         return f"tablet {self._store.split(bytes_of(row))} ends with {row}"
 
     def move(self, tablet: str, server: str) -> str:
@@ -423,12 +425,12 @@ class Words:
         return "compacted"
 
     def merge(self, tablet: str, count: str) -> str:
-        """Makes one file of so many newest ones."""
+        """Merges this many of a tablet's newest files into one."""
         self._store.merge(number_of(tablet), number_of(count))
         return "compacted"
 
     def major(self, tablet: str) -> str:
-        """Makes one file of all that a tablet has."""
+        """Merges the memtable and all files of a tablet into one."""
         self._store.major(number_of(tablet))
         return "compacted"
 
@@ -437,7 +439,7 @@ class Words:
         return f"{self._store.sweep()} files removed"
 
     def checkpoint(self) -> str:
-        """Writes all into files."""
+        """Makes a checkpoint."""
         self._store.checkpoint()
         return "written"
 
@@ -447,13 +449,13 @@ class Words:
         return f"copied to {path}"
 
     def restart(self) -> str:
-        """Has the oracle go on from its mark."""
+        """Restarts the oracle from its mark."""
         self._store.restart_oracle()
         return "restarted"
 
 
 def answer_all(words: Words, texts: Iterable[str]) -> bool:
-    """Prints the answer to each line, up to the one that ends the command, and tells whether all were done."""
+    """Prints the answer to each line, up to the line that ends the command. Returns whether all were done."""
     is_well = True
     for text in texts:
         try:

@@ -14,14 +14,14 @@ FOLDER = Path(__file__).resolve().parents[1]
 
 
 def answers(lines: str, *words: str) -> tuple[int, list[str]]:
-    """The exit status of the command, and what it prints, where these lines come through a pipe."""
+    """The exit status of the command, and its output, for these lines through a pipe."""
     command = [sys.executable, "-m", "duqishom", *words]
     ran = subprocess.run(command, cwd=FOLDER, input=lines, capture_output=True, text=True)
     return ran.returncode, (ran.stdout + ran.stderr).splitlines()
 
 
 class Words(unittest.TestCase):
-    """Each line of the command, with what it prints."""
+    """Each line of the command, with its output."""
 
     def assert_answered(self, table: list[tuple[str, str]], status: int) -> None:
         lines = "\n".join(line for line, _ in table)
