@@ -1,5 +1,5 @@
 -- What a source answers.
-use Rattle.std.specs.Prelude.{◌≡◌, ℕ, List, ◌++◌, Option, None, IsSome, Result, IfErr, IsErrOf}
+use Rattle.std.specs.Prelude.{◌≡◌, ◌⊎◌, ℕ, List, ◌++◌, Option, None, IsSome, Result, IfErr, IsErrOf}
 use Rattle.std.specs.Option.{option_to_list}
 use Rattle.cell_key.specs.Entries.{Entry, IsEntryList}
 use Rattle.cell_key.specs.Faults.{HasReason}
@@ -18,6 +18,10 @@ abbrev pub RestIsList : Type 0
 RestIsList =
     (lent : Option Entry) (remaining : List Entry) → IsEntryList (pending lent remaining)
     → IsEntryList remaining
+
+-- what a call of a file system may be refused: a device's fault, want of memory
+abbrev pub IsFaultRefusal : Refusal → Type 0
+IsFaultRefusal refusal = (refusal ≡ refused.Device) ⊎ (refusal ≡ refused.NoMemory)
 
 -- what reading files may be refused: a device's fault, want of memory, damage
 abbrev pub IsReadRefusal : Refusal → Type 0

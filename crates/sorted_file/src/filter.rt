@@ -1,7 +1,7 @@
 //! A filter of numbers (a Bloom filter of two probes in one word): a number without both its bits was not added.
 
 ghost use Rattle.std.specs.Int.{bit_at, IsPowerOfTwo};
-ghost use Rattle.std.specs.Prelude.{◌≡◌, ◌↔◌, ◌+◌, ◌*◌, ◌<◌, ◌≤◌, ℕ, [], All, IfErr, IsTrue, length};
+ghost use Rattle.std.specs.Prelude.{◌≡◌, ◌↔◌, ◌+◌, ◌*◌, ◌<◌, ◌≤◌, ℕ, [], All, IsTrue, length, IsOkUnless};
 ghost use Rattle.sorted_file.specs.Filters.{first_bit, second_bit, word_place, HasBits};
 
 use cell_key::Refusal;
@@ -127,7 +127,7 @@ impl Filter {
 
     /// An empty filter, with words for `count` numbers. Answers `NoMemory` if there is no memory.
     pub(crate) fn with_room(alloc: Global, count: usize) -> Result<Filter, Refusal>
-        ensures refusal { IfErr result (λ refusal. refusal ≡ Refusal.NoMemory) }
+        ensures refusal { IsOkUnless result Refusal.NoMemory }
     {
         let words = vec![in alloc; 0; words_for(count)]?;
         Ok(Filter { words, count: 0 })
