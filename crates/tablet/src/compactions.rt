@@ -3,7 +3,7 @@
 //! it is written, before the tablet changes: from then on no memory is taken, and nothing is refused. The calls of laws
 //! of lower crates, as `stays_open()`, do nothing: what is ensured here rests on them.
 
-ghost use Rattle.std.specs.Prelude.{◌≡◌, ◌≢◌, ◌≤◌, ◌<◌, ◌+◌, ◌^◌, ◌↔◌, ◌⊎◌, [], Option, Some, length, map, take, false, nat_lt, option_map, IfOk, IfErr, OnOk, OnErr, IfSome, IsNone, IsOk, IsSomeAnd, IsErrOf};
+ghost use Rattle.std.specs.Prelude.{◌≡◌, ◌≢◌, ◌≤◌, ◌<◌, ◌+◌, ◌^◌, ◌⊎◌, [], Option, Some, length, map, take, false, nat_lt, option_map, IfOk, IfErr, OnOk, OnErr, IfSome, IsNone, IsOk, IsSomeAnd, IsErrOf, IsOkUnless};
 ghost use Rattle.std.specs.Option.{option_copied};
 ghost use Rattle.std.specs.List.{AllByRecursion};
 ghost use Rattle.file_store.specs.Store.{Contents};
@@ -143,7 +143,7 @@ impl Tablet {
     /// none. Answers `NoMemory` if there is no memory.
     fn older_locks(&self, compaction: Compaction) -> Result<Option<LockIndex>, Refusal>
         requires { HasAsMany compaction (length (files_of self.now)) }
-        ensures { IfErr result (λ refusal. refusal ≡ Refusal.NoMemory) }
+        ensures { IsOkUnless result Refusal.NoMemory }
     {
         match compaction {
             Compaction::Minor => Ok(None),
