@@ -1,6 +1,6 @@
 //! Several sources merged into one.
 
-ghost use Rattle.std.specs.Prelude.{ℕ, ◌≡◌, ◌≤◌, ◌<◌, ◌+◌, ◌-◌, ◌⊎◌, T, None, Some, [], ◌∷◌, length, map, is_some, option_map, sum_by, take, drop, slice_index_or, Contains, IsSome, IfOk, OnOk, IfErr, IsErrOf, Option, true, false, if◌then◌else◌};
+ghost use Rattle.std.specs.Prelude.{ℕ, ◌≡◌, ◌≤◌, ◌<◌, ◌+◌, ◌-◌, T, None, Some, [], ◌∷◌, length, map, is_some, option_map, sum_by, take, drop, slice_index_or, Contains, IsSome, IfOk, OnOk, IsErrOf, Option, true, false, if◌then◌else◌, IsOkUnless};
 ghost use Rattle.std.specs.List.{AllByRecursion, AllZip};
 ghost use Rattle.std.specs.List.Sorted.{IsPermutation};
 ghost use Rattle.std.specs.Ordering.{is_le};
@@ -290,7 +290,7 @@ fn list_places(order: &mut Vec<usize>, count: usize) -> Result<(), Refusal>
     ensures whole { OnOk result
         ((place : ℕ) → place < count → Contains order.new.items place) }
     ensures distinct { OnOk result (IsDistinct order.new.items) }
-    ensures refusal { IfErr result (λ refusal. refusal ≡ Refusal.NoMemory) }
+    ensures refusal { IsOkUnless result Refusal.NoMemory }
 {
     order.clear();
     for place in 0..count {
@@ -435,7 +435,7 @@ impl<S> Merge<S> {
             → AllByRecursion (ComesToEnd (S.steps disk) S.lent) sources.items) }
         ensures sources { IfOk result (λ merge. merge.sources ≡ sources) }
         ensures order { IfOk result (λ merge. merge.order.items ≡ []) }
-        ensures refusal { IfErr result (λ refusal. refusal ≡ Refusal.NoMemory) }
+        ensures refusal { IsOkUnless result Refusal.NoMemory }
     {
         let order = Vec::with_capacity(*sources.allocator(), sources.len())?;
         Ok(Merge { sources, order })

@@ -1,6 +1,6 @@
 //! Clusters of tablets over one store of files: the type. Its calls are in the files of `cluster/`.
 
-ghost use Rattle.std.specs.Prelude.{◌≡◌, ◌≤◌, ◌∷◌, [], IfErr, IfOk, IsSome};
+ghost use Rattle.std.specs.Prelude.{◌≡◌, ◌≤◌, ◌∷◌, [], IfErr, IfOk, IsSome, IsOkUnless};
 ghost use Rattle.std.specs.FinMap.{empty};
 ghost use Rattle.metadata_table.specs.Table.{HasTablet, first_place};
 ghost use Rattle.sorted_file.specs.Limits.{IsFileLimit};
@@ -72,7 +72,7 @@ impl<F> Model for Cluster<F> {
 fn first_tablet(alloc: Global) -> Result<(MetadataTable, Vec<Tablet>), Refusal>
     ensures table { IfOk result (λ first. first.0 ≡ first_place ∷ []) }
     ensures tablet { IfOk result (λ first. IsFirstTablet first.1.items) }
-    ensures refusal { IfErr result (λ refusal. refusal ≡ Refusal.NoMemory) }
+    ensures refusal { IsOkUnless result Refusal.NoMemory }
 {
     let table = MetadataTable::new(alloc)?;
     let mut tablets = Vec::new(alloc);

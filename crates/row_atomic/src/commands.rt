@@ -1,6 +1,6 @@
 //! Commands, and the contract of the tablet store as one call, `Cluster::run`: a list of commands, done in order.
 
-ghost use Rattle.std.specs.Prelude.{◌≡◌, IfErr, IfOk, OnErr, option_map};
+ghost use Rattle.std.specs.Prelude.{◌≡◌, IfOk, OnErr, option_map, IsOkUnless};
 ghost use Rattle.std.specs.List.{AllByRecursion};
 ghost use Rattle.cell_key.specs.Places.{place_named};
 ghost use Rattle.row_atomic.specs.Changes.{Holds};
@@ -150,7 +150,7 @@ impl<F: Files> Cluster<F> {
         ensures answers { IfOk result (λ outcomes.
             AnswersAll F.contents F.faults self.old commands.items outcomes.items self.new) }
         ensures err { OnErr result (self.new ≡ self.old) }
-        ensures refusal { IfErr result (λ refusal. refusal ≡ Refusal.NoMemory) }
+        ensures refusal { IsOkUnless result Refusal.NoMemory }
     {
         let mut outcomes = Vec::new(self.alloc);
         outcomes.reserve(commands.len())?;

@@ -1,6 +1,6 @@
 //! The cache of places: the tablets of the rows located last.
 
-ghost use Rattle.std.specs.Prelude.{◌≡◌, ◌+◌, [], IfErr, IfOk, IfSome, option_map, slice_get};
+ghost use Rattle.std.specs.Prelude.{◌≡◌, ◌+◌, [], IfOk, IfSome, option_map, slice_get, IsOkUnless};
 ghost use Rattle.metadata_table.specs.Table.{IsTable};
 ghost use Rattle.lru.specs.LruCache.{promoted};
 ghost use Rattle.row_atomic.specs.PlaceCaches.{AddsOnly, AreHeld, IsLocatedLast, IsHeldBy, hits_after, is_key_of, number_kept};
@@ -27,7 +27,7 @@ impl PlaceCache {
         ensures none { IfOk result (λ cache. cache.numbers.entries ≡ []) }
         ensures rows { IfOk result (λ cache. cache.numbers.cap ≡ 128) }
         ensures hits { IfOk result (λ cache. cache.hits ≡ 0) }
-        ensures refusal { IfErr result (λ refusal. refusal ≡ Refusal.NoMemory) }
+        ensures refusal { IsOkUnless result Refusal.NoMemory }
     {
         let rows = NonZeroUsize::new(ROWS).unwrap();
         let numbers = LruCache::new(alloc, rows)?;

@@ -1,6 +1,6 @@
 //! Cells with the newest versions of their columns, and batches of them.
 
-ghost use Rattle.std.specs.Prelude.{◌≡◌, ◌-◌, length, OnOk, OnErr, IfErr, Some};
+ghost use Rattle.std.specs.Prelude.{◌≡◌, ◌-◌, length, OnOk, OnErr, Some, IsOkUnless};
 ghost use Rattle.cell_key.specs.Entries.{or_else};
 ghost use Rattle.rows.specs.Batches.{bytes_in, bytes_of, value_bytes, Keeps};
 
@@ -57,7 +57,7 @@ fn keep_newest(
     value: &[u8],
 ) -> Result<(), Refusal>
     ensures ok { OnOk result (newest.new ≡ or_else newest.old (Some (stamp, value.now))) }
-    ensures refusal { IfErr result (λ refusal. refusal ≡ Refusal.NoMemory) }
+    ensures refusal { IsOkUnless result Refusal.NoMemory }
 {
     if newest.is_none() {
         *newest = Some(CellVersion::new(alloc, stamp, value)?);
@@ -86,7 +86,7 @@ impl CellVersions {
         value: &[u8],
     ) -> Result<(), Refusal>
         ensures ok { OnOk result (Keeps qualifier (stamp, value.now) self.old self.new) }
-        ensures refusal { IfErr result (λ refusal. refusal ≡ Refusal.NoMemory) }
+        ensures refusal { IsOkUnless result Refusal.NoMemory }
     {
         match qualifier {
             Qualifier::Data => keep_newest(alloc, &mut self.data, stamp, value),

@@ -1,6 +1,6 @@
 //! Versions of a cell's column. A short value is stored inline and allocates nothing.
 
-ghost use Rattle.std.specs.Prelude.{◌≡◌, ◌≤◌, length, IfErr, IfOk, IsOk};
+ghost use Rattle.std.specs.Prelude.{◌≡◌, ◌≤◌, length, IfOk, IsOk, IsOkUnless};
 
 use cell_key::{Refusal, Stamp};
 use smallvec::SmallVec;
@@ -35,7 +35,7 @@ impl CellVersion {
     /// A version with this stamp and a copy of the value. Answers `NoMemory` if there is no memory for the copy.
     pub(crate) fn new(alloc: Global, stamp: Stamp, value: &[u8]) -> Result<CellVersion, Refusal>
         ensures ok { IfOk result (λ version. version ≡ (stamp, value.now)) }
-        ensures refusal { IfErr result (λ refusal. refusal ≡ Refusal.NoMemory) }
+        ensures refusal { IsOkUnless result Refusal.NoMemory }
         // A short value allocates nothing.
         ensures short { length value.now ≤ 16 → IsOk result }
     {
@@ -70,7 +70,7 @@ impl CellVersion {
     /// The value. Answers `NoMemory` if there is no memory for it.
     pub fn into_value(self) -> Result<Vec<u8>, Refusal>
         ensures ok { IfOk result (λ value. value.items ≡ self.1) }
-        ensures refusal { IfErr result (λ refusal. refusal ≡ Refusal.NoMemory) }
+        ensures refusal { IsOkUnless result Refusal.NoMemory }
     {
         let CellVersion { stamp: _, value } = self;
         Ok(value.into_vec()?)

@@ -1,5 +1,5 @@
 -- The entries and the answers of sources.
-use Rattle.std.specs.Prelude.{◌≡◌, ℕ, List, ◌++◌, Option, None, IsSome, Result, IfErr, IsErrOf}
+use Rattle.std.specs.Prelude.{◌≡◌, ◌⊎◌, ℕ, List, ◌++◌, Option, None, IsSome, Result, IfErr, IsErrOf}
 use Rattle.std.specs.Option.{option_to_list}
 use Rattle.cell_key.specs.Entries.{Entry, IsEntryList}
 use Rattle.cell_key.specs.Faults.{HasReason}
@@ -18,6 +18,10 @@ abbrev pub RestIsList : Type 0
 RestIsList =
     (lent : Option Entry) (remaining : List Entry) → IsEntryList (pending lent remaining)
     → IsEntryList remaining
+
+-- the refusals of a call of a file system: a device failed, or there is no memory
+abbrev pub IsFaultRefusal : Refusal → Type 0
+IsFaultRefusal refusal = (refusal ≡ refused.Device) ⊎ (refusal ≡ refused.NoMemory)
 
 -- the refusals of reading files: a device failed, there is no memory, a file is damaged
 abbrev pub IsReadRefusal : Refusal → Type 0

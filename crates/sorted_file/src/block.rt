@@ -1,7 +1,7 @@
 //! Blocks in memory: their bytes, and look-ups in them.
 
 ghost use Rattle.std.specs.Option.{option_copied};
-ghost use Rattle.std.specs.Prelude.{◌≡◌, ◌↔◌, IsTrue, ◌≢◌, ◌<◌, ◌+◌, ◌^◌, List, length, IfOk, IfErr, IfSome, IfNone, true, false, drop, slice_get, option_map, IsSomeAnd, ◌≤◌, ◌⊎◌, IsErrOf, map, ◌++◌, ◌∷◌, [], ℕ};
+ghost use Rattle.std.specs.Prelude.{◌≡◌, ◌↔◌, IsTrue, ◌≢◌, ◌<◌, ◌+◌, ◌^◌, List, length, IfOk, IfErr, IfSome, IfNone, true, false, drop, slice_get, option_map, IsSomeAnd, ◌≤◌, ◌⊎◌, IsErrOf, map, ◌++◌, ◌∷◌, [], ℕ, IsOkUnless};
 ghost use Rattle.std.specs.declared.cmp.Ordering.TheVariants.{Less, Greater};
 ghost use Rattle.cell_key.specs.Entries.{IsEntry, lent_entry, Entry, IsEntryList, entries_from, entry_of_key, IsRising, spelled};
 ghost use Rattle.cell_key.specs.Keys.{byte_cmp};
@@ -75,7 +75,7 @@ fn starts_of(alloc: Global, bytes: &[u8]) -> Result<Option<Vec<u32>>, Refusal>
         IfSome found (λ starts. IsSpelling bytes.now starts.items)) }
     ensures none { IfOk result (λ found. IfNone found ((es : List Entry) → IsEntryList es
         → bytes.now ≢ block_bytes es)) }
-    ensures refusal { IfErr result (λ refusal. refusal ≡ Refusal.NoMemory) }
+    ensures refusal { IsOkUnless result Refusal.NoMemory }
 {
     let mut starts = room_for_starts(alloc, bytes.len())?;
     let mut last = None;
@@ -94,7 +94,7 @@ fn starts_of(alloc: Global, bytes: &[u8]) -> Result<Option<Vec<u32>>, Refusal>
 /// An empty list with room for the entries' offsets of a block of `len` bytes, if their values are short.
 pub(crate) fn room_for_starts(alloc: Global, len: usize) -> Result<Vec<u32>, Refusal>
     ensures none { IfOk result (λ starts. starts.items ≡ []) }
-    ensures refusal { IfErr result (λ refusal. refusal ≡ Refusal.NoMemory) }
+    ensures refusal { IsOkUnless result Refusal.NoMemory }
 {
     let starts = Vec::with_capacity(alloc, (len / 32).min(128))?;
     Ok(starts)
@@ -108,7 +108,7 @@ impl Block {
             × IsParsed es block × (bytes.items ≡ block_bytes es))) }
         ensures none { IfOk result (λ found. IfNone found ((es : List Entry) → IsEntryList es
             → bytes.items ≢ block_bytes es)) }
-        ensures refusal { IfErr result (λ refusal. refusal ≡ Refusal.NoMemory) }
+        ensures refusal { IsOkUnless result Refusal.NoMemory }
     {
         let Some(starts) = starts_of(alloc, &bytes)? else {
             return Ok(None);
@@ -317,7 +317,7 @@ pub(crate) fn text_at(alloc: Global, block: &Block, text: &[u8]) -> Result<Optio
     ensures found { IfOk result (λ found. (es : List Entry) → IsParsed es block.now
         → option_map (λ bytes. bytes.items) found
         ≡ option_map (λ e. e.0) (first_value (entries_from text.now es))) }
-    ensures refusal { IfErr result (λ refusal. refusal ≡ Refusal.NoMemory) }
+    ensures refusal { IsOkUnless result Refusal.NoMemory }
 {
     match block.first_value(text) {
         Some(entry) => Ok(Some(Vec::from_slice(alloc, entry.key)?)),

@@ -2,7 +2,7 @@
 
 ghost use Rattle.std.specs.List.{AllByRecursion};
 ghost use Rattle.std.specs.Option.{option_copied};
-ghost use Rattle.std.specs.Prelude.{◌≡◌, get_or, ◌≤◌, ℕ, List, false, IfOk, IfErr, drop, option_map, ◌≢◌, ◌<◌, ◌^◌, length, IfSome, IfNone, ◌++◌, Option};
+ghost use Rattle.std.specs.Prelude.{◌≡◌, get_or, ◌≤◌, ℕ, List, false, IfOk, drop, option_map, ◌≢◌, ◌<◌, ◌^◌, length, IfSome, IfNone, ◌++◌, Option, IsOkUnless};
 ghost use Rattle.cell_key.specs.Keys.{text};
 ghost use Rattle.cell_key.specs.Texts.{escaped_byte, stamp_text};
 ghost use Rattle.cell_key.specs.Entries.{Entry};
@@ -235,7 +235,7 @@ impl ColumnBounds {
 pub(crate) fn head_of(alloc: Global, block: &Block) -> Result<Option<Vec<u8>>, Refusal>
     ensures head { IfOk result (λ head. (es : List Entry) → IsParsed es block.now
         → option_map (λ text. text.items) head ≡ option_map (λ e. e.0) (first_value es)) }
-    ensures refusal { IfErr result (λ refusal. refusal ≡ Refusal.NoMemory) }
+    ensures refusal { IsOkUnless result Refusal.NoMemory }
 {
     match block.first_value_from(0) {
         Some(entry) => Ok(Some(Vec::from_slice(alloc, entry.key)?)),
@@ -247,7 +247,7 @@ pub(crate) fn head_of(alloc: Global, block: &Block) -> Result<Option<Vec<u8>>, R
 /// there is no memory.
 pub(crate) fn skips_of(alloc: Global, heads: &[Option<Vec<u8>>]) -> Result<Vec<usize>, Refusal>
     ensures skips { IfOk result (λ counts. counts.items ≡ skips heads.now) }
-    ensures refusal { IfErr result (λ refusal. refusal ≡ Refusal.NoMemory) }
+    ensures refusal { IsOkUnless result Refusal.NoMemory }
 {
     let mut skips = Vec::with_capacity(alloc, heads.len())?;
     let mut rest = heads;

@@ -1,6 +1,6 @@
 //! The cache of an open file: the blocks that were used last.
 
-ghost use Rattle.std.specs.Prelude.{◌≡◌, [], IfOk, IfErr, ◌⊎◌, ℕ, List, slice_get, take, Contains, Some};
+ghost use Rattle.std.specs.Prelude.{◌≡◌, [], IfOk, ◌⊎◌, ℕ, List, slice_get, take, Contains, Some, IsOkUnless};
 ghost use Rattle.std.specs.NonZero.{non_zero_usize_get};
 ghost use Rattle.lru.specs.LruCache.{lru_cache};
 ghost use Rattle.sorted_file.specs.Index.{block_of};
@@ -32,7 +32,7 @@ pub(crate) fn no_blocks(
 ) -> Result<LruCache<usize, Block>, Refusal>
     ensures none { IfOk result (λ cache. cache.entries ≡ []) }
     ensures most { IfOk result (λ cache. cache.cap ≡ non_zero_usize_get most) }
-    ensures refusal { IfErr result (λ refusal. refusal ≡ Refusal.NoMemory) }
+    ensures refusal { IsOkUnless result Refusal.NoMemory }
 {
     // Room for more blocks is allocated when they are cached.
     let mut cache = LruCache::new(alloc, few_blocks())?;

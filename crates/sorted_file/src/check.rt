@@ -1,7 +1,7 @@
 //! The check of a whole file, block by block, when it is opened.
 
 ghost use Rattle.std.specs.FinMap as map;
-ghost use Rattle.std.specs.Prelude.{◌≡◌, List, ℕ, length, IfOk, IfErr, IfSome, IsSome, IsErrOf, ◌≤◌, ◌<◌, ◌+◌, take, ◌-◌, ◌++◌, ◌∷◌, ◌↔◌, [], OnOk, IsTrue};
+ghost use Rattle.std.specs.Prelude.{◌≡◌, List, ℕ, length, IfOk, IfSome, IsSome, IsErrOf, ◌≤◌, ◌<◌, ◌+◌, take, ◌-◌, ◌++◌, ◌∷◌, ◌↔◌, [], OnOk, IsTrue, IsOkUnless};
 ghost use Rattle.cell_key.specs.Entries.{Entry, IsEntryList, IsRising};
 ghost use Rattle.cell_key.specs.Faults.{HasReason};
 ghost use Rattle.file_store.specs.Store.{part};
@@ -239,7 +239,7 @@ impl Opening {
         ensures size { self.new.size ≡ self.old.size }
         ensures rows { OnOk result (blocks_of self.new.rows.items
             ≡ blocks_of self.old.rows.items ++ entries_of next.block ∷ []) }
-        ensures refusal { IfErr result (λ refusal. refusal ≡ Refusal.NoMemory) }
+        ensures refusal { IsOkUnless result Refusal.NoMemory }
     {
         let GatheredBlock { block, columns } = next;
         let length = block.bytes.len();
@@ -324,7 +324,7 @@ impl Opening {
         requires { IsOpening self.now }
         ensures exact { IfOk result (λ is. IsTrue is ↔ (end.now ≡ foot self.now.format self.now.end
             (length self.now.rows.items) self.now.count self.now.size)) }
-        ensures refusal { IfErr result (λ refusal. refusal ≡ Refusal.NoMemory) }
+        ensures refusal { IsOkUnless result Refusal.NoMemory }
     {
         let mut foot = Vec::new(self.alloc);
         push_foot(

@@ -1,6 +1,6 @@
 //! A file of entries, open for reading.
 
-ghost use Rattle.std.specs.Prelude.{OnOk, ◌≡◌, ◌≤◌, ◌<◌, ◌^◌, ◌-◌, List, ℕ, drop, Option, Some, None, true, false, length, slice_get, take, option_map, IfOk, IfErr, IfSome, IsErrOf, Contains};
+ghost use Rattle.std.specs.Prelude.{OnOk, ◌≡◌, ◌≤◌, ◌<◌, ◌^◌, ◌-◌, List, ℕ, drop, Option, Some, None, true, false, length, slice_get, take, option_map, IfOk, IfSome, IsErrOf, Contains, IsOkUnless};
 ghost use Rattle.std.specs.NonZero.{non_zero_usize_get};
 ghost use Rattle.cell_key.specs.Entries.{Entry, entry_of_key, entries_from};
 ghost use Rattle.cell_key.specs.Faults.{HasReason};
@@ -129,7 +129,7 @@ impl SortedFile {
             → IsOpen m file) }
         ensures named { IfOk result (λ file. name_of file ≡ name) }
         ensures sized { IfOk result (λ file. file.cache.cap ≡ non_zero_usize_get most_blocks) }
-        ensures refusal { IfErr result (λ refusal. refusal ≡ Refusal.NoMemory) }
+        ensures refusal { IsOkUnless result Refusal.NoMemory }
     {
         let Opening {
             rows,
@@ -402,7 +402,7 @@ impl SortedFile {
         ensures found { IfOk result (λ found. (m : Contents) → IsOpen m self.now
             → option_map (λ bytes. bytes.items) found ≡ option_map (λ e. e.0)
             (first_value (entries_in (blocks_of (drop at self.now.rows.items))))) }
-        ensures refusal { IfErr result (λ refusal. refusal ≡ Refusal.NoMemory) }
+        ensures refusal { IsOkUnless result Refusal.NoMemory }
     {
         match next_head(&self.heads, &self.skips, at) {
             Some(head) => Ok(Some(Vec::from_slice(self.alloc, head)?)),

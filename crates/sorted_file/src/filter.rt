@@ -2,7 +2,7 @@
 //! was not added.
 
 ghost use Rattle.std.specs.Int.{bit_at, IsPowerOfTwo};
-ghost use Rattle.std.specs.Prelude.{◌≡◌, ◌↔◌, ◌+◌, ◌*◌, ◌<◌, ◌≤◌, ℕ, [], All, IfErr, IsTrue, length};
+ghost use Rattle.std.specs.Prelude.{◌≡◌, ◌↔◌, ◌+◌, ◌*◌, ◌<◌, ◌≤◌, ℕ, [], All, IsTrue, length, IsOkUnless};
 ghost use Rattle.sorted_file.specs.Filters.{first_bit, second_bit, word_place, HasBits};
 
 use cell_key::Refusal;
@@ -128,7 +128,7 @@ impl Filter {
 
     /// An empty filter, with words for `count` numbers. Answers `NoMemory` if there is no memory.
     pub(crate) fn with_room(alloc: Global, count: usize) -> Result<Filter, Refusal>
-        ensures refusal { IfErr result (λ refusal. refusal ≡ Refusal.NoMemory) }
+        ensures refusal { IsOkUnless result Refusal.NoMemory }
     {
         let words = vec![in alloc; 0; words_for(count)]?;
         Ok(Filter { words, count: 0 })

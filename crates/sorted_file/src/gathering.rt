@@ -1,6 +1,6 @@
 //! The column data of an open file, gathered as its blocks are read or written.
 
-ghost use Rattle.std.specs.Prelude.{◌≡◌, ◌≢◌, ◌<◌, ◌+◌, ◌^◌, ◌⊎◌, ◌++◌, ◌∷◌, [], ℕ, List, Option, Contains, length, IfOk, IfErr, IfSome, IfNone, OnOk};
+ghost use Rattle.std.specs.Prelude.{◌≡◌, ◌≢◌, ◌<◌, ◌+◌, ◌^◌, ◌⊎◌, ◌++◌, ◌∷◌, [], ℕ, List, Option, Contains, length, IfOk, IfSome, IfNone, OnOk, IsOkUnless};
 ghost use Rattle.sorted_file.specs.Numbers.{number_of, IsAmong, IsLockKept, IsLockKeyNumbered};
 ghost use Rattle.cell_key.specs.Entries.{Entry, IsEntryList, entry_len, lent_entry};
 ghost use Rattle.cell_key.specs.Keys.{text};
@@ -56,7 +56,7 @@ impl Columns {
     /// The column data of no entries, with room for most blocks. Answers `NoMemory` if there is no memory.
     fn with_room(alloc: Global) -> Result<Columns, Refusal>
         ensures none { IfOk result (λ columns. AreColumnsOf columns []) }
-        ensures refusal { IfErr result (λ refusal. refusal ≡ Refusal.NoMemory) }
+        ensures refusal { IsOkUnless result Refusal.NoMemory }
     {
         Ok(Columns {
             bounds: ColumnBounds::NONE,
@@ -74,7 +74,7 @@ impl Columns {
         requires text { key.text.now ≡ entry.key.now }
         ensures added { OnOk result ((es : List Entry) → AreColumnsOf self.old es
             → AreColumnsOf self.new (es ++ lent_entry entry.entry ∷ [])) }
-        ensures refusal { IfErr result (λ refusal. refusal ≡ Refusal.NoMemory) }
+        ensures refusal { IsOkUnless result Refusal.NoMemory }
     {
         let number = column_number(key.text);
         push_number(&mut self.numbers, number)?;
@@ -92,7 +92,7 @@ impl Columns {
     pub(crate) fn join(&mut self, more: Columns) -> Result<(), Refusal>
         ensures joined { OnOk result ((es fs : List Entry) → AreColumnsOf self.old es
             → AreColumnsOf more fs → AreColumnsOf self.new (es ++ fs)) }
-        ensures refusal { IfErr result (λ refusal. refusal ≡ Refusal.NoMemory) }
+        ensures refusal { IsOkUnless result Refusal.NoMemory }
     {
         self.numbers.extend_from_slice(&more.numbers)?;
         self.lock_keys.extend_from_slice(&more.lock_keys)?;
@@ -110,7 +110,7 @@ fn push_lock_key(keys: &mut Vec<u64>, key: KeyRef<'_>) -> Result<(), Refusal>
     ensures has { OnOk result ((value : Option (List ℕ))
         → IsLockKeyNumbered keys.new.items (key.entry.text.now, value)) }
     ensures keeps { OnOk result (IsAmong keys.old.items keys.new.items) }
-    ensures refusal { IfErr result (λ refusal. refusal ≡ Refusal.NoMemory) }
+    ensures refusal { IsOkUnless result Refusal.NoMemory }
 {
     if key.qualifier == Qualifier::Lock {
         push_number(keys, text_number(key.text))?;
@@ -127,7 +127,7 @@ fn push_named(
 ) -> Result<(), Refusal>
     ensures named { OnOk result ((one : KeyOf) → Contains named.new.items one
         → Contains named.old.items one ⊎ (key.entry.text.now ≡ text one)) }
-    ensures refusal { IfErr result (λ refusal. refusal ≡ Refusal.NoMemory) }
+    ensures refusal { IsOkUnless result Refusal.NoMemory }
 {
     if key.qualifier != Qualifier::Lock || !over.has(number, key.stamp) {
         return Ok(());
@@ -146,7 +146,7 @@ fn push_lock_value(values: &mut Vec<LockValue>, key: KeyRef<'_>, number: u64) ->
     ensures has { OnOk result ((value : Option (List ℕ))
         → IsLockKept values.new.items (key.entry.text.now, value)) }
     ensures keeps { OnOk result (IsAmong values.old.items values.new.items) }
-    ensures refusal { IfErr result (λ refusal. refusal ≡ Refusal.NoMemory) }
+    ensures refusal { IsOkUnless result Refusal.NoMemory }
 {
     match key.qualifier {
         Qualifier::Lock => {
@@ -171,7 +171,7 @@ fn gather(
         IfSome found (λ gathered. IsGathered bytes.now gathered.0.items gathered.1)) }
     ensures none { IfOk result (λ found. IfNone found ((es : List Entry) → IsEntryList es
         → bytes.now ≢ block_bytes es)) }
-    ensures refusal { IfErr result (λ refusal. refusal ≡ Refusal.NoMemory) }
+    ensures refusal { IsOkUnless result Refusal.NoMemory }
 {
     let mut starts = room_for_starts(alloc, bytes.len())?;
     let mut columns = Columns::with_room(alloc)?;
@@ -206,7 +206,7 @@ impl GatheredBlock {
         ensures none { IfOk result (λ made. entries_of made.block ≡ []) }
         ensures parsed { IfOk result (λ made. IsParsed [] made.block) }
         ensures columns { IfOk result (λ made. AreColumnsOf made.columns []) }
-        ensures refusal { IfErr result (λ refusal. refusal ≡ Refusal.NoMemory) }
+        ensures refusal { IsOkUnless result Refusal.NoMemory }
     {
         let bytes = Vec::with_capacity(alloc, BLOCK_LIMIT as usize)?;
         let starts = room_for_starts(alloc, BLOCK_LIMIT as usize)?;
@@ -235,7 +235,7 @@ impl GatheredBlock {
             ≡ length self.old.block.bytes.items + entry_len (lent_entry entry.entry)) }
         ensures columns { OnOk result (AreColumnsOf self.old.columns (entries_of self.old.block)
             → AreColumnsOf self.new.columns (entries_of self.new.block)) }
-        ensures refusal { IfErr result (λ refusal. refusal ≡ Refusal.NoMemory) }
+        ensures refusal { IsOkUnless result Refusal.NoMemory }
     {
         let start = self.block.bytes.len() as u32;
         push_entry(&mut self.block.bytes, entry)?;
@@ -260,7 +260,7 @@ pub(crate) fn read_block(
         IfSome found (λ read. AreColumnsOf read.columns (entries_of read.block))) }
     ensures none { IfOk result (λ found. IfNone found ((es : List Entry)
         → ¬ IsBlock es bytes.items)) }
-    ensures refusal { IfErr result (λ refusal. refusal ≡ Refusal.NoMemory) }
+    ensures refusal { IsOkUnless result Refusal.NoMemory }
 {
     let Some((starts, columns)) = gather(alloc, &bytes, over)? else {
         return Ok(None);

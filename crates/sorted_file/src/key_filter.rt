@@ -1,6 +1,6 @@
 //! A filter of the keys of several files, by which a read skips all of them with one test.
 
-ghost use Rattle.std.specs.Prelude.{◌≡◌, ◌≤◌, ◌<◌, ◌^◌, ℕ, None, false, All, IfErr, IfOk, OnErr, OnOk};
+ghost use Rattle.std.specs.Prelude.{◌≡◌, ◌≤◌, ◌<◌, ◌^◌, ℕ, None, false, All, IfOk, OnErr, OnOk, IsOkUnless};
 ghost use Rattle.cell_key.specs.Entries.{entry_of_key};
 ghost use Rattle.cell_key.specs.Keys.{text};
 ghost use Rattle.file_store.specs.Store.{Contents};
@@ -78,7 +78,7 @@ impl KeyFilter {
     /// there is no memory.
     pub fn new(alloc: Global, files: &[SortedFile], more: usize) -> Result<KeyFilter, Refusal>
         ensures covers { IfOk result (λ filter. All (Covers filter) files.now) }
-        ensures refusal { IfErr result (λ refusal. refusal ≡ Refusal.NoMemory) }
+        ensures refusal { IsOkUnless result Refusal.NoMemory }
     {
         let room = Room::for_files(files, more);
         let mut filter = KeyFilter {
@@ -103,7 +103,7 @@ impl KeyFilter {
     pub fn reserve(&mut self, files: &[SortedFile], more: usize) -> Result<(), Refusal>
         requires { All (Covers self.old) files.now }
         ensures covers { All (Covers self.new) files.now }
-        ensures refusal { IfErr result (λ refusal. refusal ≡ Refusal.NoMemory) }
+        ensures refusal { IsOkUnless result Refusal.NoMemory }
     {
         if !self.has_room(more) {
             *self = KeyFilter::new(self.alloc, files, more)?;

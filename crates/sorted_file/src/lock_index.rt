@@ -1,6 +1,6 @@
 //! The locks that may have a value in any of several files, by which a lock test needs no read.
 
-ghost use Rattle.std.specs.Prelude.{◌≡◌, ◌≤◌, ◌∷◌, [], false, Contains, IfErr, IfOk, List, map, ℕ};
+ghost use Rattle.std.specs.Prelude.{◌≡◌, ◌≤◌, ◌∷◌, [], false, Contains, IfOk, List, map, ℕ, IsOkUnless};
 ghost use Rattle.cell_key.specs.Keys.{text};
 ghost use Rattle.cell_key.specs.declared.keys.CellKey.{CellKey as KeyOf};
 ghost use Rattle.sorted_file.specs.LockIndexes.{IsIndexOf, stamp_of};
@@ -62,7 +62,7 @@ impl LockIndex {
     /// The index of these locks. Answers `NoMemory` if there is no memory.
     fn of_values(alloc: Global, values: Vec<LockValue>) -> Result<LockIndex, Refusal>
         ensures values { IfOk result (λ index. index ≡ values.items) }
-        ensures refusal { IfErr result (λ refusal. refusal ≡ Refusal.NoMemory) }
+        ensures refusal { IsOkUnless result Refusal.NoMemory }
     {
         let stamps = LockStamps::new(stamps_of(alloc, &values)?);
         let rows = rows_of(alloc, &values)?;
@@ -77,7 +77,7 @@ impl LockIndex {
     /// The index of these files, newest first. Answers `NoMemory` if there is no memory.
     pub fn of(alloc: Global, files: &[SortedFile]) -> Result<LockIndex, Refusal>
         ensures files { IfOk result (λ index. IsIndexOf index files.now) }
-        ensures refusal { IfErr result (λ refusal. refusal ≡ Refusal.NoMemory) }
+        ensures refusal { IsOkUnless result Refusal.NoMemory }
     {
         let mut index = LockIndex::new(alloc);
         let mut newer = files;
@@ -92,7 +92,7 @@ impl LockIndex {
     pub fn over(&self, file: &SortedFile) -> Result<LockIndex, Refusal>
         ensures over { IfOk result (λ index. (files : List FileOf) → IsIndexOf self.now files
             → IsIndexOf index (file.now ∷ files)) }
-        ensures refusal { IfErr result (λ refusal. refusal ≡ Refusal.NoMemory) }
+        ensures refusal { IsOkUnless result Refusal.NoMemory }
     {
         let values = values_over(
             self.alloc,

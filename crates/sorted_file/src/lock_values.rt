@@ -1,6 +1,6 @@
 //! The keys of locks that have a value, in one file or in several together.
 
-ghost use Rattle.std.specs.Prelude.{◌≡◌, ◌⊎◌, ◌++◌, ℕ, true, All, Contains, IfErr, IfOk, OnOk, map};
+ghost use Rattle.std.specs.Prelude.{◌≡◌, ◌⊎◌, ◌++◌, ℕ, true, All, Contains, IfOk, OnOk, map, IsOkUnless};
 ghost use Rattle.cell_key.specs.Keys.{text};
 ghost use Rattle.cell_key.specs.declared.keys.CellKey.{CellKey as KeyOf};
 ghost use Rattle.sorted_file.specs.LockIndexes.{HasRow, stamp_of};
@@ -45,7 +45,7 @@ impl LockValue {
     /// A copy. Answers `NoMemory` if there is no memory.
     fn copy(&self) -> Result<LockValue, Refusal>
         ensures copy { IfOk result (λ lock. lock ≡ self.now) }
-        ensures refusal { IfErr result (λ refusal. refusal ≡ Refusal.NoMemory) }
+        ensures refusal { IsOkUnless result Refusal.NoMemory }
     {
         Ok(LockValue {
             key: self.key.clone()?,
@@ -89,7 +89,7 @@ fn push_unnamed(
     ensures keeps { OnOk result (IsAmong kept.old.items kept.new.items) }
     ensures only { OnOk result ((key : KeyOf) → Contains kept.new.items key
         → Contains kept.old.items key ⊎ (lock.now ≡ key)) }
-    ensures refusal { IfErr result (λ refusal. refusal ≡ Refusal.NoMemory) }
+    ensures refusal { IsOkUnless result Refusal.NoMemory }
 {
     if lock.is_among(named) {
         return Ok(());
@@ -107,7 +107,7 @@ fn copy_unnamed(
     ensures keeps { IfOk result (λ kept. (key : KeyOf) → Contains locks.now key
         → ¬ Contains named.now key → Contains kept.items key) }
     ensures only { IfOk result (λ kept. IsAmong kept.items locks.now) }
-    ensures refusal { IfErr result (λ refusal. refusal ≡ Refusal.NoMemory) }
+    ensures refusal { IsOkUnless result Refusal.NoMemory }
 {
     let mut kept = Vec::new(alloc);
     for lock in locks {
@@ -119,7 +119,7 @@ fn copy_unnamed(
 /// Adds copies of locks. Answers `NoMemory` if there is no memory.
 fn push_copies(out: &mut Vec<LockValue>, locks: &[LockValue]) -> Result<(), Refusal>
     ensures items { OnOk result (out.new.items ≡ out.old.items ++ locks.now) }
-    ensures refusal { IfErr result (λ refusal. refusal ≡ Refusal.NoMemory) }
+    ensures refusal { IsOkUnless result Refusal.NoMemory }
 {
     for lock in locks {
         out.push(lock.copy()?)?;
@@ -138,7 +138,7 @@ pub(crate) fn values_over(
     ensures older { IfOk result (λ locks. (key : KeyOf) → Contains older.now key
         → ¬ Contains named.now key → Contains locks.items key) }
     ensures newer { IfOk result (λ locks. IsAmong values.now locks.items) }
-    ensures refusal { IfErr result (λ refusal. refusal ≡ Refusal.NoMemory) }
+    ensures refusal { IsOkUnless result Refusal.NoMemory }
 {
     let mut locks = copy_unnamed(alloc, older, named)?;
     push_copies(&mut locks, values)?;
@@ -148,7 +148,7 @@ pub(crate) fn values_over(
 /// The stamps of locks. Answers `NoMemory` if there is no memory.
 pub(crate) fn stamps_of(alloc: Global, locks: &[LockValue]) -> Result<Vec<LockStamp>, Refusal>
     ensures stamps { IfOk result (λ stamps. stamps.items ≡ map stamp_of locks.now) }
-    ensures refusal { IfErr result (λ refusal. refusal ≡ Refusal.NoMemory) }
+    ensures refusal { IsOkUnless result Refusal.NoMemory }
 {
     let mut stamps = Vec::new(alloc);
     for lock in locks {
@@ -160,7 +160,7 @@ pub(crate) fn stamps_of(alloc: Global, locks: &[LockValue]) -> Result<Vec<LockSt
 /// A filter of the rows of locks. Answers `NoMemory` if there is no memory.
 pub(crate) fn rows_of(alloc: Global, locks: &[LockValue]) -> Result<Filter, Refusal>
     ensures rows { IfOk result (λ rows. All (HasRow rows.words.items) locks.now) }
-    ensures refusal { IfErr result (λ refusal. refusal ≡ Refusal.NoMemory) }
+    ensures refusal { IsOkUnless result Refusal.NoMemory }
 {
     let mut rows = Filter::with_room(alloc, locks.len())?;
     for lock in locks {

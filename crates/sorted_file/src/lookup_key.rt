@@ -1,6 +1,6 @@
 //! A key to look up in files, with the text and the hashes that the look-ups need.
 
-ghost use Rattle.std.specs.Prelude.{◌≡◌, IfErr, IfOk};
+ghost use Rattle.std.specs.Prelude.{◌≡◌, IfOk, IsOkUnless};
 ghost use Rattle.sorted_file.specs.LookupKey.{entry_number};
 ghost use Rattle.sorted_file.specs.Numbers.{number_of};
 
@@ -48,7 +48,7 @@ impl LookupKey {
     /// The lookup key of a key. Answers `NoMemory` if there is no memory.
     pub fn new(alloc: Global, key: CellKey) -> Result<LookupKey, Refusal>
         ensures key { IfOk result (λ lookup. lookup ≡ key) }
-        ensures refusal { IfErr result (λ refusal. refusal ≡ Refusal.NoMemory) }
+        ensures refusal { IsOkUnless result Refusal.NoMemory }
     {
         // These show that row, family and stamp are within their limits.
         let _row = key.row.as_bytes();

@@ -1,7 +1,7 @@
 //! Hashes of columns, by which a read skips a file without an entry in its column, or without a lock.
 
 ghost use Rattle.std.specs.List.Sorted.{IsNonDecreasing};
-ghost use Rattle.std.specs.Prelude.{◌≡◌, ◌↔◌, ℕ, All, Contains, IfErr, IfOk, IsTrue, OnOk, length};
+ghost use Rattle.std.specs.Prelude.{◌≡◌, ◌↔◌, ℕ, All, Contains, IfOk, IsTrue, OnOk, length, IsOkUnless};
 ghost use Rattle.sorted_file.specs.Filters.{HasBits};
 ghost use Rattle.sorted_file.specs.Numbers.{number_of, text_number, IsAmong};
 
@@ -35,7 +35,7 @@ pub(crate) fn column_number(text: &[u8]) -> u64
 pub(crate) fn push_number(numbers: &mut Vec<u64>, number: u64) -> Result<(), Refusal>
     ensures has { OnOk result (Contains numbers.new.items number) }
     ensures keeps { IsAmong numbers.old.items numbers.new.items }
-    ensures refusal { IfErr result (λ refusal. refusal ≡ Refusal.NoMemory) }
+    ensures refusal { IsOkUnless result Refusal.NoMemory }
 {
     if let Some(last) = numbers.last() {
         if *last == number {
@@ -81,7 +81,7 @@ impl Numbers {
     pub(crate) fn new(alloc: Global, numbers: Vec<u64>) -> Result<Numbers, Refusal>
         ensures keeps { IfOk result (λ made. IsAmong numbers.items made) }
         ensures only { IfOk result (λ made. IsAmong made numbers.items) }
-        ensures refusal { IfErr result (λ refusal. refusal ≡ Refusal.NoMemory) }
+        ensures refusal { IsOkUnless result Refusal.NoMemory }
     {
         let mut sorted = numbers;
         sorted.sort_unstable();

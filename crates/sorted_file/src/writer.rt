@@ -8,7 +8,7 @@ ghost use Rattle.sorted_file.specs.Builder.{IsReady, built};
 ghost use Rattle.sorted_file.specs.File.{IsOpen, name_of};
 ghost use Rattle.sorted_file.specs.Grammar.{IsFile, FitsIn};
 ghost use Rattle.sorted_file.specs.Limits.{IsFileLimit};
-ghost use Rattle.sorted_file.specs.Source.{ComesToEnd, IsWriteRefusal, StaysIfUnfit};
+ghost use Rattle.sorted_file.specs.Source.{ComesToEnd, IsFaultRefusal, IsWriteRefusal, StaysIfUnfit};
 ghost use Rattle.sorted_file.specs.Passing.{BreaksAfter, EndsAfter, IsFileOf, PassesNoList, PassesTooMuch};
 
 use crate::builder::FileBuilder;
@@ -102,8 +102,7 @@ fn put<F: Files>(files: &mut F, name: u64, bytes: Vec<u8>) -> Result<(), Refusal
     ensures ok { OnOk result (F.contents files.new
         ≡ with_file name bytes.items (F.contents files.old)) }
     ensures err { OnErr result (KeepsOthers name (F.contents files.old) (F.contents files.new)) }
-    ensures refusal { IfErr result (λ refusal. (refusal ≡ Refusal.Device)
-        ⊎ (refusal ≡ Refusal.NoMemory)) }
+    ensures refusal { IfErr result IsFaultRefusal }
     ensures reason { HasReason (F.faults files.old) (F.faults files.new) result }
 {
     files.put_owned(name, bytes).map_err(refusal_of)

@@ -1,15 +1,21 @@
 -- Cells gathered from entries that arrive in order.
-use Rattle.std.specs.Prelude.{◌≡◌, ◌≤◌, ◌-◌, ℕ, Bool, true, List, ◌++◌, ◌∷◌, [], length, take, Option, None, Some, IfSome}
+use Rattle.std.specs.Prelude.{◌≡◌, ◌⊎◌, ◌≤◌, ◌-◌, ℕ, Bool, true, List, ◌++◌, ◌∷◌, [], length, take, Option, None, Some, IfSome}
 use Rattle.std.specs.List.{slice_get, AllByRecursion}
 use Rattle.cell_key.specs.Entries.{Entry, IsEntryList, cells_of}
 use Rattle.cell_key.specs.Keys.{text, IsStored}
 use Rattle.cell_key.specs.Places.{AreNext, HasCell, Place, last_or, place_of}
 use Rattle.cell_key.specs.Texts.{place_text}
 use Rattle.cell_key.specs.declared.keys.CellKey.{CellKey}
+use Rattle.cell_key.specs.declared.refusals.Refusal.{Refusal}
+use Rattle.cell_key.specs.declared.refusals.Refusal.TheVariants as refused
 use Rattle.rows.specs.Batches.{HasNewest, bytes_in, place_in, places_in}
 use Rattle.tablet.specs.Reads.{IsNextIn, IsStoredPlace}
 use Rattle.rows.specs.declared.batches.CellVersions.{CellVersions}
 use Rattle.tablet.specs.declared.gathering.Gathering.{Gathering}
+
+-- the refusals of gathering entries that were read: there is no memory, or a file is damaged
+abbrev pub IsGatheringRefusal : Refusal → Type 0
+IsGatheringRefusal refusal = (refusal ≡ refused.NoMemory) ⊎ (refusal ≡ refused.Damaged)
 
 -- the entries have a key of the cell, and its versions are the newest at or below a stamp
 pub record IsShown (es : List Entry) (hi : ℕ) (found : CellVersions) : Type 0 where

@@ -4,7 +4,7 @@
 //! the file is left over. Calls of lemmas of lower crates, like `stays_open()`, do nothing at run time; the contracts
 //! here rest on them.
 
-ghost use Rattle.std.specs.Prelude.{◌≡◌, ◌≢◌, ◌≤◌, ◌<◌, ◌+◌, ◌^◌, ◌↔◌, ◌⊎◌, [], Option, Some, length, map, take, false, nat_lt, option_map, IfOk, IfErr, OnOk, OnErr, IfSome, IsNone, IsOk, IsSomeAnd, IsErrOf};
+ghost use Rattle.std.specs.Prelude.{◌≡◌, ◌≢◌, ◌≤◌, ◌<◌, ◌+◌, ◌^◌, ◌⊎◌, [], Option, Some, length, map, take, false, nat_lt, option_map, IfOk, IfErr, OnOk, OnErr, IfSome, IsNone, IsOk, IsSomeAnd, IsErrOf, IsOkUnless};
 ghost use Rattle.std.specs.Option.{option_copied};
 ghost use Rattle.std.specs.List.{AllByRecursion};
 ghost use Rattle.file_store.specs.Store.{Contents};
@@ -144,7 +144,7 @@ impl Tablet {
     /// replaces none. Answers `NoMemory` if there is no memory.
     fn older_locks(&self, compaction: Compaction) -> Result<Option<LockIndex>, Refusal>
         requires { HasAsMany compaction (length (files_of self.now)) }
-        ensures { IfErr result (λ refusal. refusal ≡ Refusal.NoMemory) }
+        ensures { IsOkUnless result Refusal.NoMemory }
     {
         match compaction {
             Compaction::Minor => Ok(None),

@@ -1,13 +1,13 @@
 //! Cells with their newest versions, gathered from entries that arrive in order.
 
-ghost use Rattle.std.specs.Prelude.{◌≡◌, ◌≢◌, ◌≤◌, ◌<◌, ◌-◌, ◌^◌, ◌++◌, ◌∷◌, ◌⊎◌, [], List, ℕ, length, false, true, Some, IfErr, IfNone, IfOk, IfSome, IsErrOf, OnOk};
+ghost use Rattle.std.specs.Prelude.{◌≡◌, ◌≢◌, ◌≤◌, ◌<◌, ◌-◌, ◌^◌, ◌++◌, ◌∷◌, [], List, ℕ, length, false, true, Some, IfErr, IfNone, IfOk, IfSome, IsErrOf, OnOk, IsOkUnless};
 ghost use Rattle.std.specs.Bool.{OnFalse, OnTrue};
 ghost use Rattle.cell_key.specs.Entries.{Entry, IsEntry, IsEntryList, lent_entry};
 ghost use Rattle.cell_key.specs.Keys.{qualifier_name, IsKeyText};
 ghost use Rattle.cell_key.specs.Texts.{ended, stamp_text};
 ghost use Rattle.cell_key.specs.declared.keys.Qualifier.{Qualifier as Names};
 ghost use Rattle.rows.specs.Batches.{bytes_in, IsFull};
-ghost use Rattle.tablet.specs.Gathering.{last_of, AreVersionsIn, Begins, BeginsWith, Gathers, IsWithin, KeepsLimits};
+ghost use Rattle.tablet.specs.Gathering.{last_of, AreVersionsIn, Begins, BeginsWith, Gathers, IsGatheringRefusal, IsWithin, KeepsLimits};
 
 use cell_key::{CellKey, EntryRef, Qualifier, Refusal, Stamp, stamp_of};
 use rows::{BatchLimits, CellVersions, VersionBatch};
@@ -54,7 +54,7 @@ impl Gathering {
         ensures hi { IfOk result (λ gathering. gathering.hi ≡ hi) }
         ensures within { IfOk result IsWithin }
         ensures none { IfOk result (Gathers []) }
-        ensures refusal { IfErr result (λ refusal. refusal ≡ Refusal.NoMemory) }
+        ensures refusal { IsOkUnless result Refusal.NoMemory }
     {
         Ok(Gathering {
             limits,
@@ -90,8 +90,7 @@ impl Gathering {
         ensures limits { KeepsLimits self.old self.new }
         ensures damaged { (es : List Entry) → Gathers es self.old
             → IsErrOf result Refusal.Damaged → ¬ IsKeyText text.now }
-        ensures refusal { IfErr result (λ refusal.
-            (refusal ≡ Refusal.NoMemory) ⊎ (refusal ≡ Refusal.Damaged)) }
+        ensures refusal { IfErr result IsGatheringRefusal }
     {
         let Some(rest) = text.strip_prefix(self.place.as_slice()) else {
             return Ok(false);
@@ -114,8 +113,7 @@ impl Gathering {
         ensures begins { OnOk result (Begins text.now value.now self.old self.new) }
         ensures limits { KeepsLimits self.old self.new }
         ensures damaged { IsErrOf result Refusal.Damaged → ¬ IsKeyText text.now }
-        ensures refusal { IfErr result (λ refusal.
-            (refusal ≡ Refusal.NoMemory) ⊎ (refusal ≡ Refusal.Damaged)) }
+        ensures refusal { IfErr result IsGatheringRefusal }
     {
         let Some(key) = CellKey::decode(alloc, text)? else {
             return Err(Refusal::Damaged);
@@ -152,8 +150,7 @@ impl Gathering {
         ensures limits { KeepsLimits self.old self.new }
         ensures damaged { (es : List Entry) → Gathers es self.old
             → IsErrOf result Refusal.Damaged → ¬ IsEntry (lent_entry entry.entry) }
-        ensures refusal { IfErr result (λ refusal.
-            (refusal ≡ Refusal.NoMemory) ⊎ (refusal ≡ Refusal.Damaged)) }
+        ensures refusal { IfErr result IsGatheringRefusal }
     {
         let Some(value) = entry.value else {
             return Ok(true);

@@ -1,6 +1,6 @@
 //! Lookups of one version in a memtable and files: the newest one that names it decides (Bigtable, tablet serving).
 
-ghost use Rattle.std.specs.Prelude.{◌≡◌, ℕ, ◌⊎◌, ◌≤◌, ◌<◌, ◌^◌, ◌∷◌, option_map, map, length, IfOk, IfErr, IfSome, IsErrOf};
+ghost use Rattle.std.specs.Prelude.{◌≡◌, ℕ, ◌≤◌, ◌<◌, ◌^◌, ◌∷◌, option_map, map, length, IfOk, IfErr, IfSome, IsErrOf};
 ghost use Rattle.std.specs.Option.{option_copied};
 ghost use Rattle.std.specs.List.{AllByRecursion, AllZip};
 ghost use Rattle.cell_key.specs.Entries.{entry_of_key, first_naming, value_of};
@@ -10,6 +10,7 @@ ghost use Rattle.sorted_file.specs.File.{IsOpen, IsSameFile, IsShortValue, liste
 ghost use Rattle.sorted_file.specs.Source.{ReadsFiles};
 ghost use Rattle.sorted_file.specs.Newest.{IsAfterStamp};
 ghost use Rattle.tablet.specs.Reads.{HasNoLater, IsValue};
+ghost use Rattle.tablet.specs.Gathering.{IsGatheringRefusal};
 
 use crate::open_files::OpenFiles;
 use cell_key::{Refusal, Stamp};
@@ -29,8 +30,7 @@ pub(crate) fn copy_value(alloc: Global, value: Option<&[u8]>) -> Result<Option<V
     ensures short { IfOk result (λ copy. IfSome copy (λ bytes. length bytes.items ≤ 65536)) }
     ensures damaged { IsErrOf result Refusal.Damaged
         → ¬ IfSome (option_copied value.entry) IsValue }
-    ensures refusal { IfErr result (λ refusal.
-        (refusal ≡ Refusal.NoMemory) ⊎ (refusal ≡ Refusal.Damaged)) }
+    ensures refusal { IfErr result IsGatheringRefusal }
 {
     let Some(value) = value else {
         return Ok(None);

@@ -1,6 +1,6 @@
 //! The open files of a tablet, with a filter of their keys and an index of their locks.
 
-ghost use Rattle.std.specs.Prelude.{◌≡◌, ◌≤◌, ◌<◌, ◌^◌, ◌∷◌, [], false, Option, option_map, map, drop, length, vec_len, IfOk, IfErr, IfSome, IsErrOf, OnOk, OnErr};
+ghost use Rattle.std.specs.Prelude.{◌≡◌, ◌≤◌, ◌<◌, ◌^◌, ◌∷◌, [], false, Option, option_map, map, drop, length, vec_len, IfOk, IfSome, IsErrOf, OnOk, OnErr, IsOkUnless};
 ghost use Rattle.std.specs.List.{AllByRecursion, AllZip};
 ghost use Rattle.cell_key.specs.Entries.{first_naming};
 ghost use Rattle.cell_key.specs.Keys.{text};
@@ -35,7 +35,7 @@ fn put_newest(files: &mut Vec<SortedFile>, count: usize, file: SortedFile) -> Re
     requires { count ≤ vec_len files.old }
     ensures ok { OnOk result (files.new.items ≡ file ∷ drop count files.old.items) }
     ensures err { OnErr result (files.new.items ≡ files.old.items) }
-    ensures refusal { IfErr result (λ refusal. refusal ≡ Refusal.NoMemory) }
+    ensures refusal { IsOkUnless result Refusal.NoMemory }
 {
     if count == 0 {
         files.insert(0, file)?;
@@ -124,7 +124,7 @@ impl OpenFiles {
     pub(crate) fn locks_behind(&self, count: usize) -> Result<LockIndex, Refusal>
         requires { count ≤ length self.now }
         ensures index { IfOk result (λ index. IsIndexOf index (drop count self.now)) }
-        ensures refusal { IfErr result (λ refusal. refusal ≡ Refusal.NoMemory) }
+        ensures refusal { IsOkUnless result Refusal.NoMemory }
     {
         LockIndex::of(self.alloc, &self.files[count..])
     }
@@ -134,7 +134,7 @@ impl OpenFiles {
     fn locks_over(&self, count: usize, file: &SortedFile) -> Result<LockIndex, Refusal>
         requires { count ≤ length self.now }
         ensures index { IfOk result (λ index. IsIndexOf index (file.now ∷ drop count self.now)) }
-        ensures refusal { IfErr result (λ refusal. refusal ≡ Refusal.NoMemory) }
+        ensures refusal { IsOkUnless result Refusal.NoMemory }
     {
         if count == 0 {
             return self.locks.over(file);
@@ -160,7 +160,7 @@ impl OpenFiles {
     /// files are unchanged, also after an `Err`.
     pub(crate) fn reserve(&mut self, entries: usize) -> Result<(), Refusal>
         ensures same { self.new ≡ self.old }
-        ensures refusal { IfErr result (λ refusal. refusal ≡ Refusal.NoMemory) }
+        ensures refusal { IsOkUnless result Refusal.NoMemory }
     {
         self.filter.reserve(&self.files, entries)?;
         self.files.reserve(1)?;
@@ -173,7 +173,7 @@ impl OpenFiles {
         requires { count ≤ length self.old }
         ensures ok { OnOk result (self.new ≡ file ∷ drop count self.old) }
         ensures err { OnErr result (self.new ≡ self.old) }
-        ensures refusal { IfErr result (λ refusal. refusal ≡ Refusal.NoMemory) }
+        ensures refusal { IsOkUnless result Refusal.NoMemory }
     {
         let locks = self.locks_over(count, &file)?;
         self.filter.add(&file);

@@ -1,6 +1,6 @@
 //! A tablet's reads: the newest versions of a column, and the next cells, alone or with their newest versions.
 
-ghost use Rattle.std.specs.Prelude.{◌≡◌, ℕ, ◌≤◌, ◌<◌, ◌^◌, length, [], false, IsTrue, option_map, map, IfOk, IfErr, IfSome};
+ghost use Rattle.std.specs.Prelude.{◌≡◌, ℕ, ◌≤◌, ◌<◌, ◌^◌, length, [], false, IsTrue, option_map, map, IfOk, IfSome, IsOkUnless};
 ghost use Rattle.cell_key.specs.Cells.{IsNewest, version};
 ghost use Rattle.cell_key.specs.Entries.{cells_of};
 ghost use Rattle.cell_key.specs.Places.{AreNextCells, IsNextCell, place_named};
@@ -35,7 +35,7 @@ fn copy_version(
 ) -> Result<Option<(Stamp, Vec<u8>)>, Refusal>
     ensures copy { IfOk result (λ copy.
         option_map stamped copy ≡ option_map lent_version found.entry) }
-    ensures refusal { IfErr result (λ refusal. refusal ≡ Refusal.NoMemory) }
+    ensures refusal { IsOkUnless result Refusal.NoMemory }
 {
     match found {
         Some((stamp, value)) => {

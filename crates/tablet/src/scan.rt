@@ -1,7 +1,7 @@
 //! Merged scans of a memtable and files from a key text on: the places of their values, the cells with their newest
 //! versions, and the newest versions of one column (Bigtable, tablet serving).
 
-ghost use Rattle.std.specs.Prelude.{◌≡◌, ◌≤◌, ◌⊎◌, ◌++◌, List, false, length, [], ◌∷◌, None, Some, option_map, map, take, IfOk, OnOk, IfErr, IfSome, IsErrOf};
+ghost use Rattle.std.specs.Prelude.{◌≡◌, ◌≤◌, ◌++◌, List, false, length, [], ◌∷◌, None, Some, option_map, map, take, IfOk, OnOk, IfErr, IfSome, IsErrOf, IsOkUnless};
 ghost use Rattle.std.specs.Bool.{OnFalse, OnTrue};
 ghost use Rattle.std.specs.Option.{option_copied, option_to_list};
 ghost use Rattle.std.specs.List.{AllByRecursion};
@@ -14,7 +14,7 @@ ghost use Rattle.cell_key.specs.Versions.{IsVersion, stamped};
 ghost use Rattle.sorted_file.specs.File.{IsOpen, listed};
 ghost use Rattle.sorted_file.specs.Source.{ReadsFiles};
 ghost use Rattle.rows.specs.Batches.{IsFull};
-ghost use Rattle.tablet.specs.Gathering.{AreVersionsIn, Gathers, IsWithin, KeepsLimits};
+ghost use Rattle.tablet.specs.Gathering.{AreVersionsIn, Gathers, IsGatheringRefusal, IsWithin, KeepsLimits};
 ghost use Rattle.tablet.specs.Reads.{first_value, later, past_place, stamped_values, HasLeft, IsNextIn, IsPlaceOrNone, NamesPlace};
 ghost use Rattle.tablet.specs.Sources.{part};
 
@@ -39,8 +39,7 @@ fn place_of(
     ensures found { IfOk result
         (NamesPlace (first_value (entries_from past.now (lent_entry entry.entry ∷ [])))) }
     ensures damaged { IsErrOf result Refusal.Damaged → ¬ IsEntry (lent_entry entry.entry) }
-    ensures refusal { IfErr result (λ refusal.
-        (refusal ≡ Refusal.NoMemory) ⊎ (refusal ≡ Refusal.Damaged)) }
+    ensures refusal { IfErr result IsGatheringRefusal }
 {
     if entry.value.is_none() || entry.key.cmp(&past).is_lt() {
         return Ok(None);
@@ -60,8 +59,7 @@ fn place_at<F: Files, S: Source<F>>(
     ensures found { IfOk result
         (NamesPlace (first_value (entries_from past.now (option_to_list (S.lent source.now))))) }
     ensures damaged { IsErrOf result Refusal.Damaged → ¬ IfSome (S.lent source.now) IsEntry }
-    ensures refusal { IfErr result (λ refusal.
-        (refusal ≡ Refusal.NoMemory) ⊎ (refusal ≡ Refusal.Damaged)) }
+    ensures refusal { IfErr result IsGatheringRefusal }
 {
     match source.current() {
         Some(entry) => place_of(alloc, entry, past),
@@ -168,8 +166,7 @@ fn take_at<F: Files, S: Source<F>>(
     ensures limits { KeepsLimits gathering.old gathering.new }
     ensures damaged { (es : List Entry) → Gathers es gathering.old
         → IsErrOf result Refusal.Damaged → ¬ IfSome (S.lent source.now) IsEntry }
-    ensures refusal { IfErr result (λ refusal.
-        (refusal ≡ Refusal.NoMemory) ⊎ (refusal ≡ Refusal.Damaged)) }
+    ensures refusal { IfErr result IsGatheringRefusal }
 {
     match source.current() {
         Some(entry) => gathering.take(alloc, entry),
@@ -238,8 +235,7 @@ fn version_in(alloc: Global, entry: EntryRef<'_>) -> Result<Option<(Stamp, Vec<u
     ensures limits { IfOk result (λ found.
         IfSome found (λ version. IsVersion version.0 version.1.items)) }
     ensures damaged { IsErrOf result Refusal.Damaged → ¬ IsEntry (lent_entry entry.entry) }
-    ensures refusal { IfErr result (λ refusal.
-        (refusal ≡ Refusal.NoMemory) ⊎ (refusal ≡ Refusal.Damaged)) }
+    ensures refusal { IfErr result IsGatheringRefusal }
 {
     let Some(value) = copy_value(alloc, entry.value)? else {
         return Ok(None);
@@ -260,8 +256,7 @@ fn version_at<F: Files, S: Source<F>>(
     ensures limits { IfOk result (λ found.
         IfSome found (λ version. IsVersion version.0 version.1.items)) }
     ensures damaged { IsErrOf result Refusal.Damaged → ¬ IfSome (S.lent source.now) IsEntry }
-    ensures refusal { IfErr result (λ refusal.
-        (refusal ≡ Refusal.NoMemory) ⊎ (refusal ≡ Refusal.Damaged)) }
+    ensures refusal { IfErr result IsGatheringRefusal }
 {
     match source.current() {
         Some(entry) => version_in(alloc, entry),
@@ -338,7 +333,7 @@ pub(crate) fn version_text(
         bytes.items ≡ text (version row.now family.now qualifier stamp)) }
     ensures row { IsRow row.now }
     ensures family { IsFamily family.now }
-    ensures refusal { IfErr result (λ refusal. refusal ≡ Refusal.NoMemory) }
+    ensures refusal { IsOkUnless result Refusal.NoMemory }
 {
     let key = CellKey::new(row, family, qualifier, stamp)?;
     let mut text = Vec::new(alloc);
@@ -352,7 +347,7 @@ pub(crate) fn past_place(alloc: Global, after: Option<(&Row, &Family)>) -> Resul
     ensures past { IfOk result (λ text.
         text.items ≡ past_place (option_map place_named after.entry)) }
     ensures names { IsPlaceOrNone (option_map place_named after.entry) }
-    ensures refusal { IfErr result (λ refusal. refusal ≡ Refusal.NoMemory) }
+    ensures refusal { IsOkUnless result Refusal.NoMemory }
 {
     match after {
         Some((row, family)) => version_text(alloc, row, family, Qualifier::Write, 0),

@@ -1,6 +1,6 @@
 //! The sources of a tablet's reads: its memtable and its files, each cut to a range of key texts.
 
-ghost use Rattle.std.specs.Prelude.{◌≡◌, [], map, Option, option_map, IfOk, IfErr};
+ghost use Rattle.std.specs.Prelude.{◌≡◌, [], map, Option, option_map, IfOk, IsOkUnless};
 ghost use Rattle.std.specs.Option.{option_copied, option_to_list};
 ghost use Rattle.std.specs.List.{AllByRecursion};
 ghost use Rattle.file_store.specs.Store.{Contents};
@@ -23,7 +23,7 @@ pub(crate) fn fences(alloc: Global, range: &RowRange) -> Result<(Vec<u8>, Option
     ensures from { IfOk result (λ fences. fences.0.items ≡ lower_fence range.now) }
     ensures end { IfOk result (λ fences.
         option_map (λ fence. fence.items) fences.1 ≡ upper_fence range.now) }
-    ensures refusal { IfErr result (λ refusal. refusal ≡ Refusal.NoMemory) }
+    ensures refusal { IsOkUnless result Refusal.NoMemory }
 {
     let from = match &range.after {
         Some(row) => row.fence(alloc)?,
@@ -68,7 +68,7 @@ fn memtable_sources<'a>(
         AllByRecursion IsEntryList (option_to_list (option_copied memtable.entry))) }
     ensures of { IfOk result (λ sources. AreSourcesOf
         from.now (option_copied end.entry) (option_copied memtable.entry) [] sources.items) }
-    ensures refusal { IfErr result (λ refusal. refusal ≡ Refusal.NoMemory) }
+    ensures refusal { IsOkUnless result Refusal.NoMemory }
 {
     let mut sources = Vec::new(alloc);
     if let Some(memtable) = memtable {
@@ -116,7 +116,7 @@ pub(crate) fn sources<'a, F: Files>(
         (HasSource from.now (option_copied end.entry) sources.items) files.now) }
     ensures each { IfOk result (λ sources. AreSourcesOf from.now
         (option_copied end.entry) (option_copied memtable.entry) files.now sources.items) }
-    ensures refusal { IfErr result (λ refusal. refusal ≡ Refusal.NoMemory) }
+    ensures refusal { IsOkUnless result Refusal.NoMemory }
 {
     let mut sources = memtable_sources(alloc, memtable, from, end)?;
     for file in files {

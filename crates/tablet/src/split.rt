@@ -1,7 +1,7 @@
 //! Cutting a tablet in two, and moving it: after a minor compaction all its entries are in its files, which two tablets
 //! can share or another server can open.
 
-ghost use Rattle.std.specs.Prelude.{◌≡◌, ◌≢◌, ◌≤◌, ◌<◌, ◌+◌, ◌^◌, ◌∷◌, [], Some, length, ◌↔◌, ℕ, IfOk, IfErr, OnOk, OnErr, IfSome, IsNone, IsErrOf};
+ghost use Rattle.std.specs.Prelude.{◌≡◌, ◌≢◌, ◌≤◌, ◌<◌, ◌+◌, ◌^◌, ◌∷◌, [], Some, ℕ, IfOk, IfErr, OnOk, OnErr, IfSome, IsNone, IsErrOf, IsOkUnless};
 ghost use Rattle.std.specs.List.{AllByRecursion};
 ghost use Rattle.sorted_file.specs.Grammar.{FitsIn};
 ghost use Rattle.sorted_file.specs.Limits.{IsFileLimit};
@@ -68,7 +68,7 @@ impl Tablet {
     /// The names of the files, the newest first.
     fn names(&self) -> Result<Vec<u64>, Refusal>
         ensures names { IfOk result (λ names. names.items ≡ names_of self.now) }
-        ensures refusal { IfErr result (λ refusal. refusal ≡ Refusal.NoMemory) }
+        ensures refusal { IsOkUnless result Refusal.NoMemory }
     {
         let mut names = Vec::new(self.alloc);
         self.push_names(&mut names)?;
@@ -135,7 +135,7 @@ impl Tablet {
         ensures range { IfOk result (λ left.
             left.0 ≡ record { after = (range_of self.now).after; end = Some row.now }) }
         ensures row { IfOk result (λ left. left.1 ≡ row.now) }
-        ensures refusal { IfErr result (λ refusal. refusal ≡ Refusal.NoMemory) }
+        ensures refusal { IsOkUnless result Refusal.NoMemory }
     {
         let range = RowRange {
             after: self.range.after.clone()?,

@@ -1,6 +1,6 @@
 //! Tablets: the type, and its calls that write no file.
 
-ghost use Rattle.std.specs.Prelude.{◌≡◌, ◌≤◌, ◌<◌, ◌+◌, ◌++◌, ◌∷◌, ◌⊎◌, ◌↔◌, [], None, length, vec_len, vec_capacity, IsTrue, IsOk, IfErr, OnErr, OnOk, IsErrOf};
+ghost use Rattle.std.specs.Prelude.{◌≡◌, ◌≤◌, ◌<◌, ◌+◌, ◌++◌, ◌∷◌, ◌⊎◌, ◌↔◌, [], None, length, vec_len, vec_capacity, IsTrue, IsOk, IfErr, OnErr, OnOk, IsErrOf, IsOkUnless};
 ghost use Rattle.std.specs.List.{AllByRecursion};
 ghost use Rattle.cell_key.specs.Cells.{IsEditOf, after_edits};
 ghost use Rattle.file_store.specs.Store.{Contents};
@@ -102,7 +102,7 @@ impl Tablet {
     pub fn push_names(&self, out: &mut Vec<u64>) -> Result<(), Refusal>
         ensures ok { OnOk result (out.new.items ≡ out.old.items ++ names_of self.now) }
         ensures err { OnErr result (out.new.items ≡ out.old.items) }
-        ensures refusal { IfErr result (λ refusal. refusal ≡ Refusal.NoMemory) }
+        ensures refusal { IsOkUnless result Refusal.NoMemory }
         ensures room { vec_len out.old + length (names_of self.now) ≤ vec_capacity out.old
             → IsOk result }
     {

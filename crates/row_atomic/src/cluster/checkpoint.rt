@@ -1,7 +1,8 @@
 //! Checkpoints: every memtable is written to a file, and then a root file that has the lengths of the others.
 
-ghost use Rattle.std.specs.Prelude.{◌≡◌, ◌⊎◌, IfErr, IfOk, IfSome, IsErrOf, OnErr, OnOk, length, replicate};
+ghost use Rattle.std.specs.Prelude.{◌≡◌, IfErr, IfOk, IfSome, IsErrOf, OnErr, OnOk, length, replicate, IsOkUnless};
 ghost use Rattle.std.specs.FinMap.{get};
+ghost use Rattle.sorted_file.specs.Source.{IsFaultRefusal};
 ghost use Rattle.cell_key.specs.Faults.{HasReason};
 ghost use Rattle.metadata_table.specs.Roots.{file_names};
 ghost use Rattle.row_atomic.specs.Changes.{Holds, IsRefusalOf};
@@ -27,8 +28,7 @@ pub(crate) const ROOT_NAME: u64 = 0;
 fn length_of<F: Files>(name: u64, files: &mut F) -> Result<u64, Refusal>
     ensures length { IfOk result (λ n. IfSome (F.contents files.old) (λ m.
         IfSome (get m name) (λ image. length image ≡ n))) }
-    ensures refusal { IfErr result (λ refusal. (refusal ≡ Refusal.Device)
-        ⊎ (refusal ≡ Refusal.NoMemory)) }
+    ensures refusal { IfErr result IsFaultRefusal }
     ensures same { F.contents files.new ≡ F.contents files.old }
     ensures reason { HasReason (F.faults files.old) (F.faults files.new) result }
 {
@@ -41,8 +41,7 @@ fn lengths_of<F: Files>(alloc: Global, names: &[u64], files: &mut F) -> Result<V
     ensures count { IfOk result (λ lengths. length lengths.items ≡ length names.now) }
     ensures measured { IfOk result (λ lengths. IfSome (F.contents files.old) (λ m.
         AreMeasured m names.now lengths.items)) }
-    ensures refusal { IfErr result (λ refusal. (refusal ≡ Refusal.Device)
-        ⊎ (refusal ≡ Refusal.NoMemory)) }
+    ensures refusal { IfErr result IsFaultRefusal }
     ensures same { F.contents files.new ≡ F.contents files.old }
     ensures reason { HasReason (F.faults files.old) (F.faults files.new) result }
 {
@@ -65,8 +64,7 @@ pub(crate) fn file_lengths<F: Files>(
     ensures count { IfOk result (λ lengths. length lengths.items ≡ length (file_names table.now)) }
     ensures measured { IfOk result (λ lengths. IfSome (F.contents files.old) (λ m.
         AreMeasured m (file_names table.now) lengths.items)) }
-    ensures refusal { IfErr result (λ refusal. (refusal ≡ Refusal.Device)
-        ⊎ (refusal ≡ Refusal.NoMemory)) }
+    ensures refusal { IfErr result IsFaultRefusal }
     ensures same { F.contents files.new ≡ F.contents files.old }
     ensures reason { HasReason (F.faults files.old) (F.faults files.new) result }
 {
@@ -84,7 +82,7 @@ pub(crate) fn file_lengths<F: Files>(
 fn zero_lengths(alloc: Global, table: &MetadataTable) -> Result<Vec<u64>, Refusal>
     ensures zeros { IfOk result (λ lengths.
         lengths.items ≡ replicate (length (file_names table.now)) 0) }
-    ensures refusal { IfErr result (λ refusal. refusal ≡ Refusal.NoMemory) }
+    ensures refusal { IsOkUnless result Refusal.NoMemory }
 {
     let mut lengths = Vec::new(alloc);
     let mut rest = table.places();
@@ -105,7 +103,7 @@ impl<F: Files> Cluster<F> {
     /// `NoMemory` if an allocation failed.
     pub fn root_sum(&self, top: Stamp, floor: Stamp) -> Result<u32, Refusal>
         ensures sum { IfOk result (λ sum. sum ≡ root_sum (root_at top floor self.now)) }
-        ensures refusal { IfErr result (λ refusal. refusal ≡ Refusal.NoMemory) }
+        ensures refusal { IsOkUnless result Refusal.NoMemory }
     {
         let lengths = zero_lengths(self.alloc, &self.table)?;
         let mut image = Vec::new(self.alloc);

@@ -1,6 +1,6 @@
 //! Compactions of a cluster's tablets. Room for the new list of names is reserved before the tablet changes.
 
-ghost use Rattle.std.specs.Prelude.{◌≡◌, ◌≤◌, ◌+◌, ◌^◌, [], length, vec_capacity, IfErr, IfOk, IsOk, OnErr, OnOk};
+ghost use Rattle.std.specs.Prelude.{◌≡◌, ◌≤◌, ◌+◌, ◌^◌, [], length, vec_capacity, IfErr, IfOk, IsOk, OnErr, OnOk, IsOkUnless};
 ghost use Rattle.cell_key.specs.Faults.{HasReason};
 ghost use Rattle.metadata_table.specs.Table.{HasTablet, IsTable, with_files};
 ghost use Rattle.sorted_file.specs.Limits.{IsFileLimit};
@@ -53,7 +53,7 @@ fn compact<F: Files>(
 pub(crate) fn room_for_names(alloc: Global, tablet: &Tablet) -> Result<Vec<u64>, Refusal>
     ensures empty { IfOk result (λ names. names.items ≡ []) }
     ensures room { IfOk result (λ names. length (names_of tablet.now) + 1 ≤ vec_capacity names) }
-    ensures refusal { IfErr result (λ refusal. refusal ≡ Refusal.NoMemory) }
+    ensures refusal { IsOkUnless result Refusal.NoMemory }
 {
     let mut names = Vec::new(alloc);
     tablet.push_names(&mut names)?;

@@ -1,6 +1,6 @@
 //! Reads and edits of a cluster's rows: its `Rows`.
 
-ghost use Rattle.std.specs.Prelude.{◌≡◌, ◌≤◌, ◌↔◌, ◌++◌, IfErr, IfOk, IfSome, IsErrOf, IsTrue, None, Some, length, map, option_map};
+ghost use Rattle.std.specs.Prelude.{◌≡◌, ◌≤◌, ◌↔◌, ◌++◌, IfErr, IfOk, IfSome, IsErrOf, IsTrue, None, Some, length, map, option_map, IsOkUnless};
 ghost use Rattle.cell_key.specs.Cells.{IsNewest, version};
 ghost use Rattle.cell_key.specs.Places.{AreNextCells, IsNextCell, place_named};
 ghost use Rattle.cell_key.specs.Versions.{IsVersion, IsVersionIn, stamped};
@@ -81,7 +81,7 @@ fn joined(
     mut more: Vec<CellVersions>,
 ) -> Result<Vec<CellVersions>, Refusal>
     ensures ok { IfOk result (λ all. all.items ≡ found.items ++ more.items) }
-    ensures refusal { IfErr result (λ refusal. refusal ≡ Refusal.NoMemory) }
+    ensures refusal { IsOkUnless result Refusal.NoMemory }
 {
     if found.is_empty() {
         return Ok(more);

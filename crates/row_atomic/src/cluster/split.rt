@@ -1,6 +1,6 @@
 //! Splits of tablets, and moves to other servers. Their room is reserved first; then comes a minor compaction.
 
-ghost use Rattle.std.specs.Prelude.{◌≡◌, ◌≤◌, ◌<◌, ◌+◌, ◌↔◌, ◌⊎◌, [], length, IfErr, IfOk, IfSome, IsErrOf, IsTrue, OnErr, OnOk};
+ghost use Rattle.std.specs.Prelude.{◌≡◌, ◌≤◌, ◌<◌, ◌+◌, ◌↔◌, ◌⊎◌, [], length, IfErr, IfOk, IfSome, IsErrOf, IsTrue, OnErr, OnOk, IsOkUnless};
 ghost use Rattle.metadata_table.specs.Places.{PlaceView};
 ghost use Rattle.metadata_table.specs.Table.{BarsSplit, Cuts, HasTablet, IsHolder, IsTable, most_servers, moved};
 ghost use Rattle.sorted_file.specs.Source.{ReadsFiles};
@@ -41,7 +41,7 @@ struct OpenRoom {
 /// The room to reopen a tablet with its files and one more. Answers `NoMemory` if there is no memory.
 fn room_to_open(alloc: Global, tablet: &Tablet) -> Result<OpenRoom, Refusal>
     ensures room { IfOk result (λ room. HasOpenRoom room 1 tablet.now) }
-    ensures refusal { IfErr result (λ refusal. refusal ≡ Refusal.NoMemory) }
+    ensures refusal { IsOkUnless result Refusal.NoMemory }
 {
     let range = tablet.range().clone()?;
     let names = room_for_names(alloc, tablet)?;
@@ -83,7 +83,7 @@ impl<F: Files> Cluster<F> {
         ensures tablets { IfOk result (λ room.
             IsEmptyFor (length self.now.places + 1) room.tablets) }
         ensures table { IsTable self.now.places }
-        ensures refusal { IfErr result (λ refusal. refusal ≡ Refusal.NoMemory) }
+        ensures refusal { IsOkUnless result Refusal.NoMemory }
     {
         let count = self.table.len();
         let index = self.position(holder);
@@ -185,7 +185,7 @@ impl<F: Files> Cluster<F> {
     fn room_for_move(&self, tablet: u32) -> Result<OpenRoom, Refusal>
         requires known { HasTablet tablet self.now.places }
         ensures room { IfOk result (λ room. Numbered (HasOpenRoom room 1) tablet self.now.tablets) }
-        ensures refusal { IfErr result (λ refusal. refusal ≡ Refusal.NoMemory) }
+        ensures refusal { IsOkUnless result Refusal.NoMemory }
     {
         let index = self.position(tablet);
         room_to_open(self.alloc, &self.tablets[index])

@@ -1,9 +1,10 @@
 //! Removal of files that no tablet has.
 
-ghost use Rattle.std.specs.Prelude.{◌≡◌, ◌⊎◌, IfErr, IfOk, IfSome, OnErr, OnOk, length};
+ghost use Rattle.std.specs.Prelude.{◌≡◌, IfErr, IfOk, IfSome, OnErr, OnOk, length};
 ghost use Rattle.std.specs.FinMap.{keys};
 ghost use Rattle.cell_key.specs.Faults.{HasReason};
 ghost use Rattle.file_store.specs.Store.{MayLack, without_file};
+ghost use Rattle.sorted_file.specs.Source.{IsFaultRefusal};
 ghost use Rattle.row_atomic.specs.Sweeps.{MayLackUnkept, is_kept, unkept, without_files};
 ghost use Rattle.row_atomic.specs.Commands.{IsOutcome, swept_of};
 
@@ -27,8 +28,7 @@ fn is_kept(table: &MetadataTable, name: u64) -> bool
 fn remove<F: Files>(files: &mut F, name: u64) -> Result<(), Refusal>
     ensures ok { OnOk result (F.contents files.new ≡ without_file name (F.contents files.old)) }
     ensures err { OnErr result (MayLack name (F.contents files.old) (F.contents files.new)) }
-    ensures refusal { IfErr result (λ refusal. (refusal ≡ Refusal.Device)
-        ⊎ (refusal ≡ Refusal.NoMemory)) }
+    ensures refusal { IfErr result IsFaultRefusal }
     ensures reason { HasReason (F.faults files.old) (F.faults files.new) result }
 {
     files.remove(name).map_err(|fault| refusal_of(fault))
@@ -44,8 +44,7 @@ fn remove_unkept<F: Files>(
         ≡ without_files (unkept table.now names.items) (F.contents files.old)) }
     ensures count { IfOk result (λ count. count ≡ length (unkept table.now names.items)) }
     ensures lacks { MayLackUnkept table.now (F.contents files.old) (F.contents files.new) }
-    ensures refusal { IfErr result (λ refusal. (refusal ≡ Refusal.Device)
-        ⊎ (refusal ≡ Refusal.NoMemory)) }
+    ensures refusal { IfErr result IsFaultRefusal }
     ensures reason { HasReason (F.faults files.old) (F.faults files.new) result }
 {
     let mut count = 0;
@@ -63,8 +62,7 @@ fn names_of<F: Files>(alloc: Global, files: &mut F) -> Result<Vec<u64>, Refusal>
     ensures names { IfOk result (λ names.
         IfSome (F.contents files.old) (λ m. names.items ≡ keys m)) }
     ensures same { F.contents files.new ≡ F.contents files.old }
-    ensures refusal { IfErr result (λ refusal. (refusal ≡ Refusal.Device)
-        ⊎ (refusal ≡ Refusal.NoMemory)) }
+    ensures refusal { IfErr result IsFaultRefusal }
     ensures reason { HasReason (F.faults files.old) (F.faults files.new) result }
 {
     let mut names = Vec::new(alloc);
