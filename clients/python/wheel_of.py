@@ -1,4 +1,7 @@
-"""Makes the wheel of this package, for pip: without any other package, so that it needs no network."""
+"""Makes the wheel of this package, for pip: without any other package, so that it needs no network.
+
+`scripts/package` makes one that has a program in it too, for machines of one kind.
+"""
 
 from __future__ import annotations
 
@@ -8,10 +11,13 @@ import runpy
 import tarfile
 import tomllib
 from pathlib import Path
-from zipfile import ZIP_DEFLATED, ZipFile
+from zipfile import ZIP_DEFLATED, ZipFile, ZipInfo
 
 HERE = Path(__file__).resolve().parent
-WHEEL = "Wheel-Version: 1.0\nGenerator: wheel_of\nRoot-Is-Purelib: true\nTag: py3-none-any\n"
+
+# Where a wheel has its program, and what a wheel is for that has none.
+PROGRAM = "duqishom/tabletd"
+ANY = "py3-none-any"
 
 
 def described() -> tuple[str, str, dict[str, str]]:
@@ -41,23 +47,31 @@ def build_editable(wheel_directory: str, config_settings: object = None, metadat
     return write_wheel(wheel_directory, {"duqishom.pth": f"{HERE}\n".encode()})
 
 
-def write_wheel(folder: str, files: dict[str, bytes]) -> str:
-    """Writes a wheel of these files: its name."""
+def build_program_wheel(folder: str, program: bytes, platform: str) -> str:
+    """Writes the wheel with a program, which runs on a platform, into a folder: its name."""
+    return write_wheel(folder, {**sources(), PROGRAM: program}, f"py3-none-{platform}")
+
+
+def write_wheel(folder: str, files: dict[str, bytes], tag: str = ANY) -> str:
+    """Writes a wheel of these files: its name. Its files have no times, so that it is the same each time."""
     name, metadata, commands = described()
     info = f"{name}.dist-info"
     entries = "".join(f"{command} = {target}\n" for command, target in commands.items())
+    pure = "true" if tag == ANY else "false"
     files = {
         **files,
         f"{info}/METADATA": metadata.encode(),
-        f"{info}/WHEEL": WHEEL.encode(),
+        f"{info}/WHEEL": f"Wheel-Version: 1.0\nGenerator: wheel_of\nRoot-Is-Purelib: {pure}\nTag: {tag}\n".encode(),
         f"{info}/entry_points.txt": f"[console_scripts]\n{entries}".encode(),
     }
     record = "".join(f"{file},sha256={digest(data)},{len(data)}\n" for file, data in files.items())
-    wheel = f"{name}-py3-none-any.whl"
+    files[f"{info}/RECORD"] = f"{record}{info}/RECORD,,\n".encode()
+    wheel = f"{name}-{tag}.whl"
     with ZipFile(Path(folder) / wheel, "w", ZIP_DEFLATED) as made:
         for file, data in files.items():
-            made.writestr(file, data)
-        made.writestr(f"{info}/RECORD", f"{record}{info}/RECORD,,\n")
+            entry = ZipInfo(file)
+            entry.external_attr = (0o100755 if file == PROGRAM else 0o100644) << 16
+            made.writestr(entry, data, ZIP_DEFLATED)
     return wheel
 
 

@@ -39,10 +39,15 @@ class ProgramEnded(Exception):
 
 
 def default_program() -> str:
-    """The program that is started where none is named: that of the environment's TABLETD, then the tabletd on PATH, then the
-    scripts/tabletd of the repository in which this package stands, which builds it where need be."""
-    repository = Path(__file__).resolve().parents[3] / "scripts" / "tabletd"
-    return os.environ.get("TABLETD") or shutil.which("tabletd") or str(repository)
+    """The program that is started where none is named: that of the environment's TABLETD, then the one that was installed with this
+    package, then the tabletd on PATH, then the scripts/tabletd of the repository in which this package stands, which builds it
+    where need be. FileNotFoundError where none is there."""
+    package = Path(__file__).resolve().parent
+    own, repository = str(package / "tabletd"), str((package / "../../../scripts/tabletd").resolve())
+    found = os.environ.get("TABLETD") or shutil.which(own) or shutil.which("tabletd") or shutil.which(repository)
+    if found is None:
+        raise FileNotFoundError("there is no tabletd: neither on PATH nor in this package, and TABLETD names none")
+    return found
 
 
 class Program:

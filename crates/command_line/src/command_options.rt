@@ -1,4 +1,7 @@
-//! What the command line can say: the options, and their limits.
+//! What the command line can say: the options, and their limits; and the version that it prints.
+
+/// The version, which `--version` prints. That of the Python client is the same.
+pub const VERSION: &str = "0.7.0";
 
 /// How many entries a memtable has, if the command line says nothing else, before it is compacted.
 pub const DEFAULT_FLUSH: u32 = 10_000;
