@@ -72,7 +72,7 @@ def put(tree: Path, contents: dict[str, File]) -> None:
 
 
 def write(folder: Path, version: str, glibc: str, contents: dict[str, File], made_at: int) -> Path:
-    """Writes the package into a folder: its file. Its files have this time, so that the package is the same each time."""
+    """Writes the package into a folder: its file. Its files have this time, so that it is the same whenever it is made."""
     architecture = subprocess.check_output(["dpkg", "--print-architecture"], text=True).strip()
     size = sum(len(file.data) for file in contents.values())
     own = {"DEBIAN/control": File(control(version, architecture, glibc, size).encode())}

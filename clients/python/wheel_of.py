@@ -48,15 +48,15 @@ def build_editable(wheel_directory: str, config_settings: object = None, metadat
 
 
 def build_program_wheel(folder: str, program: bytes, platform: str) -> str:
-    """Writes the wheel with a program, which runs on a platform, into a folder: its name."""
-    return write_wheel(folder, {**sources(), PROGRAM: program}, f"py3-none-{platform}")
+    """Writes the wheel with a program, which runs on a platform, into a folder: its name. It has the command tabletd too."""
+    return write_wheel(folder, {**sources(), PROGRAM: program}, f"py3-none-{platform}", {"tabletd": "duqishom.program:run"})
 
 
-def write_wheel(folder: str, files: dict[str, bytes], tag: str = ANY) -> str:
-    """Writes a wheel of these files: its name. Its files have no times, so that it is the same each time."""
+def write_wheel(folder: str, files: dict[str, bytes], tag: str = ANY, more: dict[str, str] | None = None) -> str:
+    """Writes a wheel of these files, and with more commands: its name. Its files have no times: so it is always the same."""
     name, metadata, commands = described()
     info = f"{name}.dist-info"
-    entries = "".join(f"{command} = {target}\n" for command, target in commands.items())
+    entries = "".join(f"{command} = {target}\n" for command, target in {**commands, **(more or {})}.items())
     pure = "true" if tag == ANY else "false"
     files = {
         **files,

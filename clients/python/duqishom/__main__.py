@@ -20,8 +20,9 @@ from duqishom.words import LINES, Quit, Words, answer_all, complete, help_of
 GREETING = "duqishom {version}: {store}. The line help shows all lines; quit or the end of the input ends it."
 
 DESCRIPTION = """\
-Asks a store in words: those of the command line are one line; without any, each line of the input is one. A line's own help is
-that of LINE --help. Some first words are commands of their own."""
+Asks a store in words. Those of the command line are one line; without any,
+each line of the input is one. LINE --help shows the help of one. Some first
+words are commands of their own."""
 
 # The first words that stand for commands of their own, each with what runs it on the words behind.
 COMMANDS = {

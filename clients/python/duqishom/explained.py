@@ -39,7 +39,8 @@ class Locked:
         commit = self.fate.commit if isinstance(self.fate, Committed) else None
         state = "committed" if commit else "running" if isinstance(self.fate, Pending) else "rolled back"
         first = cell_data(self.lock.row, self.lock.family)
-        return {"session": self.start, "kind": self.lock.kind.name.lower(), "first": first, "state": state, "commit": commit}
+        kind = self.lock.kind.name.lower()
+        return {"session": self.start, "kind": kind, "first": first, "state": state, "commit": commit}
 
 
 def text_of_fate(found: Fate) -> str:
@@ -85,7 +86,7 @@ def locks(store: Store, asked: CellRange) -> Iterator[Locked]:
 
 
 def explain(store: Store, cell: Cell) -> Told:
-    """All that a cell has: its value, its locks, its records with their values from the newest on, and values without a record."""
+    """All that a cell has: its value, its locks, its records with their values, the newest first, and other values."""
     held = [lock_of(store, cell, version) for version in versions(store, cell, Qualifier.LOCK)]
     records = [(version.stamp, read_record(version.value)) for version in versions(store, cell, Qualifier.WRITE)]
     values = {version.stamp: version.value for version in versions(store, cell, Qualifier.DATA)}
@@ -100,7 +101,8 @@ def explain(store: Store, cell: Cell) -> Told:
         lines.append(f"record {commit}: {was} by session {record.start}")
     known = {lock.start for lock in held} | {record.start for _, record in records}
     rest = [start for start in values if start not in known]
-    lines += [f"data {start}: {text_of(values[start])}, of session {start}, which has no lock and no record here" for start in rest]
+    unknown = "which has no lock and no record here"
+    lines += [f"data {start}: {text_of(values[start])}, of session {start}, {unknown}" for start in rest]
     data = cell_data(*cell) | {
         "value": None if value is None else as_data(value),
         "locks": [lock.data() for lock in held],

@@ -26,8 +26,8 @@ class Misspelled(Exception):
 
 @dataclass(frozen=True)
 class Line:
-    """A line of the command: its words, of which those in capitals stand for something, what it does, how it is done, and what adds
-    the options that it takes."""
+    """A line of the command: its words, of which those in capitals stand for something, what it does, how it is done, and
+    what adds the options that it takes."""
 
     usage: str
     help: str
@@ -156,7 +156,7 @@ def read_line(parsers: Mapping[str, LineParser], words: Sequence[str]) -> tuple[
 
 
 def split_words(text: str) -> list[str]:
-    """The words of a line. Between quotes blanks belong to a word; a backslash is nothing special, for escapes begin with it."""
+    """The words of a line. Between quotes blanks belong to a word. A backslash is nothing special: escapes begin with it."""
     parts = shlex.shlex(text, posix=True)
     parts.whitespace_split = True
     parts.commenters = ""

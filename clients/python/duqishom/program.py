@@ -6,12 +6,17 @@ import os
 import shutil
 import signal
 import subprocess
+import sys
 from collections.abc import Sequence
 from pathlib import Path
+from typing import NoReturn
 
 from duqishom.connection import LONGEST_BODY, Frames, StreamEnded
 from duqishom.recording import Recording
 from duqishom.refusals import FrameTooLarge
+
+# Where a package that was made with a program has it.
+OWN = Path(__file__).resolve().parent / "tabletd"
 
 # How many seconds a program may take to end once its input has ended.
 PATIENCE = 300
@@ -42,12 +47,16 @@ def default_program() -> str:
     """The program that is started where none is named: that of the environment's TABLETD, then the one that was installed with this
     package, then the tabletd on PATH, then the scripts/tabletd of the repository in which this package stands, which builds it
     where need be. FileNotFoundError where none is there."""
-    package = Path(__file__).resolve().parent
-    own, repository = str(package / "tabletd"), str((package / "../../../scripts/tabletd").resolve())
-    found = os.environ.get("TABLETD") or shutil.which(own) or shutil.which("tabletd") or shutil.which(repository)
+    repository = str((OWN.parent / "../../../scripts/tabletd").resolve())
+    found = os.environ.get("TABLETD") or shutil.which(str(OWN)) or shutil.which("tabletd") or shutil.which(repository)
     if found is None:
         raise FileNotFoundError("there is no tabletd: neither on PATH nor in this package, and TABLETD names none")
     return found
+
+
+def run() -> NoReturn:
+    """Becomes the program that was installed with this package, with the words of the command line."""
+    os.execv(OWN, ["tabletd", *sys.argv[1:]])
 
 
 class Program:

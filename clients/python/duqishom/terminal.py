@@ -45,7 +45,7 @@ def history_file() -> Path:
 
 @contextmanager
 def editing(complete: Complete) -> Iterator[None]:
-    """Has lines be completed and kept, where Python can do that. A history that can't be read or written is left out."""
+    """Has lines be completed and kept, where Python can do that. A history that can't be read or written is left."""
     if readline is None:
         yield
         return

@@ -70,8 +70,8 @@ class Words:
         self._socket = socket
 
     def answer(self, text: str) -> tuple[bool, Told | None]:
-        """Whether a line was done, and what there is to say of it: nothing of an empty line. Quotes make one word of several, and
-        of none. Quit where the line ends the command."""
+        """Whether a line was done, and what there is to say of it: nothing of an empty line. Quotes make one word of several,
+        and of none. Quit where the line ends the command."""
         try:
             words = split_words(text)
         except ValueError as why:
@@ -174,7 +174,8 @@ class Words:
 
         transaction, left, got = self._store.run(work)
         stamp = transaction.commit_stamp
-        return Told(f"committed at {stamp}: {names[0]} has {left}, {names[1]} has {got}", {"commit": stamp, "left": left, "got": got})
+        text = f"committed at {stamp}: {names[0]} has {left}, {names[1]} has {got}"
+        return Told(text, {"commit": stamp, "left": left, "got": got})
 
     def begin(self) -> Told:
         """Begins a session."""
@@ -237,13 +238,14 @@ class Words:
         return Told(text_of_version(version, column), data, b"" if version is None else version.value)
 
     def tablets(self) -> Told:
-        """The tablets, in the order of their rows. Those of a folder with their servers and files at the last checkpoint."""
+        """The tablets, in the order of their rows. Those of a folder with their servers and files at its last checkpoint."""
         folder = self._store.folder
         kept = {} if folder is None else {tablet.number: tablet for tablet in read_root(Path(folder)).tablets}
         lines, data = list[str](), list[dict[str, object]]()
         for tablet in self._store.tablets():
             text = f"{tablet.number} up to {text_of_end(tablet.end)}"
-            figures: dict[str, object] = {"tablet": tablet.number, "end": None if tablet.end is None else as_data(tablet.end)}
+            end = None if tablet.end is None else as_data(tablet.end)
+            figures: dict[str, object] = {"tablet": tablet.number, "end": end}
             if folder is not None and (place := kept.get(tablet.number)) is not None:
                 sizes = [states.size_of(Path(folder) / file_name(name)) for name, _ in place.files]
                 text += f": server {place.server}, {len(sizes)} files, {sum(sizes):,} bytes"
@@ -312,7 +314,7 @@ LINES = (
     Line("in START step", "takes the session's next step", Words.session_step),
     Line("in START stop", "ends the session where it stands", Words.session_stop),
     Line("explain ROW FAMILY", "all that a cell has: its value, locks, records and data", Words.explain),
-    Line("locks [START [END]] [OPTIONS]", "the locks of such a range, and what became of their sessions", Words.locks, add_range),
+    Line("locks [START [END]] [OPTIONS]", "the locks of such a range, and their sessions' ends", Words.locks, add_range),
     Line("status", "the state of the store: of its folder, or as its gateway counts", Words.status),
     Line("clients", "how many clients the gateway has", Words.clients),
     Line("clean ROW FAMILY", "clears the lock of a cell", Words.clean),

@@ -83,8 +83,9 @@ class Packages(unittest.TestCase):
         wanted = DEBIAN | dict.fromkeys((PYTHON + path for path in sources()), "-rw-r--r--")
         wanted |= dict.fromkeys((PAGES + page.name for page in TOP.glob("docs/*.md")), "-rw-r--r--")
         self.assertEqual(files, wanted)
-        about = subprocess.check_output(["dpkg-deb", "--field", self.made[0], "Package", "Version", "Depends"], text=True)
-        self.assertRegex(about, rf"\APackage: duqishom\nVersion: {re.escape(VERSION)}\nDepends: libc6 \(>= 2\.\d+\), .*python3 \(>= 3\.11\)\n\Z")
+        about = subprocess.check_output(["dpkg-deb", "--field", self.made[0], "Version", "Depends"], text=True)
+        needs = r"libc6 \(>= 2\.\d+\), libgcc-s1, python3 \(>= 3\.11\)"
+        self.assertRegex(about, rf"\AVersion: {re.escape(VERSION)}\nDepends: {needs}\n\Z")
 
     def test_debian_files(self) -> None:
         """The command of the unpacked package runs its program, and each option of a program is on its page."""
@@ -121,6 +122,8 @@ class Packages(unittest.TestCase):
         self.assertEqual(said, "")
         found = self.run_in(python, "from duqishom.program import default_program; print(default_program())").rstrip()
         self.assertEqual(Path(found).parent.parent.name, "site-packages")
+        said = subprocess.check_output([self.path / "venv" / "bin" / "tabletd", "--version"], text=True)
+        self.assertEqual(said, f"tabletd {VERSION}\n")
 
     def test_no_program(self) -> None:
         """A package without a program says so."""

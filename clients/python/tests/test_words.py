@@ -13,6 +13,8 @@ import unittest
 from pathlib import Path
 
 from duqishom.texts import bytes_of, text_of
+from duqishom.version import VERSION
+from tests.gateways import Gateway, set_, step
 
 FOLDER = Path(__file__).resolve().parents[1]
 
@@ -213,6 +215,19 @@ class Words(unittest.TestCase):
             status, lines = answers("status", "--dir", folder)
             self.assertEqual((status, lines[1:3]), (0, ["tablets: 1", "files: 1"]))
 
+    def test_gateway(self) -> None:
+        """Another client holds a cell. Its lock is told of, and it is counted."""
+        gateway = Gateway(self)
+        wire = gateway.wire()
+        wire.ask(set_(start := wire.begin(), b"Bob", b"3"))
+        wire.ask(step(start))
+        status, lines = answers("locks\nclients\nstatus\ntablets", "--socket", gateway.path)
+        held = "Bob c: session 1 sets it; its first cell is Bob c; it hasn't committed"
+        self.assertEqual((status, lines[:2]), (1, [held, "3 connected, twice by this command"]))
+        self.assertLessEqual({f"version: {VERSION}", "requests Step: 1", "open sessions: 1"}, set(lines))
+        self.assertNotIn("requests Major: 0", lines)
+        self.assertEqual(lines[-1], "not done: other clients may have split the tablets of a gateway's store")
+
     def test_forms(self) -> None:
         words = "set Bob bal 'a \\x00'\nget Bob bal\nget Joe bal\nscan --keys\ncount\nexplain Bob bal\nfoo\n"
         wanted: list[object] = [
@@ -233,7 +248,8 @@ class Words(unittest.TestCase):
         ]
         status, lines = answers(words, "--json")
         self.assertEqual((status, [json.loads(line) for line in lines]), (1, wanted))
-        self.assertEqual(answers("set Bob bal 'a b'\nget Bob bal\nget Joe bal\nscan", "--raw"), (0, ["committed at 2", "a b", "Bob\tbal\ta b"]))
+        words = "set Bob bal 'a b'\nget Bob bal\nget Joe bal\nscan"
+        self.assertEqual(answers(words, "--raw"), (0, ["committed at 2", "a b", "Bob\tbal\ta b"]))
 
     def test_help_of_a_line(self) -> None:
         """No store is opened for it. In a line with no options each word stands for itself."""
@@ -251,7 +267,8 @@ class Words(unittest.TestCase):
         """Words are completed, long answers come by pages, and the history stays."""
         with tempfile.TemporaryDirectory() as folder:
             ours, theirs = pty.openpty()
-            place = {**os.environ, "XDG_STATE_HOME": folder, "TERM": "dumb", "PAGER": "tr a-z A-Z", "LINES": "9", "COLUMNS": "80"}
+            shown = {"TERM": "dumb", "PAGER": "tr a-z A-Z", "LINES": "9", "COLUMNS": "80"}
+            place = {**os.environ, **shown, "XDG_STATE_HOME": folder}
             command = [sys.executable, "-m", "duqishom"]
             with subprocess.Popen(command, cwd=FOLDER, env=place, stdin=theirs, stdout=theirs, stderr=theirs) as child:
                 os.close(theirs)
