@@ -1,4 +1,4 @@
-"""The Debian package: a tree of files, which dpkg-deb makes a package of."""
+"""The Debian package: a tree of files, which dpkg-deb packs."""
 
 from __future__ import annotations
 
@@ -27,19 +27,19 @@ sys.exit(run())
 
 
 class File(NamedTuple):
-    """The bytes of a file, and whether it is run."""
+    """The bytes of a file, and whether it can be executed."""
 
     data: bytes
     is_run: bool = False
 
 
 def zipped(text: str) -> File:
-    """A file that is compressed, and has no time in it."""
+    """A compressed file without a time in it."""
     return File(gzip.compress(text.encode(), mtime=0))
 
 
 def files(tabletd: Path, python: dict[str, bytes], manuals: dict[str, str]) -> dict[str, File]:
-    """The files of the package, by their paths: with this program, Python package and manual pages."""
+    """The files of the package, by their paths, with this program, Python package and manual pages."""
     found = {"usr/bin/tabletd": File(tabletd.read_bytes(), True), "usr/bin/duqishom": File(COMMAND, True)}
     found |= {f"{PYTHON}/{path}": File(data) for path, data in python.items()}
     found |= {f"usr/share/man/man1/{name}.1.gz": zipped(text) for name, text in manuals.items()}
@@ -52,7 +52,7 @@ def files(tabletd: Path, python: dict[str, bytes], manuals: dict[str, str]) -> d
 
 
 def control(version: str, architecture: str, glibc: str, size: int) -> str:
-    """What the package says of itself: it needs this C library, and has so many bytes."""
+    """The control file. `glibc` is the least version of the C library, and `size` is in bytes."""
     values = {"VERSION": version, "ARCHITECTURE": architecture, "GLIBC": glibc, "SIZE": str(-(-size // 1024))}
     text = (HERE / "control").read_text(encoding="utf-8")
     for name, value in values.items():
@@ -61,7 +61,7 @@ def control(version: str, architecture: str, glibc: str, size: int) -> str:
 
 
 def put(tree: Path, contents: dict[str, File]) -> None:
-    """Puts files into a tree, each with its mode, whatever the umask is."""
+    """Writes files into a tree, each with its mode, whatever the umask is."""
     for path, file in contents.items():
         place = tree / path
         place.parent.mkdir(parents=True, exist_ok=True)
@@ -72,7 +72,8 @@ def put(tree: Path, contents: dict[str, File]) -> None:
 
 
 def write(folder: Path, version: str, glibc: str, contents: dict[str, File], made_at: int) -> Path:
-    """Writes the package into a folder: its file. Its files have this time, so that it is the same whenever it is made."""
+    """Writes the package into a folder. Its files have this time, so that the same files give the same package. Returns
+    its path."""
     architecture = subprocess.check_output(["dpkg", "--print-architecture"], text=True).strip()
     size = sum(len(file.data) for file in contents.values())
     own = {"DEBIAN/control": File(control(version, architecture, glibc, size).encode())}

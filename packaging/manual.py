@@ -1,4 +1,4 @@
-"""Manual pages, made of what programs say of themselves when they are asked for help."""
+"""Manual pages, made from the help texts of programs."""
 
 from __future__ import annotations
 
@@ -9,12 +9,12 @@ from typing import NamedTuple
 HEADING = re.compile(r"[A-Za-z ]+:")
 ENTRY = re.compile(r"  +(\S.*?)(?:  +(\S.*))?")
 
-# Entries that say nothing of their own.
+# The entry that each help has.
 HELP_ENTRY = "-h, --help"
 
 
 class Help(NamedTuple):
-    """What a help has: how the words stand, what is done, and each option or word with its meaning."""
+    """The parts of a help text: the usage, the description, and each option or argument with its meaning."""
 
     usage: str
     text: str
@@ -22,7 +22,7 @@ class Help(NamedTuple):
 
 
 def read(said: str) -> Help:
-    """The parts of a help, whose lines are as long as they are."""
+    """The parts of a help text whose lines aren't wrapped."""
     usage, text, entries = "", list[str](), list[tuple[str, str]]()
     for block in re.split(r"\n\s*\n", said.strip("\n")):
         first, *rest = block.splitlines()
@@ -36,7 +36,7 @@ def read(said: str) -> Help:
 
 
 def entries_of(lines: list[str]) -> Iterator[tuple[str, str]]:
-    """The entries that lines have. A meaning may stand in the line behind its word."""
+    """The entries of these lines. A meaning may be on the line after its option."""
     word = ""
     for line in lines:
         found = ENTRY.fullmatch(line)
@@ -51,7 +51,7 @@ def entries_of(lines: list[str]) -> Iterator[tuple[str, str]]:
 
 
 def escaped(text: str) -> str:
-    """A text as troff reads it."""
+    """A text with the escapes of troff."""
     return re.sub(r"^([.'])", r"\\&\1", text.replace("\\", "\\e").replace("-", "\\-"))
 
 
@@ -66,7 +66,7 @@ def lines_of(part: Help) -> Iterator[str]:
 
 
 def page(name: str, version: str, what: str, own: str, others: dict[str, str]) -> str:
-    """The page of a program: what it is in a line, its own help, and those of its commands by their names."""
+    """The page of a program, from its summary, its own help text, and those of its commands by their names."""
     whole = read(own)
     lines = [f'.TH {name.upper()} 1 "" "{name} {version}"', ".SH NAME", f"{name} \\- {escaped(what)}"]
     lines += [".SH SYNOPSIS", f".B {escaped(whole.usage)}", ".SH DESCRIPTION", *lines_of(whole)]

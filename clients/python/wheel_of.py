@@ -1,6 +1,6 @@
-"""Makes the wheel of this package, for pip: without any other package, so that it needs no network.
+"""Builds the wheel of this package for pip, without any other package, so that it needs no network.
 
-`scripts/package` makes one that has a program in it too, for machines of one kind.
+`scripts/package` builds one that has a program in it too, for one kind of machine.
 """
 
 from __future__ import annotations
@@ -15,7 +15,7 @@ from zipfile import ZIP_DEFLATED, ZipFile, ZipInfo
 
 HERE = Path(__file__).resolve().parent
 
-# Where a wheel has its program, and what a wheel is for that has none.
+# The place of the program in a wheel, and the tag of a wheel without one.
 PROGRAM = "duqishom/tabletd"
 ANY = "py3-none-any"
 
@@ -38,22 +38,23 @@ def sources() -> dict[str, bytes]:
 
 
 def build_wheel(wheel_directory: str, config_settings: object = None, metadata_directory: object = None) -> str:
-    """Writes the wheel into a folder: its name."""
+    """Writes the wheel into a folder. Returns its name."""
     return write_wheel(wheel_directory, sources())
 
 
 def build_editable(wheel_directory: str, config_settings: object = None, metadata_directory: object = None) -> str:
-    """Writes a wheel that points to the sources here into a folder: its name."""
+    """Writes a wheel that points to the sources here into a folder. Returns its name."""
     return write_wheel(wheel_directory, {"duqishom.pth": f"{HERE}\n".encode()})
 
 
 def build_program_wheel(folder: str, program: bytes, platform: str) -> str:
-    """Writes the wheel with a program, which runs on a platform, into a folder: its name. It has the command tabletd too."""
+    """Writes the wheel with a program for this platform, and a command that runs it, into a folder. Returns its name."""
     return write_wheel(folder, {**sources(), PROGRAM: program}, f"py3-none-{platform}", {"tabletd": "duqishom.program:run"})
 
 
 def write_wheel(folder: str, files: dict[str, bytes], tag: str = ANY, more: dict[str, str] | None = None) -> str:
-    """Writes a wheel of these files, and with more commands: its name. Its files have no times: so it is always the same."""
+    """Writes a wheel of these files, with more commands if any are given. It has no times, so that the same files give
+    the same wheel. Returns its name."""
     name, metadata, commands = described()
     info = f"{name}.dist-info"
     entries = "".join(f"{command} = {target}\n" for command, target in {**commands, **(more or {})}.items())
@@ -76,12 +77,12 @@ def write_wheel(folder: str, files: dict[str, bytes], tag: str = ANY, more: dict
 
 
 def digest(data: bytes) -> str:
-    """The checksum of a file, as a wheel has it."""
+    """The checksum of a file, in a wheel's format."""
     return base64.urlsafe_b64encode(hashlib.sha256(data).digest()).rstrip(b"=").decode()
 
 
 def build_sdist(sdist_directory: str, config_settings: object = None) -> str:
-    """Writes the sources as an archive into a folder: its name."""
+    """Writes the sources as an archive into a folder. Returns its name."""
     name = described()[0]
     with tarfile.open(Path(sdist_directory) / f"{name}.tar.gz", "w:gz") as made:
         for file in ("pyproject.toml", "wheel_of.py", *sources()):

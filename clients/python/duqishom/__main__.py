@@ -1,4 +1,5 @@
-"""`python3 -m duqishom`: asks a store in words, from a terminal, a pipe or the command line; or looks into a folder."""
+"""`python3 -m duqishom`: a command shell for a store, used from a terminal, a pipe or the command line, and
+subcommands."""
 
 from __future__ import annotations
 
@@ -21,10 +22,10 @@ GREETING = "duqishom {version}: {store}. The line help shows all lines; quit or 
 
 DESCRIPTION = """\
 Asks a store in words. Those of the command line are one line; without any,
-each line of the input is one. LINE --help shows the help of one. Some first
-words are commands of their own."""
+each line of the input is one. LINE --help shows the help of one. Subcommands
+have options of their own."""
 
-# The first words that stand for commands of their own, each with what runs it on the words behind.
+# The subcommands by their first words, each with the function that runs it on the words after it.
 COMMANDS = {
     "inspect": inspection.main,
     "serve": gateway.main,
@@ -35,8 +36,8 @@ COMMANDS = {
     "load": dumps.load_main,
 }
 
-
-OWN = (
+# The subcommands as the help shows them.
+SHOWN = (
     ("inspect FOLDER", "looks into a folder, without a program"),
     ("serve --socket PATH", "serves a store to many clients"),
     ("stats --socket PATH", "what such a gateway counts"),
@@ -47,9 +48,9 @@ OWN = (
 
 
 def epilog() -> str:
-    """The lines and the commands, in two tables."""
+    """The lines and the subcommands, in two tables."""
     table = [(line.usage, line.help) for line in LINES if line.help]
-    parts = (("lines", table), ("commands of their own", OWN))
+    parts = (("lines", table), ("subcommands", SHOWN))
     return "\n\n".join("\n".join([f"{name}:", *(f"  {form:33}{does}" for form, does in part)]) for name, part in parts)
 
 
@@ -61,14 +62,14 @@ def parser() -> argparse.ArgumentParser:
         epilog=epilog(),
         formatter_class=argparse.RawDescriptionHelpFormatter,
     )
-    made.add_argument("--program", help="the tabletd to start: that of TABLETD, this package or PATH where none is named")
+    made.add_argument("--program", help="the tabletd to start: that of TABLETD, this package or PATH if none is named")
     place = made.add_mutually_exclusive_group()
-    place.add_argument("--dir", help="the folder of the store: a new store in memory where none is named")
+    place.add_argument("--dir", help="the folder of the store: a new store in memory if none is named")
     place.add_argument("--socket", metavar="PATH", help="ask the store that a gateway serves there; no program is started")
     made.add_argument(
         "--log",
         action=argparse.BooleanOptionalAction,
-        help="have the folder get a log, or a new one get none: a new one gets a log where nothing is said",
+        help="have the folder get a log, or a new one get none: a new one gets a log if nothing is said",
     )
     made.add_argument("--log-bytes", metavar="L", help="given to the program: bytes of a log before a checkpoint empties it")
     made.add_argument("--flush", metavar="N", help="given to the program: how many entries a memtable has before it is compacted")
@@ -87,14 +88,14 @@ def parser() -> argparse.ArgumentParser:
 
 
 def place_of(options: argparse.Namespace) -> str:
-    """Which store is asked, in words."""
+    """The store that is asked, in words."""
     if options.socket:
         return f"the store that is served at {options.socket}"
     return f"the store of {options.dir}" if options.dir else "a new store in memory, which ends with this command"
 
 
 def main(given: Sequence[str]) -> int:
-    """Runs the command. The status is 0 where each line was done, 1 where one was not, and 2 where the program failed."""
+    """Runs the command. The status is 0 if each line was done, 1 if one was not, and 2 if the program failed."""
     if given[:1] and given[0] in COMMANDS:
         try:
             return COMMANDS[given[0]](given[1:])
@@ -134,7 +135,7 @@ def opened(options: argparse.Namespace) -> Store:
 
 
 def asked(words: Words, options: argparse.Namespace) -> int:
-    """Does the line of the options, or else those of the input: 0 where each was done, and 1 where one was not."""
+    """Does the line of the options, or else those of the input. Returns 0 if each was done, and 1 if one was not."""
     if options.words:
         try:
             is_done, told = words.answer_words(options.words)

@@ -92,9 +92,9 @@ Result = TypeVar("Result")
 
 
 class Store:
-    """The store that a gateway serves at a socket. Each method that asks raises a `Refused` where the store refuses,
-    `ConnectionLost` where the gateway has closed the connection, and `TimeoutError` where a timeout was given and has
-    passed."""
+    """The store that a gateway serves at a socket. Each method that sends a request raises a `Refused` if the store
+    refuses it, `ConnectionLost` if the gateway has closed the connection, and `TimeoutError` if a timeout was given and
+    has passed."""
 
     def __init__(
         self, socket: str | PathLike[str], patience: Patience = Patience(), timeout: float | None = None
@@ -105,7 +105,7 @@ class Store:
         self._timeout = timeout
 
     async def open(self) -> None:
-        """Connects. OSError where nobody serves there."""
+        """Connects. OSError if no gateway serves at the socket."""
         self._stream = await FrameStream.open(self._path)
 
     async def ask(self, operation: Operation[Answer]) -> Answer:
@@ -123,7 +123,7 @@ class Store:
         return [answer_or_refusal(operation, reply) for operation, reply in zip(operations, replies)]
 
     async def begin(self) -> int:
-        """Begins a session: its start."""
+        """Begins a session, and returns its start."""
         return await self.ask(Begin())
 
     async def get(self, start: int, row: bytes, family: bytes) -> Found:
@@ -139,7 +139,7 @@ class Store:
         keys_only: bool = False,
         cells: int = MOST_CELLS,
     ) -> Scanned:
-        """Reads the cells of a range as of the session's start, as `Store.scan` of the other twin does."""
+        """Reads the cells of a range as of the session's start, as `duqishom.Store.scan` does."""
         return await self.ask(Scan(start, after, end, family, keys_only, cells))
 
     async def set(self, start: int, row: bytes, family: bytes, value: bytes) -> None:
@@ -155,11 +155,11 @@ class Store:
         return await self.ask(Step(start))
 
     async def stop(self, start: int) -> None:
-        """Ends the session where it stands. The cells that it holds stay locked until they are cleaned."""
+        """Ends the session in its current phase. The cells that it holds stay locked until they are cleaned."""
         await self.ask(Stop(start))
 
     async def clean_begin(self, row: bytes, family: bytes) -> Cleaner | None:
-        """Opens a cleaner at the lock of a cell, and None where no lock stands."""
+        """Opens a cleaner at the lock of a cell. Returns None if the cell isn't locked."""
         return await self.ask(CleanBegin(row, family))
 
     async def clean_step(self, cleaner: int) -> Cleaned:
@@ -167,7 +167,8 @@ class Store:
         return await self.ask(CleanStep(cleaner))
 
     async def clean(self, row: bytes, family: bytes) -> Cleaned | None:
-        """Clears the lock of a cell, whether its session runs or has stopped: what became of it, and None where none stood."""
+        """Clears the lock of a cell, whether its session runs or has stopped. Returns the outcome, or None if the cell
+        wasn't locked."""
         cleaner = await self.clean_begin(row, family)
         if cleaner is None:
             return None
@@ -198,11 +199,11 @@ class Store:
         return await self.ask(CollectBegin())
 
     async def collect_step(self, collector: int, visits: int = MOST_VISITS) -> Collection:
-        """Has a collector make so many visits, 1 to 1,000."""
+        """Has a collector make this many visits, 1 to 1,000."""
         return await self.ask(CollectStep(collector, visits))
 
     async def collect(self, visits: int = MOST_VISITS) -> int:
-        """Erases the versions that no active session reads, and none that begins later: the floor up to which that was done."""
+        """Erases the versions that no active or later session can read. Returns the floor up to which it erased."""
         collector = await self.collect_begin()
         while (done := await self._collect_step(collector.number, visits)) != Collected():
             if isinstance(done, Blocked):
@@ -221,15 +222,15 @@ class Store:
         await self.ask(Minor(tablet))
 
     async def merge(self, tablet: int, count: int) -> None:
-        """Writes so many of a tablet's newest files as one."""
+        """Merges this many of a tablet's newest files into one."""
         await self.ask(Merge(tablet, count))
 
     async def major(self, tablet: int) -> None:
-        """Writes the memtable and all files of a tablet as one file."""
+        """Merges the memtable and all files of a tablet into one file."""
         await self.ask(Major(tablet))
 
     async def split(self, row: bytes) -> int:
-        """Cuts the tablet that holds a row behind that row: the number of the left part."""
+        """Splits the tablet that holds a row behind that row. Returns the number of the left part."""
         return await self.ask(Split(row))
 
     async def move(self, tablet: int, server: int) -> None:
@@ -237,12 +238,13 @@ class Store:
         await self.ask(Move(tablet, server))
 
     async def sweep(self) -> int:
-        """Removes the files that no tablet names: how many these were. In a folder without a log, the gateway makes a checkpoint
-        right behind it."""
+        """Removes the files that no tablet names, and returns their number. In a folder without a log, the gateway
+        makes a checkpoint right after it."""
         return await self.ask(Sweep())
 
     async def checkpoint(self) -> None:
-        """Writes all that the store keeps into its files. Where a tablet has too many files, all of its files become one first."""
+        """Writes the store's whole state to its files. If a tablet has too many files, they are first merged into
+        one."""
         try:
             await self.ask(Checkpoint())
         except TooManyFiles:
@@ -250,18 +252,19 @@ class Store:
             await self.ask(Checkpoint())
 
     async def restart_oracle(self) -> None:
-        """Has the oracle of stamps go on from its stored mark."""
+        """Restarts the oracle of stamps from its stored mark."""
         await self.ask(OracleRestart())
 
     async def raw(
         self, row: bytes, family: bytes, qualifier: Qualifier, lo: int = 0, hi: int = MOST_STAMP
     ) -> Version | None:
-        """The newest version of a cell's column in a range of stamps, both bounds included, and None where none is."""
+        """The newest version of a cell's column in a range of stamps, both bounds included, or None if there is no such
+        version."""
         return await self.ask(Raw(row, family, qualifier, lo, hi))
 
     async def make_room(self) -> None:
-        """Writes the memtable of each tablet to a file, and makes a checkpoint, for the log may be what is full. A gateway whose
-        administrator has a socket refuses that, and has done it itself."""
+        """Writes the memtable of each tablet to a file, and makes a checkpoint, since the log may be full. A gateway
+        with an administrator's socket refuses this, and has done it itself."""
         with suppress(UnknownTablet, BadRequest):
             for tablet in range(1, MOST_TABLETS + 1):
                 try:
@@ -272,7 +275,7 @@ class Store:
             await self.ask(Checkpoint())
 
     async def fate(self, start: int, row: bytes, family: bytes) -> Fate:
-        """What became of a commit whose answer was lost: of the session of this start, by its first cell."""
+        """The fate of a commit whose answer was lost: of the session with this start, by its first cell."""
         lock = await self.raw(row, family, Qualifier.LOCK, start, start)
         if lock is not None and self._patience.cleans:
             await self.free(row, family, self._patience)
@@ -286,12 +289,13 @@ class Store:
         return Lost()
 
     def transaction(self) -> Transaction:
-        """A transaction, that `async with` begins. It commits at the end, and stops where an exception leaves."""
+        """A transaction, begun by `async with`. It commits at the end of the block, and stops if an exception leaves
+        it."""
         return Transaction(self, self._patience)
 
     async def run(self, work: Callable[[Transaction], Awaitable[Result]], attempts: int = 10) -> Result:
-        """Does work in a transaction, and once more in a new one where it conflicts, is lost or stays pending, as `Store.run`
-        does."""
+        """Does work in a transaction, and retries in a new one after a conflict, a loss or a lock that stays, as
+        `Store.run` does."""
         attempt = 1
         while True:
             try:
@@ -304,8 +308,8 @@ class Store:
             attempt += 1
 
     async def backup(self, path: str | PathLike[str]) -> None:
-        """Has the gateway make a copy of the store's folder at a path, as `Store.backup` of the other twin does. A task that is
-        cancelled meanwhile stops the copy."""
+        """Has the gateway copy the store's folder to a path, as `duqishom.Store.backup` does. Cancelling the task stops
+        the copy."""
         asked, stream = Backup(fspath(path)), await FrameStream.open(self._path)
         try:
             [reply] = await stream.ask([request_body(asked)])
@@ -314,7 +318,7 @@ class Store:
         check_copied(asked, reply)
 
     async def close(self) -> int:
-        """Leaves the gateway, which ends what is open."""
+        """Disconnects from the gateway, which ends the sessions, cleaners and collectors that are still open."""
         self._stream.close()
         return 0
 
@@ -329,20 +333,20 @@ class Store:
 
 
 class Cleanings:
-    """The store of a transaction's plan: it notes the cells that are to be cleaned."""
+    """The store of a transaction's plan: it records the cells that must be cleaned."""
 
     def __init__(self) -> None:
         self.cells: list[Cell] = []
 
     def clean(self, row: bytes, family: bytes) -> None:
-        """Notes a cell."""
+        """Records a cell."""
         self.cells.append(Cell(row, family))
 
 
 class Transaction:
-    """One session, from its begin to its end. Its writes are kept here, and sent when it commits.
+    """One session, from its begin to its end. Its writes are buffered here, and sent when it commits.
 
-    What it has written, and what its steps have done, a transaction without a store keeps.
+    A transaction without a store keeps the writes and the results of the steps.
     """
 
     def __init__(self, asked: Store, patience: Patience) -> None:
@@ -367,11 +371,11 @@ class Transaction:
 
     @property
     def commit_stamp(self) -> int | None:
-        """The stamp at which it has committed, and None where it hasn't."""
+        """The stamp at which it has committed, or None if it hasn't."""
         return self._plan.commit_stamp
 
     async def get(self, row: bytes, family: bytes, own: bool = True) -> bytes | None:
-        """What the transaction has written to the cell; otherwise the value that was committed last by the start."""
+        """The transaction's own write to the cell, if any; otherwise the last value committed by the start."""
         cell = Cell(row, family)
         if own and cell in self._plan._writes:
             return self._plan._writes[cell]
@@ -414,8 +418,8 @@ class Transaction:
         keys: bool = False,
         own: bool = True,
     ) -> AsyncIterator[tuple[bytes, bytes, bytes | None]]:
-        """The cells that have a value, in order, each as its row, its family and its value, for `async for`: as `scan` of the
-        other twin gives them."""
+        """The cells that have a value, in order, each as its row, its family and its value, for `async for`: as `scan`
+        of `duqishom.Transaction` gives them."""
         asked = range_of(start, end, prefix, family)
         writes = {cell: value for cell, value in self._plan._writes.items() if asked.has(cell)} if own else {}
         return self._entries(asked, keys, writes)
@@ -429,7 +433,7 @@ class Transaction:
         family: bytes | None = None,
         own: bool = True,
     ) -> int:
-        """How many cells of a range have a value. Their values aren't sent. The range is that of `scan`."""
+        """The number of cells of a range that have a value. The values aren't sent. The range is given as to `scan`."""
         count = 0
         async for _ in self.scan(start, end, prefix=prefix, family=family, keys=True, own=own):
             count += 1
@@ -493,14 +497,14 @@ class Transaction:
         self._plan.delete(row, family)
 
     async def stop(self) -> None:
-        """Ends the session where it stands. Before its first step nothing of it stays."""
+        """Ends the session in its current phase. Before its first step it leaves nothing behind."""
         if self._plan.is_active:
             self._plan.is_active = False
             await self._store.stop(self.start)
 
     async def commit(self) -> int | None:
-        """Commits all writes at once, and gives the commit stamp: None where nothing was written. It raises what `commit` of
-        the other twin does."""
+        """Commits all writes atomically, and returns the commit stamp, or None if nothing was written. Raises the same
+        exceptions as `commit` of `duqishom.Transaction`."""
         if not self._plan.is_active:
             raise UnknownSession(named("session", self.start))
         if not self._plan._writes:
@@ -516,7 +520,7 @@ class Transaction:
         return self.commit_stamp
 
     async def _commit(self) -> TransactionFailed | None:
-        """Sends the writes and takes the steps: why it came to nothing, where it did."""
+        """Sends the writes and takes the steps. Returns the failure, if the transaction failed."""
         plan = self._plan
         operations = [plan._request(cell) for cell in plan._unsent()]
         if len(plan._writes) == 1:
@@ -538,7 +542,7 @@ class Transaction:
     async def _ask(
         self, operations: Sequence[Set | Delete | Step], writes: int
     ) -> tuple[TransactionFailed | None, Refused | None]:
-        """Asks for writes and steps in one trip, and has the plan take the answers."""
+        """Sends writes and steps in one trip, and passes the answers to the plan."""
         plan = self._plan
         plan._has_stepped = plan._has_stepped or len(operations) > writes
         try:

@@ -15,12 +15,12 @@ from duqishom.texts import text_of
 LONGEST_ROW = 4000
 FAMILY = re.compile(rb"[!-9;-~]{1,64}")
 
-# No family comes behind this one.
+# The greatest family: none sorts after it.
 LAST_FAMILY = b"~" * 64
 
 
 class Cell(NamedTuple):
-    """A row and a family. Cells stand in the order of their rows, and those of a row in the order of their families."""
+    """A row and a family. Cells are ordered by row, and then by family."""
 
     row: bytes
     family: bytes
@@ -31,7 +31,7 @@ class Cell(NamedTuple):
 
 @dataclass(frozen=True)
 class CellRange:
-    """The cells behind a cell, up to and with a row, of one family or of all."""
+    """The cells after a cell, up to and including a row, of one family or of all."""
 
     after: Cell | None
     end: bytes | None
@@ -44,13 +44,13 @@ class CellRange:
         return is_before_end and is_of_family and (self.after is None or self.after < cell)
 
     def behind(self, cell: Cell) -> CellRange:
-        """What is left of the range behind a cell."""
+        """The rest of the range after a cell."""
         return replace(self, after=cell)
 
 
 def range_of(start: bytes | None, end: bytes | None, prefix: bytes | None, family: bytes | None) -> CellRange:
-    """The range from a row up to another one, both included, of the rows that begin with a prefix, and of a family; what isn't
-    given bounds nothing. A row `start` and a prefix may have no bytes.
+    """The range from a row up to another one, both included, of the rows that begin with a prefix, and of a family.
+    Arguments that aren't given don't bound it. A row `start` and a prefix may have no bytes.
 
     BadRow and BadColumn, as the store would refuse it.
     """
@@ -66,7 +66,7 @@ def range_of(start: bytes | None, end: bytes | None, prefix: bytes | None, famil
 
 
 def row_argument(name: str, row: bytes | None, shortest: int) -> bytes | None:
-    """A row that was given for this argument, where one was. BadRow where it is shorter than this, or too long."""
+    """A row given for this argument, if any. BadRow if it is shorter than `shortest`, or too long."""
     if row is None:
         return None
     if not shortest <= len(row := bytes_argument(name, row)) <= LONGEST_ROW:
@@ -75,7 +75,7 @@ def row_argument(name: str, row: bytes | None, shortest: int) -> bytes | None:
 
 
 def last_before(row: bytes) -> Cell | None:
-    """The last cell that may stand before those of a row: None if none may."""
+    """The greatest cell that sorts before the cells of a row, or None if there can't be any."""
     if row == b"" or row == b"\0":
         return None
     shorter, last = row[:-1], row[-1]
@@ -83,8 +83,9 @@ def last_before(row: bytes) -> Cell | None:
 
 
 def entries_of(scanned: Scanned, writes: dict[Cell, bytes | None]) -> dict[Cell, Value | Pending | Unsent]:
-    """What a scan found, in order, as a transaction with these writes in the rest of the range sees it: what it has set in place
-    of what was there, and nothing of what it has deleted. The writes that the scan has gone over are taken out."""
+    """A scan's cells, in order, as seen by a transaction with these writes in the rest of the range: values that it has
+    set replace the values found, and cells that it has deleted are left out. The writes that the scan has passed are
+    removed from `writes`."""
     found = {Cell(item.row, item.family): item.found for item in scanned.items}
     mine = [cell for cell in writes if scanned.upto is None or cell <= scanned.upto]
     for cell in mine:

@@ -1,4 +1,4 @@
-"""Cells and locks in words: what has been committed, what is locked and by whom, and what became of that."""
+"""Cells and locks in words: the versions of a cell, the locks of a range, and the fates of their sessions."""
 
 from __future__ import annotations
 
@@ -20,7 +20,7 @@ LOOKS = Patience(tries=0, pause=0, cleans=False)
 
 @dataclass(frozen=True)
 class Locked:
-    """A lock of a cell, with what became of its session."""
+    """A lock of a cell, with the fate of its session."""
 
     cell: Cell
     start: int
@@ -35,7 +35,7 @@ class Locked:
         return f"session {self.start} {does}; its first cell is {first}; {text_of_fate(self.fate)}"
 
     def data(self) -> dict[str, object]:
-        """The lock as JSON has it."""
+        """The lock as data for JSON."""
         commit = self.fate.commit if isinstance(self.fate, Committed) else None
         state = "committed" if commit else "running" if isinstance(self.fate, Pending) else "rolled back"
         first = cell_data(self.lock.row, self.lock.family)
@@ -44,7 +44,7 @@ class Locked:
 
 
 def text_of_fate(found: Fate) -> str:
-    """What became of a session, in words."""
+    """The fate of a session, in words."""
     match found:
         case Committed(commit):
             return f"it has committed at {commit}"
@@ -63,13 +63,13 @@ def versions(store: Store, cell: Cell, qualifier: Qualifier) -> Iterator[Version
 
 
 def lock_of(store: Store, cell: Cell, version: Version) -> Locked:
-    """A lock that a version of a cell is."""
+    """The lock in a version of a cell."""
     lock = read_lock(version.value)
     return Locked(cell, version.stamp, lock, fate(store, version.stamp, lock.row, lock.family, LOOKS))
 
 
 def locks(store: Store, asked: CellRange) -> Iterator[Locked]:
-    """The locks of a range, as they stand when they are looked at."""
+    """The locks of a range, each as of the moment at which it is read."""
     start, left = store.begin(), True
     try:
         while left:
@@ -86,7 +86,7 @@ def locks(store: Store, asked: CellRange) -> Iterator[Locked]:
 
 
 def explain(store: Store, cell: Cell) -> Told:
-    """All that a cell has: its value, its locks, its records with their values, the newest first, and other values."""
+    """All versions of a cell: its value, its locks, its records with their values, the newest first, and other values."""
     held = [lock_of(store, cell, version) for version in versions(store, cell, Qualifier.LOCK)]
     records = [(version.stamp, read_record(version.value)) for version in versions(store, cell, Qualifier.WRITE)]
     values = {version.stamp: version.value for version in versions(store, cell, Qualifier.DATA)}

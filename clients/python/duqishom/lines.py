@@ -1,4 +1,4 @@
-"""The lines of the command: their forms, and the parsers of their words."""
+"""The lines of the command shell: their forms, and the parsers of their words."""
 
 from __future__ import annotations
 
@@ -16,18 +16,18 @@ from duqishom.transactions import MOST_STAMP
 
 HELP = (["--help"], ["-h"])
 
-# No word begins with this, so that each stands for itself: also a value that begins with a hyphen.
+# No word begins with this. So no word is taken for an option, also if it begins with a hyphen.
 NO_OPTIONS = "\0"
 
 
 class Misspelled(Exception):
-    """A line is none of the command's."""
+    """A line isn't one of the command's."""
 
 
 @dataclass(frozen=True)
 class Line:
-    """A line of the command: its words, of which those in capitals stand for something, what it does, how it is done, and
-    what adds the options that it takes."""
+    """A line of the command: its words, of which those in capitals are arguments, its help text, its method, and the
+    function that adds its options."""
 
     usage: str
     help: str
@@ -35,19 +35,19 @@ class Line:
     add_options: Callable[[argparse.ArgumentParser], None] | None = None
 
     def form(self) -> list[str]:
-        """The words of the line, up to what may be left out."""
+        """The words of the line, up to the first that may be left out."""
         return self.usage.partition("[")[0].split()
 
 
 def number_of(word: str) -> int:
-    """The number that a word stands for."""
+    """The number in a word."""
     if not (word.isascii() and word.isdigit()):
         raise Misspelled(f"{word} is no number")
     return int(word)
 
 
 def stamp_of(word: str) -> int:
-    """The stamp that a word stands for, or the greatest one."""
+    """The stamp in a word, or the greatest one for `last`."""
     return MOST_STAMP if word == "last" else number_of(word)
 
 
@@ -59,7 +59,7 @@ def qualifier_of(word: str) -> Qualifier:
         raise Misspelled(f"{word} is none of data, lock and write") from None
 
 
-# What reads a word, by what it stands for.
+# The readers of arguments, by their names.
 READERS: dict[str, Callable[[str], object]] = {
     "ROW": bytes_of,
     "FAMILY": bytes_of,
@@ -77,7 +77,7 @@ READERS: dict[str, Callable[[str], object]] = {
 
 
 def add_range(parser: argparse.ArgumentParser) -> None:
-    """Adds what says a range of cells."""
+    """Adds the arguments of a range of cells."""
     parser.add_argument("start", metavar="START", nargs="?", type=bytes_of, help="the first row")
     parser.add_argument("end", metavar="END", nargs="?", type=bytes_of, help="the last row")
     parser.add_argument("--prefix", metavar="ROW", type=bytes_of, help="only rows that begin so")
@@ -85,17 +85,17 @@ def add_range(parser: argparse.ArgumentParser) -> None:
 
 
 def add_scan(parser: argparse.ArgumentParser) -> None:
-    """Adds what says a range of cells, and what is shown of it."""
+    """Adds the arguments of a range of cells, and those that say what is shown of it."""
     add_range(parser)
     parser.add_argument("--keys", action="store_true", help="rows and families without values")
     parser.add_argument("--limit", metavar="N", type=number_of, help="so many cells at most")
 
 
 class LineParser(argparse.ArgumentParser):
-    """The parser of lines that begin with the same words. Misspelled where words are of none of their forms."""
+    """The parser of the lines that begin with the same words. Misspelled if words fit none of them."""
 
     def __init__(self, line: Line, words: Sequence[str], prog: str = "") -> None:
-        """The parser of a line, of which these words are behind those that brought one here."""
+        """The parser of a line, of which these words come after the ones it begins with."""
         hyphens = "-" if line.add_options else NO_OPTIONS
         does = None if any(word.islower() for word in words) else line.help
         super().__init__(prog=prog, description=does, prefix_chars=hyphens, add_help=False, allow_abbrev=False)
@@ -107,7 +107,7 @@ class LineParser(argparse.ArgumentParser):
         raise Misspelled(f"the line is {form_of(self)}")
 
     def add_line(self, line: Line, words: Sequence[str], place: int = 0) -> None:
-        """Adds a line, of which these words are left. The words that stand for something are named by their places."""
+        """Adds a line, of which these words are left. Arguments are named by their places."""
         if not words:
             if line.add_options is not None:
                 line.add_options(self)
@@ -124,7 +124,7 @@ class LineParser(argparse.ArgumentParser):
             self._below[words[0]].add_line(line, words[1:], place)
 
     def _choices(self) -> Any:
-        """The words that stand for themselves, of which one comes next."""
+        """The choice of the next word."""
         self._choice = self._choice or self.add_subparsers(required=True)
         return self._choice
 
@@ -146,7 +146,7 @@ def parsers_of(lines: Iterable[Line]) -> dict[str, LineParser]:
 
 
 def read_line(parsers: Mapping[str, LineParser], words: Sequence[str]) -> tuple[Line, list[object], dict[str, object]]:
-    """The line that words are, what stands in its places, and its options."""
+    """The line that has these words, its arguments, and its options."""
     if words[0] not in parsers:
         raise Misspelled(f"no line begins with {words[0]}; help shows all")
     found = vars(parsers[words[0]].parse_args(words[1:]))
@@ -156,7 +156,8 @@ def read_line(parsers: Mapping[str, LineParser], words: Sequence[str]) -> tuple[
 
 
 def split_words(text: str) -> list[str]:
-    """The words of a line. Between quotes blanks belong to a word. A backslash is nothing special: escapes begin with it."""
+    """The words of a line. Between quotes blanks belong to a word. A backslash has no special meaning here, since
+    escapes begin with it."""
     parts = shlex.shlex(text, posix=True)
     parts.whitespace_split = True
     parts.commenters = ""
@@ -165,7 +166,7 @@ def split_words(text: str) -> list[str]:
 
 
 def completions(lines: Iterable[Line], parsers: Mapping[str, LineParser], before: Sequence[str]) -> Iterator[str]:
-    """The words that may stand behind others: those that stand for themselves, and options."""
+    """The words that may follow others: those of lines, and options."""
     at = len(before)
     for line in lines:
         form = line.form()

@@ -15,10 +15,10 @@ from duqishom.connection import LONGEST_BODY, Frames, StreamEnded
 from duqishom.recording import Recording
 from duqishom.refusals import FrameTooLarge
 
-# Where a package that was made with a program has it.
+# The place of the program in a package that was built with one.
 OWN = Path(__file__).resolve().parent / "tabletd"
 
-# How many seconds a program may take to end once its input has ended.
+# The seconds that a program may take to end after its input has ended.
 PATIENCE = 300
 
 ENDS = {
@@ -34,7 +34,8 @@ ENDS = {
 
 
 class ProgramEnded(Exception):
-    """The program has ended, and what it kept in memory is lost. The status is its exit status: below 0 where a signal ended it."""
+    """The program has ended, and its state in memory is lost. The status is its exit status, negative if a signal ended
+    it."""
 
     def __init__(self, status: int, lost: str = "") -> None:
         why = f": {ENDS[status]}" if status in ENDS else ""
@@ -44,9 +45,9 @@ class ProgramEnded(Exception):
 
 
 def default_program() -> str:
-    """The program that is started where none is named: that of the environment's TABLETD, then the one that was installed with this
-    package, then the tabletd on PATH, then the scripts/tabletd of the repository in which this package stands, which builds it
-    where need be. FileNotFoundError where none is there."""
+    """The program that is started if none is named: the environment's TABLETD, or else the one that was installed with
+    this package, or else the tabletd on PATH, or else scripts/tabletd of the repository that this package is in, which
+    builds it if necessary. FileNotFoundError if there is none."""
     repository = str((OWN.parent / "../../../scripts/tabletd").resolve())
     found = os.environ.get("TABLETD") or shutil.which(str(OWN)) or shutil.which("tabletd") or shutil.which(repository)
     if found is None:
@@ -63,8 +64,8 @@ class Program:
     """A running `tabletd`. Its standard error is the caller's, and a Ctrl-C at the terminal doesn't reach it."""
 
     def __init__(self, program: str | None = None, words: Sequence[str] = (), recording: Recording | None = None) -> None:
-        """Starts the program with these words, in a process group of its own, and takes over the recording of its frames. OSError
-        where it can't be started."""
+        """Starts the program with these words, in a process group of its own, and takes over the recording of its
+        frames. OSError if it can't be started."""
         command = [program or default_program(), *words]
         pipe = subprocess.PIPE
         self._child = subprocess.Popen(command, stdin=pipe, stdout=pipe, bufsize=0, process_group=0)
@@ -75,8 +76,8 @@ class Program:
     def ask(self, bodies: Sequence[bytes], timeout: float | None = None) -> list[bytes]:
         """Sends these bodies in frames, and gives the bodies of the replies.
 
-        FrameTooLarge where a body is too long: then nothing is sent, for the program would end at it. RequestTimedOut where
-        so many seconds pass. ProgramEnded where the program ends in place of a reply.
+        FrameTooLarge if a body is too long: then nothing is sent, since the program would end at it. RequestTimedOut
+        after `timeout` seconds. ProgramEnded if the program ends instead of replying.
         """
         if any(len(body) > LONGEST_BODY for body in bodies):
             raise FrameTooLarge()
@@ -86,7 +87,7 @@ class Program:
             raise ProgramEnded(self.close()) from None
 
     def kill(self) -> None:
-        """Ends the program at once, whatever it is at."""
+        """Kills the program at once, whatever it is doing."""
         if self._child.poll() is None:
             os.killpg(self._child.pid, signal.SIGKILL)
 

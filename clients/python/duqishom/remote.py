@@ -1,4 +1,4 @@
-"""A gateway's store: the way to it, and what became of a commit whose answer was lost."""
+"""A gateway's store: the connection to it, and the fate of a commit whose answer was lost."""
 
 from __future__ import annotations
 
@@ -24,13 +24,13 @@ if TYPE_CHECKING:
 
 MOST_TABLETS = 1024
 
-# What became of a commit: it was made, it wasn't, or its session's lock still stands.
+# The fate of a commit: it was made, it wasn't, or its session's lock is still there.
 Fate = Committed | Lost | Pending
 
 
 class ConnectionLost(ProgramEnded):
-    """The gateway has closed the connection, or has ended. What was asked and not answered may be done: `Store.fate` tells what
-    became of a commit. The program's status isn't known, and 0 stands for it."""
+    """The gateway has closed the connection, or has ended. Unanswered requests may have been done: `Store.fate` tells
+    the fate of a commit. The program's status isn't known, and is given as 0."""
 
     def __init__(self) -> None:
         Exception.__init__(self, "the gateway has closed the connection; what had no answer may be done or not")
@@ -41,7 +41,7 @@ class Gateway:
     """A connection to a gateway at a Unix socket."""
 
     def __init__(self, path: str) -> None:
-        """Connects. OSError where nobody serves there."""
+        """Connects. OSError if no gateway serves at the path."""
         ours = socket.socket(socket.AF_UNIX)
         try:
             ours.connect(path)
@@ -54,8 +54,8 @@ class Gateway:
     def ask(self, bodies: Sequence[bytes], timeout: float | None = None) -> list[bytes]:
         """Sends these bodies in frames, and gives the bodies of the replies.
 
-        FrameTooLarge where a body is too long: then nothing is sent. RequestTimedOut where so many seconds pass. ConnectionLost
-        where the connection ends in place of a reply.
+        FrameTooLarge if a body is too long: then nothing is sent. RequestTimedOut after `timeout` seconds.
+        ConnectionLost if the connection ends instead of a reply.
         """
         if any(len(body) > LONGEST_BODY for body in bodies):
             raise FrameTooLarge()
@@ -66,18 +66,19 @@ class Gateway:
             raise ConnectionLost() from None
 
     def kill(self) -> None:
-        """Leaves at once. The gateway ends what is open."""
+        """Disconnects at once. The gateway ends what is open."""
         self.close()
 
     def close(self) -> int:
-        """Leaves. It may be called again."""
+        """Disconnects. It may be called again."""
         self._frames.close()
         return 0
 
 
 @dataclass(frozen=True)
 class Backup:
-    """Has a gateway copy the folder of its store to a path, and answers why it hasn't: nothing where it has."""
+    """Has a gateway copy the folder of its store to a path. The answer is the reason why it failed, empty if it
+    didn't."""
 
     path: str
     code: ClassVar[int] = 0x71
@@ -90,8 +91,8 @@ class Backup:
 
 
 def back_up(socket_path: str, path: str) -> None:
-    """Has the gateway at a socket copy its store's folder to a path, over a connection of its own: so others go on meanwhile, and
-    the copy is stopped where this is interrupted. OSError where nobody serves there."""
+    """Has the gateway at a socket copy its store's folder to a path, over a connection of its own, so other requests go
+    on meanwhile, and an interrupt stops the copy. OSError if no gateway serves at the socket."""
     asked, gateway = Backup(path), Gateway(socket_path)
     try:
         [reply] = gateway.ask([request_body(asked)])
@@ -101,7 +102,7 @@ def back_up(socket_path: str, path: str) -> None:
 
 
 def check_copied(asked: Backup, reply: bytes) -> None:
-    """Looks at the reply to a Backup. NotCopied, or a Refused, where it wasn't made."""
+    """Checks the reply to a Backup. NotCopied, or a Refused, if no copy was made."""
     answer = answer_or_refusal(asked, reply)
     if isinstance(answer, Refused):
         raise answer
@@ -110,10 +111,10 @@ def check_copied(asked: Backup, reply: bytes) -> None:
 
 
 def write_all(store: Store) -> None:
-    """Writes the memtable of each tablet to a file, whoever has split them, and makes a checkpoint, for the log may be what is
-    full. Where a tablet has too many files, all become one.
+    """Writes the memtable of each tablet to a file, whichever client has split them, and makes a checkpoint, since the
+    log may be full. If a tablet has too many files, they are merged into one.
 
-    A gateway that has a socket of the administrator refuses this, and has done it itself when there was no room.
+    A gateway with an administrator's socket refuses this, and has done it itself when a memtable was full.
     """
     with suppress(UnknownTablet, BadRequest):
         for tablet in range(1, MOST_TABLETS + 1):
@@ -126,9 +127,9 @@ def write_all(store: Store) -> None:
 
 
 def fate(store: Store, start: int, row: bytes, family: bytes, patience: Patience) -> Fate:
-    """What became of a session's commit, by its first cell. A record there that names the session says that it has committed.
-    Its lock is waited for, and then cleaned, unless the patience says otherwise; where neither stands, nothing was
-    committed."""
+    """The fate of a session's commit, by its first cell. A record there that names the session says that it has
+    committed. Its lock is waited for, and then cleaned, unless the patience says otherwise; without a record and a
+    lock, nothing was committed."""
     lock = store.raw(row, family, Qualifier.LOCK, start, start)
     if lock is not None and patience.cleans:
         store.free(row, family, patience)
@@ -141,7 +142,7 @@ def fate(store: Store, start: int, row: bytes, family: bytes, patience: Patience
 
 
 def records(store: Store, row: bytes, family: bytes, above: int) -> Iterator[tuple[int, int]]:
-    """The records of a cell above a stamp, the newest first: the stamp of each, and the start that it names."""
+    """The commit records of a cell above a stamp, newest first: each record's stamp, and the start that it names."""
     record = store.raw(row, family, Qualifier.WRITE, above)
     while record is not None:
         yield record.stamp, read_record(record.value).start

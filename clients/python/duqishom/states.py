@@ -1,4 +1,4 @@
-"""What a store's state is, as far as the store, its folder or its gateway tells: figures with their names."""
+"""The state of a store, from the store, its folder or its gateway: figures with their names."""
 
 from __future__ import annotations
 
@@ -24,12 +24,12 @@ CLIENTS = {
     "closed_for_memory": "closed, for too much of theirs waited",
 }
 
-# The line of an operation that nobody has asked for.
+# The line of an operation that no client has asked for.
 UNASKED = re.compile("requests .*: 0")
 
 
 def size_of(file: Path) -> int:
-    """The size of a file: 0 where it is gone."""
+    """The size of a file, 0 if it is gone."""
     with suppress(FileNotFoundError):
         return file.stat().st_size
     return 0
@@ -53,7 +53,7 @@ def folder_state(folder: Path) -> Iterator[tuple[str, object]]:
 
 
 def state(store: Store, socket: str | None) -> Told:
-    """The state of a store: that of its folder, what its gateway counts, or its tablets."""
+    """The state of a store: its folder's, its gateway's counts, or the number of its tablets."""
     figures: dict[str, object] = {"version": VERSION}
     if socket is not None:
         counted = statistics(socket)
@@ -66,7 +66,7 @@ def state(store: Store, socket: str | None) -> Told:
 
 
 def clients(socket: str | None) -> Told:
-    """How many clients a gateway has. A store without one has this command alone."""
+    """The number of a gateway's clients. A store without a gateway has only this command."""
     if socket is None:
         return Told("1 connected: this command", {"now": 1})
     counted = statistics(socket)["clients"]

@@ -1,4 +1,4 @@
-"""What the command tells: each answer as a text, as data for JSON, and as the bytes of its values."""
+"""The answers of the command shell: each as a text, as data for JSON, and as the bytes of its values."""
 
 from __future__ import annotations
 
@@ -42,7 +42,7 @@ class Form(Enum):
 
 @dataclass(frozen=True)
 class Told:
-    """An answer: its text, its data, and what stands for the text where values are shown as their bytes."""
+    """An answer: its text, its data, and its bytes, which are shown for the text if values are asked for as bytes."""
 
     text: str
     data: object
@@ -50,7 +50,7 @@ class Told:
 
 
 def said(text: str) -> Told:
-    """An answer that is a text alone."""
+    """An answer that is only a text."""
     return Told(text, {"answer": text})
 
 
@@ -60,17 +60,17 @@ def failed(text: str) -> Told:
 
 
 def as_data(given: bytes) -> str:
-    """Bytes as JSON has them: the form of a dump."""
+    """Bytes as a text of JSON, in the form of a dump."""
     return text_of(given, "\\")
 
 
 def cell_data(row: bytes, family: bytes) -> dict[str, object]:
-    """A cell as JSON has it."""
+    """A cell as data for JSON."""
     return {"row": as_data(row), "family": as_data(family)}
 
 
 def show(told: Told, form: Form) -> None:
-    """Prints an answer, with the end of a line. Of nothing that is shown as bytes nothing is printed."""
+    """Prints an answer and the end of a line. For no bytes nothing is printed."""
     if form is Form.RAW and told.raw is not None:
         sys.stdout.flush()
         sys.stdout.buffer.write(told.raw + b"\n" if told.raw else b"")
@@ -80,7 +80,7 @@ def show(told: Told, form: Form) -> None:
 
 
 def text_of_found(found: Found) -> str:
-    """What a read of a session found, in words."""
+    """The result of a session's read, in words."""
     match found:
         case Nothing():
             return "nothing"
@@ -91,7 +91,7 @@ def text_of_found(found: Found) -> str:
 
 
 def text_of_progress(progress: Progress) -> str:
-    """What a step did, in words."""
+    """The result of a step, in words."""
     match progress:
         case Held(place, count):
             return f"held {place} of {count}"
@@ -108,7 +108,7 @@ def text_of_progress(progress: Progress) -> str:
 
 
 def text_of_cleaned(cleaned: Cleaned) -> str:
-    """What a cleaner did, in words."""
+    """The result of a cleaner, in words."""
     match cleaned:
         case Decided():
             return "decided"
@@ -121,7 +121,7 @@ def text_of_cleaned(cleaned: Cleaned) -> str:
 
 
 def text_of_version(version: Version | None, qualifier: Qualifier) -> str:
-    """What a raw read found, in words: a record names a start, and a lock the first cell of its session."""
+    """The result of a raw read, in words: a record names a start, and a lock the first cell of its session."""
     if version is None:
         return "nothing"
     with suppress(BadForm):
@@ -136,5 +136,5 @@ def text_of_version(version: Version | None, qualifier: Qualifier) -> str:
 
 
 def text_of_kind(kind: Kind) -> str:
-    """What a lock or a record adds where it is that of a deletion."""
+    """The words added to a lock or a record of a deletion."""
     return ", a deletion" if kind is Kind.DELETE else ""

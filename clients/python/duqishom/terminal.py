@@ -1,4 +1,4 @@
-"""The command at a terminal: its lines with editing, completion and a history that stays, and long answers by pages."""
+"""The command shell at a terminal: lines with editing, completion and a lasting history, and long answers in pages."""
 
 from __future__ import annotations
 
@@ -12,18 +12,18 @@ from pathlib import Path
 
 try:
     import readline
-except ImportError:  # Where Python is built without it, lines are read as they come.
+except ImportError:  # This Python is built without it, and lines aren't edited.
     readline = None  # type: ignore[assignment]
 
 PROMPT = "> "
 MOST_HISTORY = 1000
 
-# What may stand behind words: all words that complete them.
+# A function from a text to the words that may follow it.
 Complete = Callable[[str], Iterable[str]]
 
 
 def lines(is_terminal: bool) -> Iterator[str]:
-    """The lines of the input; at a terminal with a prompt before each."""
+    """The lines of the input. At a terminal each has a prompt."""
     while True:
         try:
             yield input(PROMPT if is_terminal else "")
@@ -38,14 +38,14 @@ def lines(is_terminal: bool) -> Iterator[str]:
 
 
 def history_file() -> Path:
-    """The file of the lines that were given, which the owner alone may read."""
+    """The file of the history, which only its owner may read."""
     top = os.environ.get("XDG_STATE_HOME") or Path.home() / ".local" / "state"
     return Path(top) / "duqishom" / "history"
 
 
 @contextmanager
 def editing(complete: Complete) -> Iterator[None]:
-    """Has lines be completed and kept, where Python can do that. A history that can't be read or written is left."""
+    """Completes lines and keeps a history, if this Python can. Errors of the history's file are ignored."""
     if readline is None:
         yield
         return
@@ -66,7 +66,7 @@ def editing(complete: Complete) -> Iterator[None]:
 
 
 def completer(complete: Complete) -> Callable[[str, int], str | None]:
-    """What gives readline a word's completions, one by one."""
+    """The function that gives readline the completions of a word, one by one."""
 
     def completion(word: str, number: int) -> str | None:
         before = readline.get_line_buffer()[: readline.get_begidx()]
@@ -82,6 +82,6 @@ def is_long(text: str) -> bool:
 
 
 def show_pages(text: str) -> None:
-    """Shows a text that is long, page by page, by the program that PAGER names, or by less."""
+    """Shows a long text in pages, with the program that PAGER names, or with less."""
     sys.stdout.flush()
     pydoc.pager(f"{text}\n")

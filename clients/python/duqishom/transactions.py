@@ -51,11 +51,11 @@ LONGEST_PAUSE = 1.0
 
 
 class TransactionFailed(Exception):
-    """A transaction came to nothing: none of its writes is committed, and none will be."""
+    """A transaction failed: none of its writes is committed, and none will be."""
 
 
 class StillPending(TransactionFailed):
-    """A read met a lock each time that it was asked. The session of the lock began at `start`."""
+    """A read met a lock each time it was tried. The lock's session has the start `start`."""
 
     def __init__(self, cell: Cell, start: int) -> None:
         super().__init__(f"{cell} is locked by the session that began at {start}")
@@ -66,7 +66,7 @@ class StillPending(TransactionFailed):
 class TransactionConflict(TransactionFailed):
     """A cell that was to be written is locked, or was committed since the transaction began.
 
-    What the transaction held is free again.
+    The transaction's locks are released.
     """
 
     def __init__(self, cell: Cell) -> None:
@@ -75,33 +75,33 @@ class TransactionConflict(TransactionFailed):
 
 
 class TransactionLost(TransactionFailed):
-    """A cleaner rolled the transaction back before it committed. What the transaction held is free again."""
+    """A cleaner rolled the transaction back before it committed. The transaction's locks are released."""
 
 
 @dataclass(frozen=True)
 class Patience:
-    """How often a cell is looked at while it is locked, the seconds between two of these, and whether the lock is then
-    taken for one that was left behind, and cleaned."""
+    """How often a locked cell is tried, the seconds between two tries, and whether the lock is then treated as
+    abandoned, and cleaned."""
 
     tries: int = 3
     pause: float = 0.01
     cleans: bool = True
 
     def between(self, attempt: int) -> float:
-        """How many seconds to wait behind so many attempts: by chance, up to a time that doubles, and is at most a second."""
+        """The seconds to wait after this many attempts: random, up to a time that doubles and is at most a second."""
         return random.uniform(0, min(LONGEST_PAUSE, self.pause * 2.0 ** min(attempt, 30)))
 
 
 def value_of(found: Nothing | Value) -> bytes | None:
-    """What a read found: None for nothing."""
+    """The value that a read found, or None for nothing."""
     return found.value if isinstance(found, Value) else None
 
 
 class Transaction:
-    """One session, from its begin to its end. Its writes are kept here, and sent when it commits.
+    """One session, from its begin to its end. Its writes are buffered here, and sent when it commits.
 
-    In a `with` it commits at the end. Where an exception leaves, it stops, unless it has taken a step: then its cells are
-    locked, and another `commit` or a cleaner frees them.
+    In a `with` it commits at the end. If an exception leaves the block, it stops, unless it has taken a step: then its
+    cells stay locked until another `commit` or a cleaner releases them.
     """
 
     def __init__(self, store: Store, start: int, patience: Patience) -> None:
@@ -116,11 +116,11 @@ class Transaction:
         self.commit_stamp: int | None = None
 
     def get(self, row: bytes, family: bytes, own: bool = True) -> bytes | None:
-        """What the transaction has written to the cell; otherwise the value that was committed last by the start. None where
-        the cell is deleted, or nothing was committed.
+        """The transaction's own write to the cell, if any; otherwise the last value committed by the start. None if the
+        cell is deleted, or nothing was committed.
 
-        With `own=False` the transaction's own writes are not looked at. A lock that still stands after some tries is cleaned,
-        unless the patience says otherwise: then StillPending is raised.
+        With `own=False` the transaction's own writes are ignored. A lock that is still there after some tries is
+        cleaned, unless the patience says otherwise: then StillPending is raised.
         """
         cell = Cell(row, family)
         if own and cell in self._writes:
@@ -164,13 +164,14 @@ class Transaction:
         keys: bool = False,
         own: bool = True,
     ) -> Iterator[tuple[bytes, bytes, bytes | None]]:
-        """The cells that have a value, in order, each as its row, its family and its value: what `get` gives for every cell of the
-        range, without those that have nothing. With `keys=True` values aren't sent, and None stands in their places.
+        """The cells that have a value, in order, each as its row, its family and its value: the values that `get`
+        returns for the cells of the range, without the cells that have none. With `keys=True` values aren't sent, and
+        are given as None.
 
-        The range goes from the row `start` up to the row `end`, both included, and has the rows that begin with a prefix, and
-        one family, where these are given. It is read in batches as the iterator goes on; all show the transaction's start. What
-        the transaction had written when `scan` was called is shown too, unless `own=False`. The locks of a batch are waited for
-        together, and then cleaned, as `get` does.
+        The range goes from the row `start` up to the row `end`, both included, and is limited to the rows that begin
+        with a prefix, and to one family, if these are given. It is read in batches as the iterator goes on; all show
+        the transaction's start. The transaction's own writes up to the call of `scan` are included, unless `own=False`.
+        The locks of a batch are waited for together, and then cleaned, as `get` does.
 
         BadRow or BadColumn at once, as the store would refuse it.
         """
@@ -187,7 +188,7 @@ class Transaction:
         family: bytes | None = None,
         own: bool = True,
     ) -> int:
-        """How many cells of a range have a value. Their values aren't sent. The range is that of `scan`."""
+        """The number of cells of a range that have a value. The values aren't sent. The range is given as to `scan`."""
         return sum(1 for _ in self.scan(start, end, prefix=prefix, family=family, keys=True, own=own))
 
     def _entries(
@@ -204,7 +205,8 @@ class Transaction:
     def _batch(
         self, entries: dict[Cell, Value | Pending | Unsent], keys: bool
     ) -> Iterator[tuple[bytes, bytes, bytes | None]]:
-        """The cells of a batch. Those that are locked are read first, and a value that wasn't sent in its turn."""
+        """The cells of a batch. Locked cells are read first, and a value that wasn't sent is read when its cell
+        comes."""
         read = self._read_locked({cell: found.start for cell, found in entries.items() if isinstance(found, Pending)})
         for cell, found in entries.items():
             if isinstance(found, Unsent):
@@ -216,7 +218,7 @@ class Transaction:
             yield cell.row, cell.family, None if keys else value
 
     def _read_locked(self, locks: dict[Cell, int]) -> dict[Cell, bytes | None]:
-        """What cells hold that are locked by sessions of these starts, once their locks are gone."""
+        """The values of cells locked by sessions with these starts, after their locks are gone."""
         values: dict[Cell, bytes | None] = {}
         tries = 0
         while locks:
@@ -233,7 +235,7 @@ class Transaction:
         return values
 
     def _wait(self, locks: dict[Cell, int], tries: int) -> None:
-        """Waits for locks to go, and after so many tries cleans them, or gives up."""
+        """Waits for locks to go, and after this many tries cleans them, or gives up."""
         if tries < self._patience.tries:
             time.sleep(self._patience.pause)
         elif self._patience.cleans:
@@ -255,7 +257,7 @@ class Transaction:
         self._write(row, family, None)
 
     def _write(self, row: bytes, family: bytes, value: bytes | None) -> None:
-        """Keeps a write, in the place of one of the same cell."""
+        """Buffers a write, and replaces an earlier write of the same cell."""
         row, family = bytes_argument("row", row), bytes_argument("family", family)
         if not self.is_active:
             raise UnknownSession(named("session", self.start))
@@ -273,17 +275,18 @@ class Transaction:
         self._writes[cell] = value
 
     def stop(self) -> None:
-        """Ends the session where it stands. Before its first step nothing of it stays."""
+        """Ends the session in its current phase. Before its first step it leaves nothing behind."""
         if self.is_active:
             self.is_active = False
             self._store.stop(self.start)
 
     def commit(self) -> int | None:
-        """Commits all writes at once, and gives the commit stamp: None where nothing was written.
+        """Commits all writes atomically, and returns the commit stamp, or None if nothing was written.
 
-        TransactionConflict where a cell is taken, and TransactionLost where a cleaner was faster: what was held is free again, and
-        a lock of another session is waited for, and then cleaned. Where a step is refused, the session goes on, and `commit` may
-        be called again. Where a request is interrupted or times out, it isn't known whether all is committed or nothing.
+        TransactionConflict if a cell is locked or was written since, and TransactionLost if a cleaner was faster: the
+        transaction's locks are released, and a lock of another session is waited for, and then cleaned. If a step is
+        refused, the session continues, and `commit` may be called again. If a request is interrupted or times out, it
+        isn't known whether everything is committed or nothing.
         """
         if not self.is_active:
             raise UnknownSession(named("session", self.start))
@@ -299,13 +302,13 @@ class Transaction:
         return self.commit_stamp
 
     def _commit(self) -> TransactionFailed | None:
-        """Sends the writes and takes the steps: why it came to nothing, where it did."""
+        """Sends the writes and takes the steps. Returns the failure, if the transaction failed."""
         operations = [self._request(cell) for cell in self._unsent()]
         if len(self._writes) == 1:
-            # One that is refused leaves the session without a write, and its steps are refused
+            # A refused write leaves the session without a write, and its steps are refused
             failure, rest = self._ask([*operations, *self._steps_left()], len(operations))
         else:
-            # Steps beside a refused one would commit the others, so they wait for the replies
+            # With a refused write, the steps would commit the other writes, so they wait for the replies
             if operations:
                 self._ask(operations, len(operations))
             failure, rest = self._ask(self._steps_left(), 0)
@@ -321,7 +324,7 @@ class Transaction:
         return failure
 
     def _unsent(self) -> list[Cell]:
-        """The cells whose writes are to be sent: all, and none once all were."""
+        """The cells whose writes aren't sent yet: all, or none after all were sent."""
         return [] if len(self._sent) == len(self._writes) else list(self._writes)
 
     def _request(self, cell: Cell) -> Set | Delete:
@@ -330,19 +333,20 @@ class Transaction:
         return Delete(self.start, *cell) if value is None else Set(self.start, *cell, value)
 
     def _steps_left(self) -> list[Step]:
-        """The steps that are to be taken: each cell is held, the stamp is drawn, the first cell commits, each other is finished."""
+        """The steps not taken yet: each cell is held, the stamp is drawn, the first cell commits, and each other cell
+        is finished."""
         return [Step(self.start)] * (2 * len(self._writes) + 1 - self._steps)
 
     def _place(self) -> int:
-        """The place of the cell whose turn it is."""
+        """The position of the next cell."""
         count = len(self._writes)
         return self._steps if self._steps < count else max(0, self._steps - count - 1)
 
     def _ask(
         self, operations: Sequence[Set | Delete | Step], writes: int
     ) -> tuple[TransactionFailed | None, Refused | None]:
-        """Asks for writes and steps in one trip: why the transaction came to nothing, where it did, and the refusal of the last
-        step, where it was refused. A write that is refused raises its refusal."""
+        """Sends writes and steps in one trip. Returns the failure, if the transaction failed, and the refusal of the
+        last step, if it was refused. A refused write raises its refusal."""
         self._has_stepped = self._has_stepped or len(operations) > writes
         try:
             answers = self._store.ask_each(operations)
@@ -357,7 +361,7 @@ class Transaction:
         answers: Sequence[Progress | Refused | None],
         writes: int,
     ) -> tuple[TransactionFailed | None, Refused | None]:
-        """Notes the answers to writes and to steps behind them."""
+        """Records the answers to writes and to the steps after them."""
         for operation, answer in zip(operations[:writes], answers):
             if isinstance(answer, Refused):
                 self._has_stepped = self._steps > 0
@@ -371,7 +375,7 @@ class Transaction:
     def _take_all(
         self, answers: Sequence[Progress | Refused | None]
     ) -> tuple[TransactionFailed | None, Refused | None]:
-        """Notes what steps did. Behind the session's end the others are refused, which says nothing."""
+        """Records the results of steps. Steps after the session's end are refused, which is ignored."""
         rest: Refused | None = None
         for answer in answers:
             if isinstance(answer, Refused):
@@ -384,7 +388,7 @@ class Transaction:
         return None, rest
 
     def _take(self, progress: Progress) -> TransactionFailed | None:
-        """Notes what a step did: why the transaction came to nothing, where it did."""
+        """Records the result of a step. Returns the failure, if the transaction failed."""
         self._steps += 1
         match progress:
             case Held(_, _) | Stamped(_):
@@ -401,7 +405,7 @@ class Transaction:
         return None
 
     def _given_up(self, count: int, failure: TransactionFailed) -> TransactionFailed:
-        """Frees the first so many cells, which the session held to its end."""
+        """Releases the first `count` cells, which the session held to its end."""
         self.is_active = False
         for held in self._sent[:count]:
             self._store.clean(held.row, held.family)

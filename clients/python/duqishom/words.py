@@ -1,4 +1,4 @@
-"""The command: a store that is asked in words, a line for each request."""
+"""The command shell: requests to a store in words, one a line."""
 
 from __future__ import annotations
 
@@ -39,11 +39,11 @@ class Quit(Exception):
 
 
 class NotDone(Exception):
-    """A line asks for what can't be done, and nothing was."""
+    """A line can't be done, and nothing was."""
 
 
 def amount_in(transaction: Transaction, row: bytes, family: bytes) -> int:
-    """The number in a cell, 0 where nothing is."""
+    """The number in a cell, 0 if the cell has no value."""
     value = transaction.get(row, family)
     if value is None:
         return 0
@@ -53,25 +53,25 @@ def amount_in(transaction: Transaction, row: bytes, family: bytes) -> int:
 
 
 def text_of_end(end: bytes | None) -> str:
-    """Where a tablet ends, in words."""
+    """The end of a tablet, in words."""
     return "the last row" if end is None else text_of(end)
 
 
 def committed(transaction: Transaction) -> Told:
-    """The answer to a line that has written."""
+    """The answer to a line that wrote something."""
     return Told(f"committed at {transaction.commit_stamp}", {"commit": transaction.commit_stamp})
 
 
 class Words:
-    """A store that is asked in words. The socket is that of its gateway, where one serves it."""
+    """A store that takes requests in words. `socket` is its gateway's, if it has one."""
 
     def __init__(self, store: Store, socket: str | None = None) -> None:
         self._store = store
         self._socket = socket
 
     def answer(self, text: str) -> tuple[bool, Told | None]:
-        """Whether a line was done, and what there is to say of it: nothing of an empty line. Quotes make one word of several,
-        and of none. Quit where the line ends the command."""
+        """Whether a line was done, and the answer to show: none for an empty line. Quotes make one word of several or of
+        none. Quit if the line ends the command."""
         try:
             words = split_words(text)
         except ValueError as why:
@@ -79,7 +79,7 @@ class Words:
         return self.answer_words(words) if words else (True, None)
 
     def answer_words(self, words: list[str]) -> tuple[bool, Told]:
-        """Whether a line of these words was done, and what there is to say of it."""
+        """Whether a line of these words was done, and the answer to show."""
         try:
             return True, self._do(words)
         except Refused as refusal:
@@ -99,7 +99,7 @@ class Words:
         return line.do(self, *places, **options)
 
     def help(self) -> Told:
-        """All lines that there are."""
+        """All lines of the command."""
         return said("\n".join(help_lines()))
 
     def quit(self) -> Told:
@@ -153,7 +153,7 @@ class Words:
         return Told(text, data, b"\n".join(map(b"\t".join, cells)))
 
     def count(self, start: bytes | None, end: bytes | None, prefix: bytes | None, family: bytes | None) -> Told:
-        """How many cells of a range have a value."""
+        """The number of cells of a range that have a value."""
         count = self._store.run(lambda transaction: transaction.count(start, end, prefix=prefix, family=family))
         return Told(str(count), {"count": count})
 
@@ -201,24 +201,24 @@ class Words:
         return said(text_of_progress(self._store.step(start)))
 
     def session_stop(self, start: int) -> Told:
-        """Ends a session where it stands."""
+        """Ends a session in its current phase."""
         self._store.stop(start)
         return said("stopped")
 
     def explain(self, row: bytes, family: bytes) -> Told:
-        """Tells all that a cell has."""
+        """Shows all versions of a cell."""
         return explained.explain(self._store, Cell(row, family))
 
     def locks(self, start: bytes | None, end: bytes | None, prefix: bytes | None, family: bytes | None) -> Told:
-        """Tells the locks of a range."""
+        """Shows the locks of a range."""
         return explained.told_locks(explained.locks(self._store, range_of(start, end, prefix, family)))
 
     def status(self) -> Told:
-        """Tells the state of the store."""
+        """Shows the state of the store."""
         return states.state(self._store, self._socket)
 
     def clients(self) -> Told:
-        """Tells how many clients there are."""
+        """Shows the number of clients."""
         return states.clients(self._socket)
 
     def clean(self, row: bytes, family: bytes) -> Told:
@@ -238,7 +238,7 @@ class Words:
         return Told(text_of_version(version, column), data, b"" if version is None else version.value)
 
     def tablets(self) -> Told:
-        """The tablets, in the order of their rows. Those of a folder with their servers and files at its last checkpoint."""
+        """The tablets, in the order of their rows. A folder's have their servers and files at the last checkpoint."""
         folder = self._store.folder
         kept = {} if folder is None else {tablet.number: tablet for tablet in read_root(Path(folder)).tablets}
         lines, data = list[str](), list[dict[str, object]]()
@@ -255,7 +255,7 @@ class Words:
         return Told("\n".join(lines), data)
 
     def split(self, row: bytes) -> Told:
-        """Cuts the tablet that holds a row behind it."""
+        """Splits the tablet that holds a row behind the row."""
         tablet = self._store.split(row)
         return Told(f"tablet {tablet} ends with {text_of(row)}", {"tablet": tablet})
 
@@ -312,7 +312,7 @@ LINES = (
     Line("in START delete ROW FAMILY", "buffers a deletion in the session", Words.session_delete),
     Line("in START get ROW FAMILY", "reads a cell as of the start", Words.session_get),
     Line("in START step", "takes the session's next step", Words.session_step),
-    Line("in START stop", "ends the session where it stands", Words.session_stop),
+    Line("in START stop", "ends the session in its current phase", Words.session_stop),
     Line("explain ROW FAMILY", "all that a cell has: its value, locks, records and data", Words.explain),
     Line("locks [START [END]] [OPTIONS]", "the locks of such a range, and their sessions' ends", Words.locks, add_range),
     Line("status", "the state of the store: of its folder, or as its gateway counts", Words.status),
@@ -321,7 +321,7 @@ LINES = (
     Line("collect", "erases the versions that no session reads", Words.collect),
     Line("raw ROW FAMILY COLUMN LO HI", "the newest version in data, lock or write; HI may be last", Words.raw),
     Line("tablets", "the tablets, in the order of their rows; of a folder, what the last checkpoint has", Words.tablets),
-    Line("split ROW", "cuts the tablet that holds the row behind it", Words.split),
+    Line("split ROW", "splits the tablet that holds the row behind the row", Words.split),
     Line("move TABLET SERVER", "puts a tablet on a server", Words.move),
     Line("compact TABLET minor", "writes the tablet's memtable as a file", Words.minor),
     Line("compact TABLET merge COUNT", "makes one file of so many newest ones", Words.merge),
@@ -343,12 +343,12 @@ def help_lines() -> Iterator[str]:
 
 
 def help_of(words: Sequence[str]) -> str | None:
-    """The help of a line, where these words ask for it."""
+    """The help of a line, if these words ask for it."""
     return PARSERS[words[0]].format_help().rstrip() if words[1:] in HELP and words[0] in PARSERS else None
 
 
 def complete(text: str) -> Iterator[str]:
-    """The words that may stand behind a text."""
+    """The words that may follow a text."""
     try:
         return completions(LINES, PARSERS, split_words(text))
     except ValueError:
@@ -356,7 +356,7 @@ def complete(text: str) -> Iterator[str]:
 
 
 def answer_all(words: Words, texts: Iterable[str], form: Form = Form.TEXT, by_pages: bool = False) -> bool:
-    """Shows the answer to each line, up to the one that ends the command, and tells whether all were done."""
+    """Shows the answer to each line, up to the one that ends the command. Returns whether all were done."""
     is_well = True
     for text in texts:
         try:

@@ -10,8 +10,8 @@ NO_MEMORY = b"\xff\x14"
 
 
 class Poor:
-    """A connection to a store that refuses some requests of one operation NoMemory: the first of them, and how many, from the
-    place in which they are asked."""
+    """A connection to a store that refuses some requests of one operation with NoMemory, given by the position of the
+    first among the operation's requests, and their number."""
 
     def __init__(self, connection: Connection, code: int, first: int, count: int = 1) -> None:
         self._connection = connection

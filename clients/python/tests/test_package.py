@@ -1,4 +1,4 @@
-"""The packages: what is in them, and that they run where nothing else is installed."""
+"""The packages: their contents, and that they run without anything else installed."""
 
 from __future__ import annotations
 
@@ -20,7 +20,7 @@ from tests.pages import TOP, fenced
 
 PROGRAM = os.environ.get("TABLETD", "")
 
-# What the Debian package has besides the Python package and the pages, each with its mode.
+# The files of the Debian package besides the Python package and the pages, each with its mode.
 DEBIAN = {
     "./usr/bin/duqishom": "-rwxr-xr-x",
     "./usr/bin/tabletd": "-rwxr-xr-x",
@@ -35,7 +35,7 @@ DEBIAN = {
 }
 PYTHON, PAGES = "./usr/lib/python3/dist-packages/duqishom/", "./usr/share/doc/duqishom/docs/"
 
-# What the wheel has of itself, with whether it is run.
+# The files of the wheel besides the sources, each with whether it can be executed.
 INFO = f"duqishom-{VERSION}.dist-info"
 WHEEL = {
     "duqishom/tabletd": True,
@@ -68,7 +68,7 @@ class Packages(unittest.TestCase):
         cls.made = [Path(line) for line in subprocess.check_output(command, text=True).splitlines()]
 
     def run_in(self, python: Path | str, text: str, **environment: str) -> str:
-        """What Python prints that runs this text, with nothing that names a program or a package."""
+        """The output of Python for this text, with no environment but this."""
         ran = subprocess.run([python, "-c", text], cwd=self.path, env=environment, capture_output=True, text=True)
         self.assertEqual((ran.returncode, ran.stderr), (0, ""))
         return ran.stdout
@@ -107,7 +107,7 @@ class Packages(unittest.TestCase):
             self.assertEqual(options - set(re.findall(r"--[a-z][a-z-]+", page.replace("\\-", "-"))), set())
 
     def test_wheel(self) -> None:
-        """It has all files with their modes, and README's lines run where it alone is installed."""
+        """It has all files with their modes, and README's lines run if only it is installed."""
         with ZipFile(self.made[1]) as wheel:
             runs = {entry.filename: entry.external_attr >> 16 == 0o100755 for entry in wheel.infolist()}
         self.assertEqual(runs, WHEEL | dict.fromkeys((f"duqishom/{path}" for path in sources()), False))
@@ -126,7 +126,7 @@ class Packages(unittest.TestCase):
         self.assertEqual(said, f"tabletd {VERSION}\n")
 
     def test_no_program(self) -> None:
-        """A package without a program says so."""
+        """Without a program, the error says where it was looked for."""
         shutil.copytree(TOP / "clients" / "python" / "duqishom", self.path / "alone" / "duqishom")
         lines = "from duqishom import Store\ntry: Store()\nexcept FileNotFoundError as failure: print(failure)"
         said = self.run_in(sys.executable, lines, PATH="/nowhere", PYTHONPATH=str(self.path / "alone"))
@@ -138,7 +138,7 @@ class Service(unittest.TestCase):
 
     @unittest.skipUnless(shutil.which("systemd-analyze"), "systemd isn't installed")
     def test_units(self) -> None:
-        """Each line is one that systemd knows, and the service is exposed by one of ten at most."""
+        """systemd knows each line, and the exposure of the service is at most 1 of 10."""
         units = sorted(map(str, (*TOP.glob("packaging/*.service"), *TOP.glob("packaging/*.socket"))))
         self.assertEqual(len(units), 3)
         verified = subprocess.run(["systemd-analyze", "verify", *units], capture_output=True, text=True)
@@ -150,7 +150,7 @@ class Service(unittest.TestCase):
 
 
 class Versions(unittest.TestCase):
-    """The versions that programs name."""
+    """The versions that programs print."""
 
     def test_tabletd(self) -> None:
         said = subprocess.run([default_program(), "--version"], capture_output=True, text=True)

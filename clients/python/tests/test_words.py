@@ -20,14 +20,14 @@ FOLDER = Path(__file__).resolve().parents[1]
 
 
 def answers(lines: str, *words: str) -> tuple[int, list[str]]:
-    """The exit status of the command, and what it prints, where these lines come through a pipe."""
+    """The exit status of the command, and its output, for these lines through a pipe."""
     command = [sys.executable, "-m", "duqishom", *words]
     ran = subprocess.run(command, cwd=FOLDER, input=lines, capture_output=True, text=True)
     return ran.returncode, (ran.stdout + ran.stderr).splitlines()
 
 
 class Words(unittest.TestCase):
-    """Each line of the command, with what it prints."""
+    """Each line of the command, with its output."""
 
     def assert_answered(self, table: list[tuple[str, str]], status: int) -> None:
         lines = "\n".join(line for line, _ in table)
@@ -216,7 +216,7 @@ class Words(unittest.TestCase):
             self.assertEqual((status, lines[1:3]), (0, ["tablets: 1", "files: 1"]))
 
     def test_gateway(self) -> None:
-        """Another client holds a cell. Its lock is told of, and it is counted."""
+        """Another client holds a cell. Its lock is shown, and the client is counted."""
         gateway = Gateway(self)
         wire = gateway.wire()
         wire.ask(set_(start := wire.begin(), b"Bob", b"3"))
@@ -252,7 +252,7 @@ class Words(unittest.TestCase):
         self.assertEqual(answers(words, "--raw"), (0, ["committed at 2", "a b", "Bob\tbal\ta b"]))
 
     def test_help_of_a_line(self) -> None:
-        """No store is opened for it. In a line with no options each word stands for itself."""
+        """No store is opened for it. In a line without options a word with hyphens is an argument."""
         for words, first in (
             (("get", "--help"), "usage: get ROW FAMILY"),
             (("compact", "-h"), "usage: compact TABLET {minor,merge,major} ..."),
@@ -264,7 +264,7 @@ class Words(unittest.TestCase):
 
     @unittest.skipUnless(importlib.util.find_spec("readline"), "this Python has no readline")
     def test_terminal(self) -> None:
-        """Words are completed, long answers come by pages, and the history stays."""
+        """Words are completed, long answers come in pages, and the history lasts."""
         with tempfile.TemporaryDirectory() as folder:
             ours, theirs = pty.openpty()
             shown = {"TERM": "dumb", "PAGER": "tr a-z A-Z", "LINES": "9", "COLUMNS": "80"}

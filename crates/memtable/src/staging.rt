@@ -1,4 +1,4 @@
-//! Edits as entries, before any of them is made.
+//! Edits as entries, before any of them is applied.
 
 ghost use Rattle.std.specs.Prelude.{◌≡◌, ◌≤◌, ◌^◌, List, length, IsOk, IfOk, OnOk, IfErr};
 ghost use Rattle.std.specs.List.{All, AllByRecursion};
@@ -64,7 +64,7 @@ pub(crate) fn slot_of(alloc: Global, row: &Row, edit: Edit) -> Result<Box<Slot>,
     Ok(Box::new(alloc, slot)?)
 }
 
-/// Edits as entries, the last of each text.
+/// Edits as entries, only the last edit of each text.
 pub(crate) fn stage(alloc: Global, row: &Row, edits: Vec<Edit>) -> Result<Vec<Box<Slot>>, Refusal>
     requires { AllByRecursion (IsEditOf row.now) edits.items }
     ensures rising { IfOk result (λ staged. IsRising (slot_entries staged.items)) }
@@ -82,7 +82,7 @@ pub(crate) fn stage(alloc: Global, row: &Row, edits: Vec<Edit>) -> Result<Vec<Bo
     Ok(staged)
 }
 
-/// The size of a table once entries are put over it.
+/// The size of a table after entries are put over it.
 pub(crate) fn size_with(table: &[Block], before: Size, staged: &[Box<Slot>]) -> Size
     requires rising { IsRising (block_entries table.now) }
     requires blocks { AllByRecursion IsEntryBlock table.now }

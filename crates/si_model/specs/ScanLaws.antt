@@ -7,23 +7,22 @@ use Rattle.si_model.specs.Scans.{place_at, Covers, Says, IsSo}
 use Rattle.si_model.specs.Sets.{◌∈◌}
 use Rattle.si_model.specs.declared.replies.Cell.{Cell}
 
--- the scan went over x, and said this of it
+-- the scan covered x, and this is its answer for x
 pub record SaysOf (scan : Scan) (x : Cell) (said : Option Item) : Type 0 where
   pub covers : Covers scan.range scan.reach x
   pub says : Says scan.items x said
 
--- what each scan said is so at its session's start, in the commits as they are now
--- (snapshot isolation)
+-- each scan's answers are right at its session's start, in the commits as they are now (snapshot isolation)
 abbrev pub ScansSettled : State → Type 0
 ScansSettled st =
     (scan : Scan) → scan ∈ st.scans → (x : Cell) (said : Option Item) → SaysOf scan x said
     → IsSo st.commits scan.start x said
 
--- what two scans of one start say of one cell
+-- the answers of two scans with the same start for the same cell
 pub record Meet (a b : Scan) (x : Cell) : Type 0 where
-  -- there is one value
+  -- they agree on the value
   pub one : (v w : Value) → SaysOf a x (Some (Valued v)) → SaysOf b x (Some (Valued w)) → v ≡ w
-  -- what one leaves unnamed the other can name only as kept back
+  -- if one scan leaves the cell unnamed, the other can name it only as locked
   pub unnamed : (item : Item) → SaysOf a x None → SaysOf b x (Some item)
       → (t : ℕ) × (item ≡ Locked t)
 
@@ -31,11 +30,11 @@ abbrev pub ScansMeet : State → Type 0
 ScansMeet st =
     (a b : Scan) → a ∈ st.scans → b ∈ st.scans → a.start ≡ b.start → (x : Cell) → Meet a b x
 
--- a Get may be answered so
+-- this is a possible reply to a Get
 abbrev pub MayGet : State → ℕ → Cell → Reply → Type 0
 MayGet st s x reply = (next : State) × Acts st (Get s x) reply next
 
--- what is said of x is what a Get of it would answer
+-- the answer for x is a Get's answer
 abbrev pub IsAsGet : State → ℕ → Cell → Option Item → Type 0
 IsAsGet st s x None = MayGet st s x (Answered None)
 IsAsGet st s x (Some (Valued value)) = MayGet st s x (Answered (Some value))
@@ -49,8 +48,7 @@ ScansAsGets st =
     → (x : Cell) (said : Option Item) → Covers range reach x → Says items x said
     → IsAsGet st s x said
 
--- if a cell map shows a state, a cell without a key has no mark, and nothing as of each stamp
--- from the floor on
+-- if a cell map shows a state, a cell without a key has no mark, and has no value at any stamp from the floor on
 abbrev pub NothingThere : Cells → State → Type 0
 NothingThere cells st =
     (x : Cell) → ¬ HasCell cells (place_at x)

@@ -1,4 +1,4 @@
-//! The keys of locks that have a value, and those of several files together.
+//! The keys of locks that have a value, in one file or in several together.
 
 ghost use Rattle.std.specs.Prelude.{◌≡◌, ◌⊎◌, ◌++◌, ℕ, true, All, Contains, IfErr, IfOk, OnOk, map};
 ghost use Rattle.cell_key.specs.Keys.{text};
@@ -13,7 +13,7 @@ use cell_key::{CellKey, Refusal};
 use std::alloc::Global;
 use std::marker::Model;
 
-/// The key of a lock that has a value, with the number of its column.
+/// The key of a lock that has a value, with the hash of its column.
 #[derive(Drop)]
 pub(crate) struct LockValue {
     key: CellKey,
@@ -53,7 +53,7 @@ impl LockValue {
         })
     }
 
-    /// The lock's stamp, by its column's number.
+    /// The lock's stamp, with the hash of its column.
     fn stamp(&self) -> LockStamp
         ensures { result ≡ stamp_of self.now }
     {
@@ -63,14 +63,15 @@ impl LockValue {
         }
     }
 
-    /// The number of the lock's row.
+    /// The hash of the lock's row.
     fn row_number(&self) -> u64
         ensures { result ≡ text_number self.now.row }
     {
         text_number(self.key.row.as_bytes())
     }
 
-    /// Whether the lock's key is among these, which are in rising order. If they aren't, the answer may be no.
+    /// Whether the lock's key is among `keys`, which are in ascending order. If they aren't, the answer may be a false
+    /// no.
     fn is_among(&self, keys: &[CellKey]) -> bool
         ensures { result ≡ true → Contains keys.now self.now }
     {
@@ -78,7 +79,7 @@ impl LockValue {
     }
 }
 
-/// Adds a copy of a lock whose key isn't among these. Answers `NoMemory` if there is no memory.
+/// Adds a copy of a lock, unless its key is among `named`. Answers `NoMemory` if there is no memory.
 fn push_unnamed(
     kept: &mut Vec<LockValue>,
     lock: &LockValue,
@@ -97,7 +98,7 @@ fn push_unnamed(
     Ok(())
 }
 
-/// Copies of those of some locks whose keys aren't among these. Answers `NoMemory` if there is no memory.
+/// Copies of the locks whose keys aren't among `named`. Answers `NoMemory` if there is no memory.
 fn copy_unnamed(
     alloc: Global,
     locks: &[LockValue],
@@ -126,7 +127,8 @@ fn push_copies(out: &mut Vec<LockValue>, locks: &[LockValue]) -> Result<(), Refu
     Ok(())
 }
 
-/// Those of a file, and those of older files whose keys the file doesn't name. Answers `NoMemory` if there is no memory.
+/// The locks of a file (`values`), and the older ones that it doesn't name (`named`). Answers `NoMemory` if there is no
+/// memory.
 pub(crate) fn values_over(
     alloc: Global,
     older: &[LockValue],

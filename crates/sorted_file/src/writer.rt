@@ -1,4 +1,4 @@
-//! Writing a file, which is open at once: nothing of it is read.
+//! Writing a file, which is open at once without reading any of it.
 
 ghost use Rattle.std.specs.FinMap as map;
 ghost use Rattle.std.specs.Prelude.{◌≡◌, ◌≤◌, ◌++◌, length, Some, IfOk, IfErr, IfSome, IsErrOf, ◌⊎◌, OnOk, OnErr, ℕ, List};
@@ -21,7 +21,7 @@ use cell_key::Refusal;
 use file_store::Files;
 use std::alloc::Global;
 
-/// The file of the entries that remain, but for its end.
+/// The file of the source's remaining entries, without its last block, index and foot.
 fn build<F: Files, S: Source<F>>(
     alloc: Global,
     source: &mut S,
@@ -58,7 +58,7 @@ fn build<F: Files, S: Source<F>>(
     Ok(builder)
 }
 
-/// The file of the entries that remain, open where its bytes stand under this name, and those bytes.
+/// The file of the source's remaining entries, which is open once its bytes are under this name, and these bytes.
 fn file_of_rest<F: Files, S: Source<F>>(
     alloc: Global,
     source: &mut S,
@@ -109,16 +109,16 @@ fn put<F: Files>(files: &mut F, name: u64, bytes: Vec<u8>) -> Result<(), Refusal
     files.put_owned(name, bytes).map_err(refusal_of)
 }
 
-/// Writes the entries that remain in a source as a file of format 2 (Bigtable, the SSTable), which replaces a file of
-/// this name, and returns it open: nothing of it is read. The file caches 8 blocks at most. It is newer than those whose
-/// locks the index has, and keeps which of those locks it names, as `SortedFile::open_over` does.
+/// Writes the remaining entries of a source as a file of format 2 (Bigtable, the SSTable), which replaces a file of
+/// this name, and returns it open without reading any of it. Its cache holds 8 blocks. `over` is the index of the older
+/// files' locks: the open file keeps the keys of those that it has an entry of, as `SortedFile::open_over` does.
 ///
 /// # Errors
 ///
-/// `FileTooLarge` if the file would have more than `file_limit` bytes, `Damaged` if the source is damaged or its entries
-/// are no entry list, `Device` if a device fails, and `NoMemory` if there is no memory. Until the whole file is in memory
-/// no file is changed; after an `Err` of the write itself the bytes under this name are open. All other files stay as
-/// they are.
+/// `FileTooLarge` if the file would have more than `file_limit` bytes, `Damaged` if the source is damaged or its
+/// entries are no entry list, `Device` if a device fails, and `NoMemory` if there is no memory. No file changes until
+/// the whole file is in memory. After an `Err` of the write itself any bytes may be under this name. No other file
+/// changes.
 pub fn write_file<F: Files, S: Source<F>>(
     alloc: Global,
     source: &mut S,

@@ -1,4 +1,4 @@
-//! What a tablet reads: its memtable and its files, from a text on and up to another.
+//! The sources of a tablet's reads: its memtable and its files, each cut to a range of key texts.
 
 ghost use Rattle.std.specs.Prelude.{◌≡◌, [], map, Option, option_map, IfOk, IfErr};
 ghost use Rattle.std.specs.Option.{option_copied, option_to_list};
@@ -17,8 +17,8 @@ use memtable::Memtable;
 use sorted_file::{SortedFile, Source};
 use std::alloc::Global;
 
-/// What comes before the texts of a range's rows and after those of all earlier rows, and what comes after
-/// those of its rows, if its end isn't infinite. Answers `NoMemory` if there is no memory.
+/// The fences of a range: a lower bound of the key texts of its rows, above the texts of all earlier rows, and an upper
+/// bound, if the range has an end. Answers `NoMemory` if there is no memory.
 pub(crate) fn fences(alloc: Global, range: &RowRange) -> Result<(Vec<u8>, Option<Vec<u8>>), Refusal>
     ensures from { IfOk result (λ fences. fences.0.items ≡ lower_fence range.now) }
     ensures end { IfOk result (λ fences.
@@ -36,7 +36,7 @@ pub(crate) fn fences(alloc: Global, range: &RowRange) -> Result<(Vec<u8>, Option
     Ok((from, end))
 }
 
-/// The entries of a memtable from a text on and below another.
+/// The entries of a memtable from the text `from` on and below `end`.
 fn memtable_source<'a>(
     memtable: &'a Memtable,
     from: &[u8],
@@ -51,7 +51,7 @@ fn memtable_source<'a>(
     Bounded::new(Input::Memtable(memtable.cursor(from)), end)
 }
 
-/// The entries of a memtable, if there is one, from a text on and below another.
+/// The entries of a memtable, if one is given, from the text `from` on and below `end`.
 fn memtable_sources<'a>(
     alloc: Global,
     memtable: Option<&'a Memtable>,
@@ -77,7 +77,7 @@ fn memtable_sources<'a>(
     Ok(sources)
 }
 
-/// The entries of a file from a text on and below another.
+/// The entries of a file from the text `from` on and below `end`.
 fn file_source<'a>(
     file: &'a SortedFile,
     from: &'a [u8],
@@ -91,9 +91,8 @@ fn file_source<'a>(
     Bounded::new(Input::File(file.cursor(from)), end)
 }
 
-/// The entries of a memtable, if there is one, and of files, from the text `from` on and below `end`, if
-/// there is one: a source of each, in this order, at its start. Answers `NoMemory` if there is no
-/// memory.
+/// The entries of a memtable, if one is given, and of files, from the text `from` on and below `end`, if one is given:
+/// one source each, in this order, at its start. Answers `NoMemory` if there is no memory.
 pub(crate) fn sources<'a, F: Files>(
     alloc: Global,
     memtable: Option<&'a Memtable>,

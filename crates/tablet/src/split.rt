@@ -1,5 +1,5 @@
-//! Cutting a tablet in two, and moving it: after a minor compaction its files are all that it has, and they may
-//! be named by two tablets or opened by another server.
+//! Cutting a tablet in two, and moving it: after a minor compaction all its entries are in its files, which two tablets
+//! can share or another server can open.
 
 ghost use Rattle.std.specs.Prelude.{◌≡◌, ◌≢◌, ◌≤◌, ◌<◌, ◌+◌, ◌^◌, ◌∷◌, [], Some, length, ◌↔◌, ℕ, IfOk, IfErr, OnOk, OnErr, IfSome, IsNone, IsErrOf};
 ghost use Rattle.std.specs.List.{AllByRecursion};
@@ -25,12 +25,13 @@ use std::alloc::Global;
 use std::num::NonZeroUsize;
 
 impl Tablet {
-    /// Opens the files of these names, the newest first, as a tablet of a range with an empty memtable. Each file, and each
-    /// that it opens later, caches `most_blocks` blocks at most. The oldest is opened first.
+    /// Opens the files of these names, the newest first, as a tablet of a range with an empty memtable. Each of these
+    /// files, and each file that the tablet opens later, caches `most_blocks` blocks at most. The oldest is opened
+    /// first.
     ///
     /// # Errors
     ///
-    /// `Device`, `NoMemory`, and `Damaged` only if a file is missing or is the file of no entry list.
+    /// `Device`, `NoMemory`, and `Damaged` only if a file is missing or is not the file of an entry list.
     pub fn load<F: Files>(
         alloc: Global,
         range: RowRange,
@@ -74,7 +75,7 @@ impl Tablet {
         Ok(names)
     }
 
-    /// Opens the files once more, as a tablet of another range with an empty memtable.
+    /// Opens the same files again, as a tablet of another range with an empty memtable.
     fn open_again<F: Files>(&self, range: RowRange, files: &mut F) -> Result<Tablet, Refusal>
         ensures range { IfOk result (λ t. range_of t ≡ range) }
         ensures memory { IfOk result (λ t. memory_of t ≡ []) }
@@ -88,11 +89,11 @@ impl Tablet {
         Tablet::load(self.alloc, range, &names, self.most_blocks, files)
     }
 
-    /// A minor compaction, and then the names of the files, the newest first.
+    /// Runs a minor compaction and answers the names of the files, the newest first.
     ///
     /// # Errors
     ///
-    /// Those of `minor`. A refused call may have done the minor compaction.
+    /// The errors of `minor`. A refused call may still have done the minor compaction.
     pub fn unload<F: Files>(
         &mut self,
         file_limit: u64,
@@ -111,7 +112,7 @@ impl Tablet {
         ensures left { OnErr result (LeavesFlushed next_name.old self.old self.new) }
         ensures name { TakesName
             (F.contents files.old) next_name.old (F.contents files.new) next_name.new }
-        // If there are 64 files it is refused before a file is written, whatever else may fail.
+        // With 64 files it is refused before a file is written, whatever else may fail.
         ensures full { IsErrOf result Refusal.TooManyFiles
             ↔ (memory_of self.old ≢ []) × (64 ≤ length (names_of self.old)) }
         ensures exhausted { IsErrOf result Refusal.Exhausted
@@ -130,7 +131,7 @@ impl Tablet {
         self.names()
     }
 
-    /// The range up to a row, and that row again, which the rest begins after.
+    /// The range up to and including a row, and a copy of that row, after which the right part begins.
     fn left_of(&self, row: &Row) -> Result<(RowRange, Row), Refusal>
         ensures range { IfOk result (λ left.
             left.0 ≡ record { after = (range_of self.now).after; end = Some row.now }) }
@@ -144,14 +145,14 @@ impl Tablet {
         Ok((range, row.clone()?))
     }
 
-    /// Cuts the tablet, whose memtable is empty, at a row of its range that isn't its end (Bigtable, tablets are
-    /// split). Answers the left part, which ends with the row; the tablet becomes the right part, which begins
-    /// after it. Both have its files.
+    /// Cuts the tablet, whose memtable must be empty, at a row of its range other than its end (Bigtable, tablets are
+    /// split). Answers the left part, which ends with the row; the tablet becomes the right part, which begins after
+    /// it. Both share its files.
     ///
     /// # Errors
     ///
-    /// `Device`, `NoMemory`, and `Damaged` only if a file is missing or is the file of no entry list. The tablet is
-    /// then as before.
+    /// `Device`, `NoMemory`, and `Damaged` only if a file is missing or is not the file of an entry list. The tablet is
+    /// then unchanged.
     pub fn cut<F: Files>(&mut self, row: &Row, files: &mut F) -> Result<Tablet, Refusal>
         requires flushed { memory_of self.old ≡ [] }
         ensures left_range { IfOk result (λ left.
@@ -178,11 +179,11 @@ impl Tablet {
         Ok(left)
     }
 
-    /// A minor compaction, and then `cut`.
+    /// Runs a minor compaction and then `cut`.
     ///
     /// # Errors
     ///
-    /// Those of `minor` and of `cut`. A refused call may have done the minor compaction.
+    /// The errors of `minor` and of `cut`. A refused call may still have done the minor compaction.
     pub fn split<F: Files>(
         &mut self,
         row: &Row,
@@ -203,7 +204,7 @@ impl Tablet {
         ensures left { OnErr result (LeavesFlushed next_name.old self.old self.new) }
         ensures name { TakesName
             (F.contents files.old) next_name.old (F.contents files.new) next_name.new }
-        // If there are 64 files it is refused before a file is written, whatever else may fail.
+        // With 64 files it is refused before a file is written, whatever else may fail.
         ensures full { IsErrOf result Refusal.TooManyFiles
             ↔ (memory_of self.old ≢ []) × (64 ≤ length (names_of self.old)) }
         ensures exhausted { IsErrOf result Refusal.Exhausted

@@ -16,7 +16,7 @@ use sorted_file::refusal_of;
 use std::alloc::Global;
 use tablet::unnamed_may_go;
 
-/// Whether a file stays: it is the root, 0, or some tablet has it.
+/// Whether a file must stay: it is the root, 0, or belongs to some tablet.
 fn is_kept(table: &MetadataTable, name: u64) -> bool
     ensures { result ≡ is_kept table.now name }
 {
@@ -34,7 +34,7 @@ fn remove<F: Files>(files: &mut F, name: u64) -> Result<(), Refusal>
     files.remove(name).map_err(|fault| refusal_of(fault))
 }
 
-/// Removes those of the named files that needn't stay, and answers how many names these are.
+/// Removes the named files that need not stay, and answers how many they are.
 fn remove_unkept<F: Files>(
     table: &MetadataTable,
     names: Vec<u64>,
@@ -73,13 +73,13 @@ fn names_of<F: Files>(alloc: Global, files: &mut F) -> Result<Vec<u64>, Refusal>
 }
 
 impl<F: Files> Cluster<F> {
-    /// Removes the files that no tablet has, and answers how many these were. The root, 0, stays. No cell changes
+    /// Removes the files that no tablet has, and answers how many they were. The root, 0, stays. No cell changes
     /// (Bigtable: files that no tablet has are removed by mark and sweep).
     ///
     /// # Errors
     ///
-    /// `Device` if a device failed during the call, and `NoMemory` if a growth was refused. Some of the files
-    /// may then be gone.
+    /// `Device` if a device failed during the call, and `NoMemory` if an allocation failed. Some of the files may
+    /// already be removed.
     pub fn sweep(&mut self) -> Result<u64, Refusal>
         ensures { IsOutcome F.contents F.faults Command.Sweep (swept_of result) self.old self.new }
     {

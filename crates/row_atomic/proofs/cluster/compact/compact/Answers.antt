@@ -1,4 +1,4 @@
--- Each compaction does what the tablet's call does.
+-- Each compaction has the effects of the tablet's call.
 use Rattle.std.proofs.Common.{◌≡◌, ◌^◌, ℕ, Option, Some, None, IfSome, Result, Ok, Err, IfErr, OnOk, refl}
 use Rattle.cell_key.specs.declared.refusals.Refusal.{Refusal}
 use Rattle.cell_key.specs.declared.refusals.Refusal.TheVariants.{BadCount, Damaged, Exhausted, FileTooLarge, TooManyFiles}
@@ -24,7 +24,7 @@ when_refused : {A : Type 0} (r : Result A Refusal) (Q P : Refusal → Type 0) �
 when_refused (Ok x) Q P from q = tt
 when_refused (Err e) Q P from q = from e q (λ n is. err_of e n is)
 
--- a compaction that isn't a major one cleans nothing
+-- a compaction that is not a major one need not remove erasures
 none_erased : (o : Option Contents) (next : ℕ) (t : Tablet) → IfSome o (λ m. Holds m t → IsBelow next t → Unit {0})
 none_erased None next t = tt
 none_erased (Some m) next t = λ holds below. tt
