@@ -37,7 +37,7 @@ class Locked:
     def data(self) -> dict[str, object]:
         """The lock as data for JSON."""
         commit = self.fate.commit if isinstance(self.fate, Committed) else None
-        state = "committed" if commit else "running" if isinstance(self.fate, Pending) else "rolled back"
+        state = "committed" if commit else "uncommitted" if isinstance(self.fate, Pending) else "rolled back"
         first = cell_data(self.lock.row, self.lock.family)
         kind = self.lock.kind.name.lower()
         return {"session": self.start, "kind": kind, "first": first, "state": state, "commit": commit}
