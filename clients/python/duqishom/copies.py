@@ -79,7 +79,7 @@ def copy_store(place: Path, copy: Path, data: bytes, beside: Mapping[str, bytes]
 def write_synced(path: Path, source: BinaryIO, go_on: Callable[[], None] = nothing) -> None:
     """Writes a new file, and syncs it and its name to disk. OSError, which names the file, if that fails."""
     try:
-        with path.open("xb") as file:
+        with open(path, "xb", opener=open_private) as file:
             while piece := source.read(PIECE):
                 go_on()
                 file.write(piece)
@@ -89,6 +89,11 @@ def write_synced(path: Path, source: BinaryIO, go_on: Callable[[], None] = nothi
     except OSError as error:
         error.filename = error.filename or str(path)
         raise
+
+
+def open_private(path: str, flags: int) -> int:
+    """Opens a file which, where it is made, is for its owner alone."""
+    return os.open(path, flags, 0o600)
 
 
 def sync_folder(path: Path) -> None:

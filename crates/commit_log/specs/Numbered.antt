@@ -1,5 +1,5 @@
 -- The bytes of a log of format 2: the number of its store, numbered frames, and a tail in which no whole later frame stands.
-use Rattle.std.specs.Prelude.{◌≡◌, ◌≢◌, ℕ, ◌+◌, ◌≤◌, ◌<◌, ◌^◌, List, [], ◌∷◌, ◌++◌, codes, drop, length, map}
+use Rattle.std.specs.Prelude.{◌≡◌, ◌≢◌, ℕ, ◌⊎◌, ◌+◌, ◌≤◌, ◌<◌, ◌^◌, List, [], ◌∷◌, ◌++◌, codes, drop, length, map}
 use Rattle.std.specs.List.{AllByRecursion}
 use Rattle.std.specs.Int.{to_be_bytes, w32}
 use Rattle.commit_log.specs.Crc32.{crc32}
@@ -59,6 +59,10 @@ pub record IsBroken (first : ℕ) (bytes : List ℕ) : Type 0 where
 -- A whole later frame stands in the frame of a payload, behind its first byte.
 abbrev pub Hides : ℕ → List ℕ → Type 0
 Hides number payload = (k : ℕ) × StandsFrom number (drop (k + 1) (frame (numbered number payload)))
+
+-- No payload can be appended with this number: there is no such number, or a later frame would stand in its frame.
+abbrev pub IsRefused : ℕ → List ℕ → Type 0
+IsRefused number payload = (2 ^ 63 ≤ number) ⊎ Hides number payload
 
 -- the head of a store's log, and a log of these records, with no tail
 abbrev pub store_head : ℕ → List ℕ

@@ -4,7 +4,7 @@ ghost use Rattle.std.specs.Prelude.{◌≡◌, ◌≢◌, ◌≤◌, ◌<◌, �
 ghost use Rattle.commit_log.specs.Faults.{HasFaultCause, HasRisen};
 ghost use Rattle.commit_log.specs.Frames.{IsBody, frame};
 ghost use Rattle.commit_log.specs.Held.{HasRecords, IsHeld, IsKept, Keeps, Opens};
-ghost use Rattle.commit_log.specs.Numbered.{Hides, numbered};
+ghost use Rattle.commit_log.specs.Numbered.{Hides, IsRefused, numbered};
 ghost use Rattle.commit_log.specs.Records.{spelled_record};
 
 use crate::faults::LogFault;
@@ -65,8 +65,8 @@ fn frame_to_append(
         bytes.items ≡ frame (numbered number (spelled_record kind stamp body.now))) }
     ensures number { OnOk result (number < 2 ^ 63) }
     ensures plain { OnOk result (¬ Hides number (spelled_record kind stamp body.now)) }
-    ensures refused { IsErrOf result LogFault.Refused → (2 ^ 63 ≤ number)
-        ⊎ Hides number (spelled_record kind stamp body.now) }
+    ensures refused { IsErrOf result LogFault.Refused
+        → IsRefused number (spelled_record kind stamp body.now) }
     ensures fault { IfErr result (λ fault. (fault ≡ LogFault.Refused)
         ⊎ (fault ≡ LogFault.Memory)) }
 {
@@ -124,9 +124,12 @@ impl<F: LogFile> FileLog<F> {
 
 impl<F: LogFile> Log for FileLog<F> {
     ghost use Rattle.commit_log.specs.Held.{IsHeld};
+    ghost use Rattle.commit_log.specs.Numbered.{IsRefused};
 
     ghost holds = { λ log records.
         IsHeld (F.bytes log.file) (F.is_stopped log.file) log.store log.next records };
+
+    ghost refuses = { λ log one. IsRefused log.next one };
 
     ghost faults = { λ log. F.faults log.file };
 

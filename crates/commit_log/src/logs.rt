@@ -15,6 +15,9 @@ pub trait Log {
     /// It holds these records. Of a log that does not say what it holds, as on a real disk, nothing holds this.
     ghost holds: { Self → List (List ℕ) → Type 0 };
 
+    /// No record of these bytes can be appended: the log has no number for one, or a later frame would stand in it.
+    ghost refuses: { Self → List ℕ → Type 0 };
+
     /// How often a device has failed, up to the greatest number.
     ghost faults: { Self → ℕ };
 
@@ -26,8 +29,10 @@ pub trait Log {
             (spelled_record kind stamp body.now)) }
         ensures err { OnErr result (MayGain (holds self.old) (holds self.new)
             (spelled_record kind stamp body.now)) }
-        ensures refused { IsErrOf result LogFault.Memory ⊎ IsErrOf result LogFault.Refused
+        ensures unchanged { IsErrOf result LogFault.Memory ⊎ IsErrOf result LogFault.Refused
             → Keeps (holds self.old) (holds self.new) }
+        ensures refused { IsErrOf result LogFault.Refused
+            → refuses self.old (spelled_record kind stamp body.now) }
         ensures intact { ¬ IsErrOf result LogFault.Damaged }
         ensures cause { HasFaultCause (faults self.old) (faults self.new) result };
 
@@ -41,13 +46,18 @@ pub trait Log {
         ensures taken { ¬ IsErrOf result LogFault.Refused }
         ensures cause { HasFaultCause (faults self.old) (faults self.new) result };
 
-    /// Puts this record in the place of all. After an `Err` the log holds what it held, or this record alone.
+    /// Replaces all records by this one. After an `Err` the log holds the records that it held, or this one alone; if memory
+    /// or the record was refused, those that it held.
     fn renew(&mut self, kind: RecordKind, stamp: Stamp, body: &[u8]) -> Result<(), LogFault>
         requires { IsBody body.now }
         ensures ok { OnOk result (Renews (holds self.old) (holds self.new)
             (spelled_record kind stamp body.now)) }
         ensures err { OnErr result (MayRenew (holds self.old) (holds self.new)
             (spelled_record kind stamp body.now)) }
+        ensures unchanged { IsErrOf result LogFault.Memory ⊎ IsErrOf result LogFault.Refused
+            → Keeps (holds self.old) (holds self.new) }
+        ensures refused { IsErrOf result LogFault.Refused
+            → refuses self.old (spelled_record kind stamp body.now) }
         ensures intact { ¬ IsErrOf result LogFault.Damaged }
         ensures cause { HasFaultCause (faults self.old) (faults self.new) result };
 

@@ -49,6 +49,8 @@ impl Log for MemLog {
 
     ghost holds = { λ log records. recorded log ≡ records };
 
+    ghost refuses = { λ _ _. ⊥ };
+
     ghost faults = { λ _. 0 };
 
     fn append(&mut self, kind: RecordKind, stamp: Stamp, body: &[u8]) -> Result<(), LogFault>

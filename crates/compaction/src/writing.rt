@@ -6,7 +6,7 @@ ghost use Rattle.file_store.specs.Store.{KeepsOthers, with_file};
 ghost use Rattle.sorted_file.specs.File.{IsOpen, name_of};
 ghost use Rattle.sorted_file.specs.Grammar.{IsFile, FitsIn};
 ghost use Rattle.sorted_file.specs.Limits.{IsFileLimit};
-ghost use Rattle.sorted_file.specs.Source.{ComesToEnd, IsWriteRefusal};
+ghost use Rattle.sorted_file.specs.Source.{ComesToEnd, IsWriteRefusal, StaysIfUnfit};
 ghost use Rattle.sorted_file.specs.declared.format.Format.TheVariants.{Two};
 ghost use Rattle.cell_key.specs.Faults.{HasReason};
 ghost use Rattle.compaction.specs.Merging.{AreAtStart};
@@ -65,10 +65,7 @@ pub fn merge_into<F: Files, S: Source<F> + Drop>(
     ensures broken { IsErrOf result Refusal.Damaged → MergeBreaks (S.steps (F.contents files.old))
         S.lent (S.breaks (F.contents files.old)) sources.items
         ⊎ MergesNoList (S.steps (F.contents files.old)) S.lent keep_erasures sources.items }
-    ensures large_same { IsErrOf result Refusal.FileTooLarge
-        → F.contents files.new ≡ F.contents files.old }
-    ensures damaged_same { IsErrOf result Refusal.Damaged
-        → F.contents files.new ≡ F.contents files.old }
+    ensures unfit { StaysIfUnfit (F.contents files.old) (F.contents files.new) result }
     ensures others { OnErr result (KeepsOthers name (F.contents files.old) (F.contents files.new)) }
     ensures refusal { IfErr result IsWriteRefusal }
     ensures reason { HasReason (F.faults files.old) (F.faults files.new) result }

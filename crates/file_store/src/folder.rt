@@ -1,6 +1,7 @@
 //! Files in a folder.
 
-ghost use Rattle.std.specs.Prelude.{⊤, ◌≡◌, ◌≢◌, ◌≤◌, ◌<◌, ℕ, Err, IfOk, IfErr, IsOk, None, Ok, OnOk, Some, length};
+ghost use Rattle.std.specs.Prelude.{⊤, ◌≡◌, ◌≢◌, ◌≤◌, ◌<◌, ◌↔◌, ℕ, Err, IfOk, IfErr, IsOk, None, Ok, OnOk, Some, length};
+ghost use Rattle.std.specs.Fs.{IsFile, file_type};
 ghost use Rattle.std.specs.Io.KnownBytes.{Appends, IsAtEnd};
 ghost use Rattle.std.specs.IoError.{error_kind};
 ghost use Rattle.file_store.specs.Store.{HasFaultCause};
@@ -8,13 +9,17 @@ ghost use Rattle.file_store.specs.Store.{HasFaultCause};
 use crate::files::{FileFault, Files};
 use crate::open_files::OpenFiles;
 use std::alloc::{Allocator, Global};
-use std::fs::{DirEntry, File, Metadata, OpenFile};
+use std::fs::{DirEntry, File, Metadata, OpenFile, OpenOptions};
 use std::io::{ErrorKind, Read, Seek, SeekFrom, Write};
+use std::os::unix::fs::OpenOptionsExt;
 use std::rt::Files as Folders;
 use std::{fs, io};
 
 /// The number of hexadecimal digits in a file's name.
 const DIGITS: usize = 16;
+
+/// Who may read and write a file that is made: its owner alone.
+const OWNER_ALONE: u32 = 0o600;
 
 /// Files in a folder, named `t`, 16 lower-case hexadecimal digits and `.tab`. Other names in the folder aren't listed.
 /// Contracts know nothing of the bytes. The folder's file `lock` is locked while the folder is open, so that only one
@@ -24,6 +29,8 @@ const DIGITS: usize = 16;
 /// A file is written under a temporary name (the same digits and `.new`), forced to the disk and renamed, and then the
 /// folder is forced to the disk: after a crash in between there are the old bytes or the new ones. If the write fails,
 /// the temporary file is removed.
+///
+/// Only the owner may read and write the files. What has a file's name and is no regular file isn't opened.
 #[derive(Drop)]
 pub struct DirFiles<R> {
     rt: R,
@@ -57,10 +64,50 @@ fn name_of(file: &str, ending: &str) -> Option<u64> {
     u64::from_str_radix(digits, 16).ok()
 }
 
+/// The metadata of a path if it is a regular file. A failure is passed on.
+fn regular(found: io::Result<Metadata>) -> io::Result<Metadata>
+    ensures regular { IfOk found (λ metadata. IsOk result ↔ IsFile (file_type metadata)) }
+    ensures same { IfOk result (λ metadata. found ≡ Ok metadata) }
+    ensures failed { IfErr found (λ error. result ≡ Err error) }
+{
+    let metadata = found?;
+    if !metadata.is_file() {
+        return Err(io::Error::from(ErrorKind::InvalidInput));
+    }
+    Ok(metadata)
+}
+
+/// The metadata of a regular file. Fails for anything else, also for a symbolic link.
+fn look_at<R: Folders>(rt: &R, path: &str) -> io::Result<Metadata> {
+    regular(fs::symlink_metadata(rt, path))
+}
+
+/// Opens a regular file to read it.
+fn open_regular<R: Folders>(rt: &R, path: &str) -> io::Result<R::File> {
+    look_at(rt, path)?;
+    File::open(rt, path)
+}
+
+/// Makes a temporary file. If something has its name, that is removed first.
+fn create_beside<R: Folders>(rt: &R, beside: &str) -> io::Result<R::File> {
+    let mut how = OpenOptions::new();
+    how.write(true).create_new(true).mode(OWNER_ALONE);
+    match how.open(rt, beside) {
+        Err(error) if error.kind() == ErrorKind::AlreadyExists => {
+            fs::remove_file(rt, beside)?;
+            how.open(rt, beside)
+        }
+        opened => opened,
+    }
+}
+
 /// Locks a folder's file `lock`, and makes it if it is missing. Fails if it is already locked.
 fn lock_folder<R: Folders<File = File>>(rt: &R, alloc: Global, folder: &str) -> io::Result<File> {
     let path = format!(in alloc; "{folder}/lock")?;
-    let file = File::create(rt, path.as_str())?;
+    let is_new = if_there(look_at(rt, path.as_str()))?.is_none();
+    let mut how = OpenOptions::new();
+    how.write(true).create_new(is_new).mode(OWNER_ALONE);
+    let file = how.open(rt, path.as_str())?;
     file.try_lock()?;
     Ok(file)
 }
@@ -101,7 +148,7 @@ fn put_there<R: Folders>(
 
 /// Writes a temporary file, and renames it to its path.
 fn place_file<R: Folders>(rt: &R, beside: &str, path: &str, bytes: &[u8]) -> io::Result<()> {
-    let mut file = File::create(rt, beside)?;
+    let mut file = create_beside(rt, beside)?;
     let written = write_synced(&mut file, bytes);
     put_there(rt, beside, path, written)
 }
@@ -207,7 +254,7 @@ fn read_from<R: Folders<File = File>>(
         return read_part(file, offset, out);
     }
     let path = path_of(alloc, folder, name, "tab")?;
-    let (count, file) = read_opened(File::open(rt, path.as_str()), offset, out)?;
+    let (count, file) = read_opened(open_regular(rt, path.as_str()), offset, out)?;
     if let Some(file) = file {
         open_files.keep(name, file);
     }
@@ -228,7 +275,7 @@ fn size_in(found: io::Result<Metadata>) -> io::Result<Option<u64>>
 /// The size of a file in bytes, if it exists.
 fn size_of<R: Folders>(rt: &R, alloc: Global, folder: &str, name: u64) -> io::Result<Option<u64>> {
     let path = path_of(alloc, folder, name, "tab")?;
-    size_in(fs::metadata(rt, path.as_str()))
+    size_in(look_at(rt, path.as_str()))
 }
 
 /// Forces a folder to the disk after a file was removed; does nothing if the file was missing. Any other failure is

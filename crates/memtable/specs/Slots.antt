@@ -1,6 +1,7 @@
 -- The entries of slots.
-use Rattle.std.specs.Prelude.{◌≡◌, ◌<◌, ◌≤◌, ◌+◌, ◌-◌, true, get_or, if◌then◌else◌, length, take, nat_eq, ℕ, zero, suc, Bool, false, List, [], ◌∷◌, map, Option, Some, None, option_map}
+use Rattle.std.specs.Prelude.{◌≡◌, ◌<◌, ◌≤◌, ◌+◌, ◌-◌, true, get_or, if◌then◌else◌, length, take, nat_eq, ℕ, zero, suc, Bool, false, List, [], ◌∷◌, map, Option, Some, None, option_map, vec_len, vec_capacity}
 use Rattle.std.specs.declared.boxed.Box.{Box}
+use Rattle.std.specs.declared.vec.Vec.{Vec}
 use Rattle.std.specs.Ordering.{is_eq, is_gt}
 use Rattle.std.specs.FinMap.Entries.{put}
 use Rattle.std.specs.List.{ends_with}
@@ -16,6 +17,11 @@ slot_entry slot = (slot.text, option_map (λ value. value.items) slot.value)
 
 abbrev pub slot_entries : {A : Type 0} → List (Box Slot A) → List Entry
 slot_entries slots = map (λ slot. slot_entry slot.value) slots
+
+-- A list has grown by this many at most, and has the room that it had or more.
+abbrev pub GrowsBy : {X Z : Type 0} → ℕ → Vec X Z → Vec X Z → Type 0
+GrowsBy count old new =
+    (vec_len new ≤ vec_len old + count) × (vec_capacity old ≤ vec_capacity new)
 
 -- the first entry that has a value
 abbrev pub first_value : List Entry → Option Entry

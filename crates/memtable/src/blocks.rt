@@ -6,7 +6,7 @@ ghost use Rattle.std.specs.List.{AllByRecursion};
 ghost use Rattle.std.specs.FinMap.Entries.{put as put_entry};
 ghost use Rattle.cell_key.specs.Keys.{byte_cmp};
 ghost use Rattle.cell_key.specs.Entries.{IsEntry, IsPlace, IsRising, entries_from, entry_of_key};
-ghost use Rattle.memtable.specs.Slots.{slot_entry, slot_entries, first_value, over};
+ghost use Rattle.memtable.specs.Slots.{slot_entry, slot_entries, first_value, over, GrowsBy};
 ghost use Rattle.memtable.specs.Sizes.{IsSizeOf, stood_size};
 ghost use Rattle.memtable.specs.declared.blocks.Block.{Block as BlockOf};
 ghost use Rattle.memtable.specs.Blocks.{block_entries, lists_of, list_of, ends_below, IsBlockIndex, IsCounted, IsEntryBlock, IsSpare, IsEndOf, IsFullAt, IsPlaceAmong, AreEntryBlocks, HasRoom};
@@ -401,8 +401,7 @@ fn put_in(block: &mut Block, at: usize, slot: Box<Slot>) -> Option<EntrySize>
     ensures replaced { result ≡ stood_size (slot_entry slot.value).0
         (entry_of_key (list_of block.old) (slot_entry slot.value).0) }
     ensures some { 1 ≤ vec_len block.new.slots }
-    ensures len { vec_len block.new.slots ≤ vec_len block.old.slots + 1 }
-    ensures capacity { vec_capacity block.old.slots ≤ vec_capacity block.new.slots }
+    ensures grows { GrowsBy 1 block.old.slots block.new.slots }
     ensures counted { IsCounted block.new }
 {
     block.values += slot.value_count();

@@ -4,7 +4,7 @@ ghost use Rattle.std.specs.Prelude.{◌≡◌, ◌+◌, ◌≤◌, ◌<◌, IfSo
 ghost use Rattle.std.specs.FinMap.Entries.{put as put_entry};
 ghost use Rattle.cell_key.specs.Keys.{byte_cmp};
 ghost use Rattle.cell_key.specs.Entries.{IsPlace, IsRising, entry_of_key, lent_entry, entry_len};
-ghost use Rattle.memtable.specs.Slots.{slot_entry, slot_entries, is_named, first_value, one_lock, one_value, value_count, AreBelow, AreNotBelow, IsPartOf};
+ghost use Rattle.memtable.specs.Slots.{slot_entry, slot_entries, is_named, first_value, one_lock, one_value, value_count, AreBelow, AreNotBelow, GrowsBy, IsPartOf};
 ghost use Rattle.memtable.specs.Sizes.{entry_size};
 
 use crate::key_text::EntryText;
@@ -274,8 +274,7 @@ pub(crate) fn put_at(slots: &mut Vec<Box<Slot>>, at: usize, slot: Box<Slot>) -> 
         ≡ entry_of_key (slot_entries slots.old.items) slot.value.text }
     ensures named { IfSome result (λ old. old.value.text ≡ slot.value.text) }
     ensures some { 1 ≤ vec_len slots.new }
-    ensures len { vec_len slots.new ≤ vec_len slots.old + 1 }
-    ensures capacity { vec_capacity slots.old ≤ vec_capacity slots.new }
+    ensures grows { GrowsBy 1 slots.old slots.new }
 {
     if is_named(slots, at, &slot.text) {
         return Some(mem::replace(&mut slots[at], slot));
@@ -292,8 +291,7 @@ pub(crate) fn put(slots: &mut Vec<Box<Slot>>, slot: Box<Slot>) -> Option<Box<Slo
     ensures entries { slot_entries slots.new.items
         ≡ put_entry byte_cmp (slot_entry slot.value).0 (slot_entry slot.value).1
         (slot_entries slots.old.items) }
-    ensures len { vec_len slots.new ≤ vec_len slots.old + 1 }
-    ensures capacity { vec_capacity slots.old ≤ vec_capacity slots.new }
+    ensures grows { GrowsBy 1 slots.old slots.new }
 {
     let at = first_from(slots, &slot.text);
     put_at(slots, at, slot)

@@ -1,6 +1,7 @@
 //! The oracle's mark in a folder.
 
-ghost use Rattle.std.specs.Prelude.{◌≡◌, ◌≢◌, ◌≤◌, ◌<◌, ◌^◌, ℕ, length, take, Err, IfErr, IfNone, IfOk, IfSome, IsErr, None, Ok, OnErr, OnOk};
+ghost use Rattle.std.specs.Prelude.{◌≡◌, ◌≢◌, ◌≤◌, ◌<◌, ◌^◌, ◌↔◌, ℕ, length, take, Err, IfErr, IfNone, IfOk, IfSome, IsErr, IsOk, None, Ok, OnErr, OnOk};
+ghost use Rattle.std.specs.Fs.{IsFile, file_type};
 ghost use Rattle.std.specs.Io.KnownBytes.{Appends, Consumes, IsAtEnd};
 ghost use Rattle.std.specs.IoError.{error_kind};
 ghost use Rattle.cell_key.specs.Faults.{HasRisen};
@@ -8,19 +9,25 @@ ghost use Rattle.oracle.specs.Marks.{IsMark, mark_bytes};
 
 use crate::marks::{MarkFault, MarkStore};
 use cell_key::{MOST_STAMP, Stamp};
-use std::fs::{File, OpenFile};
+use std::fs::{File, Metadata, OpenFile, OpenOptions};
 use std::io::{ErrorKind, Read, Write};
+use std::os::unix::fs::OpenOptionsExt;
 use std::rt::Files as Folders;
 use std::{fs, io};
 
 /// The length of the mark's file in bytes.
 const MARK_BYTES: usize = 8;
 
+/// Who may read and write the file of a mark: its owner alone.
+const OWNER_ALONE: u32 = 0o600;
+
 /// A mark in the file `oracle.mark` of a folder, as 8 bytes, big-endian. Contracts know nothing of the file's bytes.
 ///
 /// A new mark is written to a second file, `oracle.new`, and synced; that file is renamed over the old one, and the
 /// folder is synced. If the machine stops in between, the file has the old mark or the new one. If the write or the
 /// rename fails, `oracle.new` is removed.
+///
+/// Only the owner may read and write the file. What has its name and is no regular file isn't opened.
 #[derive(Drop)]
 pub struct DirMark<R> {
     rt: R,
@@ -41,6 +48,38 @@ fn number_of(bytes: &[u8]) -> Option<Stamp>
         return None;
     }
     Some(number)
+}
+
+/// The metadata of a path if it is a regular file. A failure is passed on.
+fn regular(found: io::Result<Metadata>) -> io::Result<Metadata>
+    ensures regular { IfOk found (λ metadata. IsOk result ↔ IsFile (file_type metadata)) }
+    ensures same { IfOk result (λ metadata. found ≡ Ok metadata) }
+    ensures failed { IfErr found (λ error. result ≡ Err error) }
+{
+    let metadata = found?;
+    if !metadata.is_file() {
+        return Err(io::Error::from(ErrorKind::InvalidInput));
+    }
+    Ok(metadata)
+}
+
+/// Opens a regular file for reading. Fails for anything else, also for a symbolic link.
+fn open_regular<R: Folders>(rt: &R, path: &str) -> io::Result<R::File> {
+    regular(fs::symlink_metadata(rt, path))?;
+    File::open(rt, path)
+}
+
+/// Makes a temporary file. If something has its name, that is removed first.
+fn create_beside<R: Folders>(rt: &R, beside: &str) -> io::Result<R::File> {
+    let mut how = OpenOptions::new();
+    how.write(true).create_new(true).mode(OWNER_ALONE);
+    match how.open(rt, beside) {
+        Err(error) if error.kind() == ErrorKind::AlreadyExists => {
+            fs::remove_file(rt, beside)?;
+            how.open(rt, beside)
+        }
+        opened => opened,
+    }
 }
 
 /// Fills a buffer from a file, and answers how many bytes were read: fewer than the buffer's only at the file's end.
@@ -121,7 +160,7 @@ fn put_there<R: Folders>(
 
 /// Writes a mark to the second file, and renames that over the mark's file.
 fn place_mark<R: Folders>(rt: &R, path: &str, beside: &str, number: Stamp) -> io::Result<()> {
-    let mut file = File::create(rt, beside)?;
+    let mut file = create_beside(rt, beside)?;
     let written = write_number(&mut file, number);
     put_there(rt, path, beside, written)
 }
@@ -214,7 +253,7 @@ impl<R: Folders + AllocGlobal + Drop> MarkStore for DirMark<R> {
     ghost faults = { λ mark. mark.faults };
 
     fn load(&mut self) -> Result<Stamp, MarkFault> {
-        let called = read_mark(File::open(&self.rt, self.path.as_str()));
+        let called = read_mark(open_regular(&self.rt, self.path.as_str()));
         self.count_fault(called)
     }
 

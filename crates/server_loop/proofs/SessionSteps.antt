@@ -1,6 +1,6 @@
 -- A server's steps, from its sessions' steps.
 use Rattle.std.proofs.Common.{◌≡◌, ℕ, Option, Some, None, Result, Ok, Err, IsErrOf, refl, ap, ◌∙◌, ◌⊎◌, subst, sym, inl, inr}
-use Rattle.std.specs.Prelude.{⊤, ◌≢◌}
+use Rattle.std.specs.Prelude.{⊤}
 use Rattle.std.specs.FinMap.{empty, get-empty}
 use Rattle.cell_key.specs.Faults.{HasRisen}
 use Rattle.cell_key.specs.Keys.{key_cmp}
@@ -63,15 +63,7 @@ Undrawn refusal =
     IsErrOf {T = ℕ} (Err refusal) TooManySessions
     ⊎ (IsErrOf {T = ℕ} (Err refusal) Exhausted ⊎ IsErrOf {T = ℕ} (Err refusal) NoMemory)
 
--- the effects of a refused begin, if no device failed
-pub begin_leaves : (refusal : Refusal) (P : Type 0) → IsBeginRefusal refusal → (Undrawn refusal → P) → refusal ≢ Device → P
-begin_leaves TooManySessions P is undrawn other = undrawn (inl refl)
-begin_leaves Exhausted P is undrawn other = undrawn (inr (inl refl))
-begin_leaves NoMemory P is undrawn other = undrawn (inr (inr refl))
-begin_leaves Device P is undrawn other = absurd (other refl)
-begin_leaves _ P is undrawn other = absurd is
-
--- and its effects on the oracle
+-- the effects of a refused begin on the oracle
 pub begin_leaves_oracle : {F M : Type 0} (mark : M → Option ℕ) (refusal : Refusal) (old new : Server F M) → IsBeginRefusal refusal → (Undrawn refusal → new.oracle ≡ old.oracle)
     → LeavesMark mark old new × SameNumbers old.oracle new.oracle → LeavesOracle mark refusal old new
 begin_leaves_oracle mark TooManySessions old new is undrawn device = undrawn (inl refl)

@@ -1,6 +1,6 @@
 -- The effects of a request on the cells, on the room in memory, on sessions, cleaners and collectors and on the oracle,
 -- and the answers that are always given.
-use Rattle.std.specs.Prelude.{◌≡◌, ◌≢◌, ◌⊎◌, ℕ, Option, Result, Ok, Err, map, ⊤}
+use Rattle.std.specs.Prelude.{◌≡◌, ◌⊎◌, ℕ, Option, Result, Ok, Err, map, ⊤}
 use Rattle.cell_key.specs.declared.refusals.Refusal.{Refusal}
 use Rattle.cell_key.specs.declared.refusals.Refusal.TheVariants.{Device, UnknownSession, UnknownCleaner, UnknownCollector, BadCount, EmptyCommit, TooManySessions}
 use Rattle.file_store.specs.Store.{Contents}
@@ -169,11 +169,10 @@ IsAlwaysTold (CollectStep collector n) reply st =
     × (¬ IsCount n → (reply ≡ codec.Refused UnknownCollector) ⊎ (reply ≡ codec.Refused BadCount))
 IsAlwaysTold request reply st = ⊤
 
--- An accepted begin, write, deletion, step or end changes the sessions as the machine's step says, and so may a begin
--- that a device's fault refused. Any other request leaves them unchanged.
+-- An accepted begin, write, deletion, step or end changes the sessions as the machine's step says. Any other request
+-- leaves them unchanged.
 abbrev pub KeepsSessions : Request → Reply → Clients → Clients → Type 0
-KeepsSessions Begin reply old new =
-    IfRefused (λ refusal. refusal ≢ Device → SameClients old new) (replied reply)
+KeepsSessions Begin (codec.Begin start) old new = ⊤
 KeepsSessions (Set start row family value) codec.Set old new = ⊤
 KeepsSessions (Delete start row family) codec.Delete old new = ⊤
 KeepsSessions (Step start) (codec.Step progress) old new = ⊤

@@ -11,7 +11,7 @@ ghost use Rattle.si_model.specs.Kinds.{EachLeavesOthers};
 ghost use Rattle.si_model.specs.Laws.{AtEachStep, Bounds, ClearsItsFloor, CommitSeen, FateSeen, FirstCommitterWins, FloorStaysLow, Goes, GoneForGood, IsNeverStuck, IsSettled, Numbers, OneFate, OneMark, OneSnapshot, RefusesFirst, StartsLow, StaysCleared, TellsFate, TellsMarks, WritesWithinLimits};
 ghost use Rattle.si_model.specs.Machine.{IsReached, State, reopened};
 ghost use Rattle.si_model.specs.Recovered.{Recovers};
-ghost use Rattle.si_model.specs.ScanLaws.{NothingThere, ScansAsGets, ScansMeet, ScansSettled};
+ghost use Rattle.si_model.specs.ScanLaws.{NothingThere, PagesCover, PagesGoOn, ScansAsGets, ScansMeet, ScansSettled};
 ghost use Rattle.si_model.specs.ShowsCells.{ShowsCells, WhereShown};
 ghost use Rattle.si_model.specs.declared.replies.Cell.{Cell};
 
@@ -28,6 +28,16 @@ pub fn scans_settled()
 /// Two scans with the same start agree on a cell, unless a mark blocked it for one of them.
 pub fn scans_meet()
     ensures { (st : State) → IsReached st → ScansMeet st }
+{}
+
+/// Pages of a range, each behind the one before it and the last to the end, leave out none of its cells.
+pub fn pages_cover()
+    ensures { (st : State) → IsReached st → PagesCover st }
+{}
+
+/// A page that isn't the last one goes on, at least by a cell.
+pub fn pages_go_on()
+    ensures { (st : State) → PagesGoOn st }
 {}
 
 /// For each cell that it covers, a scan gives the answer of a Get with the same start.

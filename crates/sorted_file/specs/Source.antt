@@ -1,5 +1,5 @@
 -- The entries and the answers of sources.
-use Rattle.std.specs.Prelude.{◌≡◌, ℕ, List, ◌++◌, Option, None, IsSome, Result, IfErr}
+use Rattle.std.specs.Prelude.{◌≡◌, ℕ, List, ◌++◌, Option, None, IsSome, Result, IfErr, IsErrOf}
 use Rattle.std.specs.Option.{option_to_list}
 use Rattle.cell_key.specs.Entries.{Entry, IsEntryList}
 use Rattle.cell_key.specs.Faults.{HasReason}
@@ -37,6 +37,12 @@ pub record ReadsFiles {F T : Type 0} (contents : F → Option Contents) (faults 
 abbrev pub IsWriteRefusal : Refusal → Type 0
 IsWriteRefusal refused.FileTooLarge = Unit {0}
 IsWriteRefusal refusal = IsReadRefusal refusal
+
+-- If a file would be too large, or what is written is damaged, all files stay as they were.
+pub record StaysIfUnfit {T : Type 0} (old new : Option Contents) (result : Result T Refusal)
+    : Type 0 where
+  pub large : IsErrOf result refused.FileTooLarge → new ≡ old
+  pub damaged : IsErrOf result refused.Damaged → new ≡ old
 
 abbrev pub fault_refusal : FileFault → Refusal
 fault_refusal Device = refused.Device

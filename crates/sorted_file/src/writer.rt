@@ -8,7 +8,7 @@ ghost use Rattle.sorted_file.specs.Builder.{IsReady, built};
 ghost use Rattle.sorted_file.specs.File.{IsOpen, name_of};
 ghost use Rattle.sorted_file.specs.Grammar.{IsFile, FitsIn};
 ghost use Rattle.sorted_file.specs.Limits.{IsFileLimit};
-ghost use Rattle.sorted_file.specs.Source.{ComesToEnd, IsWriteRefusal};
+ghost use Rattle.sorted_file.specs.Source.{ComesToEnd, IsWriteRefusal, StaysIfUnfit};
 ghost use Rattle.sorted_file.specs.Passing.{BreaksAfter, EndsAfter, IsFileOf, PassesNoList, PassesTooMuch};
 
 use crate::builder::FileBuilder;
@@ -147,10 +147,7 @@ pub fn write_file<F: Files, S: Source<F>>(
         → BreaksAfter (S.steps (F.contents files.old)) S.lent (S.breaks (F.contents files.old))
         source.old ⊎ PassesNoList (S.steps (F.contents files.old)) S.lent source.old }
     ensures damaged { IsErrOf result Refusal.Damaged → ¬ S.holds (F.contents files.old) source.old }
-    ensures large_same { IsErrOf result Refusal.FileTooLarge
-        → F.contents files.new ≡ F.contents files.old }
-    ensures damaged_same { IsErrOf result Refusal.Damaged
-        → F.contents files.new ≡ F.contents files.old }
+    ensures unfit { StaysIfUnfit (F.contents files.old) (F.contents files.new) result }
     ensures others { OnErr result (KeepsOthers name (F.contents files.old) (F.contents files.new)) }
     ensures refusal { IfErr result IsWriteRefusal }
     ensures reason { HasReason (F.faults files.old) (F.faults files.new) result }

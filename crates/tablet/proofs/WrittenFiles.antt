@@ -98,10 +98,6 @@ pub on_ok_map : {A E P Q : Type 0} (r : Result A E) → (P → Q) → OnOk r P �
 on_ok_map (Ok x) f p = f p
 on_ok_map (Err e) f p = tt
 
-pub on_ok_both : {A E : Type 0} (r : Result A E) (P Q : Type 0) → OnOk r P → OnOk r Q → OnOk r (P × Q)
-on_ok_both (Ok x) P Q p q = (p, q)
-on_ok_both (Err e) P Q p q = tt
-
 pub told_not : (told : Option Contents) (P : Option Contents → Type 0) → ¬ P told → IfSome told (λ m. ¬ P (Some m))
 told_not None P not = tt
 told_not (Some m) P not = not

@@ -1,10 +1,10 @@
 -- Compactions: the lists they read, the files they write, and their refusals.
-use Rattle.std.specs.Prelude.{◌≡◌, ◌≢◌, ◌⊎◌, ◌≤◌, ◌<◌, ◌+◌, ◌^◌, ℕ, IfSome, IsSomeAnd, Bool, true, false, nat_lt, Option, Some, None, List, [], ◌∷◌, map, take, drop, length}
+use Rattle.std.specs.Prelude.{◌≡◌, ◌≢◌, ◌⊎◌, ◌≤◌, ◌<◌, ◌+◌, ◌^◌, ◌↔◌, ℕ, IfSome, IsSomeAnd, IsErrOf, Result, Bool, true, false, nat_lt, Option, Some, None, List, [], ◌∷◌, map, take, drop, length}
 use Rattle.std.specs.List.{AllByRecursion}
 use Rattle.cell_key.specs.Entries.{Entry}
 use Rattle.cell_key.specs.declared.refusals.Refusal.{Refusal}
 use Rattle.cell_key.specs.declared.refusals.Refusal.TheVariants as refused
-use Rattle.file_store.specs.Store.{Contents}
+use Rattle.file_store.specs.Store.{Contents, KeepsOthers}
 use Rattle.sorted_file.specs.Grammar.{FitsIn}
 use Rattle.sorted_file.specs.File.{IsOpen, listed}
 use Rattle.sorted_file.specs.Source.{IsWriteRefusal}
@@ -119,6 +119,13 @@ pub record TakesName (old : Option Contents) (before : ℕ) (new : Option Conten
   pub uses : UsesName old before new after
   pub within : before ≤ 2 ^ 63 → after ≤ 2 ^ 63
 
+-- The next name was left and is used up, and the files under other names are as they were.
+pub record WritesNext (old : Option Contents) (before : ℕ) (new : Option Contents)
+    (after : ℕ) : Type 0 where
+  pub left : before < 2 ^ 63
+  pub used : after ≡ before + 1
+  pub others : KeepsOthers before old new
+
 -- the names of a tablet's files after a compaction that wrote a file of this name
 abbrev pub names_after : Compaction → ℕ → List ℕ → List ℕ
 names_after Minor name names = name ∷ names
@@ -176,6 +183,23 @@ pub record Flushes (file_limit : ℕ) (disk : Option Contents) (before : ℕ) (n
   pub written : memory_of old ≢ [] → WritesMemory file_limit before after old
   pub put : memory_of old ≢ [] → IfSome disk (λ m.
       IsSomeAnd now (λ n. HasPut Minor n (seen (range_of old) (memory_of old)) old new))
+
+-- Nothing was done: the tablet, the next name and the files are what they were.
+abbrev pub IsUntouched : Option Contents → ℕ → Option Contents → ℕ → Tablet → Tablet → Type 0
+IsUntouched disk before now after old new =
+    IsUnchanged old new × ((after ≡ before) × (now ≡ disk))
+
+-- A call is refused in this way exactly for this cause, whatever else may fail, and before it does
+-- anything.
+pub record IsRefusedFirst {T : Type 0} (result : Result T Refusal) (refusal : Refusal)
+    (cause : Type 0) (disk : Option Contents) (before : ℕ) (now : Option Contents) (after : ℕ)
+    (old new : Tablet) : Type 0 where
+  pub exactly : IsErrOf result refusal ↔ cause
+  pub untouched : IsErrOf result refusal → IsUntouched disk before now after old new
+
+-- its memtable has entries to write, and there are 64 files already
+abbrev pub NeedsTooManyFiles : Tablet → Type 0
+NeedsTooManyFiles t = (memory_of t ≢ []) × (64 ≤ length (names_of t))
 
 -- A refused call that begins with a minor compaction left the tablet unchanged, or did only the compaction.
 pub record LeavesFlushed (before : ℕ) (old new : Tablet) : Type 0 where

@@ -7,7 +7,7 @@
 ghost use Rattle.std.specs.Prelude.{◌≡◌, ◌≢◌, ◌≤◌, ◌<◌, ◌+◌, ◌^◌, ◌↔◌, ◌⊎◌, [], Option, Some, length, map, take, false, nat_lt, option_map, IfOk, IfErr, OnOk, OnErr, IfSome, IsNone, IsOk, IsSomeAnd, IsErrOf};
 ghost use Rattle.std.specs.Option.{option_copied};
 ghost use Rattle.std.specs.List.{AllByRecursion};
-ghost use Rattle.file_store.specs.Store.{Contents, KeepsOthers};
+ghost use Rattle.file_store.specs.Store.{Contents};
 ghost use Rattle.sorted_file.specs.Source.{ComesToEnd};
 ghost use Rattle.sorted_file.specs.Grammar.{FitsIn};
 ghost use Rattle.sorted_file.specs.Limits.{IsFileLimit};
@@ -20,7 +20,7 @@ ghost use Rattle.tablet.specs.Ranges.{seen};
 ghost use Rattle.tablet.specs.Sources.{IsOpenIn, listed_in, lists_over};
 ghost use Rattle.tablet.specs.Views.{range_of, memory_of, files_of, names_of, IsUnchanged, Keeps};
 ghost use Rattle.tablet.specs.declared.compactions.Compaction.TheVariants.{Minor, Merge, Major};
-ghost use Rattle.tablet.specs.Compactions.{compacted, compacted_of, inputs_of, keeps_erasures, memory_read, Compacts, Flushes, HasAsMany, files_read, IsCompactionRefusal, IsMergeRefusal, IsMinorRefusal, IsNewFile, IsUnreadable, ReadsOpen, ReadsThrough, ReadsTooMuch, Replaces, TakesName};
+ghost use Rattle.tablet.specs.Compactions.{compacted, compacted_of, inputs_of, keeps_erasures, memory_read, Compacts, Flushes, HasAsMany, files_read, IsCompactionRefusal, IsMergeRefusal, IsMinorRefusal, IsNewFile, IsRefusedFirst, IsUnreadable, IsUntouched, NeedsTooManyFiles, ReadsOpen, ReadsThrough, ReadsTooMuch, Replaces, TakesName, WritesNext};
 
 use crate::sources::{fences, sources};
 use crate::tablet::Tablet;
@@ -80,14 +80,12 @@ fn write_new<F: Files, S: Source<F> + Drop>(
     ensures made { IfOk result (λ file. IfSome (F.contents files.old) (λ m.
         AreAtStart S.lent (S.holds (Some m)) sources.items → IsSomeAnd (F.contents files.new) (λ n.
         IsNewFile n file (written keep_erasures (map (S.remaining (Some m)) sources.items))))) }
-    ensures used { OnOk result (next_name.new ≡ next_name.old + 1) }
-    ensures others { OnOk result (KeepsOthers
-        next_name.old (F.contents files.old) (F.contents files.new)) }
+    ensures wrote { OnOk result (WritesNext
+        (F.contents files.old) next_name.old (F.contents files.new) next_name.new) }
     ensures comes { OnOk result (AllByRecursion
         (ComesToEnd (S.steps (F.contents files.old)) S.lent) sources.items) }
     ensures name { TakesName
         (F.contents files.old) next_name.old (F.contents files.new) next_name.new }
-    ensures left { OnOk result (next_name.old < 2 ^ 63) }
     ensures exhausted { IsErrOf result Refusal.Exhausted → 2 ^ 63 ≤ next_name.old }
     ensures large { IsErrOf result Refusal.FileTooLarge
         → AreAtStart S.lent (S.holds (F.contents files.old)) sources.items → ¬ FitsIn file_limit
@@ -171,10 +169,8 @@ impl Tablet {
             ReadsOpen compaction (Some m) self.now → IsSomeAnd (F.contents files.new) (λ n.
             IsNewFile n file (compacted_of compaction m self.now)))) }
         ensures read { OnOk result (ReadsThrough compaction (F.contents files.old) self.now) }
-        ensures used { OnOk result ((next_name.old < 2 ^ 63)
-            × (next_name.new ≡ next_name.old + 1)) }
-        ensures others { OnOk result (KeepsOthers
-            next_name.old (F.contents files.old) (F.contents files.new)) }
+        ensures wrote { OnOk result (WritesNext
+            (F.contents files.old) next_name.old (F.contents files.new) next_name.new) }
         ensures name { TakesName
             (F.contents files.old) next_name.old (F.contents files.new) next_name.new }
         ensures exhausted { IsErrOf result Refusal.Exhausted → 2 ^ 63 ≤ next_name.old }
@@ -233,15 +229,16 @@ impl Tablet {
             Minor (F.contents files.old) next_name.old (F.contents files.new) self.old self.new) }
         ensures keeps { Keeps (F.contents files.old)
             next_name.old self.old (F.contents files.new) next_name.new self.new }
-        ensures empty { memory_of self.old ≡ [] → IsOk result × (IsUnchanged self.old self.new
-            × ((next_name.new ≡ next_name.old) × (F.contents files.new ≡ F.contents files.old))) }
+        ensures empty { memory_of self.old ≡ [] → IsOk result × IsUntouched (F.contents files.old)
+            next_name.old (F.contents files.new) next_name.new self.old self.new }
         ensures range { range_of self.new ≡ range_of self.old }
         ensures err { OnErr result (IsUnchanged self.old self.new) }
         ensures name { TakesName
             (F.contents files.old) next_name.old (F.contents files.new) next_name.new }
         // With 64 files it is refused before a file is written, whatever else may fail.
-        ensures full { IsErrOf result Refusal.TooManyFiles
-            ↔ (memory_of self.old ≢ []) × (64 ≤ length (names_of self.old)) }
+        ensures full { IsRefusedFirst result Refusal.TooManyFiles (NeedsTooManyFiles self.old)
+            (F.contents files.old) next_name.old (F.contents files.new) next_name.new
+            self.old self.new }
         ensures exhausted { IsErrOf result Refusal.Exhausted
             → (memory_of self.old ≢ []) × (2 ^ 63 ≤ next_name.old) }
         ensures large { IsErrOf result Refusal.FileTooLarge → (memory_of self.old ≢ [])
@@ -251,8 +248,6 @@ impl Tablet {
         ensures damaged { IsErrOf result Refusal.Damaged → IsNone (F.contents files.old) }
         ensures refusal { IfErr result IsMinorRefusal }
         ensures reason { HasReason (F.faults files.old) (F.faults files.new) result }
-        ensures unwritten { IsErrOf result Refusal.TooManyFiles
-            → (next_name.new ≡ next_name.old) × (F.contents files.new ≡ F.contents files.old) }
     {
         stays_open();
         keeps_one_list();
@@ -295,8 +290,10 @@ impl Tablet {
         ensures err { OnErr result (IsUnchanged self.old self.new) }
         ensures name { TakesName
             (F.contents files.old) next_name.old (F.contents files.new) next_name.new }
-        ensures count { IsErrOf result Refusal.BadCount
-            ↔ ¬ ((2 ≤ count) × (count ≤ length (names_of self.old))) }
+        ensures count { IsRefusedFirst result Refusal.BadCount
+            (¬ ((2 ≤ count) × (count ≤ length (names_of self.old))))
+            (F.contents files.old) next_name.old (F.contents files.new) next_name.new
+            self.old self.new }
         ensures exhausted { IsErrOf result Refusal.Exhausted → 2 ^ 63 ≤ next_name.old }
         ensures large { IsErrOf result Refusal.FileTooLarge
             → IfSome (F.contents files.old) (λ m. ReadsOpen (Merge count) (Some m) self.old
@@ -309,8 +306,6 @@ impl Tablet {
             IsUnreadable (Merge count) (Some m) self.old) }
         ensures refusal { IfErr result IsMergeRefusal }
         ensures reason { HasReason (F.faults files.old) (F.faults files.new) result }
-        ensures unwritten { IsErrOf result Refusal.BadCount
-            → (next_name.new ≡ next_name.old) × (F.contents files.new ≡ F.contents files.old) }
     {
         stays_open();
         names_first();

@@ -12,7 +12,7 @@ ghost use Rattle.tablet.specs.Ranges.{seen};
 ghost use Rattle.tablet.specs.Views.{range_of, memory_of, names_of, Holds, IsBelow, IsUnchanged, Keeps, with_name};
 ghost use Rattle.tablet.specs.Splits.{Cuts, MakesParts};
 ghost use Rattle.tablet.specs.declared.compactions.Compaction.TheVariants.{Minor};
-ghost use Rattle.tablet.specs.Compactions.{Compacts, Flushes, IsMinorRefusal, LeavesFlushed, TakesName, WritesMemory};
+ghost use Rattle.tablet.specs.Compactions.{Compacts, Flushes, IsMinorRefusal, IsRefusedFirst, LeavesFlushed, NeedsTooManyFiles, TakesName, WritesMemory};
 
 use crate::open_files::OpenFiles;
 use crate::ranges::RowRange;
@@ -113,8 +113,9 @@ impl Tablet {
         ensures name { TakesName
             (F.contents files.old) next_name.old (F.contents files.new) next_name.new }
         // With 64 files it is refused before a file is written, whatever else may fail.
-        ensures full { IsErrOf result Refusal.TooManyFiles
-            ↔ (memory_of self.old ≢ []) × (64 ≤ length (names_of self.old)) }
+        ensures full { IsRefusedFirst result Refusal.TooManyFiles (NeedsTooManyFiles self.old)
+            (F.contents files.old) next_name.old (F.contents files.new) next_name.new
+            self.old self.new }
         ensures exhausted { IsErrOf result Refusal.Exhausted
             → (memory_of self.old ≢ []) × (2 ^ 63 ≤ next_name.old) }
         ensures large { IsErrOf result Refusal.FileTooLarge → (memory_of self.old ≢ [])
@@ -122,8 +123,6 @@ impl Tablet {
         ensures damaged { IsErrOf result Refusal.Damaged → IsNone (F.contents files.old) }
         ensures refusal { IfErr result IsMinorRefusal }
         ensures reason { HasReason (F.faults files.old) (F.faults files.new) result }
-        ensures unwritten { IsErrOf result Refusal.TooManyFiles → IsUnchanged self.old self.new
-            × ((next_name.new ≡ next_name.old) × (F.contents files.new ≡ F.contents files.old)) }
         ensures empty { memory_of self.old ≡ []
             → (next_name.new ≡ next_name.old) × (F.contents files.new ≡ F.contents files.old) }
     {
@@ -205,8 +204,9 @@ impl Tablet {
         ensures name { TakesName
             (F.contents files.old) next_name.old (F.contents files.new) next_name.new }
         // With 64 files it is refused before a file is written, whatever else may fail.
-        ensures full { IsErrOf result Refusal.TooManyFiles
-            ↔ (memory_of self.old ≢ []) × (64 ≤ length (names_of self.old)) }
+        ensures full { IsRefusedFirst result Refusal.TooManyFiles (NeedsTooManyFiles self.old)
+            (F.contents files.old) next_name.old (F.contents files.new) next_name.new
+            self.old self.new }
         ensures exhausted { IsErrOf result Refusal.Exhausted
             → (memory_of self.old ≢ []) × (2 ^ 63 ≤ next_name.old) }
         ensures large { IsErrOf result Refusal.FileTooLarge → (memory_of self.old ≢ [])
@@ -215,8 +215,6 @@ impl Tablet {
             IsBelow next_name.old self.old → ¬ AllByRecursion (HasFile m) (names_of self.old)) }
         ensures refusal { IfErr result IsMinorRefusal }
         ensures reason { HasReason (F.faults files.old) (F.faults files.new) result }
-        ensures unwritten { IsErrOf result Refusal.TooManyFiles → IsUnchanged self.old self.new
-            × ((next_name.new ≡ next_name.old) × (F.contents files.new ≡ F.contents files.old)) }
         ensures empty { memory_of self.old ≡ []
             → (next_name.new ≡ next_name.old) × (F.contents files.new ≡ F.contents files.old) }
     {

@@ -377,52 +377,41 @@ pub begin_storage_at : (cells : Cells) (old new : Clients) (last last' : ℕ) (e
     → Steps cells old last machine.Begin (Refused e) cells new last'
 begin_storage_at cells old new last last' e u top same le st reached shown = (st, refused_storage u, shows_same cells old new last last' st shown top same le)
 
--- a Begin is refused because its start isn't drawn: the session that was made for it is removed
-pub begin_undone_at : (cells : Cells) (old made new : Clients) (last last' start : ℕ) (e : Refusal) (r : Option Session) → IsStorageRefusal e → start ≡ last + 1 → last ≤ last' → new.top ≡ old.top
-    → ((q : ℕ) → btree.get nat_cmp made.sessions q ≡ cond (is_eq (nat_cmp start q)) (Some (open_session start)) (btree.get nat_cmp old.sessions q))
-    → btree.btree_map_len made.sessions ≡ btree.btree_map_len old.sessions + (if is_some (btree.get nat_cmp old.sessions start) then 0 else 1)
-    → r ≡ btree.get nat_cmp made.sessions start
-    → ((q : ℕ) → btree.get nat_cmp new.sessions q ≡ cond (is_eq (nat_cmp start q)) None (btree.get nat_cmp made.sessions q))
-    → btree.btree_map_len new.sessions + (if is_some r then 1 else 0) ≡ btree.btree_map_len made.sessions
+-- a Begin is refused where its start isn't drawn: what stood at its start stands there again
+module _ (old made new : Clients) (key : ℕ) (replaced : Option Session) (was : replaced ≡ btree.get nat_cmp old.sessions key)
+    (put : (q : ℕ) → btree.get nat_cmp made.sessions q ≡ cond (is_eq (nat_cmp key q)) (Some (open_session key)) (btree.get nat_cmp old.sessions q))
+    (back : (q : ℕ) → btree.get nat_cmp new.sessions q ≡ cond (is_eq (nat_cmp key q)) replaced (btree.get nat_cmp made.sessions q)) where
+  pub undone_each : (t : ℕ) → btree.get nat_cmp new.sessions t ≡ btree.get nat_cmp old.sessions t
+  undone_each t = elim (cases_eq t key) [
+    | inl e ↦ subst (λ (n : ℕ). btree.get nat_cmp new.sessions n ≡ btree.get nat_cmp old.sessions n) (sym e) (upd_at (btree.get nat_cmp made.sessions) (btree.get nat_cmp new.sessions) key replaced back ∙ was)
+    | inr ne ↦ upd_off (btree.get nat_cmp made.sessions) (btree.get nat_cmp new.sessions) key replaced back t ne ∙ upd_off (btree.get nat_cmp old.sessions) (btree.get nat_cmp made.sessions) key (Some (open_session key)) put t ne
+  ]
+
+undone_count : (n m k : ℕ) (o r : Option Session) → r ≡ o → m ≡ n + (if is_some o then 0 else 1) → k + (if is_some r then 0 else 1) ≡ m → n ≡ k
+undone_count n m k None None same more less = omega arith
+undone_count n m k (Some o) (Some r) same more less = omega arith
+undone_count n m k None (Some r) same more less = cc
+undone_count n m k (Some o) None same more less = cc
+
+pub begin_undone_at : (cells : Cells) (old made new : Clients) (last last' key : ℕ) (e : Refusal) (replaced : Option Session) → IsStorageRefusal e → last ≤ last' → new.top ≡ old.top
+    → replaced ≡ btree.get nat_cmp old.sessions key
+    → ((t : ℕ) → btree.get nat_cmp new.sessions t ≡ btree.get nat_cmp old.sessions t)
+    → btree.btree_map_len made.sessions ≡ btree.btree_map_len old.sessions + (if is_some (btree.get nat_cmp old.sessions key) then 0 else 1)
+    → btree.btree_map_len new.sessions + (if is_some replaced then 0 else 1) ≡ btree.btree_map_len made.sessions
     → Steps cells old last machine.Begin (Refused e) cells new last'
-begin_undone_at cells old made new last last' start e r u next le top put more taken gone less st reached shown = (
+begin_undone_at cells old made new last last' key e replaced u le top was each more less st reached shown = (
   st,
   refused_storage u,
   record {
     store = shown.store;
     sessions = record {
       top = top ∙ shown.sessions.top;
-      sessions = shows_changed st st (btree.get nat_cmp old.sessions) (btree.get nat_cmp new.sessions) start None
-          (λ q. gone q ∙ (ap (λ (o : Option Session). cond (is_eq (nat_cmp start q)) None o) (put q) ∙ twice (is_eq (nat_cmp start q)) None (Some (open_session start)) (btree.get nat_cmp old.sessions q)))
-          (λ t ne. refl) (λ t ne. refl) shown.sessions.sessions (fresh_start cells old last start st reached shown next);
-      count = shown.sessions.count ∙ count;
+      sessions = λ t. subst (λ (o : Option Session). ShowsAt o t st) (sym (each t)) (shown.sessions.sessions t);
+      count = shown.sessions.count ∙ undone_count _ _ _ _ replaced was more less;
     };
     top = (let t = shown.top in omega arith);
   },
 )
-  where
-    one_more : btree.btree_map_len made.sessions ≡ btree.btree_map_len old.sessions + 1
-    one_more = more ∙ ap (λ (o : Option Session). btree.btree_map_len old.sessions + (if is_some o then 0 else 1)) (unused_start cells old last start st reached shown next)
-
-    found : r ≡ Some (open_session start)
-    found = taken ∙ upd_at (btree.get nat_cmp old.sessions) (btree.get nat_cmp made.sessions) start (Some (open_session start)) put
-
-    one_less : btree.btree_map_len new.sessions + 1 ≡ btree.btree_map_len made.sessions
-    one_less = ap (λ (o : Option Session). btree.btree_map_len new.sessions + (if is_some o then 1 else 0)) (sym found) ∙ less
-
-    count : btree.btree_map_len old.sessions ≡ btree.btree_map_len new.sessions
-    count = let a = one_more in let b = one_less in omega arith
-
-pub begin_undone_key : (cells : Cells) (old made new : Clients) (last last' start key : ℕ) (e : Refusal) (r : Option Session) → key ≡ start → IsStorageRefusal e → start ≡ last + 1 → last ≤ last' → new.top ≡ old.top
-    → ((q : ℕ) → btree.get nat_cmp made.sessions q ≡ cond (is_eq (nat_cmp start q)) (Some (open_session start)) (btree.get nat_cmp old.sessions q))
-    → btree.btree_map_len made.sessions ≡ btree.btree_map_len old.sessions + (if is_some (btree.get nat_cmp old.sessions start) then 0 else 1)
-    → r ≡ btree.get nat_cmp made.sessions key
-    → ((q : ℕ) → btree.get nat_cmp new.sessions q ≡ cond (is_eq (nat_cmp key q)) None (btree.get nat_cmp made.sessions q))
-    → btree.btree_map_len new.sessions + (if is_some r then 1 else 0) ≡ btree.btree_map_len made.sessions
-    → Steps cells old last machine.Begin (Refused e) cells new last'
-begin_undone_key cells old made new last last' start key e r same u next le top put more taken gone less =
-    begin_undone_at cells old made new last last' start e r u next le top put more (taken ∙ ap (btree.get nat_cmp made.sessions) same)
-    (λ q. gone q ∙ ap (λ (k : ℕ). cond (is_eq (nat_cmp k q)) None (btree.get nat_cmp made.sessions q)) same) less
 
 -- the stored session at an open session's start is open
 pub open_same : (clients : Clients) (t : ℕ) (session : Session) → btree.get nat_cmp clients.sessions t ≡ Some session → IsOpenSession clients t → session.phase ≡ Open

@@ -1,6 +1,6 @@
 //! The table of active sessions. Its type is named for those who run them: clients (Percolator).
 
-ghost use Rattle.std.specs.Prelude.{◌≡◌, ◌+◌, ◌<◌, ◌^◌, ◌⊎◌, ℕ, IfErr, IfOk, IsErrOf, OnErr, OnOk};
+ghost use Rattle.std.specs.Prelude.{◌≡◌, ◌+◌, ◌<◌, ◌^◌, ◌⊎◌, ℕ, IfErr, IfOk, IsErrOf, IsSome, OnErr, OnOk};
 ghost use Rattle.std.specs.Prelude.{◌≤◌, Some, is_some, if◌then◌else◌, map};
 ghost use Rattle.std.specs.BTreeMap as btree;
 ghost use Rattle.std.specs.BTreeMap.{Updates, btree_map_len};
@@ -120,9 +120,10 @@ impl Clients {
         ensures refusal { IfErr result IsBeginRefusal }
         ensures crowded { (st : State) → ShowsClients self.old st → IsCrowded st
             → IsErrOf result Refusal.TooManySessions }
+        ensures same { OnErr result (SameClients self.old self.new) }
         ensures undrawn { IsErrOf result Refusal.TooManySessions
             ⊎ (IsErrOf result Refusal.Exhausted ⊎ IsErrOf result Refusal.NoMemory)
-            → (oracle.new ≡ oracle.old) × SameClients self.old self.new }
+            → oracle.new ≡ oracle.old }
         ensures exhausted { IsErrOf result Refusal.Exhausted → oracle.old.last ≡ MOST_STAMP }
         ensures reason { HasReason (M.faults oracle.old.marks) (M.faults oracle.new.marks) result }
     {
@@ -130,21 +131,23 @@ impl Clients {
             return Err(Refusal::TooManySessions);
         }
         let start = Moment::after(oracle.last())?;
-        self.make_session(start)?;
+        let replaced = self.make_session(start)?;
         match oracle.draw() {
             Ok(start) => {
                 self.top = start;
                 Ok(start)
             }
             Err(refusal) => {
-                self.sessions.remove(&start.stamp());
+                self.undo_session(start, replaced);
                 Err(refusal)
             }
         }
     }
 
-    /// Puts an open session without writes at its start.
-    fn make_session(&mut self, start: Moment) -> Result<(), Refusal>
+    /// Puts an open session without writes at its start, and answers what stood there.
+    fn make_session(&mut self, start: Moment) -> Result<Option<Session>, Refusal>
+        ensures replaced { IfOk result (λ replaced.
+            replaced ≡ btree.get nat_cmp self.old.sessions start) }
         ensures made { OnOk result (Updates
             nat_cmp self.old.sessions self.new.sessions start (Some (open_session start))) }
         ensures len { OnOk result (btree_map_len self.new.sessions ≡ btree_map_len self.old.sessions
@@ -159,8 +162,26 @@ impl Clients {
             phase: Phase::Open,
             writes: Writes::new(self.alloc),
         };
-        self.sessions.insert(start.stamp(), session)?;
-        Ok(())
+        let replaced = self.sessions.insert(start.stamp(), session)?;
+        Ok(replaced)
+    }
+
+    /// Puts back what stood at the start of a session that was made. No memory is taken.
+    fn undo_session(&mut self, start: Moment, replaced: Option<Session>)
+        requires { IsSome (btree.get nat_cmp self.old.sessions start) }
+        ensures undone { Updates nat_cmp self.old.sessions self.new.sessions start replaced }
+        ensures len { btree_map_len self.new.sessions + (if is_some replaced then 0 else 1)
+            ≡ btree_map_len self.old.sessions }
+        ensures top { self.new.top ≡ self.old.top }
+    {
+        match replaced {
+            Some(session) => {
+                let _ = self.sessions.insert(start.stamp(), session);
+            }
+            None => {
+                self.sessions.remove(&start.stamp());
+            }
+        }
     }
 
     /// Ends a session. Allocates nothing.

@@ -267,6 +267,8 @@ impl<M: MarkStore + Drop> MarkStore for Stopping<'_, M> {
 impl<L: Log + Drop> Log for Stopping<'_, L> {
     ghost holds = { λ _ _. ⊥ };
 
+    ghost refuses = { λ _ _. ⊤ };
+
     ghost faults = { λ stopping. stopping.faults };
 
     fn append(&mut self, kind: RecordKind, stamp: Stamp, body: &[u8]) -> Result<(), LogFault> {

@@ -78,21 +78,21 @@ returns-in-Minor-clause-refused g c = rw (c.in-Minor.is) (
     let by = c.minor.ensures in
     when_refused c.minor.result _ _ (λ e unfilled told. record {
       count = λ is. absurd (not_answered IsMinorRefusal c.minor.result BadCount _ by.refusal (told BadCount is) refl);
-      full = λ is. let full = by.full.0 (told TooManyFiles is) in record { memory = full.0; files = full.1 };
+      full = λ is. let full = by.full.exactly.0 (told TooManyFiles is) in record { memory = full.0; files = full.1 };
       unfilled = unfilled;
       exhausted = λ is. let out = by.exhausted (told Exhausted is) in (out.1, out.0);
       large = λ is. (by.large (told FileTooLarge is)).1;
       damaged = λ is. none_says (g.F.Files.contents c.args.files.now) _ (by.damaged (told Damaged is));
       too_much = λ is. by.too_much (told FileTooLarge is);
       unread = λ is. none_says (g.F.Files.contents c.args.files.now) _ (by.damaged (told Damaged is));
-      undone = λ is. by.unwritten (told TooManyFiles is);
-    }) (not_full_written c.minor.result c.args.tablet.now (λ some many. by.full.1 (some, many))))
+      undone = λ is. (by.full.untouched (told TooManyFiles is)).1;
+    }) (not_full_written c.minor.result c.args.tablet.now (λ some many. by.full.exactly.1 (some, many))))
 
 pub returns-in-Merge-clause-refused : goal.returns-in-Merge-clause-refused
 returns-in-Merge-clause-refused g c = rw (c.in-Merge.is) (
     let by = c.merge.ensures in
     when_refused c.merge.result _ _ (λ e any told. record {
-      count = λ is. by.count.0 (told BadCount is);
+      count = λ is. by.count.exactly.0 (told BadCount is);
       full = λ is. absurd (not_answered IsMergeRefusal c.merge.result TooManyFiles _ by.refusal (told TooManyFiles is) refl);
       unfilled = λ of full. full;
       exhausted = λ is. (by.exhausted (told Exhausted is), λ none. none);
