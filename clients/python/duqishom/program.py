@@ -6,12 +6,17 @@ import os
 import shutil
 import signal
 import subprocess
+import sys
 from collections.abc import Sequence
 from pathlib import Path
+from typing import NoReturn
 
 from duqishom.connection import LONGEST_BODY, Frames, StreamEnded
 from duqishom.recording import Recording
 from duqishom.refusals import FrameTooLarge
+
+# The place of the program in a package that was built with one.
+OWN = Path(__file__).resolve().parent / "tabletd"
 
 # The seconds that a program may take to end after its input has ended.
 PATIENCE = 300
@@ -40,10 +45,19 @@ class ProgramEnded(Exception):
 
 
 def default_program() -> str:
-    """The program that is started if none is named: the environment's TABLETD, or else the tabletd on PATH, or else
-    scripts/tabletd of the repository that this package is in, which builds it if necessary."""
-    repository = Path(__file__).resolve().parents[3] / "scripts" / "tabletd"
-    return os.environ.get("TABLETD") or shutil.which("tabletd") or str(repository)
+    """The program that is started if none is named: the environment's TABLETD, or else the one that was installed with
+    this package, or else the tabletd on PATH, or else scripts/tabletd of the repository that this package is in, which
+    builds it if necessary. FileNotFoundError if there is none."""
+    repository = str((OWN.parent / "../../../scripts/tabletd").resolve())
+    found = os.environ.get("TABLETD") or shutil.which(str(OWN)) or shutil.which("tabletd") or shutil.which(repository)
+    if found is None:
+        raise FileNotFoundError("there is no tabletd: neither on PATH nor in this package, and TABLETD names none")
+    return found
+
+
+def run() -> NoReturn:
+    """Becomes the program that was installed with this package, with the words of the command line."""
+    os.execv(OWN, ["tabletd", *sys.argv[1:]])
 
 
 class Program:

@@ -24,7 +24,6 @@ FOREIGN = {
     "plant": "a command of rt",
     "--only": "an option of rt",
     "ssh": "a program",
-    "FileDescriptorName": "a line of systemd",
     "PWD/clients/python": "PWD is the shell's",
     "run/recovered-at": "a file of a recording",
     "run/reopened-at": "a file of a recording",

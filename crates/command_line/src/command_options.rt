@@ -1,4 +1,7 @@
-//! The options of the command line, and their limits.
+//! The options of the command line, their limits, and the version.
+
+/// The version that `--version` prints. The Python client has the same.
+pub const VERSION: &str = "0.7.0";
 
 /// The default for `--flush`: the number of entries at which a memtable is compacted.
 pub const DEFAULT_FLUSH: u32 = 10_000;

@@ -9,7 +9,7 @@ use clap::builder::ValueParser;
 use clap::{Arg, ArgAction, Command, Error};
 pub use command_options::{
     DEFAULT_FLUSH, LEAST_CACHE, LEAST_FLUSH_BYTES, LEAST_LOG_BYTES, MOST_CACHE, MOST_FLUSH,
-    MOST_FLUSH_BYTES, MOST_LOG_BYTES, MOST_MERGE, Options,
+    MOST_FLUSH_BYTES, MOST_LOG_BYTES, MOST_MERGE, Options, VERSION,
 };
 use std::alloc::{AllocError, Global};
 
@@ -95,6 +95,7 @@ fn command<'a>(alloc: Global) -> Result<Command<'a>, AllocError> {
     let cache = number(alloc, "cache", "C", CACHE_HELP, LEAST_CACHE, MOST_CACHE);
     Command::new(alloc, "tabletd")
         .about(ABOUT)
+        .version(VERSION)
         .arg(dir)?
         .arg(log)?
         .arg(log_bytes)?
@@ -107,7 +108,7 @@ fn command<'a>(alloc: Global) -> Result<Command<'a>, AllocError> {
 /// Parses the words of the command line, the program's name first: `tabletd [--dir DIR [--log]] [--log-bytes L]
 /// [--flush N] [--flush-bytes B] [--merge M] [--cache C]`, where L is 4,096 to 33,554,432, N is 1 to 100,000, B is
 /// 1,048,576 to 67,108,864, M is 2 to 64 and C is 8 to 4,096. An error has the parser's text, which for a request for
-/// help is the help.
+/// help or the version is that.
 pub fn options<'a>(alloc: Global, words: &'a [&'a str]) -> Result<Options<'a>, Error>
     ensures log { IfOk result (λ options. options.log ≡ true → is_some options.dir ≡ true) }
     ensures log_bytes { IfOk result (λ options.

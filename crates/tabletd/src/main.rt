@@ -21,6 +21,9 @@ use std::process::ExitCode;
 use std::rt::{Env, Files as Folders};
 use std::{env, io, mem};
 
+/// The exit status after help or the version is printed.
+const DONE: u8 = 0;
+
 /// The exit status for a refused command line.
 const REFUSED: u8 = 1;
 
@@ -312,8 +315,8 @@ where
             (REFUSED, "")
         }
         Err(LineError::Refused(error)) => {
-            let _ = eprint!(rt; "{error}");
-            (REFUSED, "")
+            let _ = error.print(rt);
+            (if error.use_stderr() { REFUSED } else { DONE }, "")
         }
     };
     if !line.is_empty() {

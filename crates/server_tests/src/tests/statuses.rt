@@ -53,7 +53,7 @@ const NO_WORDS: Options<'static> = Options {
 /// The words of a command line, and their options if they are accepted.
 type Line = (&'static [&'static str], Option<Options<'static>>);
 
-const LINES: [Line; 31] = [
+const LINES: [Line; 32] = [
     (&["tabletd"], Some(NO_WORDS)),
     (
         &["tabletd", "--flush", "1"],
@@ -164,6 +164,7 @@ const LINES: [Line; 31] = [
     (&["tabletd", "--log", "--log", "--dir", "a"], None),
     (&["tabletd", "more"], None),
     (&["tabletd", "--help"], None),
+    (&["tabletd", "--version"], None),
 ];
 
 #[test]
