@@ -1,6 +1,7 @@
 //! A log in a folder: its file, the sign of its store, and the bytes that were cut.
 
-ghost use Rattle.std.specs.Prelude.{◌≡◌, ◌≢◌, ◌<◌, ◌^◌, Err, IfErr, IfOk, IfSome, IsErr, IsErrOf, IsOk, None, Ok, OnErr, OnOk, Some, true};
+ghost use Rattle.std.specs.Prelude.{◌≡◌, ◌≢◌, ◌<◌, ◌^◌, ◌↔◌, Err, IfErr, IfOk, IfSome, IsErr, IsErrOf, IsOk, None, Ok, OnErr, OnOk, Some, true};
+ghost use Rattle.std.specs.Fs.{IsFile, file_type};
 ghost use Rattle.std.specs.Io.KnownBytes.{Appends};
 ghost use Rattle.std.specs.IoError.{error_kind};
 ghost use Rattle.commit_log.specs.Faults.{HasFaultCause};
@@ -14,7 +15,7 @@ use crate::frames::{HEAD, read_log};
 use crate::numbers::number_bytes;
 use crate::store_log::{new_log, read_store_log, upgrade_log};
 use std::alloc::{AllocError, Global};
-use std::fs::{File, OpenFile, OpenOptions};
+use std::fs::{File, Metadata, OpenFile, OpenOptions};
 use std::io::{ErrorKind, Read, Seek, SeekFrom, Write};
 use std::os::unix::fs::OpenOptionsExt;
 use std::rt::Files as Folders;
@@ -67,9 +68,47 @@ fn path_of(alloc: Global, folder: &str, name: &str) -> io::Result<String> {
     Ok(format!(in alloc; "{folder}/{name}")?)
 }
 
+/// The metadata of a path if it is a regular file. A failure is passed on.
+fn regular(found: io::Result<Metadata>) -> io::Result<Metadata>
+    ensures regular { IfOk found (λ metadata. IsOk result ↔ IsFile (file_type metadata)) }
+    ensures same { IfOk result (λ metadata. found ≡ Ok metadata) }
+    ensures failed { IfErr found (λ error. result ≡ Err error) }
+{
+    let metadata = found?;
+    if !metadata.is_file() {
+        return Err(io::Error::from(ErrorKind::InvalidInput));
+    }
+    Ok(metadata)
+}
+
+/// Looks whether a path is a regular file. Fails for anything else, also for a symbolic link.
+fn look_at<R: Folders>(rt: &R, path: &str) -> io::Result<Metadata> {
+    regular(fs::symlink_metadata(rt, path))
+}
+
+/// Opens a regular file to read it.
+fn open_regular<R: Folders>(rt: &R, path: &str) -> io::Result<R::File> {
+    look_at(rt, path)?;
+    File::open(rt, path)
+}
+
+/// Makes a temporary file. If something has its name, that is removed first.
+fn create_beside<R: Folders>(rt: &R, beside: &str) -> io::Result<R::File> {
+    let mut how = OpenOptions::new();
+    how.write(true).create_new(true).mode(OWNER_ALONE);
+    match how.open(rt, beside) {
+        Err(error) if error.kind() == ErrorKind::AlreadyExists => {
+            fs::remove_file(rt, beside)?;
+            how.open(rt, beside)
+        }
+        opened => opened,
+    }
+}
+
 /// Opens the file of a folder's log, to read it and to append to it.
 fn open_file<R: Folders<File = File> + AllocGlobal>(rt: &R, folder: &str) -> io::Result<File> {
     let path = path_of(rt.alloc(), folder, LOG)?;
+    look_at(rt, path.as_str())?;
     let mut how = OpenOptions::new();
     how.read(true).append(true);
     how.open(rt, path.as_str())
@@ -116,7 +155,7 @@ fn read_file<R: Folders + AllocGlobal>(
     name: &str,
 ) -> Result<Option<Vec<u8>>, LogFault> {
     let path = path_of(rt.alloc(), folder, name).map_err(fault_of)?;
-    read_opened(rt.alloc(), File::open(rt, path.as_str())).map_err(fault_of)
+    read_opened(rt.alloc(), open_regular(rt, path.as_str())).map_err(fault_of)
 }
 
 /// Forces a folder's entries to the disk.
@@ -135,12 +174,7 @@ fn place_file<R: Folders + AllocGlobal>(
 ) -> io::Result<()> {
     let path = path_of(rt.alloc(), folder, name)?;
     let beside = path_of(rt.alloc(), folder, BESIDE)?;
-    let mut how = OpenOptions::new();
-    how.write(true)
-        .create(true)
-        .truncate(true)
-        .mode(OWNER_ALONE);
-    let mut file = how.open(rt, beside.as_str())?;
+    let mut file = create_beside(rt, beside.as_str())?;
     write_synced(&mut file, bytes)?;
     fs::rename(rt, beside.as_str(), path.as_str())?;
     sync_folder(rt, folder)
