@@ -48,8 +48,8 @@ pub(crate) trait Lasting: Answering {
             → lasts self.new st ⊎ lasts self.new now) }
         ensures fault { IfErr result (λ fault. fault ≡ ServeFault.Log) };
 
-    /// An answer is a step of the machine. If the devices kept a state, they keep it, or the state before the step, or the
-    /// one after it.
+    /// An answer is a step of the machine. If the devices kept a state, they keep it, or the state before the step, or
+    /// the one after it.
     ghost answers: { (old new : Self) (request : Lent) (reply : CodecReply)
         → Self.says old request reply new
         → GoesOn Self.shows lasts logs (asked request) (replied reply) old new };

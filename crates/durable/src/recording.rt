@@ -129,8 +129,8 @@ pub(crate) trait Recording: Answering {
 
     /// The journal leads from the root's cells to the state that is shown. There is one root. Answers leave the stored
     /// cells, the root and the logged edits unchanged, except those of Checkpoint, Sweep, Split and Move. A Split or a
-    /// Move leaves the stored cells and the journal unchanged. Upkeep between answers leaves the stored cells, the root,
-    /// the logged edits and the state that is shown unchanged.
+    /// Move leaves the stored cells and the journal unchanged. Upkeep between answers leaves the stored cells, the
+    /// root, the logged edits and the state that is shown unchanged.
     fn recording_laws()
         ensures follows { (server : Self) (root : RootView) (st : State) → recording server ≡ true
             → is_rooted server root → Self.shows server st
