@@ -96,7 +96,7 @@ module _ (IsSo : Commit → Type 0) (commits : List Commit) where
     pub is_there : c ∈ commits
     is_there = subst (λ xs. c ∈ xs) (sym split_whole) (in_back before (c ∷ h.back) c here)
 
-    -- each commit is at or before c, or has not the property
+    -- if no commit up to c's greatest stamp has the property, none has it
     pub none_but_before : AreMarked 0 commits → ((b : Commit) → b.stamp ≤ c.latest → ¬ IsSo b) → (b : Commit) → b ∈ commits → ¬ IsSo b
     none_but_before marked low b m =
         elim (front_or_back (before ++ c ∷ []) h.back b (subst (λ xs. b ∈ xs) (split_whole ∙ sym (append_once before c h.back)) m)) [
