@@ -16,7 +16,8 @@ use row_atomic::{
 use server_loop::{RootName, Server};
 use si_model::shows_reopened;
 
-/// The bytes counted for each edit: the journal's upper bound of 67,108,864 bytes divided by that of 100,000 edits.
+/// The bytes counted for each edit: the journal's upper bound of bytes, 67,108,864, divided by its bound of edits,
+/// 100,000.
 const BYTES_OF_EDIT: usize = 671;
 
 impl<F: WholeFiles + Drop, M: MarkStore + Drop> Recording for Server<F, M> {
