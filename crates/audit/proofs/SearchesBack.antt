@@ -1,4 +1,4 @@
--- What a search of the commits from the last one back finds, and where it may end.
+-- Searches of the commits from the last one back, and where they may end.
 use Rattle.std.proofs.Common.{◌≡◌, ℕ, ◌+◌, ◌<◌, ◌≤◌, ◌⊎◌, inl, inr, max, unwrap_or, List, [], ◌∷◌, ◌++◌, length, map, Option, Some, None, refl, sym, ap, subst, ◌∙◌, arith}
 use Rattle.si_model.specs.Sets.{◌∈◌, here, there}
 use Rattle.si_model.specs.Machine as machine
@@ -68,7 +68,7 @@ pub no_items : {A : Type 0} (xs : List A) → length xs ≡ 0 → xs ≡ []
 no_items [] is = refl
 no_items (x ∷ xs) is = absurd (omega (arith, is))
 
--- none of the commits behind the rest is so
+-- none of the commits behind the rest has the property
 pub record NoneBehind (IsSo : Commit → Type 0) (commits rest : List Commit) : Type 0 where
   pub back : List Commit
   pub whole : commits ≡ rest ++ back
@@ -96,7 +96,7 @@ module _ (IsSo : Commit → Type 0) (commits : List Commit) where
     pub is_there : c ∈ commits
     is_there = subst (λ xs. c ∈ xs) (sym split_whole) (in_back before (c ∷ h.back) c here)
 
-    -- each commit is up to c, or none is so
+    -- if no commit up to c's greatest stamp has the property, none has it
     pub none_but_before : AreMarked 0 commits → ((b : Commit) → b.stamp ≤ c.latest → ¬ IsSo b) → (b : Commit) → b ∈ commits → ¬ IsSo b
     none_but_before marked low b m =
         elim (front_or_back (before ++ c ∷ []) h.back b (subst (λ xs. b ∈ xs) (split_whole ∙ sym (append_once before c h.back)) m)) [

@@ -1,4 +1,4 @@
--- A log is read in one way, and what is left of one that was cut short is a log of the first of its records.
+-- A log can be read in only one way, and a log that was cut short is a log of a prefix of its records.
 use Rattle.std.proofs.Common.{◌≡◌, ℕ, suc, ◌-◌, ◌<◌, ◌≤◌, ◌⊎◌, inl, inr, append-nil, List, [], ◌∷◌, ◌++◌, length, take, drop, refl, sym, ap, ◌∙◌, subst, arith, take_at, drop_at, length-append, append_assoc}
 use Rattle.std.proofs.lemmas.List.{take-append-drop, take-append-le, length-drop, append_cancel_left, flat_map_more, take_all}
 use Rattle.std.proofs.Math.Seq.{take-append-add}
@@ -13,7 +13,7 @@ same_front a b x y size same = (
   sym (drop_at a x (length a) refl) ∙ ap (drop (length a)) same ∙ drop_at b y (length a) (sym size),
 )
 
--- a frame is followed by what is left of the bytes
+-- a frame is followed by the rest of the bytes
 pub same_frame : (p q x y : List ℕ) → IsRecord p → IsRecord q → frame p ++ x ≡ frame q ++ y → (p ≡ q) × (x ≡ y)
 same_frame p q x y fits also same =
     let one = begins (frame p ++ x) p x fits refl in
@@ -42,7 +42,7 @@ one_reading bytes as' bs x y p q =
 pub nothing_left : IsTail []
 nothing_left p x fits same = let b = begins [] p x fits same in omega (arith, b.size)
 
--- a beginning of a frame, less than all of it
+-- a proper prefix of a frame
 pub torn_frame : (p : List ℕ) (n : ℕ) → IsRecord p → n < length (frame p) → IsTail (take n (frame p))
 torn_frame p n fits short q x also same =
     let whole : frame p ++ [] ≡ frame q ++ (x ++ drop n (frame p)) =
@@ -53,7 +53,7 @@ torn_frame p n fits short q x also same =
 pub all_of_frame : (p : List ℕ) (n : ℕ) → length (frame p) ≤ n → take n (frame p) ≡ frame p
 all_of_frame p n long = take_all n (frame p) long
 
--- ---- records behind one another
+-- ---- records in a row
 
 pub each-last : (records : List (List ℕ)) (p : List ℕ) → AllByRecursion IsRecord records → IsRecord p → AllByRecursion IsRecord (records ++ p ∷ [])
 each-last [] p each fits = (fits, tt)
@@ -65,7 +65,7 @@ log_of-last records p = flat_map_more frame head records p
 pub whole : (records : List (List ℕ)) → AllByRecursion IsRecord records → IsLog (log_of records) records []
 whole records each = record { spelled = sym (append-nil (log_of records)); each = each; torn = nothing_left }
 
--- a log with one more frame, and one to whose end a part of a frame came
+-- a log with one more frame, and one with a part of a frame appended
 pub one_more : (records : List (List ℕ)) (p : List ℕ) → AllByRecursion IsRecord records → IsRecord p → IsLog (log_of records ++ frame p) (records ++ p ∷ []) []
 one_more records p each fits =
     subst (λ (bytes : List ℕ). IsLog bytes (records ++ p ∷ []) []) (sym (log_of-last records p)) (whole (records ++ p ∷ []) (each-last records p each fits))
@@ -77,7 +77,7 @@ in_part records p n each fits = elim (cases_lt n (length (frame p))) [
   | inr long ↦ inr (subst (λ (more : List ℕ). IsLog (log_of records ++ more) (records ++ p ∷ []) []) (sym (all_of_frame p n long)) (one_more records p each fits))
 ]
 
--- ---- a beginning of a log
+-- ---- a prefix of a log
 
 record Cut (records : List (List ℕ)) (n : ℕ) : Type 0 where
   k : ℕ

@@ -46,7 +46,7 @@ pub short_edit : (edit : Edit) → IsStoredEdit edit → HasShortParts (edit_ent
 short_edit (Put key value) is = record { text = let t = text_len key is.row.few is.family.few in omega (arith, t); value = let v = is.limits.value in omega (arith, v) }
 short_edit (Erase key) is = record { text = let t = text_len key is.row.few is.family.few in omega (arith, t); value = tt }
 
--- ---- what stands at the front
+-- ---- the front of bytes
 
 same_front : (a b x y : List ℕ) → length a ≡ length b → a ++ x ≡ b ++ y → (a ≡ b) × (x ≡ y)
 same_front a b x y size same = (
@@ -69,7 +69,7 @@ value_split (Some a) (Some b) x y p q e =
     let s = field_split a b x y p q t in
     (ap Some s.0, s.1)
 
--- two entries at the front are one
+-- two entries at the front are the same
 pub entry_split : (e f : Entry) (x y : List ℕ) → HasShortParts e → HasShortParts f → spelled e ++ x ≡ spelled f ++ y → (e ≡ f) × (x ≡ y)
 entry_split e f x y p q s =
     let whole : field e.0 ++ (spelled_value e.1 ++ x) ≡ field f.0 ++ (spelled_value f.1 ++ y) = sym (append_assoc (field e.0) (spelled_value e.1) x) ∙ s ∙ append_assoc (field f.0) (spelled_value f.1) y in
@@ -80,13 +80,13 @@ entry_split e f x y p q s =
 pub entry_front : (bytes key rest x : List ℕ) (v : Option (List ℕ)) → bytes ≡ field key ++ rest → rest ≡ spelled_value v ++ x → bytes ≡ spelled (key, v) ++ x
 entry_front bytes key rest x v f r = f ∙ ap (λ (l : List ℕ). field key ++ l) r ∙ sym (append_assoc (field key) (spelled_value v) x)
 
--- behind the first field stands the value
+-- the value comes after the first field
 value_front : (bytes key rest x : List ℕ) (e : Entry) → length key < 2 ^ 32 → HasShortParts e → bytes ≡ field key ++ rest → bytes ≡ spelled e ++ x → rest ≡ spelled_value e.1 ++ x
 value_front bytes key rest x e small is f s =
     let whole : field key ++ rest ≡ field e.0 ++ (spelled_value e.1 ++ x) = sym f ∙ s ∙ append_assoc (field e.0) (spelled_value e.1) x in
     (field_split key e.0 rest (spelled_value e.1 ++ x) small is.text whole).1
 
--- no entry stands there if no field does
+-- bytes that don't begin with a field don't begin with an entry
 pub no_text : (bytes : List ℕ) → ((part rest : List ℕ) → length part < 2 ^ 32 → bytes ≢ field part ++ rest) → (e : Entry) (x : List ℕ) → HasShortParts e → bytes ≢ spelled e ++ x
 no_text bytes none e x is s = none e.0 (spelled_value e.1 ++ x) is.text (s ∙ append_assoc (field e.0) (spelled_value e.1) x)
 

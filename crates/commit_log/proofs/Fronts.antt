@@ -1,4 +1,4 @@
--- What stands first in bytes that begin with a frame.
+-- The front of bytes that begin with a frame.
 use Rattle.std.proofs.Common.{◌≡◌, ℕ, suc, ◌+◌, ◌-◌, ◌<◌, ◌≤◌, List, [], ◌∷◌, ◌++◌, replicate, slice_index, length, take, drop, arith, sym, ap, ◌∙◌, append_assoc, take_at, drop_at, length-append, refl}
 use Rattle.std.proofs.lemmas.List.{take-append-drop, length-drop, drop-drop, length-replicate, length-take-le}
 use Rattle.std.proofs.lemmas.Nat.{from_be_bytes-to_be_bytes_4}
@@ -39,7 +39,7 @@ begins bytes p x fits same =
       size = omega (arith, ap length same, length-append (frame p) x, length-frame p);
     }
 
--- ---- bytes at whose front no whole frame stands
+-- ---- bytes that don't begin with a whole frame
 
 pub no_length : (bytes : List ℕ) → length bytes < 4 → IsTail bytes
 no_length bytes short p x fits same = let b = begins bytes p x fits same in omega (arith, b.size)
@@ -48,12 +48,12 @@ pub no_checksum : (bytes after : List ℕ) → after ≡ drop 4 bytes → length
 no_checksum bytes after is short p x fits same =
     let b = begins bytes p x fits same in omega (arith, b.size, ap length is, length-drop 4 bytes)
 
--- the checksum of no bytes counts their length in
+-- the checksum of an empty record covers its length
 empty_sum : checksum [] ≡ 0x21 ∷ 0x44 ∷ 0xDF ∷ 0x1C ∷ []
 unfolding checksum crc32
 empty_sum = refl
 
--- zeros in the place of a length and a checksum
+-- zeros instead of a length and a checksum
 eight_zeros : (z p x : List ℕ) → Begins (0 ∷ 0 ∷ 0 ∷ 0 ∷ 0 ∷ 0 ∷ 0 ∷ 0 ∷ z) p x → ⊥
 eight_zeros z [] x b = let first : 0 ≡ 0x21 = ap (λ (l : List ℕ). slice_index l 0) (b.sum ∙ empty_sum) in omega (arith, first)
 eight_zeros z (y ∷ p) x b = omega (arith, b.announced)
@@ -65,7 +65,7 @@ zeros n p x fits same =
     let is : n ≡ suc (suc (suc (suc (suc (suc (suc (suc m))))))) = omega (arith, long, length-replicate {A = ℕ} n 0) in
     eight_zeros (replicate m 0) p x (begins _ p x fits (ap (λ (k : ℕ). replicate {A = ℕ} k 0) (sym is) ∙ same))
 
--- the length that the first four bytes give is that of a frame that begins there
+-- the first four bytes encode the length of a frame that begins there
 says : (bytes first : List ℕ) (n : ℕ) (p x : List ℕ) → first ≡ take 4 bytes → n ≡ from_be_bytes w32 first → Begins bytes p x → n ≡ length p
 says bytes first n p x is value b = value ∙ ap (from_be_bytes w32) is ∙ b.announced
 

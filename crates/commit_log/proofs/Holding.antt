@@ -1,4 +1,4 @@
--- What the calls of a file leave of the records of its log.
+-- The records of a log after the calls of its file.
 use Rattle.std.proofs.Common.{◌≡◌, ℕ, ◌+◌, ◌<◌, ◌≤◌, ◌^◌, ◌⊎◌, inl, inr, List, [], ◌∷◌, ◌++◌, length, take, drop, Option, Some, None, IfSome, refl, sym, ap, ◌∙◌, subst, arith}
 use Rattle.std.proofs.lemmas.List.{length-map, take_all}
 use Rattle.std.specs.Global.{Vec}
@@ -9,7 +9,7 @@ use Rattle.commit_log.specs.Numbered.{Hides, IsShort, IsStoreLog, numbered, stor
 use Rattle.commit_log.proofs.Numbering.{length-last}
 use Rattle.commit_log.proofs.Storing.{appended, appended_part, cons_some, front, store_reading, whole, SameLog}
 
--- what was read is what the file holds, if it says that
+-- the bytes that were read are the file's, if those are known
 read_is : (told : Option (List ℕ)) (read held : List ℕ) → told ≡ Some held → IfSome told (λ b. read ≡ b) → read ≡ held
 read_is told read held is same = let h : IfSome (Some held) (λ b. read ≡ b) = subst (λ (t : Option (List ℕ)). IfSome t (λ b. read ≡ b)) is same in h
 
@@ -17,7 +17,7 @@ pub through : (told : Option (List ℕ)) (P Q : List ℕ → Type 0) → ((b : L
 through None P Q f h = tt
 through (Some b) P Q f h = f b h
 
--- bytes that are lent
+-- borrowed bytes
 pub seen : (told : Option (List ℕ)) (items lent : List ℕ) → lent ≡ items → IfSome told (λ b. items ≡ b) → IfSome told (λ b. lent ≡ b)
 seen told items lent is same = through told (λ b. items ≡ b) (λ b. lent ≡ b) (λ b e. is ∙ e) same
 
@@ -38,7 +38,7 @@ keeps old new stopped after store next same stays records held = record {
   ready = elim held.ready [ inl clean ↦ inl clean | inr s ↦ inr (stays s) ];
 }
 
--- the one reading of what is kept
+-- kept records can be read in only one way
 reading : (told : Option (List ℕ)) (read : List ℕ) (store first : ℕ) (found : List (List ℕ)) (tail : List ℕ) → IfSome told (λ b. read ≡ b) → IsStoreLog store first read found tail
     → (records : List (List ℕ)) → (kept : IsKept told records) → SameLog store kept.store first kept.first found records tail kept.tail
 reading told read store first found tail same log records kept =
@@ -130,7 +130,7 @@ may_renew old new stopped after store next p s low put now records held = elim p
 
 -- ---- opening
 
--- the tail is taken away
+-- the tail is cut
 opens : (old new : Option (List ℕ)) (after : Type 0) (read : List ℕ) (store first next end : ℕ) (found : List (Vec ℕ)) → IfSome old (λ b. read ≡ b) → IsStoreLog store first read (bytes_of found) (drop end read)
     → next ≡ first + length found → new ≡ with_all (take end read) old → (records : List (List ℕ)) → IsKept old records → IsHeld new after store next records
 opens old new after read store first next end found same log counted put records kept =
@@ -148,7 +148,7 @@ opens old new after read store first next end found same log counted put records
       ready = inl (refl, omega (arith, counted, sym (length-map found (λ (v : Vec ℕ). v.items)), ap length one.records));
     }
 
--- no tail was there
+-- there was no tail
 pub opens_clean : (old new : Option (List ℕ)) (after : Type 0) (read : List ℕ) (store first next end : ℕ) (found : List (Vec ℕ)) → IfSome old (λ b. read ≡ b)
     → IsStoreLog store first read (bytes_of found) (drop end read) → next ≡ first + length found → new ≡ old → length read ≤ end → (records : List (List ℕ)) → IsKept old records → IsHeld new after store next records
 opens_clean old new after read store first next end found same log counted still long records kept =
@@ -163,7 +163,7 @@ may_open old new read store first end found same log put records kept = elim put
   | inr all ↦ (opens old new (Unit {0}) read store first (first + length found) end found same log refl all records kept).kept
 ]
 
--- what was read before the file was renewed
+-- the bytes that were read before the file was renewed
 pub opens_from : (old mid new : Option (List ℕ)) (after : Type 0) (read all : List ℕ) (store first next end : ℕ) (found : List (Vec ℕ)) → mid ≡ old → IfSome old (λ b. read ≡ b)
     → IsStoreLog store first read (bytes_of found) (drop end read) → next ≡ first + length found → all ≡ take end read → new ≡ with_all all mid → Opens old new after store next
 opens_from old mid new after read all store first next end found still same log counted is put =

@@ -1,4 +1,4 @@
--- What records hold, and what it makes of cells.
+-- The edits that records hold, and their effect on cells.
 use Rattle.std.proofs.Common.{◌≡◌, ◌≢◌, ℕ, suc, ◌+◌, ◌<◌, ◌^◌, ◌⊎◌, inl, inr, List, [], ◌∷◌, ◌++◌, get_or, length, take, drop, refl, sym, ap, subst, ◌∙◌, arith, length-append, append_assoc, append-nil, drop_at, take_at}
 use Rattle.std.specs.Prelude.{map}
 use Rattle.std.specs.Int.{from_be_bytes, to_be_bytes, w32}
@@ -21,7 +21,7 @@ use Rattle.commit_log.proofs.Naming.{same_parts, same_record}
 use Rattle.commit_log.proofs.Numbering.{length-number, nothing_at}
 use Rattle.commit_log.proofs.Entries.{entry_split, short_edit, spelled_long}
 
--- what stood at the front stands there still if it did so with more behind it
+-- bytes that begin with mid begin with each prefix of mid
 pub front_stays : (old mid new more : List ℕ) → mid ≡ old ++ more → take (length mid) new ≡ mid → take (length old) new ≡ old
 front_stays old mid new more is kept =
     ap (take (length old)) (sym (take-append-drop (length mid) new) ∙ ap (λ (l : List ℕ). l ++ drop (length mid) new) (kept ∙ is) ∙ append_assoc old more (drop (length mid) new))
@@ -30,7 +30,7 @@ front_stays old mid new more is kept =
 no_edits : (edit : Edit) (x : List ℕ) → [] ≡ spelled_edit edit ++ x → ⊥
 no_edits edit x e = omega (arith, ap length e, length-append (spelled_edit edit) x, spelled_long (edit_entry edit))
 
--- bytes that go on with no edit are the spelling of none
+-- bytes that continue with no edit encode no list of edits
 pub stuck : (done more : List Edit) (bytes rest : List ℕ) → AllByRecursion IsStoredEdit done → AllByRecursion IsStoredEdit more → bytes ≡ spelled_edits done ++ rest → rest ≢ []
     → ((edit : Edit) (x : List ℕ) → IsStoredEdit edit → rest ≢ spelled_edit edit ++ x) → bytes ≢ spelled_edits more
 stuck [] [] bytes rest p q s some none t = some (sym s ∙ t)
@@ -43,7 +43,7 @@ stuck (d ∷ done) (m ∷ more) bytes rest p q s some none t =
 
 -- ---- records
 
--- a record of those that hold edits is the spelling of some within the limits
+-- a record of records that hold edits encodes edits within the limits
 all_front : (a b : List Edit) → AllByRecursion IsStoredEdit (a ++ b) → AllByRecursion IsStoredEdit a × AllByRecursion IsStoredEdit b
 all_front [] b h = (tt, h)
 all_front (e ∷ a) b h = let more = all_front a b h.1 in ((h.0, more.0), more.1)
@@ -89,13 +89,13 @@ all_spelled records edits h all =
 
 -- ---- records of no edits
 
--- bytes that are no record
+-- bytes that are not a record
 pub no_part : (bytes : List ℕ) → ((kind : RecordKind) (stamp : ℕ) (body : List ℕ) → bytes ≢ spelled_record kind stamp body) → (part : Part) → bytes ≢ spelled_part part
 no_part bytes none (makes stamp edits) same = none kind.Edits stamp (spelled_edits edits) same
 no_part bytes none (names top sum) same = none kind.Root top (to_be_bytes w32 sum) same
 no_part bytes none names_any same = none kind.AnyRoot 0 [] same
 
--- a record of edits whose body is no spelling of them
+-- a record of edits whose body does not encode edits
 pub no_edits_part : (bytes body : List ℕ) (stamp : ℕ) → bytes ≡ spelled_record kind.Edits stamp body → ((more : List Edit) → AllByRecursion IsStoredEdit more → body ≢ spelled_edits more)
     → (part : Part) → AllByRecursion IsStoredEdit (made_in part) → bytes ≢ spelled_part part
 no_edits_part bytes body stamp is none (makes s edits) all same =
@@ -105,7 +105,7 @@ no_edits_part bytes body stamp is none (names top sum) all same =
 no_edits_part bytes body stamp is none names_any all same =
     let e = (same_parts kind.Edits kind.AnyRoot stamp 0 body [] (sym is ∙ same)).0 in cc
 
--- a record of another kind whose body is not that of its kind
+-- a record of another kind whose body doesn't fit the kind
 pub no_root_part : (bytes body : List ℕ) (k : RecordKind) (stamp : ℕ) → stamp < 2 ^ 64 → bytes ≡ spelled_record k stamp body → k ≢ kind.Edits
     → (((k ≡ kind.Root) × (length body ≡ 4)) ⊎ ((k ≡ kind.AnyRoot) × (stamp ≡ 0) × (length body ≡ 0)) → ⊥) → (part : Part) → bytes ≢ spelled_part part
 no_root_part bytes body k stamp small is other none (makes s edits) same =
@@ -147,7 +147,7 @@ pub edits_part : (bytes body : List ℕ) (k : RecordKind) (stamp : ℕ) (old new
 edits_part bytes body k stamp old new is of (more, joined, spelled', all) =
     (makes stamp more, joined, is ∙ ap (λ (j : RecordKind). spelled_record j stamp body) of ∙ ap (spelled_record kind.Edits stamp) spelled', all)
 
--- ---- how many they are
+-- ---- the number of edits
 
 pub as_many : (a b : List Edit) → AllByRecursion IsStoredEdit a → AllByRecursion IsStoredEdit b → spelled_edits a ≡ spelled_edits b → length a ≡ length b
 as_many [] [] p q s = refl
@@ -157,7 +157,7 @@ as_many (a ∷ as') (b ∷ bs) p q s =
     let split = entry_split (edit_entry a) (edit_entry b) (spelled_edits as') (spelled_edits bs) (short_edit a p.0) (short_edit b q.0) s in
     ap suc (as_many as' bs p.1 q.1 split.1)
 
--- ---- what they make of cells
+-- ---- their effect on cells
 
 stored : (edit : Edit) → IsStoredEdit edit → IsStored (edited_key edit)
 stored edit is = record { row = is.row; family = is.family; from = is.limits.from; to = is.limits.to }

@@ -1,4 +1,4 @@
--- What the bytes of a record say, and which roots records name.
+-- The parts of a record's bytes, and the roots that records name.
 use Rattle.std.proofs.Common.{◌≡◌, ◌≢◌, ℕ, zero, suc, ◌+◌, ◌<◌, ◌≤◌, ◌^◌, ◌⊎◌, inl, inr, List, [], ◌∷◌, ◌++◌, get_or, length, refl, sym, ap, ◌∙◌, subst, arith, length-append, append_assoc}
 use Rattle.std.proofs.lemmas.Bool.{cases_lt}
 use Rattle.std.specs.Int.{to_be_bytes, w32}
@@ -37,7 +37,7 @@ pub same_record : (j k : RecordKind) (s t : ℕ) (a b : List ℕ) → s < 2 ^ 64
 same_record j k s t a b small also same =
     let parts = same_parts j k s t a b same in (parts.0, (same_number s t small also parts.1.0, parts.1.1))
 
--- what the first and the rest of bytes must be
+-- requirements on the first byte and the rest of a record
 pub too_short : (bytes after : List ℕ) (byte : ℕ) → bytes ≡ byte ∷ after → length after < 8 → (kind : RecordKind) (stamp : ℕ) (body : List ℕ) → bytes ≢ spelled_record kind stamp body
 too_short bytes after byte is few kind stamp body same = omega (arith, few, ap length (sym is ∙ same), length-record kind stamp body)
 
@@ -47,7 +47,7 @@ IsOver one top sum = (one ≡ root_record top sum) ⊎ (one ≡ any_root)
 pub not_over : (one : List ℕ) (top sum : ℕ) → ((kind : RecordKind) (stamp : ℕ) (body : List ℕ) → one ≢ spelled_record kind stamp body) → IsOver one top sum → ⊥
 not_over one top sum none over = elim over [ inl root ↦ none Root top (to_be_bytes w32 sum) root | inr any ↦ none AnyRoot 0 [] any ]
 
--- a record of the log over whichever root is there
+-- a record that the log is over any root
 pub is_any : (one body : List ℕ) (kind : RecordKind) (stamp : ℕ) → one ≡ spelled_record kind stamp body → one ≡ any_root → kind ≡ AnyRoot
 is_any one body kind stamp is any = (same_parts kind AnyRoot stamp 0 body [] (sym is ∙ any)).0
 
@@ -108,7 +108,7 @@ names_at records i other one top sum within is over = elim over [
   | inr any ↦ inr (at_index records i other any_root within (is ∙ any))
 ]
 
--- what holds of each record holds of one
+-- a property of each record holds for one of them
 pub record_at : (P : List ℕ → Type 0) (records : List (Vec ℕ)) (i : ℕ) (other : Vec ℕ) → i < length records → AllByRecursion P (bytes_of records) → P (get_or records i other).items
 record_at P [] i other within all = absurd (omega (arith, within))
 record_at P (r ∷ records) zero other within all = all.0

@@ -1,4 +1,4 @@
--- Numbered frames: each is read in one way, and so is what stands behind them.
+-- Numbered frames: they, and the bytes behind them, can be read in only one way.
 use Rattle.std.proofs.Common.{◌≡◌, ◌≢◌, ℕ, zero, suc, ◌+◌, ◌<◌, ◌≤◌, ◌^◌, ◌⊎◌, inl, inr, List, [], ◌∷◌, ◌++◌, length, take, drop, Option, Some, None, IfNone, IfSome, refl, sym, ap, ◌∙◌, subst, arith, length-append, append_assoc, append-nil, take_at}
 use Rattle.std.proofs.lemmas.List.{take-append-drop, drop-append-le, drop-drop, length-drop, take_all}
 use Rattle.std.proofs.lemmas.Bool.{cases_lt}
@@ -26,7 +26,7 @@ fits n p short = omega (arith, short, length-append (spelled_number n) p, length
 pub short : (n : ℕ) (p : List ℕ) → IsRecord (numbered n p) → IsShort p
 short n p is = omega (arith, is, length-append (spelled_number n) p, length-number n)
 
--- a numbered frame is followed by what is left of the bytes
+-- a numbered frame is followed by the rest of the bytes
 pub same_numbered : (m n : ℕ) (p q x y : List ℕ) → m < 2 ^ 64 → n < 2 ^ 64 → IsShort p → IsShort q
     → frame (numbered m p) ++ x ≡ frame (numbered n q) ++ y → (m ≡ n) × ((p ≡ q) × (x ≡ y))
 same_numbered m n p q x y small also a b same =
@@ -69,7 +69,7 @@ further next x bytes after is none (suc k, stands) = (k, subst (λ (l : List ℕ
 pub nearer : (next x : ℕ) (bytes after : List ℕ) → bytes ≡ x ∷ after → HasLater next after → HasLater next bytes
 nearer next x bytes after is later = (suc later.0, subst (λ (l : List ℕ). StandsFrom next (drop (suc later.0) l)) (sym is) later.1)
 
--- the number of a frame stands behind its length and its checksum
+-- the number of a frame comes after its length and its checksum
 pub number_behind : (bytes p rest : List ℕ) (n : ℕ) → IsShort p → bytes ≡ frame (numbered n p) ++ rest → take 8 (drop 8 bytes) ≡ spelled_number n
 number_behind bytes p rest n s front =
     let b = begins bytes (numbered n p) rest (fits n p s) front in
@@ -78,7 +78,7 @@ number_behind bytes p rest n s front =
 pub same_number : (m n : ℕ) → m < 2 ^ 64 → n < 2 ^ 64 → spelled_number m ≡ spelled_number n → m ≡ n
 same_number m n small also same = sym (number_again m small) ∙ ap (from_be_bytes w64) same ∙ number_again n also
 
--- the number that is read there is that of a frame that stands at the front
+-- the number that is read there is the number of the frame at the front
 pub its_number : (bytes : List ℕ) (m next : ℕ) → m < 2 ^ 64 → next + 131072 ≤ 2 ^ 64 → spelled_number m ≡ take 8 (drop 8 bytes) → (here : StandsFrom next bytes) → m ≡ here.number
 its_number bytes m next small far is here =
     same_number m here.number small (omega (arith, here.is_next.1, far)) (is ∙ number_behind bytes here.payload here.behind here.number here.fits here.spelled)
@@ -86,7 +86,7 @@ its_number bytes m next small far is here =
 pub stands_not : (bytes : List ℕ) (m next : ℕ) → m < 2 ^ 64 → next + 131072 ≤ 2 ^ 64 → spelled_number m ≡ take 8 (drop 8 bytes) → ¬ IsNumbered next m → StandsFrom next bytes → ⊥
 stands_not bytes m next small far is out here = out (subst (IsNumbered next) (sym (its_number bytes m next small far is here)) here.is_next)
 
--- the number of the frame that is found is the one that was read before
+-- the found frame has the number that was read before
 pub stands_as : (bytes p rest : List ℕ) (m n next : ℕ) → m < 2 ^ 64 → n < 2 ^ 64 → spelled_number m ≡ take 8 (drop 8 bytes) → IsNumbered next m → IsShort p → bytes ≡ frame (numbered n p) ++ rest → StandsFrom next bytes
 stands_as bytes p rest m n next small also is low s front =
     record { number = n; payload = p; behind = rest; is_next = subst (IsNumbered next) (same_number m n small also (is ∙ number_behind bytes p rest n s front)) low; fits = s; spelled = front }
@@ -98,7 +98,7 @@ too_short bytes next few here =
 pub stands_nowhere : (bytes : List ℕ) (next : ℕ) → ((number : ℕ) (payload behind : List ℕ) → IsShort payload → bytes ≢ frame (numbered number payload) ++ behind) → StandsFrom next bytes → ⊥
 stands_nowhere bytes next none here = none here.number here.payload here.behind here.fits here.spelled
 
--- in a frame that stands in bytes, and in what stands behind their first
+-- a frame hides a later frame exactly if there is one in the bytes behind its first byte
 pub hidden : (bytes after p : List ℕ) (x n : ℕ) → bytes ≡ x ∷ after → bytes ≡ frame (numbered n p) → HasLater n after → Hides n p
 hidden bytes after p x n split is later =
     (later.0, subst (StandsFrom n) (sym (ap (λ (k : ℕ). drop k (x ∷ after)) (sym (more_than later.0))) ∙ ap (drop (later.0 + 1)) (sym split ∙ is)) later.1)
@@ -110,7 +110,7 @@ shown bytes after p x n split is hides =
 pub no_frame : (p : List ℕ) (n : ℕ) → [] ≡ frame (numbered n p) → ⊥
 no_frame p n same = omega (arith, ap length same, length-frame (numbered n p))
 
--- ---- frames behind one another
+-- ---- frames in a row
 
 plus_none : (n : ℕ) → n + 0 ≡ n
 plus_none n = omega arith
@@ -152,7 +152,7 @@ pub one_reading : (first : ℕ) (bytes : List ℕ) (as' bs : List (List ℕ)) (x
 one_reading first bytes as' bs x y p q =
     one_way first as' bs x y p.each q.each (lacks _ x p.torn) (lacks _ y q.torn) (sym p.spelled ∙ q.spelled)
 
--- what is a log isn't broken
+-- a log is not broken
 pub not_both : (first : ℕ) (bytes : List ℕ) (records : List (List ℕ)) (tail : List ℕ) → IsNumberedLog first bytes records tail → IsBroken first bytes → ⊥
 not_both first bytes records tail log broken =
     let same = one_way first records broken.records tail broken.tail log.each broken.each (lacks _ tail log.torn) broken.none (sym log.spelled ∙ broken.spelled) in
@@ -177,7 +177,7 @@ pub each-last : (records : List (List ℕ)) (p : List ℕ) → AllByRecursion Is
 each-last [] p each s = (s, tt)
 each-last (r ∷ rs) p each s = (each.0, each-last rs p each.1 s)
 
--- ---- by what a call found
+-- ---- from the result of a call
 
 pub some_through : {A : Type 0} (o : Option A) (P Q : A → Type 0) → ((a : A) → P a → Q a) → IfSome o P → IfSome o Q
 some_through None P Q f h = tt
@@ -208,9 +208,9 @@ pub nothing_at : (bytes : List ℕ) → length bytes ≡ 0 → bytes ≡ []
 nothing_at [] h = refl
 nothing_at (x ∷ xs) h = absurd (omega (arith, h))
 
--- ---- what a kill leaves of an append
+-- ---- the rest of an append after a kill
 
--- where a whole frame stands in a beginning of bytes, it stands in the bytes
+-- a whole frame in a prefix of the bytes is in the bytes
 in_whole : (next j n : ℕ) (bytes : List ℕ) → StandsFrom next (drop j (take n bytes)) → StandsFrom next (drop j bytes)
 in_whole next j n bytes here =
     let size : 8 ≤ length (drop j (take n bytes)) = omega (arith, ap length here.spelled, length-append (frame (numbered here.number here.payload)) here.behind, length-frame (numbered here.number here.payload)) in
@@ -228,7 +228,7 @@ in_whole next j n bytes here =
           ∙ append_assoc (frame (numbered here.number here.payload)) here.behind (drop n bytes);
     }
 
--- a beginning of a frame that hides none, less than all of it
+-- a proper prefix of a frame that hides no later frame
 pub torn : (k n : ℕ) (p : List ℕ) → IsShort p → ¬ Hides k p → n < length (frame (numbered k p)) → HasLater k (take n (frame (numbered k p))) → ⊥
 torn k n p s plain part (zero, here) =
     torn_frame (numbered k p) n (fits k p s) part (numbered here.number here.payload) here.behind (fits here.number here.payload here.fits) here.spelled
@@ -255,7 +255,7 @@ after_front : (bytes front : List ℕ) → drop (length front) (front ++ bytes) 
 after_front bytes [] = refl
 after_front bytes (x ∷ front) = after_front bytes front
 
--- bytes that are no whole frame of the next number, and behind them a later frame
+-- bytes that don't begin with the next frame, and a later frame behind them
 pub damage : (first : ℕ) (records : List (List ℕ)) (junk p behind : List ℕ) (m : ℕ) → AllByRecursion IsShort records → IsShort p
     → first + length records ≤ m → m < first + length records + 131072
     → LacksNext (first + length records) (junk ++ (frame (numbered m p) ++ behind))

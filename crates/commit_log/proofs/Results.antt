@@ -1,4 +1,4 @@
--- What holds of a result goes on to what follows from it.
+-- Properties of a result carry over to the results derived from it.
 use Rattle.std.proofs.Common.{◌≡◌, ◌∙◌, sym, ap, subst}
 use Rattle.std.specs.Prelude.{Option, Some, None, IfNone, Result, Ok, Err, OnErr, OnOk, IsErrAnd, IsErrOf}
 
@@ -24,7 +24,7 @@ on_err (Err e) P p = p
 abbrev pub err_of : {E : Type 0} (T : Type 0) → E → Result T E
 err_of T e = Err e
 
--- a refusal that is handed on
+-- a refusal that is passed on
 pub passed : {T U E : Type 0} (r : Result T E) (e f : E) → IsErrAnd r (λ g. g ≡ e) → r ≡ Err f → IsErrOf (err_of U e) f
 passed (Ok x) e f by is = absurd by
 passed (Err g) e f by is = let s : g ≡ f = cc in ap Err (sym by ∙ s)

@@ -1,4 +1,4 @@
--- The log of a store: its bytes are read in one way, and what its calls make of them.
+-- The log of a store: its bytes can be read in only one way; and the effect of its calls on them.
 use Rattle.std.proofs.Common.{◌≡◌, ◌≢◌, ℕ, suc, ◌+◌, ◌<◌, ◌^◌, ◌⊎◌, inl, inr, List, [], ◌∷◌, ◌++◌, codes, length, take, drop, refl, sym, ap, ◌∙◌, subst, arith, length-append, append_assoc, append-nil, drop_at}
 use Rattle.std.specs.Prelude.{map, Option, Some, None, IfNone, IfOk, Result, Ok, Err}
 use Rattle.std.proofs.lemmas.List.{append_cancel_right, drop-drop, take-append-drop}
@@ -31,7 +31,7 @@ same_head s t f g same =
     let both = same_front (store_head s) (store_head t) f g (length-head s ∙ sym (length-head t)) same in
     (ap (drop 8) both.0, both.1)
 
--- what stands behind the first bytes of a head is too short for a number
+-- the bytes behind the first bytes of a header are too short for a number
 pub no_store : {A : Type 0} (o : Option A) (bytes rest : List ℕ) → bytes ≡ codes "TABLOG02" ++ rest → IfNone o (length rest < 8)
     → IfNone o ((store : ℕ) (frames : List ℕ) → bytes ≢ store_head store ++ frames)
 no_store (Some a) bytes rest is few = tt
@@ -65,7 +65,7 @@ store_reading bytes s t m n as' bs x y p q =
     (subst (λ (k : ℕ). IsNumberedLog k q.frames as' x) firsts (subst (λ (f : List ℕ). IsNumberedLog m f as' x) heads.1 p.is_numbered)) q.is_numbered in
     record { stores = same_number s t p.is_store q.is_store heads.0; firsts = firsts; records = same.0; tails = same.1 }
 
--- ---- what was read
+-- ---- reading
 
 pub is_store_log : (store first : ℕ) (bytes frames : List ℕ) (records : List (List ℕ)) (end at : ℕ) → store < 2 ^ 64 → first < 2 ^ 63 → bytes ≡ store_head store ++ frames
     → (payload behind : List ℕ) × IsShort payload × (frames ≡ frame (numbered first payload) ++ behind) → IsNumberedLog first frames records (drop end frames) → at ≡ 16 + end
@@ -116,7 +116,7 @@ not_broken bytes frames s m head low begun broken store first records tail log =
     not_both m frames records tail
     (subst (λ (f : List ℕ). IsNumberedLog m f records tail) (sym heads.1) (subst (λ (k : ℕ). IsNumberedLog k log.frames records tail) (sym firsts) log.is_numbered)) broken
 
--- ---- what is written
+-- ---- writing
 
 one_frame : (n : ℕ) (p : List ℕ) → frames_from n (p ∷ []) ≡ frame (numbered n p)
 unfolding frames_from
@@ -148,7 +148,7 @@ new_is_log (Ok v) store first small low is =
     subst (λ (b : List ℕ). IsStoreLog store first b (any_root ∷ []) []) (sym is) (whole store first (any_root ∷ []) small low (cons_some any_root []) (short_record AnyRoot 0 [] (omega arith), tt))
 new_is_log (Err e) store first small low is = tt
 
--- a whole log to whose end a frame, or a part of it, came
+-- a whole log with a frame, or a part of it, appended
 pub appended : (store first : ℕ) (bytes : List ℕ) (records : List (List ℕ)) (p : List ℕ) → IsStoreLog store first bytes records [] → IsShort p
     → IsStoreLog store first (bytes ++ frame (numbered (first + length records) p)) (records ++ p ∷ []) []
 appended store first bytes records p log s = record {
@@ -202,7 +202,7 @@ front store first end bytes records log =
 
 -- ---- upgrading
 
--- a record of format 1 more
+-- one more record of format 1
 pub upgraded_more : (store first n : ℕ) (made new edits : List ℕ) (records all : List (List ℕ)) → made ≡ store_log store first (upgraded records) → n ≡ (first + length records) + 1
     → new ≡ made ++ frame (numbered n (spelled_record Edits 0 edits)) → all ≡ records ++ edits ∷ [] → new ≡ store_log store first (upgraded all)
 upgraded_more store first n made new edits records all is counted grew more =
@@ -234,7 +234,7 @@ short_each records each = (short_record AnyRoot 0 [] (omega arith), mapped recor
     mapped [] all = tt
     mapped (r ∷ rs) all = (short_record Edits 0 r all.0, mapped rs all.1)
 
--- the log of the records of format 1, in the one way in which they are read
+-- the log of the records of format 1, which can be read in only one way
 pub upgraded_log : (bytes made tail other : List ℕ) (store first : ℕ) (found records : List (List ℕ)) → store < 2 ^ 64 → first < 2 ^ 63 → IsLog bytes found other → made ≡ store_log store first (upgraded found)
     → AllByRecursion IsBody found → IsLog bytes records tail → IsStoreLog store first made (upgraded records) []
 upgraded_log bytes made tail other store first found records small low log is each also =

@@ -1,4 +1,4 @@
--- Frames, and the bytes of a log of format 1: a header, a frame for each record, and a tail that doesn't begin with one.
+-- Frames, and the bytes of a log of format 1: header, a frame for each record, and a tail that doesn't begin with one.
 use Rattle.std.specs.Prelude.{◌≡◌, ◌≢◌, ℕ, ◌+◌, ◌≤◌, List, ◌++◌, codes, length, map}
 use Rattle.std.specs.Global.{Vec}
 use Rattle.std.specs.List.{AllByRecursion, flat_map}

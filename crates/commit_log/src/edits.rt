@@ -218,7 +218,8 @@ fn is_of_root(kind: RecordKind, stamp: Stamp, body: &[u8]) -> bool
 ///
 /// # Errors
 ///
-/// `Damaged` if its kind is unknown or its body doesn't fit the kind; `NoMemory`. Some may have been appended by then.
+/// `Damaged` if the bytes are not a record, or its stamp or body doesn't fit its kind; `NoMemory`. Some may have been
+/// appended by then.
 fn read_record(alloc: Global, bytes: &[u8], edits: &mut Vec<Edit>) -> Result<(), Refusal>
     ensures ok { OnOk result ((part : Part) × (edits.new.items ≡ edits.old.items ++ made_in part)
         × (bytes.now ≡ spelled_part part) × AllByRecursion IsStoredEdit (made_in part)) }

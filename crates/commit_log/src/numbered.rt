@@ -15,10 +15,10 @@ use std::alloc::{AllocError, Global};
 /// The bytes of a frame before its payload: a length, a checksum and a number.
 const BEFORE: usize = PREFIX + NUMBER;
 
-/// The numbers that count as this log's next ones. A log has fewer records.
+/// How many numbers, from the next one on, count as this log's. A log has fewer records.
 const WINDOW: u64 = 131_072;
 
-/// The upper bound of the numbers: those of frames are below it.
+/// The upper bound of the numbers: each frame's number is below it.
 pub(crate) const NO_NUMBER: u64 = 9_223_372_036_854_775_808;
 
 /// The frame of a record with its number.
@@ -129,8 +129,7 @@ fn behind(bytes: &[u8], len: usize) -> &[u8]
     &bytes[len..]
 }
 
-/// Whether this frame contains, behind its first byte, a whole frame with one of the next numbers, from the frame's own
-/// on.
+/// Whether this frame contains, behind its first byte, a whole frame with one of the numbers from its own on.
 pub(crate) fn hides(bytes: &[u8], number: u64) -> bool
     requires { number < 2 ^ 63 }
     ensures { (payload : List ℕ) → bytes.now ≡ frame (numbered number payload)

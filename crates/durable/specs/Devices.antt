@@ -1,4 +1,4 @@
--- What files, a log and a mark keep over a kill.
+-- The state that files, a log and a mark keep through a kill.
 use Rattle.std.specs.Prelude.{◌≡◌, ◌≤◌, ◌+◌, ℕ, List, length, Option, Some, IsSomeAnd}
 use Rattle.std.specs.List.{AllByRecursion}
 use Rattle.cell_key.specs.Cells.{Cells, after_edits}
@@ -17,14 +17,14 @@ use Rattle.server_loop.specs.Server.{machine_places}
 abbrev pub IsOver : List (List ℕ) → RootView → Type 0
 IsOver records root = NamesRoot records root.top (root_sum root)
 
--- the mark isn't below a stamp that is at least those of all records
+-- the mark is at least a stamp that is an upper bound of all records' stamps
 abbrev pub CoversEach : (ℕ → Type 0) → List (List ℕ) → Type 0
 CoversEach covers records = (last : ℕ) × covers last × AreUpTo last records
 
--- Cells are kept under a root with the places of a state's tablets. A log is over this root, and the
--- edits in its records make of the cells others that show the state after a clean restart. They are at
--- most as many, with at most as many bytes, as a server writes down. The mark isn't below the state's
--- greatest stamp, nor below one of a record.
+-- Cells are kept under a root with the places of a state's tablets. A log is over this root; the edits
+-- in its records, applied to the cells, give cells that show the state after a clean restart. The edits
+-- are within the journal's limits, in number and in bytes. The mark is at least the state's greatest
+-- stamp and each record's stamp.
 pub record Lasts (keeps : RootView → Cells → List Place → Type 0) (holds : List (List ℕ) → Type 0)
     (covers : ℕ → Type 0) (st : State) : Type 0 where
   pub root : RootView
@@ -42,12 +42,12 @@ pub record Lasts (keeps : RootView → Cells → List Place → Type 0) (holds :
   pub next : st.next_tablet ≡ length st.places + 1
   pub top : covers st.top
 
--- a mark that is stored isn't below a stamp
+-- a stored mark is at least the stamp
 abbrev pub Covers : Option ℕ → ℕ → Type 0
 Covers mark top = IsSomeAnd mark (λ number. top ≤ number)
 
--- Files keep cells under a root whose tablets have these places, and whose greatest stamp isn't above
--- the mark.
+-- Files keep cells under a root whose tablets have these places, and whose greatest stamp is at most the
+-- mark.
 pub record KeepsUnder (disk : Option Contents) (mark : Option ℕ) (root : RootView) (cells : Cells)
     (places : List Place) : Type 0 where
   pub kept : Contents
@@ -56,7 +56,7 @@ pub record KeepsUnder (disk : Option Contents) (mark : Option ℕ) (root : RootV
   pub placed : machine_places root.places ≡ places
   pub covered : Covers mark root.top
 
--- The devices of a server with a log keep a state over a kill, by what the files, the mark and the log
--- are known to have.
+-- The devices of a server with a log keep a state through a kill, given the known contents of the files,
+-- the mark and the log.
 abbrev pub LastsOn : Option Contents → Option ℕ → (List (List ℕ) → Type 0) → State → Type 0
 LastsOn disk mark holds st = Lasts (KeepsUnder disk mark) holds (Covers mark) st

@@ -1,9 +1,9 @@
--- When a root is put that nobody asks for.
+-- The condition under which a root is put without a request.
 use Rattle.std.specs.Prelude.{◌≡◌, ◌≤◌, ◌<◌, ◌+◌, ◌⊎◌, ℕ}
 use Rattle.durable.specs.declared.lasting.LastingServer.{LastingServer}
 
--- As much is written down as is asked for. A root that was refused is due again once 8,388,608 bytes
--- more are written down, or once fewer are, for then one was put meanwhile.
+-- The journal has reached the size that was set. A refused root is due again once the journal has grown
+-- by 8,388,608 bytes, or has shrunk, since then a root was put meanwhile.
 abbrev pub IsRootDue : {S L : Type 0} → LastingServer S L → ℕ → Type 0
 IsRootDue server written =
     (server.root_bytes ≤ written)

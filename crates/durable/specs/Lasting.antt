@@ -1,4 +1,4 @@
--- What outlasts a kill of what a server answered, whose replies wait until their batch is settled.
+-- The answers that survive a kill, of a server whose replies wait until their batch is settled.
 use Rattle.std.specs.Prelude.{◌≡◌, ◌⊎◌, ℕ, ◌<◌, ◌≤◌, List, [], ◌++◌, length, take, Option, None, Some, Result, Ok, Err, ⊤}
 use Rattle.std.specs.List.{AllByRecursion}
 use Rattle.std.specs.Io.KnownBytes.{Consumes, Appends}
@@ -14,8 +14,8 @@ use Rattle.server_loop.specs.declared.statuses.ServeFault.{ServeFault}
 use Rattle.server_loop.specs.declared.statuses.ServeFault.TheVariants as faults
 use Rattle.server_loop.specs.declared.serving.Rest.{Rest}
 
--- The machine after a beginning of what was taken lasts, which holds each request of whose reply a
--- byte was written.
+-- The machine's state after a prefix of the requests taken survives a kill. The prefix contains each
+-- request of whose reply a byte was written.
 pub record KeepsBeginning (lasts : State → Type 0) (before : State) (taken : List Taken)
     (replies : List Reply) (written : List ℕ) : Type 0 where
   pub count : ℕ
@@ -25,7 +25,7 @@ pub record KeepsBeginning (lasts : State → Type 0) (before : State) (taken : L
   pub lasting : lasts after
   pub replied : length written ≤ length (written_of (take count replies))
 
--- To a client a log that failed is a write that failed: no reply comes any more.
+-- To a client a failed log is like a failed write: no further reply comes.
 abbrev pub as_write : Result End ServeFault → Result End ServeFault
 as_write (Err faults.Log) = Err faults.Write
 as_write result = result
@@ -37,17 +37,17 @@ IsAllWritten (Err faults.Log) more = ⊤
 IsAllWritten result more = more ≡ []
 
 module _ {S : Type 0} (shows lasts : S → State → Type 0) (logs : S → Type 0) where
-  -- What is to be logged can be, and each state that is shown lasts.
+  -- Its log and its journal agree, and the devices keep each state that is shown.
   abbrev pub IsSettled : S → Type 0
   IsSettled server = logs server × ((st : State) → shows server st → lasts server st)
 
-  -- a settled server that shows a reached state comes to be a settled one
+  -- if old is settled and shows a reached state, new is settled
   abbrev pub StaysSettled : S → S → Type 0
   StaysSettled old new =
       (now : State) → IsReached now → shows old now → IsSettled old → IsSettled new
 
-  -- From a state that is shown the machine steps to one that is shown. What lasted lasts, or one of
-  -- the two states does.
+  -- From a state that is shown the machine steps to one that is shown. If the devices kept a state,
+  -- they keep it, or the state before the step, or the one after it.
   pub record StepsOn (request : Request) (reply : Reply) (old new : S) (now : State) : Type 0 where
     pub next : State
     pub step : Step now request reply next
@@ -61,7 +61,7 @@ module _ {S : Type 0} (shows lasts : S → State → Type 0) (logs : S → Type 
   GoesOn request reply old new =
       (now : State) → IsReached now → shows old now → StepsOn request reply old new now
 
-  -- Each state that is shown is shown still, and what lasted lasts, or that state does.
+  -- Each state that was shown still is. If the devices kept a state, they keep it or the shown one.
   pub record Settles (old new : S) : Type 0 where
     pub shown : (st : State) → shows old st → shows new st
     pub logged : (now : State) → IsReached now → shows old now → logs old → logs new
@@ -70,7 +70,7 @@ module _ {S : Type 0} (shows lasts : S → State → Type 0) (logs : S → Type 
 
 module _ {S : Type 0} (shows : S → State → Type 0) (says : S → Lent → CodecReply → S → Type 0)
     (between : S → S → Type 0) where
-  -- Whole frames of bytes were answered, and a length past the limit if the rest has one.
+  -- Whole frames of the bytes were answered, and a too large length if the rest begins with one.
   pub record Batch (old new : S) (bytes rest : List ℕ) : Type 0 where
     pub bodies : List (List ℕ)
     pub whole : bytes ≡ frames bodies ++ rest
@@ -83,9 +83,9 @@ module _ {S : Type 0} (shows : S → State → Type 0) (says : S → Lent → Co
 
 module _ {S : Type 0} (shows : S → State → Type 0) (says : S → Lent → CodecReply → S → Type 0)
     (between : S → S → Type 0) (lasts : S → State → Type 0) (logs : S → Type 0) where
-  -- What a call of `serve` did: it served as into a buffer, which came to hold the frames of the
-  -- replies, and wrote a beginning of these. Whatever its result, from a settled server each state
-  -- that was shown led to one that lasts, by a beginning of what was taken.
+  -- The effect of a call of `serve`: it served as if into a buffer, which holds the frames of the
+  -- replies, and wrote a prefix of them. Whatever its result, if the server was settled, a prefix of the
+  -- requests taken leads from each state that was shown to one that the devices keep.
   pub record ServesLasting (old new : S) (left left' held held' : Option (List ℕ)) (most_reads : ℕ)
       (result : Result End ServeFault) : Type 0 where
     pub buffer : List ℕ
@@ -103,8 +103,8 @@ module _ {S : Type 0} (shows : S → State → Type 0) (says : S → Lent → Co
 
   -- ---- batches
 
-  -- After a first part of bytes all was settled and written. Then a batch was answered, of whose
-  -- replies a beginning was written.
+  -- A first part of the bytes was answered, settled and written. Then a batch was answered, and a
+  -- prefix of its replies was written.
   pub record CutsBatch (old new : S) (bytes rest : List ℕ)
       (held held' : Option (List ℕ)) : Type 0 where
     pub mid : S
@@ -121,7 +121,7 @@ module _ {S : Type 0} (shows : S → State → Type 0) (says : S → Lent → Co
         → shows mid before
         → KeepsBeginning (lasts new) before batch.taken batch.replies written
 
-  -- what bytes were handled to in batches: all was settled and written, or one was cut
+  -- the bytes were handled in batches: all were settled and written, or the last one was cut
   abbrev pub BatchesTo : Result Rest ServeFault → S → S → List ℕ → List ℕ → Option (List ℕ)
       → Option (List ℕ) → Type 0
   BatchesTo (Ok rest_is) old new bytes rest held held' =
@@ -134,7 +134,7 @@ module _ {S : Type 0} (shows : S → State → Type 0) (says : S → Lent → Co
   BatchesTo (Err faults.Read) old new bytes rest held held' = ⊥
   BatchesTo (Err faults.NoMemory) old new bytes rest held held' = ⊥
 
-  -- the same of a first batch: if there may be more, fewer bytes are left
+  -- the same for a first batch: if there may be more frames, fewer bytes are left
   abbrev pub BatchesFirst : Result (Option Rest) ServeFault → S → S → List ℕ → List ℕ
       → Option (List ℕ) → Option (List ℕ) → Type 0
   BatchesFirst (Ok None) old new bytes rest held held' =
@@ -147,7 +147,7 @@ module _ {S : Type 0} (shows : S → State → Type 0) (says : S → Lent → Co
 
   -- ---- reads
 
-  -- Bytes were read after those at hand, and one of their batches was cut.
+  -- Bytes were read after the buffered ones, and one of their batches was cut.
   pub record CutsRead (hand : List ℕ) (old new : S)
       (left left' held held' : Option (List ℕ)) : Type 0 where
     pub read : List ℕ
@@ -156,7 +156,7 @@ module _ {S : Type 0} (shows : S → State → Type 0) (says : S → Lent → Co
     pub cut : CutsBatch old new (hand ++ read) rest held held'
     pub within : length rest ≤ most_left
 
-  -- what one read came to: the input goes on, or it ended, or a batch was cut
+  -- the result of one read: the input has not ended, or it ended, or a batch was cut
   abbrev pub ReadsBatches : Result (Option End) ServeFault → List ℕ → List ℕ → S → S
       → Option (List ℕ) → Option (List ℕ) → Option (List ℕ) → Option (List ℕ) → ℕ → ℕ → Type 0
   ReadsBatches (Ok None) hand hand' old new left left' held held' reads reads' =

@@ -1,4 +1,4 @@
--- Edits that are made once more, as a log holds them.
+-- The replay of a log's edits.
 use Rattle.std.specs.Prelude.{◌≡◌, List, [], length, Option, None, Some, option_map}
 use Rattle.cell_key.specs.Cells.{Cells, after_edits}
 use Rattle.cell_key.specs.declared.edits.Edit.{Edit}
@@ -14,9 +14,9 @@ use Rattle.row_atomic.specs.Roots.{HasRoot}
 use Rattle.row_atomic.specs.declared.recorded.Recorded.{Recorded}
 use Rattle.server_loop.specs.Server.{machine_places}
 
--- Edits were made in their order, and written down behind the others. If the rows held they still do,
--- with the cells after the edits. What lies below stays, and what was written down has still all that
--- the memtables have, if it had.
+-- Edits were made in order, and appended to the journal. If the rows' invariant held it still does, and
+-- the cells are those after the edits. The storage below is unchanged. If the journal had all edits of
+-- the memtables, it still does.
 pub record Replays {F : Type 0} (contents : F → Option Contents) (edits : List Edit)
     (old new : Recorded F) : Type 0 where
   pub still : (seen_recorded contents).holds old → (seen_recorded contents).holds new
@@ -26,17 +26,17 @@ pub record Replays {F : Type 0} (contents : F → Option Contents) (edits : List
   pub stays : storage_of contents new.cluster ≡ storage_of contents old.cluster
   pub fits : FitsMemtables old → FitsMemtables new
 
--- a journal is there, and has room for these edits
+-- there is a journal, and it has room for these edits
 abbrev pub HasRoom : Option JournalView → List Edit → Type 0
 HasRoom None edits = ⊥
 HasRoom (Some journal) edits = HasRoomFor journal edits
 
--- a journal of edits that a log has, all of them
+-- a journal of these edits, all of which the log has
 abbrev pub logged_journal : List Edit → JournalView
 logged_journal edits =
     record { logged = spelled_edits edits; waiting = []; count = length edits }
 
--- A cluster shows the cells that its files keep under a root, whose places are its tablets' own.
+-- A cluster shows the cells that its files keep under a root that names its tablets' places.
 pub record ShowsRoot {F : Type 0} (contents : F → Option Contents) (root : RootView) (base : Cells)
     (state : ClusterState F) : Type 0 where
   pub holds : Holds contents state
@@ -44,8 +44,8 @@ pub record ShowsRoot {F : Type 0} (contents : F → Option Contents) (root : Roo
   pub placed : machine_places root.places ≡ machine_places state.places
   pub shows : cells_shown contents state ≡ base
 
--- Rows show the cells that these edits make of those that the files keep under a root, whose places
--- are the tablets' own. The edits are written down, and the log has them.
+-- Rows show the cells that the files keep under a root, after these edits. The root names the tablets'
+-- places. The edits are in the journal, and the log has them.
 pub record FollowsLog {F : Type 0} (contents : F → Option Contents) (root : RootView) (base : Cells)
     (edits : List Edit) (rows : Recorded F) : Type 0 where
   pub holds : (seen_recorded contents).holds rows

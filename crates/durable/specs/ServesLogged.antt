@@ -1,4 +1,4 @@
--- What a call of `serve` does over files, a mark store and a log.
+-- The effect of a call of `serve` over files, a mark store and a log.
 use Rattle.std.specs.Prelude.{ℕ, List, Option, Result}
 use Rattle.commit_log.specs.declared.logs.Log.{Ghosts as Log}
 use Rattle.file_store.specs.declared.files.Files.{Ghosts as Files}
@@ -19,7 +19,7 @@ use Rattle.server_loop.specs.declared.statuses.End.{End}
 use Rattle.server_loop.specs.declared.statuses.ServeFault.{ServeFault}
 
 module _ {F M L : Type 0} (files : Files F) (log : Log L) where
-  -- Its devices keep a state over a kill.
+  -- Its devices keep a state through a kill.
   abbrev pub LastsOver : LastingServer (Server F M) L → State → Type 0
   LastsOver =
       LastsIn (StoresCells files.contents) (λ server. logged_of (journal_of server)) last_of
@@ -30,7 +30,7 @@ module _ {F M L : Type 0} (files : Files F) (log : Log L) where
       Logs (StoresCells files.contents) (λ server. logged_of (journal_of server)) last_of
       log.holds (IsRooted files.contents)
 
-  -- All that it shows is on its devices.
+  -- Its devices keep each state that it shows.
   abbrev pub IsSettledOver : LastingServer (Server F M) L → Type 0
   IsSettledOver server = IsSettled (shown_by (Shows files.contents)) LastsOver LogsOver server
 

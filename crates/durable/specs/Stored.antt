@@ -1,4 +1,4 @@
--- What a server's files keep under their root.
+-- The cells that a server's files keep under their root.
 use Rattle.std.specs.Prelude.{◌≡◌, ◌≤◌, List, [], Option}
 use Rattle.cell_key.specs.Cells.{Cells}
 use Rattle.file_store.specs.Store.{Contents}
@@ -15,8 +15,8 @@ use Rattle.server_loop.specs.Server.{cluster_of, forgets, last_of, machine_place
 use Rattle.server_loop.specs.declared.server.Server.{Server}
 
 module _ {F M : Type 0} (contents : F → Option Contents) where
-  -- They keep these cells under a root that names these places. No stamp of it is above the oracle's
-  -- last one.
+  -- The files keep these cells under a root that names these places. Its greatest stamp is at most the
+  -- oracle's last one.
   pub record StoresCells (server : Server F M) (root : RootView) (base : Cells) (places : List Place)
       : Type 0 where
     pub has : HasRoot contents root base (cluster_of server)
@@ -30,11 +30,11 @@ module _ {F M : Type 0} (contents : F → Option Contents) where
     pub placed : machine_places root.places ≡ machine_places (cluster_of server).places
     pub low : root.top ≤ last_of server
 
-  -- The cells under the root are those that are shown, and no sweep removes a file of it.
+  -- The root's cells are the shown ones, and its files all belong to tablets, so no sweep removes one.
   abbrev pub IsClean : Server F M → Type 0
   IsClean server = TracksListed contents (cluster_of server) []
 
--- two servers are the same, whatever is written down
+-- two servers are the same, but for their journals
 abbrev pub IsSame : {F M : Type 0} → Server F M → Server F M → Type 0
 IsSame a b = forgets a ≡ forgets b
 

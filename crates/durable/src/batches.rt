@@ -1,4 +1,4 @@
-//! The loop of a server whose replies wait until what they say outlasts a kill.
+//! The loop of a server whose replies wait until their effects survive a kill.
 
 ghost use Rattle.std.specs.Prelude.{◌≡◌, ◌≤◌, ◌<◌, ◌+◌, ◌++◌, ◌⊎◌, List, ℕ, [], length, IfErr, OnErr, OnOk, Ok, Some, vec_capacity};
 ghost use Rattle.std.specs.Io.KnownBytes.{Appends};
@@ -21,21 +21,22 @@ use server_loop::{
 use std::alloc::Global;
 use std::io::{Read, Write};
 
-/// How many bytes of replies wait at most before one more is answered.
+/// The bytes of waiting replies at which a batch ends: no further request is answered before it is settled.
 const MOST_WAITING: usize = 1_048_576;
 
-/// The room for replies that wait.
+/// The capacity, in bytes, of the buffer of waiting replies.
 const WAITING_ROOM: usize = 1_114_130;
 
-/// What answers requests as the snapshot machine does, over devices that keep its state over a kill.
+/// A server that answers requests as the snapshot machine does, over devices that keep its state through a kill.
 pub(crate) trait Lasting: Answering {
-    /// Its devices keep this state of the machine over a kill.
+    /// Its devices keep this state of the machine through a kill.
     ghost lasts: { Self → State → Type 0 };
 
-    /// What its log has and what it has written down belong together.
+    /// Its log and its journal agree.
     ghost logs: { Self → Type 0 };
 
-    /// Has the devices keep what is shown. Whatever comes of it, they keep that, or what they kept before.
+    /// Makes the devices keep the state that is shown. After an `Err` they keep that state or the one that they kept
+    /// before.
     fn settle(&mut self) -> Result<(), ServeFault>
         ensures between { (first : Self) → Self.between first self.old
             → Self.between first self.new }
@@ -47,17 +48,19 @@ pub(crate) trait Lasting: Answering {
             → lasts self.new st ⊎ lasts self.new now) }
         ensures fault { IfErr result (λ fault. fault ≡ ServeFault.Log) };
 
-    /// What is said is a step of the machine, and keeps what lasts.
+    /// An answer is a step of the machine. If the devices kept a state, they keep it, or the state before the step, or
+    /// the one after it.
     ghost answers: { (old new : Self) (request : Lent) (reply : CodecReply)
         → Self.says old request reply new
         → GoesOn Self.shows lasts logs (asked request) (replied reply) old new };
 
-    /// What comes between keeps what is shown and what lasts.
+    /// Upkeep between answers keeps the state that is shown. If the devices kept a state, they keep it or the shown
+    /// one.
     ghost tends: { (old new : Self) → Self.between old new
         → Settles Self.shows lasts logs old new };
 }
 
-/// Lets a reply wait behind the others, and lets the server do what comes after it.
+/// Appends a reply to those that wait, and lets the server do its upkeep.
 fn hold<A: Answering>(server: &mut A, reply: &Reply, waiting: &mut Vec<u8>)
     requires room { length waiting.old.items + LONGEST_REPLY ≤ vec_capacity waiting.old }
     requires limits { KeepsToLimits reply.now }
@@ -71,7 +74,7 @@ fn hold<A: Answering>(server: &mut A, reply: &Reply, waiting: &mut Vec<u8>)
     server.tend();
 }
 
-/// Answers what stands first among the bytes taken. `None` if that was a whole frame.
+/// Answers the first frame of the bytes taken, if it is whole or too large. `None` if it was whole.
 fn answer_next<A: Answering>(
     server: &mut A,
     framer: &mut Framer,
@@ -96,7 +99,7 @@ fn answer_next<A: Answering>(
     }
 }
 
-/// Answers whole frames, one after the other, until enough replies wait. `None` if there may be more of them.
+/// Answers whole frames in order until enough replies wait. `None` if there may be more whole frames.
 fn fill<A: Answering>(server: &mut A, framer: &mut Framer, waiting: &mut Vec<u8>) -> Option<Rest>
     requires none { waiting.old.items ≡ [] }
     requires room { WAITING_ROOM ≤ vec_capacity waiting.old }
@@ -113,7 +116,7 @@ fn fill<A: Answering>(server: &mut A, framer: &mut Framer, waiting: &mut Vec<u8>
     }
 }
 
-/// Settles what was answered, and then writes the replies that wait.
+/// Settles the answers, then writes the waiting replies.
 fn release<A: Lasting, W: Write>(
     server: &mut A,
     writer: &mut W,
@@ -167,7 +170,7 @@ fn answer_batch<A: Lasting, W: Write>(
     Ok(first)
 }
 
-/// Answers each whole frame among the bytes taken, in batches, and says what is left of them.
+/// Answers each whole frame of the bytes taken, in batches. Tells whether the rest is a part of a frame or too large.
 fn answer_batches<A: Lasting, W: Write>(
     server: &mut A,
     framer: &mut Framer,
@@ -189,7 +192,7 @@ fn answer_batches<A: Lasting, W: Write>(
     }
 }
 
-/// Takes a piece of the input, and answers each whole frame in batches. Less than a frame may be at hand before it.
+/// Takes a piece of the input, and answers each whole frame in batches. A part of a frame may be buffered before it.
 fn batch_piece<A: Lasting, W: Write>(
     server: &mut A,
     framer: &mut Framer,
@@ -217,8 +220,7 @@ fn batch_piece<A: Lasting, W: Write>(
     Ok(Rest::Partial)
 }
 
-/// Reads once, after what was written has left the writer, and answers each whole frame in batches. `None` if the input
-/// goes on.
+/// Flushes the writer, reads once, and answers each whole frame in batches. `None` if the input has not ended.
 fn batch_read<A: Lasting, R: Read, W: Write>(
     server: &mut A,
     framer: &mut Framer,
@@ -254,7 +256,8 @@ fn batch_read<A: Lasting, R: Read, W: Write>(
     }
 }
 
-/// Serves requests in frames until the input ends, and at most `most_reads` reads of it. The buffers are taken first.
+/// Serves requests in frames until the input ends, with at most `most_reads` reads of it. The buffers are allocated
+/// first.
 pub(crate) fn serve_batches<A: Lasting, R: Read, W: Write>(
     alloc: Global,
     server: &mut A,

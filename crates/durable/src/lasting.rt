@@ -1,4 +1,4 @@
-//! A server whose answers outlast a kill: what it answers is on a log before a reply leaves.
+//! A server whose answers survive a kill: their edits are in a log before a reply is written.
 
 ghost use Rattle.std.specs.Prelude.{◌≡◌, ◌⊎◌, ◌↔◌, [], true, false, IfErr, IsErrOf, IsTrue, OnErr, OnOk, ℕ, List};
 ghost use Rattle.cell_key.specs.Cells.{Cells};
@@ -25,7 +25,7 @@ use request_codec::{Reply, Request};
 use server_loop::{Answering, ServeFault};
 use std::alloc::Global;
 
-/// How many more bytes are written down before a root that was refused is tried again.
+/// The growth of the journal, in bytes, after which a refused root is tried again.
 const BETWEEN_TRIES: usize = 8_388_608;
 
 /// A server with a log.
@@ -34,15 +34,15 @@ pub struct LastingServer<S, L> {
     pub(crate) alloc: Global,
     pub(crate) server: S,
     pub(crate) log: L,
-    /// The log failed, or what it has isn't known any more. No reply leaves from then on.
+    /// The log failed, or its records are no longer known. No reply is written from then on.
     pub(crate) is_stopped: bool,
-    /// How much is written down before a root is put without a request.
+    /// The journal's size, in bytes, at which a root is put without a request.
     pub(crate) root_bytes: usize,
-    /// How much was when one was refused, and 0 since one was put.
+    /// The journal's size when such a root was last refused; 0 after one that was put.
     pub(crate) tried_bytes: usize,
 }
 
-/// How much was written down when a root was refused, and 0 after one that was put.
+/// The journal's size if the root was refused; 0 if it was put.
 fn tried_after(done: &Result<(), Refusal>, written: usize) -> usize {
     match done {
         Ok(()) => 0,
@@ -50,11 +50,11 @@ fn tried_after(done: &Result<(), Refusal>, written: usize) -> usize {
     }
 }
 
-/// Replaces all records of a log by the name of the root that is there, which has all that they say.
+/// Replaces all records of a log by the name of the current root, which has all of their edits.
 ///
 /// # Errors
 ///
-/// `NoMemory` leaves the log as it was. `Device` if the log failed.
+/// `NoMemory`; the log is unchanged. `Device` if the log failed.
 fn renew_log<S: Recording, L: Log>(server: &S, log: &mut L) -> Result<(), Refusal>
     ensures ok { OnOk result
         (Renews (L.holds log.old) (L.holds log.new) (named (S.next_root server.now))) }
@@ -76,7 +76,7 @@ fn renew_log<S: Recording, L: Log>(server: &S, log: &mut L) -> Result<(), Refusa
 }
 
 impl<S: Recording, L: Log> LastingServer<S, L> {
-    /// Puts on the log what waits for it. Whether that was done.
+    /// Appends the waiting edits to the log. Tells whether the log has them; if not, the server is stopped.
     fn log_waiting(&mut self) -> bool
         ensures shown { (st : State) → S.shows self.old.server st → S.shows self.new.server st }
         ensures same { S.same self.old.server self.new.server }
@@ -128,11 +128,11 @@ impl<S: Recording, L: Log> LastingServer<S, L> {
         }
     }
 
-    /// Replaces the log by the name of a new root, which has all that the log says.
+    /// Replaces the log by the name of a new root, which has all of the log's edits, and empties the journal.
     ///
     /// # Errors
     ///
-    /// `NoMemory` leaves log and journal as they were. `Device` if the log failed: no reply leaves any more.
+    /// `NoMemory`; log and journal are unchanged. `Device` if the log failed: the server is stopped.
     fn empty_log(&mut self) -> Result<(), Refusal>
         ensures shown { S.is_clean self.old.server → (st : State) → S.shows self.old.server st
             → S.shows self.new.server st }
@@ -169,13 +169,13 @@ impl<S: Recording, L: Log> LastingServer<S, L> {
         }
     }
 
-    /// Puts what waits on the log, then a root that keeps what is shown, and takes out of the log what the root has. Before
-    /// the root is put, the log says that it is over whichever root is there.
+    /// Appends the waiting edits to the log, puts a root that keeps the state that is shown, and drops the edits that
+    /// the root has from the log. Before the root is put, a record is appended that the log is over any root.
     ///
     /// # Errors
     ///
-    /// Those of a checkpoint; `NoMemory` also if memory to name the new root in the log was refused, which then stays as it
-    /// was; `Device` also if the log failed: no reply leaves any more.
+    /// Those of a checkpoint; `NoMemory` also if the allocation for the new root's name in the log failed: the log
+    /// stays over any root. `Device` also if the log failed: the server is stopped.
     fn root(&mut self) -> Result<(), Refusal>
         ensures step { StepsAs (shown_by S.shows) self.old self.new CheckpointAsked
             (replied (checkpointed result)) }
@@ -212,8 +212,8 @@ impl<S: Recording, L: Log> LastingServer<S, L> {
         }
     }
 
-    /// Puts a root once tablets were moved, with nothing that waits. If it is refused, no reply leaves any more; if only
-    /// memory to name it in the log is refused, the log stays over any root.
+    /// Puts a root after tablets were moved, while no edits wait. If it is refused, the server is stopped; if only the
+    /// allocation for its name in the log fails, the log stays over any root.
     fn root_moved(&mut self)
         ensures shown { (st : State) → S.shows self.old.server st → S.shows self.new.server st }
         ensures answered { (reply : CodecReply)
@@ -242,7 +242,7 @@ impl<S: Recording, L: Log> LastingServer<S, L> {
         }
     }
 
-    /// Puts a root if the log may be over any root, so that it names the root that it is over from then on.
+    /// Puts a root if the log is over any root, so that from then on the log names its root.
     ///
     /// # Errors
     ///
@@ -272,7 +272,7 @@ impl<S: Recording, L: Log> LastingServer<S, L> {
         Ok(())
     }
 
-    /// Removes the files that no tablet has, after a root that names none of them.
+    /// Puts a root, which names only files of tablets, then removes the files that belong to no tablet.
     fn sweep(&mut self) -> Reply
         ensures limits { KeepsToLimits result }
         ensures says { IsLastingAnswer S.shows (LastsIn S.stores S.logged S.last L.holds)
@@ -289,7 +289,7 @@ impl<S: Recording, L: Log> LastingServer<S, L> {
         }
     }
 
-    /// Splits or moves a tablet, between two roots.
+    /// Splits or moves a tablet, and puts a root before and after.
     fn rearrange(&mut self, request: Request<'_>) -> Reply
         requires { MovesTablets request }
         ensures limits { KeepsToLimits result }
@@ -327,8 +327,8 @@ impl<S: Recording, L: Log> LastingServer<S, L> {
         }
     }
 
-    /// Whether it is time for a root that nobody asks for. One that was refused is tried again once much more is written down,
-    /// or once less is, for then a root was put meanwhile.
+    /// Whether a root is due without a request. A refused one is tried again once the journal has grown by 8,388,608
+    /// bytes, or has shrunk, since then a root was put meanwhile.
     fn is_root_due(&self, written: usize) -> bool
         ensures { IsTrue result ↔ IsRootDue self.now written }
     {

@@ -1,4 +1,4 @@
-//! What a server with a log is asked for.
+//! The calls of a server with a log.
 
 ghost use Rattle.std.specs.Prelude.{◌≡◌, IsSome, Some};
 ghost use Rattle.durable.specs.Devices.{LastsOn};
@@ -18,7 +18,7 @@ use std::io::{Read, Write};
 use std::num::NonZeroUsize;
 
 impl<F: WholeFiles + Drop, M: MarkStore + Drop, L: Log + Drop> LastingServer<Server<F, M>, L> {
-    /// From now on newest files are merged as `Server::merge_at` says.
+    /// From now on the newest files are merged as by `Server::merge_at`.
     pub fn merge_at(&mut self, most: u32)
         ensures { self.new ≡ record self.old {
           server = record self.old.server {
@@ -29,7 +29,7 @@ impl<F: WholeFiles + Drop, M: MarkStore + Drop, L: Log + Drop> LastingServer<Ser
         self.server.merge_at(most);
     }
 
-    /// Lets each open file cache as many blocks at most as `Server::cache_blocks` does.
+    /// Limits the cache of each file to this many blocks, as `Server::cache_blocks` does.
     pub fn cache_blocks(&mut self, most_blocks: NonZeroUsize)
         ensures outcome { IsOutcome F.contents F.faults Command.DropCaches Outcome.Done
             (cluster_of self.old.server) (cluster_of self.new.server) }
@@ -42,8 +42,9 @@ impl<F: WholeFiles + Drop, M: MarkStore + Drop, L: Log + Drop> LastingServer<Ser
         self.server.cache_blocks(most_blocks);
     }
 
-    /// From now on a root is put, and the log emptied, after a reply when as many bytes are written down, or as many as 671
-    /// for each edit. One that is refused is not reported, and tried again when 8,388,608 more are.
+    /// From now on, after a reply, a root is put and the log is emptied if the journal's size is at least this many
+    /// bytes. Its size is its bytes, or 671 for each edit if that is more. A refusal is not reported. The next try
+    /// comes when the size has grown by 8,388,608 bytes, or has fallen.
     pub fn checkpoint_at(&mut self, bytes: usize)
         ensures { self.new ≡ record self.old { root_bytes = bytes; tried_bytes = 0 } }
     {
@@ -51,13 +52,13 @@ impl<F: WholeFiles + Drop, M: MarkStore + Drop, L: Log + Drop> LastingServer<Ser
         self.tried_bytes = 0;
     }
 
-    /// Serves requests in frames as `Server::serve` does, but that replies wait: those to what one read gave are written
-    /// once all that they say is on the log, which is forced to the disk once for all of them. Before more than 1,048,576
-    /// bytes of replies wait, that is done as well. A split and a move come between two checkpoints, and a sweep after
-    /// one. If the log fails, no reply leaves any more, and `Log` is answered.
+    /// Serves requests in frames as `Server::serve` does, but replies wait: the replies to one read's requests are
+    /// written once all their edits are in the log, which is forced to the disk once for all of them. That is done
+    /// earlier if the waiting replies have reached 1,048,576 bytes. A split and a move come between two checkpoints, a
+    /// sweep after one. If the log fails, no further reply is written, and `Log` is answered.
     ///
-    /// Whatever the result, from a settled server the devices keep the machine after a beginning of what was taken, which
-    /// holds each request of whose reply a byte was written.
+    /// Whatever the result, if the server was settled, the devices keep the machine's state after a prefix of the
+    /// requests taken. The prefix contains each request of whose reply a byte was written.
     pub fn serve<I: Read, O: Write>(
         &mut self,
         reader: &mut I,
@@ -71,7 +72,7 @@ impl<F: WholeFiles + Drop, M: MarkStore + Drop, L: Log + Drop> LastingServer<Ser
         serve_batches(self.alloc, self, reader, writer, most_reads)
     }
 
-    /// Its files, its mark store and its log, as they are. If the mark is known, they keep each state that the server's
+    /// Its files, its mark store and its log, unchanged. If the mark is known, they keep each state that the server's
     /// devices kept.
     pub fn into_devices(self) -> (F, M, L)
         ensures files { result.0 ≡ (cluster_of self.server).files }

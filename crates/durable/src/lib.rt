@@ -1,4 +1,4 @@
-//! A server with a log: what it answers outlasts a kill.
+//! A server with a log: its answers survive a kill.
 #![tactic(auto)]
 
 mod batches;

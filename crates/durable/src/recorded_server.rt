@@ -1,4 +1,4 @@
-//! The server whose edits are written down, over files that a put replaces as a whole.
+//! The server with a journal, over files that a put replaces as a whole.
 
 ghost use Rattle.std.specs.Prelude.{◌≡◌, ◌≤◌};
 ghost use Rattle.row_atomic.specs.Journals.{IsWithin};
@@ -16,7 +16,8 @@ use row_atomic::{
 use server_loop::{RootName, Server};
 use si_model::shows_reopened;
 
-/// The bytes that are counted for an edit: of the most edits, as many as the most bytes.
+/// The bytes counted for each edit: the journal's upper bound of bytes, 67,108,864, divided by its bound of edits,
+/// 100,000.
 const BYTES_OF_EDIT: usize = 671;
 
 impl<F: WholeFiles + Drop, M: MarkStore + Drop> Recording for Server<F, M> {

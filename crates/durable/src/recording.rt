@@ -1,4 +1,4 @@
-//! What a server with a log is made of: a server whose edits are written down.
+//! Servers with a journal: the contract of the server under a log.
 
 ghost use Rattle.std.specs.Prelude.{◌≡◌, ◌≢◌, ◌≤◌, ◌⊎◌, ◌++◌, ℕ, List, [], Bool, length, true, IfErr, IfOk, OnErr, OnOk};
 ghost use Rattle.cell_key.specs.Cells.{Cells};
@@ -17,51 +17,52 @@ use cell_key::{Refusal, Stamp};
 use request_codec::Reply;
 use server_loop::{Answering, RootName};
 
-/// A server whose edits are written down: those that a log has, and those that wait for it.
+/// A server with a journal of its edits: those that the log has, and those that wait for the log.
 pub(crate) trait Recording: Answering {
-    /// Its files keep these cells under this root, whose tablets have these places, and whose stamps aren't above the oracle's.
+    /// Its files keep these cells under this root, whose tablets have these places. The root's greatest stamp is at
+    /// most the oracle's last one.
     ghost stores: { Self → RootView → Cells → List Place → Type 0 };
 
-    /// The root is this one, and has the places of the tablets.
+    /// Its root is this one, which names the places of its tablets.
     ghost is_rooted: { Self → RootView → Type 0 };
 
-    /// What a root says that is put now.
+    /// The root that would be put now.
     ghost next_root: { Self → RootView };
 
-    /// What it shows is what the files keep under their root.
+    /// It shows the cells that the files keep under their root.
     ghost is_clean: { Self → Type 0 };
 
-    /// Edits are written down.
+    /// It has a journal.
     ghost recording: { Self → Bool };
 
-    /// The bytes of the edits that the log has.
+    /// The bytes of the journal's edits that the log has.
     ghost logged: { Self → List ℕ };
 
-    /// The bytes of those that wait for it.
+    /// The bytes of the journal's edits that wait for the log.
     ghost waiting: { Self → List ℕ };
 
-    /// How many edits that are in both.
+    /// The number of edits in both.
     ghost count: { Self → ℕ };
 
     /// The oracle's last stamp.
     ghost last: { Self → ℕ };
 
-    /// The same server, whatever is written down.
+    /// The same server, but for the journal.
     ghost same: { Self → Self → Type 0 };
 
-    /// What is said of a checkpoint, and of a sweep.
+    /// A checkpoint, and a sweep, may get this reply.
     ghost checkpoints: { Self → CodecReply → Self → Type 0 };
 
     ghost sweeps: { Self → CodecReply → Self → Type 0 };
 
-    /// How much is written down: as many bytes, or as many as as many edits may have.
+    /// The size of the journal in bytes, or 671 for each edit if that is more.
     fn written(&self) -> usize;
 
-    /// Whether edits are written down.
+    /// Whether it has a journal.
     fn is_recording(&self) -> bool
         ensures { result ≡ recording self.now };
 
-    /// What waits for the log.
+    /// The bytes of the edits that wait for the log.
     fn waiting(&self) -> &[u8]
         ensures bytes { result.now ≡ waiting self.now }
         ensures short { length result.now ≤ 67108864 }
@@ -71,7 +72,7 @@ pub(crate) trait Recording: Answering {
           count = count self.now;
         }) };
 
-    /// The log has what waited for it.
+    /// Notes that the log has all edits of the journal.
     fn settled(&mut self)
         ensures logged { logged self.new ≡ logged self.old ++ waiting self.old }
         ensures waiting { waiting self.new ≡ [] }
@@ -84,12 +85,12 @@ pub(crate) trait Recording: Answering {
     fn last(&self) -> Stamp
         ensures { result ≡ last self.now };
 
-    /// The name of the root that is there, behind a checkpoint that was done.
+    /// The name of the root that would be put now: right after a checkpoint, the root on disk.
     fn root_name(&self) -> Result<RootName, Refusal>
         ensures name { IfOk result (λ name. IsNameOf name (next_root self.now)) }
         ensures refusal { IfErr result (λ refusal. refusal ≡ Refusal.NoMemory) };
 
-    /// Puts a root that keeps what is shown.
+    /// Puts a root that keeps the state that is shown.
     fn checkpoint_now(&mut self) -> Result<(), Refusal>
         ensures step { StepsAs Self.shows self.old self.new CheckpointAsked
             (replied (checkpointed result)) }
@@ -104,7 +105,7 @@ pub(crate) trait Recording: Answering {
             ⊎ ((st : State) → Self.shows self.old st
             → HasNewRoot stores is_rooted last (next_root self.new) self.new st)) };
 
-    /// Nothing is written down any more.
+    /// Empties the journal.
     fn emptied(&mut self)
         ensures logged { logged self.new ≡ [] }
         ensures waiting { waiting self.new ≡ [] }
@@ -115,7 +116,7 @@ pub(crate) trait Recording: Answering {
         ensures clean { is_clean self.old → is_clean self.new }
         ensures same { same self.old self.new };
 
-    /// Removes the files that no tablet has.
+    /// Removes the files that belong to no tablet.
     fn sweep_now(&mut self) -> Reply
         ensures step { (before : State) → IsReached before → Self.shows self.old before
             → is_clean self.old → (after : State) × Step before SweepAsked (replied result) after
@@ -126,8 +127,10 @@ pub(crate) trait Recording: Answering {
         ensures stays { (st : State) → Self.shows self.old st → is_clean self.old
             → StaysRooted stores is_rooted last self.old self.new };
 
-    /// What is written down follows what is shown. There is one root. An answer leaves what is kept, but for checkpoints and sweeps, and the
-    /// places of the root, but for what moves tablets. So does what comes between two answers.
+    /// The journal leads from the root's cells to the state that is shown. There is one root. Answers leave the stored
+    /// cells, the root and the logged edits unchanged, except those of Checkpoint, Sweep, Split and Move. A Split or a
+    /// Move leaves the stored cells and the journal unchanged. Upkeep between answers leaves the stored cells, the
+    /// root, the logged edits and the state that is shown unchanged.
     fn recording_laws()
         ensures follows { (server : Self) (root : RootView) (st : State) → recording server ≡ true
             → is_rooted server root → Self.shows server st

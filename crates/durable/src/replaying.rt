@@ -1,4 +1,4 @@
-//! The edits of a log, made once more over what the files keep.
+//! The replay of a log's edits over the cells that the files keep.
 
 ghost use Rattle.std.specs.Prelude.{◌≡◌, ◌∷◌, [], IfErr, IsErrOf, OnOk};
 ghost use Rattle.std.specs.List.{AllByRecursion};
@@ -36,11 +36,11 @@ fn make_edit<F: Files>(alloc: Global, rows: &mut Recorded<F>, edit: Edit) -> Res
     Ok(())
 }
 
-/// Makes edits, in their order.
+/// Makes edits in order.
 ///
 /// # Errors
 ///
-/// `NoMemory`, and `MemtableFull` if they have no room. Some of them may have been made then.
+/// `NoMemory`, and `MemtableFull` if the journal has no room for them. Some of them may have been made by then.
 fn make_edits<F: Files>(
     alloc: Global,
     rows: &mut Recorded<F>,
@@ -61,13 +61,12 @@ fn make_edits<F: Files>(
     Ok(())
 }
 
-/// Makes the edits of a log over rows that were just opened, and writes edits down from now on. The log has those that it
-/// made.
+/// Starts the journal of rows that were just opened, and replays the edits of a log. The log counts as having them.
 ///
 /// # Errors
 ///
-/// `NoMemory`, and `MemtableFull` if the edits are more than are written down of a server, or have more bytes. Some of
-/// them may have been made then.
+/// `NoMemory`, and `MemtableFull` if the edits exceed the journal's bound of edits or of bytes. Some of them may have
+/// been made by then.
 pub(crate) fn replay<F: Files>(
     alloc: Global,
     rows: &mut Recorded<F>,

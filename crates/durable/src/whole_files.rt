@@ -4,7 +4,8 @@ use file_store::{DirFiles, Files, MemFiles};
 use std::fs::File;
 use std::rt::Files as Folders;
 
-/// Files of which a put that failed leaves the old file or the new one. What is to outlast a kill stands in such files.
+/// Files of which a failed put leaves the old file or the new one. State that must survive a kill is kept in such
+/// files.
 pub trait WholeFiles: Files {
     ghost whole: { Self.replaces };
 }

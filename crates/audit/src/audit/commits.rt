@@ -58,7 +58,7 @@ impl Commits {
     ///
     /// # Errors
     ///
-    /// `NoMemory`, and the commits are as before.
+    /// `NoMemory`; the commits are unchanged.
     pub(crate) fn push(
         &mut self,
         start: Stamp,

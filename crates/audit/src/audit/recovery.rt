@@ -1,4 +1,4 @@
-//! What an audit says of a store with a log that was opened again.
+//! The audit of a store with a log that was reopened.
 
 ghost use Rattle.audit.specs.Audits.{JudgesMark};
 
@@ -6,9 +6,9 @@ use crate::audit::Audit;
 use cell_key::{MOST_STAMP, Stamp};
 
 impl Audit {
-    /// Whether a store with a log may have been opened again over this mark of its oracle: each stamp that was answered is
-    /// at most the mark. If so, the audit goes on from there: sessions, cleaners and collectors are forgotten, and stamps
-    /// up to the mark count as answered. Otherwise it stays.
+    /// Whether a store with a log may have been reopened over this mark of its oracle: the mark is a stamp, and each
+    /// stamp that was answered is at most the mark. If so, the audit continues from there: sessions, cleaners and
+    /// collectors are dropped, and stamps up to the mark count as answered. Otherwise the audit is unchanged.
     pub fn recover(&mut self, mark: Stamp) -> bool
         ensures { JudgesMark mark self.old self.new result }
     {

@@ -4,7 +4,7 @@ use Rattle.cell_key.specs.declared.edits.Edit.{Edit}
 use Rattle.commit_log.specs.Edits.{IsStoredEdit, spelled_edits}
 use Rattle.commit_log.proofs.edits.read_edits.Given as goal
 
--- the edits read so far and what is left are the whole record
+-- the edits read so far and the remaining bytes are the whole record
 abbrev pub invariant-loop-rest : goal.invariant-loop-rest
 invariant-loop-rest l =
     (more : List Edit) × (l.edits.items ≡ l.fn.edits.items ++ more) × (l.bytes ≡ spelled_edits more ++ l.rest) × AllByRecursion IsStoredEdit more

@@ -2,7 +2,7 @@ use Rattle.std.proofs.Common.{length}
 use Rattle.commit_log.specs.Numbered.{HasLater}
 use Rattle.commit_log.proofs.numbered.has_later.Given as goal
 
--- what stands in the bytes stands in what is left
+-- a later frame in the bytes is in the remaining bytes
 abbrev pub invariant-loop-after : goal.invariant-loop-after
 invariant-loop-after l = record {
   ahead : HasLater l.next l.bytes → HasLater l.next l.rest;

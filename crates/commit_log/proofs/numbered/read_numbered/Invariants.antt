@@ -4,7 +4,7 @@ use Rattle.commit_log.specs.Frames.{bytes_of}
 use Rattle.commit_log.specs.Numbered.{IsShort, frames_from}
 use Rattle.commit_log.proofs.numbered.read_numbered.Given as goal
 
--- the records so far and what is left are all bytes
+-- the records so far and the remaining bytes are all bytes
 abbrev pub invariant-loop-payload : goal.invariant-loop-payload
 invariant-loop-payload l = record {
   spelled : l.bytes ≡ frames_from l.first (bytes_of l.records.items) ++ l.rest;
