@@ -1,5 +1,5 @@
 -- A server that an opening makes of files, a mark and a log.
-use Rattle.std.proofs.Common.{◌≡◌, ◌≤◌, ◌<◌, ◌⊎◌, ℕ, List, [], Option, None, Some, inl, inr, refl, sym, subst, arith}
+use Rattle.std.proofs.Common.{◌≡◌, ◌≤◌, ◌<◌, ◌⊎◌, ℕ, List, [], Option, None, Some, inl, inr, refl, sym, ap, subst, arith}
 use Rattle.std.specs.Prelude.{IfSome, IsSome}
 use Rattle.std.proofs.lemmas.Bool.{cases_lt}
 use Rattle.std.specs.FinMap.{empty, get}
@@ -12,7 +12,8 @@ use Rattle.si_model.specs.Machine.{new_machine, reopened}
 use Rattle.si_model.specs.ShowsCells.{ShowsCells}
 use Rattle.commit_log.specs.Records.{AreUpTo, NamesRoots}
 use Rattle.durable.specs.Devices.{Covers, CoversEach}
-use Rattle.durable.specs.LastingOpening.{LacksBase, NamesTop}
+use Rattle.durable.specs.LastingOpening.{AreWhole, LacksBase, NamesTop}
+use Rattle.metadata_table.specs.Roots.{OneRoot, RootView}
 use Rattle.server_loop.specs.Opening.{IsLost, below, damaged}
 use Rattle.server_loop.proofs.SessionSteps.{new_cells}
 
@@ -42,6 +43,21 @@ behind_named (Some m) (Some n) records top last named goes behind = elim (cases_
     at : last < top → (o : Option (List ℕ)) → get m root_name ≡ o → NamesTop o top → IsLost m n
     at less None there named = absurd (omega (arith, named, less))
     at less (Some image) there named = let same = named.2 in below image named.0 there named.1 (omega (arith, same, goes, less))
+
+-- files with their log, and a mark that covers both, are whole
+pub whole_here : OneRoot → (told : Option Contents) (mark : Option ℕ) (records : List (List ℕ)) (top last : ℕ) → IfSome told (λ m. ¬ IsDamaged m × ¬ LacksBase m records) → IfSome told (λ m. NamesTop (get m root_name) top) → IfSome mark (λ n. last ≡ n) → (top ≤ last) × AreUpTo last records → IfSome told (λ m. IfSome mark (λ n. AreWhole m n records))
+whole_here one None mark records top last whole named goes covers = tt
+whole_here one (Some m) None records top last whole named goes covers = tt
+whole_here one (Some m) (Some n) records top last whole named goes covers = record { kept = lost; over = whole.1; stamps = subst (λ (k : ℕ). AreUpTo k records) goes covers.1 }
+  where
+    lost : IsLost m n → ⊥
+    lost (damaged is) = whole.0 is
+    lost (below image root there is less) =
+        let at : NamesTop (Some image) top = subst (λ (o : Option (List ℕ)). NamesTop o top) there named in
+        let same = ap (λ (r : RootView). r.top) (one at.0 root image at.1 is) in
+        let tops = at.2 in
+        let low = covers.0 in
+        absurd (omega (arith, same, tops, low, goes, less))
 
 -- the last stamp of a server covers those of records
 pub covers_here : NamesRoots → (old new : Option ℕ) (last : ℕ) (records : List (List ℕ)) → new ≡ old → IfSome old (λ mark. last ≡ mark) → IsSome old → AreUpTo last records → CoversEach (Covers new) records

@@ -12,7 +12,7 @@ use Rattle.cell_key.specs.declared.refusals.Refusal.{Refusal}
 use Rattle.cell_key.specs.declared.refusals.Refusal.TheVariants.{Damaged, MemtableFull, NoMemory}
 use Rattle.file_store.specs.Store.{Contents}
 use Rattle.metadata_table.specs.Places.{PlaceView}
-use Rattle.metadata_table.specs.Roots.{RootView}
+use Rattle.metadata_table.specs.Roots.{OneRoot, RootView}
 use Rattle.row_atomic.specs.Clusters.{ClusterState, Spot, cells_in, spots_of}
 use Rattle.row_atomic.specs.Commands.{cells_shown}
 use Rattle.row_atomic.specs.Open.{IsDamaged, IsNewStore, IsStore, Reopens}
@@ -102,6 +102,31 @@ other_root_there contents (Some m) now is_there records top floor state same fou
         none_here : {A : Type 0} → is_there ≡ false → not is_there ≡ false → A
         none_here lacks has = cc
     at (Some image) is s = other_root image (root_at top floor state) is s.form other
+
+-- an opened root with its log has no damage
+pub whole_rows : OneRoot → {F : Type 0} (old now : Option Contents) (is_there : Bool) (records : List (List ℕ)) (top floor : ℕ) (state : ClusterState F) → now ≡ old → IfSome old (λ m. is_there ≡ is_some (get m root_name)) → IfSome now (λ m. ¬ IsDamaged m) → IfSome now (λ m. IsStore m (get m root_name) top floor state)
+    → (not is_there ≡ true → HoldEdits records [] × HasRecord records any_root) → (not is_there ≡ true) ⊎ IsOver records (root_at top floor state) → IfSome old (λ m. ¬ IsDamaged m × ¬ LacksBase m records)
+whole_rows one None now is_there records top floor state same found whole store new over = tt
+whole_rows one (Some m) now is_there records top floor state same found whole store new over =
+    (subst (λ (o : Option Contents). IfSome o (λ m. ¬ IsDamaged m)) same whole, lacks)
+  where
+    is_new : (o : Option (List ℕ)) → is_there ≡ is_some o → o ≡ None → not is_there ≡ true
+    is_new None is none = ap not is
+    is_new (Some image) is none = cc
+
+    not_new_here : (o : Option (List ℕ)) (image : List ℕ) → is_there ≡ is_some o → o ≡ Some image → not is_there ≡ true → ⊥
+    not_new_here None image is some none = cc
+    not_new_here (Some other) image is some none = let there = ap not is in cc
+
+    opened : IsStore m (get m root_name) top floor state
+    opened = subst (λ (o : Option Contents). IfSome o (λ m. IsStore m (get m root_name) top floor state)) same store
+
+    lacks : LacksBase m records → ⊥
+    lacks (no_root none why) = let begun = new (is_new (get m root_name) found none) in elim why [ inl held ↦ held begun.0 | inr any ↦ any begun.1 ]
+    lacks (other_root image root there is other) = elim over [
+      | inl none ↦ not_new_here (get m root_name) image found there none
+      | inr is_over ↦ other (subst (IsOver records) (one (root_at top floor state) root image (subst (λ (o : Option (List ℕ)). IsStore m o top floor state) there opened).form is) is_over)
+    ]
 
 -- the greatest stamp of the root that was opened
 pub names_top : {F : Type 0} (told now : Option Contents) (top floor : ℕ) (state : ClusterState F) → now ≡ told → IfSome now (λ m. IsStore m (get m root_name) top floor state) → IfSome told (λ m. NamesTop (get m root_name) top)

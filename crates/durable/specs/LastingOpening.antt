@@ -7,7 +7,7 @@ use Rattle.cell_key.specs.declared.edits.Edit.{Edit}
 use Rattle.cell_key.specs.declared.refusals.Refusal.{Refusal}
 use Rattle.cell_key.specs.declared.refusals.Refusal.TheVariants.{Damaged, Device, NoMemory}
 use Rattle.commit_log.specs.Edits.{HoldEdits, IsStoredEdit}
-use Rattle.commit_log.specs.Records.{HasRecord, any_root}
+use Rattle.commit_log.specs.Records.{AreUpTo, HasRecord, any_root}
 use Rattle.commit_log.specs.declared.faults.LogFault.{LogFault}
 use Rattle.commit_log.specs.declared.faults.LogFault.TheVariants as log
 use Rattle.commit_log.specs.declared.logs.Log.{Ghosts as Log}
@@ -17,11 +17,13 @@ use Rattle.metadata_table.specs.Roots.{IsRoot, RootView}
 use Rattle.oracle.specs.declared.marks.MarkStore.{Ghosts as MarkStore}
 use Rattle.row_atomic.specs.Roots.{root_name}
 use Rattle.row_atomic.specs.declared.recorded.Recorded.{Recorded}
+use Rattle.rows.specs.Refusals.{IsApplyRefusal, IsReadRefusal}
 use Rattle.si_model.specs.Machine.{IsReached, State, new_machine, reopened}
 use Rattle.si_model.specs.Recovered.{IsRecovered}
 use Rattle.si_model.specs.ShowsCells.{ShowsCells}
 use Rattle.durable.specs.Devices.{Covers, IsOver, KeepsUnder, LastsOn}
 use Rattle.durable.specs.Replaying.{FollowsLog, logged_journal}
+use Rattle.server_loop.specs.Opening.{IsLost}
 use Rattle.server_loop.specs.Server.{Shows, cluster_of, journal_of, last_of, machine_places, marks_of}
 use Rattle.durable.specs.ServesLogged.{IsSettledOver}
 use Rattle.durable.specs.Stored.{IsRooted}
@@ -56,6 +58,17 @@ pub data LacksBase (m : Contents) (records : List (List ℕ)) : Type 0 where
       → (¬ HoldEdits records []) ⊎ ¬ HasRecord records any_root → LacksBase m records
   other_root : (image : List ℕ) (root : RootView) → get m root_name ≡ Some image → IsRoot root image
       → ¬ IsOver records root → LacksBase m records
+
+-- Files and a mark are whole beside a log of these records: nothing of a checkpoint is lost, the log is
+-- over the root that is there, and the mark isn't below a stamp of the log.
+pub record AreWhole (m : Contents) (mark : ℕ) (records : List (List ℕ)) : Type 0 where
+  pub kept : ¬ IsLost m mark
+  pub over : ¬ LacksBase m records
+  pub stamps : AreUpTo mark records
+
+-- a refusal to open a store that has a root
+abbrev pub IsOpeningRefusal : Refusal → Type 0
+IsOpeningRefusal refusal = IsReadRefusal refusal ⊎ IsApplyRefusal refusal
 
 -- the greatest stamp that a root file names, and 0 without one
 abbrev pub NamesTop : Option (List ℕ) → ℕ → Type 0

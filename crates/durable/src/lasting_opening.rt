@@ -17,14 +17,14 @@ ghost use Rattle.row_atomic.specs.Clusters.{spots_of};
 ghost use Rattle.row_atomic.specs.Commands.{cells_shown};
 ghost use Rattle.row_atomic.specs.Journals.{HasRoomFor, empty_journal};
 ghost use Rattle.row_atomic.specs.Open.{IsDamaged};
-ghost use Rattle.rows.specs.Refusals.{IsReadRefusal};
+ghost use Rattle.rows.specs.Refusals.{IsApplyRefusal, IsReadRefusal};
 ghost use Rattle.row_atomic.specs.Roots.{KeepsCells, root_at, root_name};
 ghost use Rattle.si_model.specs.Machine.{IsReached, IsStorageRefusal, State, new_machine, reopened};
 ghost use Rattle.sorted_file.specs.Limits.{IsFileLimit};
 ghost use Rattle.si_model.specs.ShowsCells.{ShowsCells};
 ghost use Rattle.durable.specs.Devices.{Covers, CoversEach, IsOver, KeepsUnder, LastsOn};
 ghost use Rattle.durable.specs.Lasting.{IsSettled};
-ghost use Rattle.durable.specs.LastingOpening.{HasRootFile, IsLostLog, LacksBase, NamesTop, OpensFrom, OpensNew, ServesFrom, log_refusal, refused_with};
+ghost use Rattle.durable.specs.LastingOpening.{AreWhole, HasRootFile, IsLostLog, IsOpeningRefusal, LacksBase, NamesTop, OpensFrom, OpensNew, ServesFrom, log_refusal, refused_with};
 ghost use Rattle.durable.specs.Lasts.{HoldsLogged, LastsIn, Logs, shown_by};
 ghost use Rattle.server_loop.specs.Opening.{IsLost, LacksRoot};
 ghost use Rattle.durable.specs.Replaying.{FollowsLog, ShowsRoot};
@@ -125,6 +125,7 @@ fn fill_rows<F: Files>(
     ensures spots { spots_of rows.new.cluster ≡ spots_of rows.old.cluster }
     ensures limit { rows.new.cluster.file_limit ≡ rows.old.cluster.file_limit }
     ensures refusal { IfErr result IsStorageRefusal }
+    ensures replayed { is_new ≡ false → IfErr result IsApplyRefusal }
     ensures reason { HasReason (F.faults rows.old.cluster.files)
         (F.faults rows.new.cluster.files) result }
 {
@@ -199,6 +200,8 @@ fn open_rows<F: Files>(
         × OpensNew F.contents opened.1 edits.items opened.0) }
     ensures named { IfOk result (λ opened. IfSome (F.contents files) (λ m.
         NamesTop (get m root_name) opened.1)) }
+    ensures whole { IfOk result (λ _. IfSome (F.contents files) (λ m.
+        ¬ IsDamaged m × ¬ LacksBase m (bytes_of records.now))) }
     ensures damaged { IfErr result (λ refused. refused.0 ≡ Refusal.Damaged
         → IfSome (F.contents files) (λ m. IsDamaged m ⊎ LacksBase m (bytes_of records.now))) }
     ensures rooted { HasRootFile (F.contents files) → MatchResult result
@@ -206,6 +209,8 @@ fn open_rows<F: Files>(
         (λ refused. F.contents refused.1 ≡ F.contents files) }
     ensures limit { IfOk result (λ opened. opened.0.cluster.file_limit ≡ file_limit) }
     ensures refusal { IfErr result (λ refused. IsStorageRefusal refused.0) }
+    ensures opening { HasRootFile (F.contents files)
+        → IfErr result (λ refused. IsOpeningRefusal refused.0) }
     ensures reason { MatchResult result
         (λ opened. F.faults opened.0.cluster.files ≡ F.faults files)
         (λ refused. HasReason
@@ -213,6 +218,7 @@ fn open_rows<F: Files>(
 {
     logs_edits();
     as_many_edits();
+    one_root();
     let mut files = files;
     let is_new = match has_root(&mut files) {
         Ok(is_there) => !is_there,
@@ -294,6 +300,8 @@ fn open_server<F: WholeFiles + Drop, M: MarkStore + Drop>(
         → IfOk result (λ server. (edits.items ≡ []) × HasRecord (bytes_of records.now) any_root
         × (root : RootView) × ServesFrom F.Files M.MarkStore root empty edits.items new_machine server) }
     ensures stamps { IfOk result (λ server. AreUpTo (last_of server) (bytes_of records.now)) }
+    ensures whole { IfOk result (λ _. IfSome (F.contents files) (λ m.
+        IfSome (M.mark marks) (λ mark. AreWhole m mark (bytes_of records.now)))) }
     ensures damaged { IfErr result (λ refused. refused.0 ≡ Refusal.Damaged
         → IfSome (F.contents files) (λ m. IfSome (M.mark marks) (λ mark.
         IsLost m mark ⊎ LacksBase m (bytes_of records.now)
@@ -305,10 +313,11 @@ fn open_server<F: WholeFiles + Drop, M: MarkStore + Drop>(
         (λ refused. M.mark refused.2 ≡ M.mark marks) }
     ensures last { IfOk result (λ server.
         IfSome (M.mark marks) (λ mark. last_of server ≡ mark)) }
-    ensures limit { IfOk result (λ server. (cluster_of server).file_limit ≡ config.file_limit) }
-    ensures tending { IfOk result (λ server.
-        tending_of server ≡ record { flush = config.flush; merge = None; merged_to = 0 }) }
-    ensures refusal { IfErr result (λ refused. IsStorageRefusal refused.0) }
+    ensures options { IfOk result (λ server.
+        ((cluster_of server).file_limit ≡ config.file_limit)
+        × (tending_of server ≡ record { flush = config.flush; merge = None; merged_to = 0 })) }
+    ensures refusal { IfErr result (λ refused. IsStorageRefusal refused.0
+        × (HasRootFile (F.contents files) → IsOpeningRefusal refused.0)) }
     ensures told { MatchResult result
         (λ server. (F.faults (cluster_of server).files ≡ F.faults files)
         × (M.faults (marks_of server) ≡ M.faults marks))
@@ -388,7 +397,11 @@ impl<F: WholeFiles + Drop, M: MarkStore + Drop, L: Log + Drop> LastingServer<Ser
         ensures new { LacksRoot (F.contents files) → IsSome (M.mark marks)
             → (records : List (List ℕ)) → L.holds log records
             → IfOk result (OpensFrom F.Files M.MarkStore L.Log new_machine) }
-        // `Damaged` is answered only of damage, as far as files, mark and log are known.
+        // `Damaged` is answered if there is damage, as far as files, mark and log are known.
+        ensures whole { IfOk result (λ _. (records : List (List ℕ)) → L.holds log records
+            → IfSome (F.contents files) (λ m. IfSome (M.mark marks) (λ mark.
+            AreWhole m mark records))) }
+        // And only then.
         ensures damaged { IfErr result (λ refused. refused.0 ≡ Refusal.Damaged
             → IsLostLog (L.holds log)
             ⊎ IfSome (F.contents files) (λ m. IfSome (M.mark marks) (λ mark.
@@ -403,6 +416,8 @@ impl<F: WholeFiles + Drop, M: MarkStore + Drop, L: Log + Drop> LastingServer<Ser
             ≡ record { flush = config.flush; merge = None; merged_to = 0 }) }
         ensures root_bytes { IfOk result (λ opened. opened.root_bytes ≡ 33554432) }
         ensures refusal { IfErr result (λ refused. IsStorageRefusal refused.0) }
+        ensures opening { HasRootFile (F.contents files)
+            → IfErr result (λ refused. IsOpeningRefusal refused.0) }
         // If it is not refused with Device, the counts of faults are as before.
         ensures told { MatchResult result
             (λ opened. (F.faults (cluster_of opened.server).files ≡ F.faults files)

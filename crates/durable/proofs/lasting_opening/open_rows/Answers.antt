@@ -1,4 +1,5 @@
-use Rattle.std.proofs.Common.{◌≡◌, ◌∙◌, List, [], None, Err, not, sym, ap, subst}
+use Rattle.std.proofs.Common.{◌≡◌, ◌∙◌, List, [], None, Err, inl, inr, not, sym, ap, subst}
+use Rattle.commit_log.specs.Edits.{HoldEdits}
 use Rattle.std.specs.Prelude.{◌↔◌, IsTrue}
 use Rattle.cell_key.specs.declared.edits.Edit.{Edit}
 use Rattle.commit_log.specs.Frames.{bytes_of}
@@ -11,10 +12,11 @@ use Rattle.row_atomic.specs.Commands.{cells_shown}
 use Rattle.row_atomic.specs.Open.{IsNewStore}
 use Rattle.row_atomic.specs.Roots.{root_at}
 use Rattle.row_atomic.specs.declared.recorded.Recorded.{Recorded}
+use Rattle.rows.specs.Refusals.{IsReadRefusal}
 use Rattle.server_loop.specs.Opening.{LacksRoot}
 use Rattle.durable.specs.Replaying.{FollowsLog}
 use Rattle.server_loop.proofs.Opened.{new_store, where_told}
-use Rattle.durable.proofs.OpenedRows.{damage_or, lacks_new, lacks_root, names_top, never_full, never_full_here, never_new, new_begun, not_new, not_of_new, opens_new, other_root_there, rooted_not_new, shows_root}
+use Rattle.durable.proofs.OpenedRows.{damage_or, lacks_new, lacks_root, names_top, never_full, never_full_here, never_new, new_begun, not_new, not_of_new, opens_new, other_root_there, rooted_not_new, shows_root, whole_rows}
 use Rattle.durable.proofs.lasting_opening.open_rows.Goals.{else-is_new-via-then-is_new+else-not-is_of_new_store, else-is_new-via-else-is_new}
 use Rattle.durable.proofs.lasting_opening.open_rows.Goals as goal
 
@@ -75,3 +77,25 @@ returns-in-Ok-fill_rows-clause-new g c = λ lacks.
       opens_new g.F.Files.contents c.in-Ok-open.opened.0 c.fill_rows.new.rows c.in-Ok-open.opened.1 c.in-Ok-open.opened.2 c.args.edits.items s none (c.in-Ok-fill_rows.ensures.spots ∙ ap (λ (x : ClusterState g.row.F.Denot). spots_of x) cluster)
           (subst (λ (x : ClusterState g.row.F.Denot). FollowsLog g.F.Files.contents (root_at 0 0 c.fill_rows.new.rows.cluster) (cells_shown g.F.Files.contents x) c.args.edits.items c.fill_rows.new.rows) cluster follows),
     )
+
+pub returns-in-Ok-fill_rows-clause-whole : goal.returns-in-Ok-fill_rows-clause-whole
+returns-in-Ok-fill_rows-clause-whole g c = whole_rows c.one_root.ensures (g.F.Files.contents c.args.files) (g.F.Files.contents c.has_root.new.files) c.in-Ok.is_there (bytes_of c.args.records.now) c.in-Ok-open.opened.1 c.in-Ok-open.opened.2 c.in-Ok-open.opened.0 c.in-Ok.ensures.same c.in-Ok.ensures.ok c.in-Ok-open.ensures.whole c.in-Ok-open.ensures.store
+    (λ is_new. elim c.else-is_new.branch [
+      | else-is_new-via-then-is_new+else-not-is_of_new_store w ↦ let begun = new_begun c.args.edits.items _ (bytes_of c.args.records.now) w.is_of_new_store.result w.deref.ensures.value w.is_of_new_store.ensures w.if-not-is_of_new_store.false in (subst (HoldEdits (bytes_of c.args.records.now)) begun.0 c.requires.held, begun.1)
+      | else-is_new-via-else-is_new w ↦ never_new c.in-Ok.is_there is_new w.if-is_new.false
+    ]) c.in-Ok-check_root.ensures.ok
+
+pub returns-in-Err-fill_rows-clause-opening : goal.returns-in-Err-fill_rows-clause-opening
+returns-in-Err-fill_rows-clause-opening g c = λ there. inr (c.in-Err-fill_rows.ensures.replayed (rooted_not_new (g.F.Files.contents c.args.files) c.in-Ok.is_there c.in-Ok.ensures.ok there))
+
+pub returns-then-not-is_of_new_store-clause-opening : goal.returns-then-not-is_of_new_store-clause-opening
+returns-then-not-is_of_new_store-clause-opening g c = λ there. inl tt
+
+pub returns-in-Err-open-clause-opening : goal.returns-in-Err-open-clause-opening
+returns-in-Err-open-clause-opening g c = λ there. inl c.in-Err-open.ensures.refusal
+
+pub returns-in-Err-check_root-clause-opening : goal.returns-in-Err-check_root-clause-opening
+returns-in-Err-check_root-clause-opening g c = λ there. elim c.in-Err-check_root.ensures.refusal [ inl is ↦ inl (subst IsReadRefusal (sym is) tt) | inr is ↦ inl (subst IsReadRefusal (sym is) tt) ]
+
+pub returns-in-Err-clause-opening : goal.returns-in-Err-clause-opening
+returns-in-Err-clause-opening g c = λ there. elim c.in-Err.ensures.refusal [ inl is ↦ inl (subst IsReadRefusal (sym is) tt) | inr is ↦ inl (subst IsReadRefusal (sym is) tt) ]

@@ -1,4 +1,4 @@
-use Rattle.std.proofs.Common.{◌≤◌, ◌∙◌, ℕ, Option, refl, sym, subst}
+use Rattle.std.proofs.Common.{◌≤◌, ◌∙◌, ℕ, Option, inl, refl, sym, subst}
 use Rattle.std.specs.FinMap.{empty}
 use Rattle.si_model.specs.Machine.{begins_new, new_machine}
 use Rattle.durable.specs.Devices.{Covers}
@@ -6,7 +6,7 @@ use Rattle.server_loop.proofs.Opened.{not_below}
 use Rattle.commit_log.specs.Frames.{bytes_of}
 use Rattle.commit_log.specs.Records.{AreUpTo}
 use Rattle.durable.proofs.Logged.{true_not_false}
-use Rattle.durable.proofs.OpenedLogs.{behind_named, covers_all, covers_none, damage_named, goes_on, new_shown}
+use Rattle.durable.proofs.OpenedLogs.{behind_named, covers_all, covers_none, damage_named, goes_on, new_shown, whole_here}
 use Rattle.durable.proofs.lasting_opening.open_server.Goals as goal
 
 pub returns-in-Err-clause-kept : goal.returns-in-Err-clause-kept
@@ -45,3 +45,13 @@ returns-clause-new g c = λ lacks known.
 
 pub returns-clause-stamps : goal.returns-clause-stamps
 returns-clause-stamps g c = subst (λ (n : ℕ). AreUpTo n (bytes_of c.args.records.now)) (c.last.ensures.last ∙ sym c.server_over.ensures.last) (c.covers.ensures.0 c.if-not-covers.false).1
+
+pub returns-clause-whole : goal.returns-clause-whole
+returns-clause-whole g c = whole_here c.one_root.ensures (g.F.Files.contents c.args.files) (g.M.MarkStore.mark c.args.marks) (bytes_of c.args.records.now) c.in-Ok.opened.1 c.in-Ok-open.oracle.last c.in-Ok.ensures.whole c.in-Ok.ensures.named c.in-Ok-open.ensures.mark
+    (subst (λ (n : ℕ). (c.in-Ok.opened.1 ≤ n) × AreUpTo n (bytes_of c.args.records.now)) c.last.ensures.last (c.covers.ensures.0 c.if-not-covers.false))
+
+pub returns-in-Err-clause-refusal : goal.returns-in-Err-clause-refusal
+returns-in-Err-clause-refusal g c = (c.in-Err.ensures.refusal, c.in-Err.ensures.opening)
+
+pub returns-then-not-covers-clause-refusal : goal.returns-then-not-covers-clause-refusal
+returns-then-not-covers-clause-refusal g c = (tt, λ there. inl tt)

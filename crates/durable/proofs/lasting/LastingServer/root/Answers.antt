@@ -39,9 +39,9 @@ returns-then-is_err-clause-settles g c =
 pub returns-in-Ok-clause-step : goal.returns-in-Ok-clause-step
 returns-in-Ok-clause-step g c = steps_named (shown_by g.S.Answering.shows) c.args.self.now c.empty_log.new.self c.empty_log.result c.empty_log.ensures.refusal
     (λ before reached shown.
-        let mid = c.log_waiting.ensures.shown before shown in
-        let (after, step, shows, whole) = c.in-Ok.ensures.step before reached mid in
-        (after, step, c.empty_log.ensures.shown (c.in-Ok.ensures.done before mid).1 after shows, whole))
+    let mid = c.log_waiting.ensures.shown before shown in
+    let (after, step, shows, whole) = c.in-Ok.ensures.step before reached mid in
+    (after, step, c.empty_log.ensures.shown (c.in-Ok.ensures.done before mid).1 after shows, whole))
     (λ st shown. let mid = c.log_waiting.ensures.shown st shown in c.empty_log.ensures.shown (c.in-Ok.ensures.done st mid).1 st (c.checkpoint_now.ensures.shown st mid))
 
 pub returns-in-Ok-clause-settles : goal.returns-in-Ok-clause-settles

@@ -5,8 +5,11 @@ use Rattle.si_model.specs.Machine.{reopened}
 use Rattle.commit_log.specs.Edits.{HoldEdits}
 use Rattle.commit_log.specs.Frames.{bytes_of}
 use Rattle.commit_log.specs.Records.{AreUpTo, HasRecord, any_root}
-use Rattle.server_loop.specs.Server.{last_of, marks_of}
+use Rattle.server_loop.specs.Server.{cluster_of, last_of, marks_of, tending_of}
+use Rattle.server_loop.specs.declared.server.Server.{Server}
 use Rattle.durable.specs.Devices.{Covers, CoversEach, IsOver, KeepsUnder, LastsOn}
+use Rattle.std.specs.Prelude.{IfSome}
+use Rattle.durable.specs.LastingOpening.{AreWhole}
 use Rattle.durable.proofs.OpenedLogs.{covers_here}
 use Rattle.durable.proofs.OpenedRows.{never_full}
 use Rattle.durable.proofs.OpensLogs.{damage_of_log, has_root_file, lasts_on_log, no_room_lost, opens_from, same_room, same_shown}
@@ -58,3 +61,23 @@ returns-clause-kept g c = λ st reached lasts.
 
 pub returns-clause-damaged : goal.returns-clause-damaged
 returns-clause-damaged g c = λ is. inr (damage_of_log (g.L.Log.holds c.args.log) (g.F.Files.contents c.args.files) (g.M.MarkStore.mark c.args.marks) (bytes_of c.deref.result.now) (λ records held. ap (λ (vs : List (Vec ℕ)). bytes_of vs) c.deref.ensures.value ∙ c.in-Ok.ensures.records records held) (c.in-Err-open_server.ensures.damaged is))
+
+pub returns-in-Ok-open_server-clause-whole : goal.returns-in-Ok-open_server-clause-whole
+returns-in-Ok-open_server-clause-whole g c = λ records in_log.
+    let same = ap (λ (vs : List (Vec ℕ)). bytes_of vs) c.deref.ensures.value ∙ c.in-Ok.ensures.records records in_log in
+    subst (λ (rs : List (List ℕ)). IfSome (g.F.Files.contents c.args.files) (λ m. IfSome (g.M.MarkStore.mark c.args.marks) (λ n. AreWhole m n rs))) same c.in-Ok-open_server.ensures.whole
+
+pub returns-in-Err-clause-opening : goal.returns-in-Err-clause-opening
+returns-in-Err-clause-opening g c = λ there. inl c.in-Err.ensures.refusal
+
+pub returns-clause-opening : goal.returns-clause-opening
+returns-clause-opening g c = λ there. c.in-Err-open_server.ensures.refusal.1 there
+
+pub returns-clause-refusal : goal.returns-clause-refusal
+returns-clause-refusal g c = c.in-Err-open_server.ensures.refusal.0
+
+pub returns-in-Ok-open_server-clause-limit : goal.returns-in-Ok-open_server-clause-limit
+returns-in-Ok-open_server-clause-limit g c = ap (λ (s : Server g.row.F.Denot g.row.M.Denot). (cluster_of s).file_limit) c.over.ensures.server ∙ c.in-Ok-open_server.ensures.options.0
+
+pub returns-in-Ok-open_server-clause-tending : goal.returns-in-Ok-open_server-clause-tending
+returns-in-Ok-open_server-clause-tending g c = ap (λ (s : Server g.row.F.Denot g.row.M.Denot). tending_of s) c.over.ensures.server ∙ c.in-Ok-open_server.ensures.options.1
