@@ -1,4 +1,4 @@
--- What a server with a log opens of its devices.
+-- The server with a log that an opening makes of its devices.
 use Rattle.std.specs.Prelude.{◌≡◌, ◌≢◌, ◌⊎◌, ℕ, List, [], Option, None, Some, Result, Err, IsSomeAnd}
 use Rattle.std.specs.FinMap.{get, empty}
 use Rattle.std.specs.List.{AllByRecursion}
@@ -37,11 +37,11 @@ log_refusal log.Memory = NoMemory
 log_refusal log.Damaged = Damaged
 log_refusal log.Refused = Device
 
--- a refusal by itself, without what comes back with it
+-- a refusal alone, without the devices that are given back
 abbrev pub refused_with : Refusal → Result (Unit {0}) Refusal
 refused_with refusal = Err refusal
 
--- whatever a log holds, it is no spelling of edits within the limits
+-- no records that a log holds are edits within the limits
 abbrev pub IsLostLog : (List (List ℕ) → Type 0) → Type 0
 IsLostLog holds =
     (records : List (List ℕ)) (edits : List Edit) → holds records
@@ -51,8 +51,8 @@ IsLostLog holds =
 abbrev pub HasRootFile : Option Contents → Type 0
 HasRootFile disk = IsSomeAnd disk (λ m. get m root_name ≢ None)
 
--- A log of these records isn't over what is there: no root file is, and the records hold edits or name
--- a root, or the root file says another root.
+-- A log of these records isn't over the current root: there is no root file, and the records hold edits
+-- or name a root; or the root file has another root.
 pub data LacksBase (m : Contents) (records : List (List ℕ)) : Type 0 where
   no_root : get m root_name ≡ None
       → (¬ HoldEdits records []) ⊎ ¬ HasRecord records any_root → LacksBase m records
@@ -86,8 +86,8 @@ pub record OpensNew {F : Type 0} (contents : F → Option Contents) (top : ℕ) 
   pub no_edits : edits ≡ []
 
 module _ {F M : Type 0} (files : Files F) (marks : MarkStore M) where
-  -- A server over such cells under a root, and edits, shows a state to which the machine can come by itself from the
-  -- one that they show. The edits are logged, and its files and its mark keep the cells.
+  -- A server over cells under a root, and edits. It shows a state that the machine can reach by itself from
+  -- the one that these show. The edits are logged, and its files and its mark keep the cells.
   pub record ServesFrom (root : RootView) (base : Cells) (edits : List Edit) (st : State)
       (server : Server F M) : Type 0 where
     pub next : State
@@ -102,8 +102,8 @@ module _ {F M : Type 0} (files : Files F) (marks : MarkStore M) where
     pub covered : Covers (marks.mark (marks_of server)) next.top
 
 module _ {F M L : Type 0} (files : Files F) (marks : MarkStore M) (log : Log L) where
-  -- A server that was opened shows a state to which the machine can come by itself from the one that
-  -- was kept. What it answers from then on lasts, and its devices keep what it shows.
+  -- An opened server shows a state that the machine can reach by itself from the kept one. Its answers
+  -- last from then on, and its devices keep the state that it shows.
   pub record OpensFrom (st : State) (opened : LastingServer (Server F M) L) : Type 0 where
     pub next : State
     pub reached : IsReached next

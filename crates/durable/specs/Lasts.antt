@@ -1,4 +1,4 @@
--- What a server with a log keeps over a kill.
+-- The state that a server with a log keeps over a kill.
 use Rattle.std.specs.Prelude.{◌≡◌, ◌≤◌, ◌+◌, ◌⊎◌, ℕ, List, [], ◌∷◌, ◌++◌, length, Bool, true, flat_map, ⊤}
 use Rattle.std.specs.List.{AllByRecursion}
 use Rattle.cell_key.specs.Cells.{Cells, after_edits}
@@ -36,10 +36,10 @@ NeedsRoot Sweep = ⊤
 NeedsRoot Checkpoint = ⊤
 NeedsRoot request = ⊥
 
--- ---- what is written down
+-- ---- the journal
 
--- Files keep cells under a root with the places of a state's tablets. The edits that a log has, and
--- those that wait for it, make cells of them that show the state after a clean restart.
+-- Files keep cells under a root with the places of a state's tablets. The logged edits, and then the
+-- waiting ones, change these cells to ones that show the state after a clean restart.
 pub record Follows (stores : Cells → List Place → Type 0) (logged waiting : List ℕ)
     (count last : ℕ) (st : State) : Type 0 where
   pub base : Cells
@@ -54,14 +54,14 @@ pub record Follows (stores : Cells → List Place → Type 0) (logged waiting : 
   pub next : st.next_tablet ≡ length st.places + 1
   pub top : st.top ≤ last
 
--- what is stored stays, and the last stamp doesn't fall
+-- the stored cells stay, and the last stamp doesn't fall
 pub record StaysStored {S : Type 0} (stores : S → RootView → Cells → List Place → Type 0)
     (last : S → ℕ) (old new : S) : Type 0 where
   pub kept : (root : RootView) (base : Cells) (places : List Place) → stores old root base places
       → stores new root base places
   pub later : last old ≤ last new
 
--- and the root has the places of the tablets still
+-- and the root still has the places of the tablets
 pub record StaysRooted {S : Type 0} (stores : S → RootView → Cells → List Place → Type 0)
     (is_rooted : S → RootView → Type 0) (last : S → ℕ) (old new : S) : Type 0 where
   pub stored : StaysStored stores last old new
@@ -79,7 +79,7 @@ pub record HasNewRoot {S : Type 0} (stores : S → RootView → Cells → List P
   pub top : st.top ≤ last new
   pub low : root.top ≤ last new
 
--- what is written down stays so
+-- the journal stays
 pub record KeepsRecording {S : Type 0} (recording : S → Bool) (logged waiting : S → List ℕ)
     (last : S → ℕ) (old new : S) : Type 0 where
   pub goes_on : recording new ≡ recording old
@@ -105,19 +105,19 @@ IsNameOf name root = (name.top ≡ root.top) × (name.sum ≡ root_sum root)
 
 module _ {S L : Type 0} (stores : S → RootView → Cells → List Place → Type 0)
     (logged : S → List ℕ) (last : S → ℕ) (holds : L → List (List ℕ) → Type 0) where
-  -- The log holds records. Unless it failed, they are those that the server takes to be there.
+  -- The log holds records. Unless it failed, they have the edits that the server counts as logged.
   abbrev pub HoldsRecords : LastingServer S L → List (List ℕ) → Type 0
   HoldsRecords server records =
       holds server.log records
       × ((server.is_stopped ≡ true)
       ⊎ (flat_map edit_bytes records ≡ logged server.server))
 
-  -- Its devices keep a state, whatever it shows itself by now.
+  -- Its devices keep a state, which needn't be the one that it shows.
   pub record LastsIn (server : LastingServer S L) (st : State) : Type 0 where
     pub kept : Lasts (stores server.server) (HoldsRecords server) (λ top. top ≤ last server.server) st
 
-  -- The log holds what the server takes it to have, over a root. No record has a later stamp than the
-  -- oracle's last one.
+  -- The log is over a root and has the edits that the server counts as logged. No record has a later
+  -- stamp than the oracle's last one.
   pub record HoldsLogged (server : LastingServer S L) (root : RootView) : Type 0 where
     pub records : List (List ℕ)
     pub in_log : holds server.log records
@@ -129,14 +129,14 @@ module _ {S L : Type 0} (stores : S → RootView → Cells → List Place → Ty
     pub room : HasRoomFor empty_journal edits
     pub bytes : flat_map edit_bytes records ≡ logged server.server
 
-  -- So it does over the root that is there, which has the places of the tablets. Or the log failed: then
-  -- no reply leaves the server any more.
+  -- The log is so over the current root, which has the places of the tablets. Or the log failed: then no
+  -- reply leaves the server any more.
   abbrev pub Logs : (S → RootView → Type 0) → LastingServer S L → Type 0
   Logs is_rooted server =
       (server.is_stopped ≡ true)
       ⊎ ((root : RootView) × is_rooted server.server root × HoldsLogged server root)
 
--- a server with a log shows what its server does
+-- a server with a log shows the states of the server inside
 abbrev pub shown_by : {S L : Type 0} → (S → State → Type 0) → LastingServer S L → State → Type 0
 shown_by shows server st = shows server.server st
 
@@ -158,16 +158,16 @@ module _ {S : Type 0} (same : S → S → Type 0) (checkpoints : S → Reply →
     failed : reply ≡ codec.Refused Device → stopped
         → same old new ⊎ Checkpoints old codec.Checkpoint new → PutsRoot stopped old reply new
 
-  -- It was refused as the checkpoint before it was. Or it was answered so after that, and then a
-  -- checkpoint may have come.
+  -- It was refused with the refusal of the checkpoint before it. Or it was answered after that
+  -- checkpoint, and another checkpoint may have followed.
   abbrev pub AnswersRooted : (S → Reply → S → Type 0) → Type 0 → S → Reply → S → Type 0
   AnswersRooted answers stopped old reply new =
       ((refusal : Refusal) × (reply ≡ codec.Refused refusal) × PutsRoot stopped old reply new)
       ⊎ ((first next : S) × Checkpoints old codec.Checkpoint first × answers first reply next
       × (same next new ⊎ ((second : Reply) × PutsRoot stopped next second new)))
 
-  -- What is said of an answer of a server with a log: what is said of one without, but that
-  -- checkpoints come with splits, moves and sweeps.
+  -- The answers of a server with a log are those of one without, except that checkpoints come with
+  -- splits, moves and sweeps.
   abbrev pub AnswersLasting : (S → Request → Reply → S → Type 0) → (S → Reply → S → Type 0)
       → Type 0 → S → Request → Reply → S → Type 0
   AnswersLasting says sweeps stopped old (Split row) reply new =
@@ -179,7 +179,7 @@ module _ {S : Type 0} (same : S → S → Type 0) (checkpoints : S → Reply →
   AnswersLasting says sweeps stopped old Checkpoint reply new = PutsRoot stopped old reply new
   AnswersLasting says sweeps stopped old request reply new = says old request reply new
 
--- What is said of an answer, and that what is kept over a kill goes on.
+-- An answer of a server with a log: the contract of the answer, and the devices still keep a state.
 pub record IsLastingAnswer {S L : Type 0} (shows : S → State → Type 0)
     (lasts : LastingServer S L → State → Type 0) (logs : LastingServer S L → Type 0)
     (answers : Type 0 → S → Request → Reply → S → Type 0)
@@ -188,7 +188,7 @@ pub record IsLastingAnswer {S L : Type 0} (shows : S → State → Type 0)
   pub answered : answers (new.is_stopped ≡ true) old.server request reply new.server
   pub goes_on : GoesOn (shown_by shows) lasts logs (asked request) (replied reply) old new
 
--- What comes between one answer and the next: what comes without a log, and perhaps a checkpoint.
+-- Upkeep between two answers: that of a server without a log, and perhaps a checkpoint.
 pub record IsLastingTended {S L : Type 0} (shows : S → State → Type 0)
     (lasts : LastingServer S L → State → Type 0) (logs : LastingServer S L → Type 0)
     (between same : S → S → Type 0) (roots : Type 0 → S → Reply → S → Type 0)

@@ -1,4 +1,4 @@
-//! Opening a server with a log on what a kill left.
+//! Opening a server with a log on the devices that a kill left.
 
 ghost use Rattle.std.specs.Prelude.{◌≡◌, ◌≢◌, ◌<◌, ◌≤◌, ◌⊎◌, ◌↔◌, ◌+◌, ℕ, List, IfErr, IfOk, IfSome, IsErrOf, IsSome, IsTrue, MatchResult, None, OnOk, Some, false, is_some, length, true, []};
 ghost use Rattle.std.specs.FinMap.{empty, get};
@@ -40,16 +40,13 @@ use commit_log::{Log, LogFault, are_up_to, edits_in, is_over_any, names_root};
 use file_store::Files;
 use metadata_table::one_root;
 use oracle::{MarkStore, Oracle};
-use row_atomic::{Cluster, Recorded, keeps_following};
+use row_atomic::{Cluster, ROOT_NAME, Recorded, keeps_following};
 use server_loop::{Config, Server};
 use si_model::{recovers, shows_reopened};
 use sorted_file::refusal_of;
 use std::alloc::Global;
 
-/// The name of the root file.
-const ROOT_NAME: u64 = 0;
-
-/// The bytes that are written down when a root is put without a request, if nothing else is asked for.
+/// The journal's size at which a root is put without a request, by default.
 const ROOT_BYTES: usize = 33_554_432;
 
 /// The refusal of a fault of a log.
@@ -68,7 +65,7 @@ pub(crate) fn refused_by(fault: LogFault) -> Refusal
 ///
 /// # Errors
 ///
-/// `Damaged` if what it holds are no edits within the limits; `Device` and `NoMemory`.
+/// `Damaged` if its records are no edits within the limits; `Device` and `NoMemory`.
 fn logged_on<L: Log>(alloc: Global, log: &mut L) -> Result<(Vec<Vec<u8>>, Vec<Edit>), Refusal>
     ensures records { IfOk result (λ logged. (records : List (List ℕ)) → L.holds log.old records
         → bytes_of logged.0.items ≡ records) }
@@ -102,7 +99,7 @@ fn has_root<F: Files>(files: &mut F) -> Result<bool, Refusal>
     }
 }
 
-/// Makes the edits of a log over a cluster that was just opened, once the root of a new store was put.
+/// Replays the edits of a log over a cluster that was just opened. The root of a new store is put first.
 fn fill_rows<F: Files>(
     alloc: Global,
     rows: &mut Recorded<F>,
@@ -135,14 +132,14 @@ fn fill_rows<F: Files>(
     replay(alloc, rows, edits)
 }
 
-/// Whether these records may be those of a store without a root file: none holds edits, and the log names no root.
+/// Whether these records may belong to a store without a root file: none holds edits, and the log may be over any root.
 fn is_of_new_store(records: &[Vec<u8>], edits: &[Edit]) -> bool
     ensures { IsTrue result ↔ (edits.now ≡ []) × HasRecord (bytes_of records.now) any_root }
 {
     edits.is_empty() && is_over_any(records)
 }
 
-/// Looks whether the log of a cluster that was just opened is over its root, with these two stamps. A new store has none.
+/// Checks that the log of a cluster that was just opened is over its root, with these stamps. A new store has no root.
 ///
 /// # Errors
 ///
@@ -177,8 +174,8 @@ fn check_root<F: Files>(
 ///
 /// # Errors
 ///
-/// `Damaged` if `Cluster::open` answers it, or if the log's records are over another root, or over one if no root file is
-/// there; those of a checkpoint. The files come back.
+/// `Damaged` if `Cluster::open` answers it, if the log's records are over another root, or if they need a root and there is
+/// no root file; of a new store the refusals of its first checkpoint. The files are given back.
 fn open_rows<F: Files>(
     alloc: Global,
     files: F,
@@ -242,7 +239,7 @@ fn open_rows<F: Files>(
     }
 }
 
-/// Whether the oracle's last stamp isn't before the greatest that a root names, nor before one of these records.
+/// Whether the oracle's last stamp is at least the greatest of the root, and that of each of these records.
 fn covers(last: Stamp, top: Stamp, records: &[Vec<u8>]) -> bool
     ensures { IsTrue result ↔ (top ≤ last) × AreUpTo last (bytes_of records.now) }
 {
@@ -369,17 +366,17 @@ impl<S: Recording, L: Log> LastingServer<S, L> {
 }
 
 impl<F: WholeFiles + Drop, M: MarkStore + Drop, L: Log + Drop> LastingServer<Server<F, M>, L> {
-    /// A server over what a kill left in these files, this mark store and this log. Without a root file it is a new store,
-    /// whose root is put. The edits of the log are made over what the files keep. Sessions, cleaners and collectors are
-    /// forgotten, and stamps up to the mark count as answered.
+    /// A server over the files, the mark store and the log that a kill left. Without a root file it is a new store, whose
+    /// root is put. The edits of the log are replayed over the files. Sessions, cleaners and collectors are forgotten, and
+    /// stamps up to the mark count as answered.
     ///
     /// # Errors
     ///
     /// `Damaged` if the root file is out of form, if a file that it names is missing or out of form, if the mark is below
-    /// the greatest stamp that the root names or below one of the log, if what the log holds are no edits, if the log is
-    /// over another root, or if it is over one or holds edits and there is no root file; `Device` if the files, the mark
-    /// or the log can't be read, `NoMemory`, `MemtableFull` if the log has more edits than a server writes down, and of a
-    /// new store the refusals of its first checkpoint. The files, the mark store and the log are given back.
+    /// the root's greatest stamp or one of the log, if the log's records are no edits, if the log is over another root, or
+    /// if there is no root file and the log names a root or holds edits; `Device` if the files, the mark or the log can't
+    /// be read; `NoMemory`; `MemtableFull` if the log has more edits than a journal holds; of a new store the refusals of
+    /// its first checkpoint. The files, the mark store and the log are given back.
     pub fn open(
         alloc: Global,
         files: F,

@@ -11,4 +11,5 @@ mod replaying;
 mod whole_files;
 
 pub use lasting::LastingServer;
+pub use row_atomic::ROOT_NAME;
 pub use whole_files::WholeFiles;

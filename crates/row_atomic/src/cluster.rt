@@ -20,6 +20,7 @@ mod upkeep;
 use crate::fill::Fill;
 use crate::place_cache::PlaceCache;
 use cell_key::Refusal;
+pub use checkpoint::ROOT_NAME;
 use file_store::Files;
 use metadata_table::MetadataTable;
 use std::alloc::Global;

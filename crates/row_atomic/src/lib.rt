@@ -8,11 +8,11 @@ mod journal;
 mod place_cache;
 mod recorded;
 
-pub use cluster::Cluster;
 pub use cluster::laws::{
     cells_by_tablet, keeps_following, opens_following, root_is_stored, root_outlasts_flushes,
     root_outlasts_merges, root_stays,
 };
+pub use cluster::{Cluster, ROOT_NAME};
 pub use commands::{Command, Outcome};
 pub use fill::FlushLimits;
 pub use journal::Journal;

@@ -9,7 +9,7 @@ use cell_key::Refusal;
 use clap::error::ErrorKind;
 use command_line::{Options, options};
 use commit_log::{DirLog, Log, LogFault, OpenLog, make_log, open_log};
-use durable::{LastingServer, WholeFiles};
+use durable::{LastingServer, ROOT_NAME, WholeFiles};
 use file_store::{DirFiles, FileFault, Files, MemFiles};
 use oracle::{DirMark, MarkStore, MemMark};
 use server_loop::{Config, FlushLimits, Server, end_status, open_status};
@@ -34,9 +34,6 @@ const NO_MEMORY_LINE: &str = "tabletd: no memory";
 
 /// The size of the buffer of replies for standard output, in bytes. It is flushed before each read.
 const WAITING: usize = 65_536;
-
-/// The name of the root file.
-const ROOT_NAME: u64 = 0;
 
 /// The most bytes of a sorted file.
 const FILE_LIMIT: u64 = 68_719_476_736;

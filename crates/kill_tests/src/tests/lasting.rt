@@ -4,7 +4,7 @@ use crate::tests::FLUSH;
 use crate::tests::stopping::{Life, Stopping};
 use cell_key::Refusal;
 use commit_log::{FileLog, LogFault, LogFile, MemFile, new_log};
-use durable::LastingServer;
+use durable::{LastingServer, ROOT_NAME};
 use file_store::{Files, MemFiles};
 use oracle::{MarkStore, MemMark};
 use server_loop::{Config, FlushLimits, ServeFault, Server};
@@ -40,9 +40,7 @@ const STORE: u64 = 0x0102_0304_0506_0708;
 
 const FIRST: u64 = 1;
 
-/// The name of the root file, and an upper bound of its size in bytes.
-const ROOT_NAME: u64 = 0;
-
+/// The most bytes of a root file in these tests.
 const MOST_ROOT: usize = 256;
 
 /// Files, a mark and a log in memory, which outlive the server that uses them.

@@ -22,7 +22,7 @@ use std::alloc::Global;
 use tablet::unnamed_may_go;
 
 /// The name of the root file.
-pub(crate) const ROOT_NAME: u64 = 0;
+pub const ROOT_NAME: u64 = 0;
 
 /// The length of a file in bytes; 0 if it doesn't exist.
 fn length_of<F: Files>(name: u64, files: &mut F) -> Result<u64, Refusal>
