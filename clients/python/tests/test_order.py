@@ -100,11 +100,11 @@ class Order(FolderTest):
         self.assertGreater(disk.replies, 10)
 
     @unittest.skipUnless(shutil.which("strace"), "strace isn't here; Debian has it in the package strace")
-    def test_what_a_kill_left_in_the_log_is_written_anew_before_the_first_reply(self) -> None:
+    def test_log_and_mark_are_written_anew_before_the_first_reply_after_a_kill(self) -> None:
         self.traced(self.commit)
         trace = self.traced(self.commit)
         first = next(number for number, line in enumerate(trace) if "write(1<" in line)
-        self.assertIn("commit.log", judged(self.folder, trace[:first]).renewed)
+        self.assertLessEqual({"commit.log", "oracle.mark"}, judged(self.folder, trace[:first]).renewed)
         self.assertEqual(judged(self.folder, trace).wrong, [])
 
     def commit(self, store: Store) -> None:

@@ -3,7 +3,7 @@
 //! folder, with or without a log.
 #![tactic(auto)]
 
-ghost use Rattle.std.specs.Prelude.{◌≡◌, ◌≤◌, IfOk, IfSome};
+ghost use Rattle.std.specs.Prelude.{◌≡◌, ◌≤◌, IfErr, IfOk, IfSome};
 
 use cell_key::Refusal;
 use clap::error::ErrorKind;
@@ -113,6 +113,17 @@ fn lacks_root<F: Files, M: MarkStore>(
         Ok(mark) => Ok(mark > 0),
         Err(_) => Err(LogFault::Device),
     }
+}
+
+/// Writes the oracle's mark anew, if there is one: the mark that is read may not last if a sync of it failed before a kill.
+fn renew_mark<M: MarkStore>(marks: &mut M) -> Result<(), Refusal>
+    ensures { IfErr result (λ refusal. refusal ≡ Refusal.Device) }
+{
+    let mark = marks.load()?;
+    if mark > 0 {
+        marks.store(mark)?;
+    }
+    Ok(())
 }
 
 /// Opens the log of the folder with these files and this mark, or makes one if it is wanted; `None` without a log. If
@@ -256,6 +267,9 @@ fn serve_folder<R: AllocGlobal + Input + Print + Eprint + Folders<File = File> +
     let alloc = rt.alloc();
     match log_of(rt, folder, options.log, &mut files, &mut marks) {
         Ok(Some(log)) => {
+            if let Err(refusal) = renew_mark(&mut marks) {
+                return Ok(open_status(&refusal));
+            }
             let opened = LastingServer::open(alloc, files, marks, log, config);
             Ok(serve_logged(rt, opened, options))
         }
