@@ -1,11 +1,11 @@
 """The client over a gateway's socket for `asyncio`: the names of `Store` and `Transaction`, to be awaited.
 
-    from duqishom.aio import Store
+    from duqishom import aio
 
-    async with Store(socket=PATH) as store:
+    async with aio.connect("unix:PATH") as store:
+        await store.put(b"Bob", b"bal", b"10")
         async with store.transaction() as t:
-            t.set(b"Bob", b"bal", b"10")
-        print(await store.run(read_bob))
+            t.put(b"Joe", b"bal", await t.get(b"Bob", b"bal"))
 
 Many tasks share one store and its connection, each with transactions of its own.
 """
@@ -13,38 +13,29 @@ Many tasks share one store and its connection, each with transactions of its own
 from __future__ import annotations
 
 import asyncio
-from collections.abc import AsyncIterator, Awaitable, Callable, Sequence
+from collections.abc import AsyncIterator, Awaitable, Callable, Coroutine, Iterable, Sequence
 from contextlib import suppress
 from os import PathLike, fspath
 from types import TracebackType
-from typing import TYPE_CHECKING, Literal, TypeVar, cast, overload
+from typing import Any, Concatenate, Literal, ParamSpec, TypeVar, overload
 
-from duqishom import transactions
 from duqishom.answers import (
-    Blocked,
     Cleaned,
     Cleaner,
-    Collected,
     Collection,
     Collector,
     Committed,
-    Decided,
     Found,
-    Lost,
     Pending,
     Progress,
     Qualifier,
     Scanned,
-    Unsent,
-    Value,
     Version,
 )
-from duqishom.cells import Cell, CellRange, entries_of, range_of
-from duqishom.columns import read_record
+from duqishom.cells import Cell, range_of
 from duqishom.operations import (
     MOST_CELLS,
     Begin,
-    Checkpoint,
     CleanBegin,
     CleanStep,
     CollectBegin,
@@ -65,30 +56,67 @@ from duqishom.operations import (
     Stop,
     Sweep,
     answer_or_refusal,
-    named,
+    request_bodies,
     request_body,
 )
-from duqishom.program import ProgramEnded
-from duqishom.refusals import BadRequest, MemtableFull, Refused, TooManyFiles, UnknownSession, UnknownTablet
-from duqishom.remote import MOST_TABLETS, Backup, Fate, check_copied
-from duqishom.streams import FrameStream
-from duqishom.transactions import (
+from duqishom.opening import either
+from duqishom.places import Places
+from duqishom.plans import (
+    LOG,
     MOST_STAMP,
+    Attempts,
     Patience,
+    Pause,
+    Plan,
     StillPending,
+    StorePlans,
     TransactionConflict,
-    TransactionFailed,
     TransactionLost,
-    value_of,
+    Trip,
+    patience_of,
 )
-
-if TYPE_CHECKING:
-    from duqishom import store
+from duqishom.program import ProgramEnded
+from duqishom.refusals import Refused, TooManySessions, UnknownSession
+from duqishom.remote import Address, Backup, ConnectionLost, Fate, address_of, check_copied
+from duqishom.sessions import Entry, RangeScan, Session
+from duqishom.streams import FrameStream
 
 MOST_VISITS = 1000
 
+# So many sessions a gateway gives a connection, unless it is told otherwise.
+MOST_SESSIONS = 64
+
+# The seconds between two attempts to connect anew.
+RECONNECT_PAUSE = 0.1
+
 Answer = TypeVar("Answer")
+Own = TypeVar("Own", bound="Snapshot")
 Result = TypeVar("Result")
+
+
+Given = ParamSpec("Given")
+
+
+def connect(
+    address: str | PathLike[str],
+    *,
+    patience: Patience | None = None,
+    lock_wait: float | None = None,
+    timeout: float | None = None,
+    reconnect: float = 10.0,
+    sessions: int = MOST_SESSIONS,
+) -> Store:
+    """The store of the gateway at `unix:PATH`, at the path of a socket, or at HOST:PORT, which `async with` connects. The options
+    are those of `Store`."""
+    path = fspath(address)
+    return Store(address_of(path) or path, patience, timeout, lock_wait, reconnect, sessions)
+
+
+def transactional(
+    work: Callable[Concatenate[Transaction, Given], Awaitable[Result]],
+) -> Callable[Concatenate[Store | Transaction, Given], Awaitable[Result]]:
+    """Makes of a coroutine function of a transaction one of a store, too, as `duqishom.transactional` does."""
+    return either(work)
 
 
 class Store:
@@ -97,16 +125,32 @@ class Store:
     passed."""
 
     def __init__(
-        self, socket: str | PathLike[str], patience: Patience = Patience(), timeout: float | None = None
+        self,
+        socket: str | PathLike[str] | tuple[str, int],
+        patience: Patience | None = None,
+        timeout: float | None = None,
+        lock_wait: float | None = None,
+        reconnect: float = 10.0,
+        sessions: int = MOST_SESSIONS,
     ) -> None:
-        """A store that isn't connected yet: `open` connects it, and so does `async with`."""
-        self._path = fspath(socket)
-        self._patience = patience
+        """A store that isn't connected yet: `open` connects it, and so does `async with`.
+
+        At most so many transactions and snapshots are open at once; others wait for one to end. So a task must not begin one
+        inside of another if all tasks do. The other options are those of the other twin.
+        """
+        self._address: Address = socket if isinstance(socket, tuple) else fspath(socket)
+        self._patience = patience_of(patience, lock_wait, is_remote=True)
         self._timeout = timeout
+        self._reconnect = reconnect
+        self._plans = StorePlans(self._patience, None, lambda: False)
+        self._places = Places(sessions)
+        self._connecting = asyncio.Lock()
+        self._is_closed = False
+        self._stopping: set[asyncio.Future[None]] = set()
 
     async def open(self) -> None:
         """Connects. OSError where nobody serves there."""
-        self._stream = await FrameStream.open(self._path)
+        self._stream = await FrameStream.open(self._address)
 
     async def ask(self, operation: Operation[Answer]) -> Answer:
         """Asks for an operation, and gives the answer."""
@@ -115,22 +159,140 @@ class Store:
             raise answer
         return answer
 
-    async def ask_each(self, operations: Sequence[Operation[Answer]]) -> list[Answer | Refused]:
-        """Asks for several operations in one trip, and gives the answer to each, or its refusal."""
-        bodies = [request_body(operation) for operation in operations]
+    async def ask_each(
+        self, operations: Sequence[Operation[Answer]], stream: FrameStream | None = None
+    ) -> list[Answer | Refused]:
+        """Asks for several operations in one trip, and gives the answer to each, or its refusal. They go to the connection that is
+        named, or to none."""
+        bodies = request_bodies(operations)
         async with asyncio.timeout(self._timeout):
-            replies = await self._stream.ask(bodies)
+            replies = await (await self._connected(stream)).ask(bodies)
         return [answer_or_refusal(operation, reply) for operation, reply in zip(operations, replies)]
+
+    async def _connected(self, wanted: FrameStream | None) -> FrameStream:
+        """The connection, made anew where the last one is known to be lost. ConnectionLost where another one is wanted, which had
+        the session that is asked, and where nobody serves any more."""
+        if wanted is not None and (wanted is not self._stream or wanted.is_lost):
+            raise ConnectionLost("the session went with its connection to the gateway")
+        async with self._connecting:
+            if self._stream.is_lost and not self._is_closed:
+                try:
+                    self._stream = await FrameStream.open(self._address)
+                except OSError as error:
+                    raise ConnectionLost(f"the connection to the gateway was lost, and can't be made anew: {error}") from None
+                LOG.warning("connected anew to the gateway at %s", self._address)
+        return self._stream
+
+    async def do(self, plan: Plan[Result], stream: FrameStream | None = None) -> Result:
+        """Takes a plan to its end."""
+        try:
+            trip = next(plan)
+            while True:
+                try:
+                    answers = await self._take(trip, stream)
+                except BaseException as error:
+                    trip = plan.throw(error)
+                else:
+                    trip = plan.send(answers)
+        except StopIteration as done:
+            result: Result = done.value
+            return result
+
+    async def _take(self, trip: Trip, stream: FrameStream | None) -> list[object]:
+        """Asks for what a plan asks, or waits."""
+        if isinstance(trip, Pause):
+            await asyncio.sleep(trip.seconds)
+            return []
+        return await self.ask_each(trip, stream)
 
     async def begin(self) -> int:
         """Begins a session: its start."""
         return await self.ask(Begin())
 
-    async def get(self, start: int, row: bytes, family: bytes) -> Found:
-        """Reads a cell as of the session's start."""
-        return await self.ask(Get(start, row, family))
+    @overload
+    async def get(self, row: bytes, family: bytes, /) -> bytes | None: ...
 
-    async def scan(
+    @overload
+    async def get(self, start: int, row: bytes, family: bytes, /) -> Found: ...
+
+    async def get(self, *given: Any) -> bytes | Found | None:
+        """The value of a cell, or None. With a session's start: reads the cell as of it."""
+        if isinstance(given[0], int):
+            return await self.ask(Get(*given))
+        [value] = await self.get_many([given])
+        return value
+
+    async def get_many(self, cells: Iterable[tuple[bytes, bytes]]) -> list[bytes | None]:
+        """The values of cells, all as of one moment and in one trip."""
+        wanted = list(cells)
+        return await self.run(lambda t: t.get_many(wanted))
+
+    async def row(self, row: bytes) -> dict[bytes, bytes]:
+        """The values of a row, by their families."""
+        return await self.run(lambda t: t.row(row))
+
+    async def put(self, row: bytes, family: bytes, value: bytes) -> None:
+        """Writes a value to a cell."""
+
+        async def work(t: Transaction) -> None:
+            t.put(row, family, value)
+
+        await self.run(work)
+
+    @overload
+    async def set(self, row: bytes, family: bytes, value: bytes, /) -> None: ...
+
+    @overload
+    async def set(self, start: int, row: bytes, family: bytes, value: bytes, /) -> None: ...
+
+    async def set(self, *given: Any) -> None:
+        """Another name of `put`. With a session's start: buffers a write in the session."""
+        await (self.ask(Set(*given)) if isinstance(given[0], int) else self.put(*given))
+
+    @overload
+    async def delete(self, row: bytes, family: bytes, /) -> None: ...
+
+    @overload
+    async def delete(self, start: int, row: bytes, family: bytes, /) -> None: ...
+
+    async def delete(self, *given: Any) -> None:
+        """Deletes a cell. With a session's start: buffers the deletion in the session."""
+
+        async def work(t: Transaction) -> None:
+            t.delete(*given)
+
+        await (self.ask(Delete(*given)) if isinstance(given[0], int) else self.run(work))
+
+    @overload
+    def scan(
+        self,
+        start: bytes | None = None,
+        end: bytes | None = None,
+        *,
+        prefix: bytes | None = None,
+        family: bytes | None = None,
+        keys: Literal[False] = False,
+        after: bytes | None = None,
+        before: bytes | None = None,
+        limit: int | None = None,
+    ) -> AsyncIterator[tuple[bytes, bytes, bytes]]: ...
+
+    @overload
+    def scan(
+        self,
+        start: bytes | None = None,
+        end: bytes | None = None,
+        *,
+        prefix: bytes | None = None,
+        family: bytes | None = None,
+        keys: Literal[True],
+        after: bytes | None = None,
+        before: bytes | None = None,
+        limit: int | None = None,
+    ) -> AsyncIterator[tuple[bytes, bytes, None]]: ...
+
+    @overload
+    def scan(
         self,
         start: int,
         after: tuple[bytes, bytes] | None = None,
@@ -138,17 +300,43 @@ class Store:
         family: bytes | None = None,
         keys_only: bool = False,
         cells: int = MOST_CELLS,
-    ) -> Scanned:
-        """Reads the cells of a range as of the session's start, as `Store.scan` of the other twin does."""
-        return await self.ask(Scan(start, after, end, family, keys_only, cells))
+    ) -> Coroutine[Any, Any, Scanned]: ...
 
-    async def set(self, start: int, row: bytes, family: bytes, value: bytes) -> None:
-        """Buffers a write in the session."""
-        await self.ask(Set(start, row, family, value))
+    def scan(
+        self, start: bytes | int | None = None, *bounds: Any, **options: Any
+    ) -> AsyncIterator[Entry] | Coroutine[Any, Any, Scanned]:
+        """The cells of a range, for `async for`, from one snapshot that ends with the iterator. With a session's start: reads cells
+        as of it, as `Store.scan` of the other twin does."""
+        if isinstance(start, int):
+            return self.ask(Scan(start, *bounds, **options))
+        return self._entries(start, *bounds, **options)
 
-    async def delete(self, start: int, row: bytes, family: bytes) -> None:
-        """Buffers the deletion of a cell in the session."""
-        await self.ask(Delete(start, row, family))
+    def _entries(
+        self, start: bytes | None = None, end: bytes | None = None, *, limit: int | None = None, keys: bool = False, **bounds: Any
+    ) -> AsyncIterator[Entry]:
+        """The cells of a range. Its bounds are checked at once."""
+        range_of(start, end, **{"prefix": None, "family": None, **bounds})
+
+        async def entries() -> AsyncIterator[Entry]:
+            async with self.snapshot() as snapshot:
+                async for entry in snapshot.scan(start, end, keys=keys, limit=limit, **bounds):
+                    yield entry
+
+        return entries()
+
+    async def count(
+        self,
+        start: bytes | None = None,
+        end: bytes | None = None,
+        *,
+        prefix: bytes | None = None,
+        family: bytes | None = None,
+        after: bytes | None = None,
+        before: bytes | None = None,
+    ) -> int:
+        """How many cells of a range have a value."""
+        bounds = {"prefix": prefix, "family": family, "after": after, "before": before}
+        return await self.run(lambda t: t.count(start, end, **bounds))
 
     async def step(self, start: int) -> Progress:
         """Takes the session's next step towards its end."""
@@ -168,30 +356,11 @@ class Store:
 
     async def clean(self, row: bytes, family: bytes) -> Cleaned | None:
         """Clears the lock of a cell, whether its session runs or has stopped: what became of it, and None where none stood."""
-        cleaner = await self.clean_begin(row, family)
-        if cleaner is None:
-            return None
-        cleaned = await self._clean_step(cleaner.number)
-        while cleaned == Decided():
-            cleaned = await self._clean_step(cleaner.number)
-        return cleaned
-
-    async def _clean_step(self, cleaner: int) -> Cleaned:
-        try:
-            return await self.clean_step(cleaner)
-        except MemtableFull:
-            await self.make_room()
-            return await self.clean_step(cleaner)
+        return await self.do(self._plans.clean(row, family))
 
     async def free(self, row: bytes, family: bytes, patience: Patience) -> None:
         """Waits for the lock of a cell to go, as long as the patience says, and then cleans it."""
-        first = await self.raw(row, family, Qualifier.LOCK)
-        for _ in range(patience.tries):
-            lock = await self.raw(row, family, Qualifier.LOCK)
-            if lock is None or first is None or lock.stamp != first.stamp:
-                return
-            await asyncio.sleep(patience.pause)
-        await self.clean(row, family)
+        await self.do(self._plans.free(Cell(row, family), patience))
 
     async def collect_begin(self) -> Collector:
         """Opens a collector of old versions. Its floor is the least start of an active session."""
@@ -203,18 +372,7 @@ class Store:
 
     async def collect(self, visits: int = MOST_VISITS) -> int:
         """Erases the versions that no active session reads, and none that begins later: the floor up to which that was done."""
-        collector = await self.collect_begin()
-        while (done := await self._collect_step(collector.number, visits)) != Collected():
-            if isinstance(done, Blocked):
-                await self.clean(done.row, done.family)
-        return collector.floor
-
-    async def _collect_step(self, collector: int, visits: int) -> Collection:
-        while True:
-            try:
-                return await self.collect_step(collector, visits)
-            except MemtableFull:
-                await self.make_room()
+        return await self.do(self._plans.collect(visits))
 
     async def minor(self, tablet: int) -> None:
         """Writes the memtable of a tablet as a new file."""
@@ -243,11 +401,7 @@ class Store:
 
     async def checkpoint(self) -> None:
         """Writes all that the store keeps into its files. Where a tablet has too many files, all of its files become one first."""
-        try:
-            await self.ask(Checkpoint())
-        except TooManyFiles:
-            await self.make_room()
-            await self.ask(Checkpoint())
+        await self.do(self._plans.checkpoint())
 
     async def restart_oracle(self) -> None:
         """Has the oracle of stamps go on from its stored mark."""
@@ -262,51 +416,112 @@ class Store:
     async def make_room(self) -> None:
         """Writes the memtable of each tablet to a file, and makes a checkpoint, for the log may be what is full. A gateway whose
         administrator has a socket refuses that, and has done it itself."""
-        with suppress(UnknownTablet, BadRequest):
-            for tablet in range(1, MOST_TABLETS + 1):
-                try:
-                    await self.minor(tablet)
-                except TooManyFiles:
-                    await self.major(tablet)
-        with suppress(BadRequest):
-            await self.ask(Checkpoint())
+        await self.do(self._plans.make_room())
 
     async def fate(self, start: int, row: bytes, family: bytes) -> Fate:
         """What became of a commit whose answer was lost: of the session of this start, by its first cell."""
-        lock = await self.raw(row, family, Qualifier.LOCK, start, start)
-        if lock is not None and self._patience.cleans:
-            await self.free(row, family, self._patience)
-        elif lock is not None:
-            return Pending(start)
-        record = await self.raw(row, family, Qualifier.WRITE, start)
-        while record is not None:
-            if read_record(record.value).start == start:
-                return Committed(record.stamp)
-            record = await self.raw(row, family, Qualifier.WRITE, start, record.stamp - 1)
-        return Lost()
+        return await self.do(self._plans.fate(start, row, family))
 
     def transaction(self) -> Transaction:
         """A transaction, that `async with` begins. It commits at the end, and stops where an exception leaves."""
-        return Transaction(self, self._patience)
+        return Transaction(self)
+
+    def snapshot(self) -> Snapshot:
+        """A snapshot, that `async with` begins: the store as of then. While it is open, collectors keep what it shows."""
+        return Snapshot(self)
+
+    async def begun(self) -> tuple[Session, FrameStream]:
+        """A new session of a snapshot or a transaction, and the connection that has it. It waits for a place first, which `left`
+        gives back; and where the gateway has fewer, for another one to end."""
+        await self._places.take()
+        try:
+            while True:
+                stream = await self._connected(None)
+                start = await self._begun(stream)
+                if isinstance(start, int):
+                    return Session(start, self._plans), stream
+                if not (isinstance(start, TooManySessions) and await self._places.one_left()):
+                    raise start
+        except BaseException:
+            self.left()
+            raise
+
+    async def _begun(self, stream: FrameStream) -> int | Refused:
+        """The start of a new session, or the refusal. If the task is cancelled meanwhile, the session is stopped when it is there,
+        for nobody would."""
+        beginning = asyncio.ensure_future(self.ask_each([Begin()], stream))
+        try:
+            [start] = await asyncio.shield(beginning)
+            return start
+        except asyncio.CancelledError:
+            stopping = asyncio.ensure_future(self._stop_begun(beginning, stream))
+            self._stopping.add(stopping)
+            stopping.add_done_callback(self._stopping.discard)
+            raise
+
+    async def _stop_begun(self, beginning: asyncio.Future[list[int | Refused]], stream: FrameStream) -> None:
+        """Stops a session whose begin is on its way."""
+        with suppress(ProgramEnded, TimeoutError):
+            [start] = await beginning
+            if isinstance(start, int):
+                await self.ask_each([Stop(start)], stream)
+
+    def left(self) -> None:
+        """Gives the place of a session back."""
+        self._places.give_back()
 
     async def run(self, work: Callable[[Transaction], Awaitable[Result]], attempts: int = 10) -> Result:
         """Does work in a transaction, and once more in a new one where it conflicts, is lost or stays pending, as `Store.run`
         does."""
-        attempt = 1
+        tried = Attempts(self._patience, attempts)
+        while True:
+            transaction = self.transaction()
+            results: list[Result] = []
+            try:
+                async with transaction:
+                    results.append(await work(transaction))
+                return results[0]
+            except (TransactionConflict, TransactionLost, StillPending) as failure:
+                pause = tried.pause_after(failure)
+            except ConnectionLost as lost:
+                pause = tried.pause_after(lost)
+                if await self._is_done_nonetheless(lost, transaction) and results:
+                    return results[0]
+            await asyncio.sleep(pause)
+
+    async def _is_done_nonetheless(self, lost: ConnectionLost, transaction: Transaction) -> bool:
+        """Whether a transaction was committed whose connection was lost. It connects anew first. The loss is raised where that
+        comes to nothing, another store's connection was lost, or it can't be told."""
+        stream = transaction.stream or self._stream
+        if stream is self._stream and not stream.is_lost:
+            raise lost
+        end = asyncio.get_running_loop().time() + self._reconnect
         while True:
             try:
-                async with self.transaction() as transaction:
-                    return await work(transaction)
-            except (TransactionConflict, TransactionLost, StillPending):
-                if attempt >= attempts:
+                await self._connected(None)
+                return await self._is_committed(lost, transaction)
+            except ConnectionLost:
+                if self._is_closed or asyncio.get_running_loop().time() >= end:
                     raise
-            await asyncio.sleep(self._patience.between(attempt - 1))
-            attempt += 1
+            await asyncio.sleep(RECONNECT_PAUSE)
+
+    async def _is_committed(self, lost: ConnectionLost, transaction: Transaction) -> bool:
+        """Whether a transaction was committed whose connection was lost. The loss is raised where a lock of it stands, and may not
+        be cleaned."""
+        if transaction.stream is None or not transaction.session.has_stepped or transaction.session.first is None:
+            return False
+        session = transaction.session
+        fate = await self.fate(session.start, *transaction.session.first)
+        LOG.warning("the connection was lost while session %d committed: %s", session.start, fate)
+        if isinstance(fate, Pending):
+            raise lost
+        session.commit_stamp = fate.commit if isinstance(fate, Committed) else None
+        return isinstance(fate, Committed)
 
     async def backup(self, path: str | PathLike[str]) -> None:
         """Has the gateway make a copy of the store's folder at a path, as `Store.backup` of the other twin does. A task that is
         cancelled meanwhile stops the copy."""
-        asked, stream = Backup(fspath(path)), await FrameStream.open(self._path)
+        asked, stream = Backup(fspath(path)), await FrameStream.open(self._address)
         try:
             [reply] = await stream.ask([request_body(asked)])
         finally:
@@ -315,6 +530,7 @@ class Store:
 
     async def close(self) -> int:
         """Leaves the gateway, which ends what is open."""
+        self._is_closed = True
         self._stream.close()
         return 0
 
@@ -328,57 +544,42 @@ class Store:
         await self.close()
 
 
-class Cleanings:
-    """The store of a transaction's plan: it notes the cells that are to be cleaned."""
+class Snapshot:
+    """The store as of one moment, the start of a session. It begins and ends with `async with`, or by `begin` and `stop`."""
 
-    def __init__(self) -> None:
-        self.cells: list[Cell] = []
-
-    def clean(self, row: bytes, family: bytes) -> None:
-        """Notes a cell."""
-        self.cells.append(Cell(row, family))
-
-
-class Transaction:
-    """One session, from its begin to its end. Its writes are kept here, and sent when it commits.
-
-    What it has written, and what its steps have done, a transaction without a store keeps.
-    """
-
-    def __init__(self, asked: Store, patience: Patience) -> None:
+    def __init__(self, asked: Store) -> None:
         self._store = asked
-        self._patience = patience
-        self._cleanings = Cleanings()
+        self._has_place = False
+        self.stream: FrameStream | None = None
 
     async def begin(self) -> None:
         """Begins the session."""
-        start = await self._store.begin()
-        self._plan = transactions.Transaction(cast("store.Store", self._cleanings), start, self._patience)
+        self._leave()
+        self.session, self.stream = await self._store.begun()
+        self._has_place = True
 
     @property
     def start(self) -> int:
         """The session's start."""
-        return self._plan.start
+        return self.session.start
 
     @property
     def is_active(self) -> bool:
         """Whether the session hasn't ended."""
-        return self._plan.is_active
-
-    @property
-    def commit_stamp(self) -> int | None:
-        """The stamp at which it has committed, and None where it hasn't."""
-        return self._plan.commit_stamp
+        return self.session.is_active
 
     async def get(self, row: bytes, family: bytes, own: bool = True) -> bytes | None:
         """What the transaction has written to the cell; otherwise the value that was committed last by the start."""
-        cell = Cell(row, family)
-        if own and cell in self._plan._writes:
-            return self._plan._writes[cell]
-        found = await self._store.get(self.start, row, family)
-        if isinstance(found, Pending):
-            return (await self._read_locked({cell: found.start}))[cell]
-        return value_of(found)
+        [value] = await self.get_many([(row, family)], own)
+        return value
+
+    async def get_many(self, cells: Iterable[tuple[bytes, bytes]], own: bool = True) -> list[bytes | None]:
+        """What each of these cells holds, as `get` gives it, in one trip."""
+        return await self._do(self.session.get_many(cells, own))
+
+    async def row(self, row: bytes, own: bool = True) -> dict[bytes, bytes]:
+        """The values of a row, by their families."""
+        return {family: value async for _, family, value in self.scan(row, row, own=own)}
 
     @overload
     def scan(
@@ -390,6 +591,9 @@ class Transaction:
         family: bytes | None = None,
         keys: Literal[False] = False,
         own: bool = True,
+        after: bytes | None = None,
+        before: bytes | None = None,
+        limit: int | None = None,
     ) -> AsyncIterator[tuple[bytes, bytes, bytes]]: ...
 
     @overload
@@ -402,6 +606,9 @@ class Transaction:
         family: bytes | None = None,
         keys: Literal[True],
         own: bool = True,
+        after: bytes | None = None,
+        before: bytes | None = None,
+        limit: int | None = None,
     ) -> AsyncIterator[tuple[bytes, bytes, None]]: ...
 
     def scan(
@@ -413,12 +620,14 @@ class Transaction:
         family: bytes | None = None,
         keys: bool = False,
         own: bool = True,
-    ) -> AsyncIterator[tuple[bytes, bytes, bytes | None]]:
+        after: bytes | None = None,
+        before: bytes | None = None,
+        limit: int | None = None,
+    ) -> AsyncIterator[Entry]:
         """The cells that have a value, in order, each as its row, its family and its value, for `async for`: as `scan` of the
         other twin gives them."""
-        asked = range_of(start, end, prefix, family)
-        writes = {cell: value for cell, value in self._plan._writes.items() if asked.has(cell)} if own else {}
-        return self._entries(asked, keys, writes)
+        asked = range_of(start, end, prefix, family, after, before)
+        return self._entries(self.session.scan(asked, keys, own, limit))
 
     async def count(
         self,
@@ -428,129 +637,76 @@ class Transaction:
         prefix: bytes | None = None,
         family: bytes | None = None,
         own: bool = True,
+        after: bytes | None = None,
+        before: bytes | None = None,
     ) -> int:
         """How many cells of a range have a value. Their values aren't sent. The range is that of `scan`."""
-        count = 0
-        async for _ in self.scan(start, end, prefix=prefix, family=family, keys=True, own=own):
-            count += 1
+        count, scan = 0, self.session.scan(range_of(start, end, prefix, family, after, before), True, own, None)
+        while piece := await self._do(scan.piece()):
+            count += len(piece)
         return count
 
-    async def _entries(
-        self, asked: CellRange, keys: bool, writes: dict[Cell, bytes | None]
-    ) -> AsyncIterator[tuple[bytes, bytes, bytes | None]]:
-        is_done = False
-        while not is_done:
-            scanned = await self._store.scan(self.start, asked.after, asked.end, asked.family, keys)
-            async for entry in self._batch(entries_of(scanned, writes), keys):
+    async def _entries(self, scan: RangeScan) -> AsyncIterator[Entry]:
+        """The cells of a scan, piece by piece."""
+        while piece := await self._do(scan.piece()):
+            for entry in piece:
                 yield entry
-            is_done = scanned.upto is None
-            asked = asked if scanned.upto is None else asked.behind(Cell(*scanned.upto))
-
-    async def _batch(
-        self, entries: dict[Cell, Value | Pending | Unsent], keys: bool
-    ) -> AsyncIterator[tuple[bytes, bytes, bytes | None]]:
-        read = await self._read_locked({cell: found.start for cell, found in entries.items() if isinstance(found, Pending)})
-        for cell, found in entries.items():
-            if isinstance(found, Unsent):
-                value = None if keys else await self.get(*cell, own=False)
-            else:
-                value = found.value if isinstance(found, Value) else read[cell]
-                if value is None:
-                    continue
-            yield cell.row, cell.family, None if keys else value
-
-    async def _read_locked(self, locks: dict[Cell, int]) -> dict[Cell, bytes | None]:
-        values: dict[Cell, bytes | None] = {}
-        tries = 0
-        while locks:
-            tries += 1
-            await self._wait(locks, tries)
-            cells, locks = list(locks), {}
-            for cell, found in zip(cells, await self._store.ask_each([Get(self.start, *cell) for cell in cells])):
-                if isinstance(found, Refused):
-                    raise found
-                if isinstance(found, Pending):
-                    locks[cell] = found.start
-                else:
-                    values[cell] = value_of(found)
-        return values
-
-    async def _wait(self, locks: dict[Cell, int], tries: int) -> None:
-        if tries < self._patience.tries:
-            await asyncio.sleep(self._patience.pause)
-        elif self._patience.cleans:
-            for cell in locks:
-                await self._store.clean(*cell)
-        else:
-            raise StillPending(*next(iter(locks.items())))
-
-    def set(self, row: bytes, family: bytes, value: bytes) -> None:
-        """Writes a value to a cell, when the transaction commits. The first cell that is written is the primary."""
-        self._plan.set(row, family, value)
-
-    def delete(self, row: bytes, family: bytes) -> None:
-        """Deletes a cell, when the transaction commits."""
-        self._plan.delete(row, family)
 
     async def stop(self) -> None:
         """Ends the session where it stands. Before its first step nothing of it stays."""
-        if self._plan.is_active:
-            self._plan.is_active = False
-            await self._store.stop(self.start)
+        try:
+            await self._do(self.session.stop())
+        finally:
+            self._leave()
+
+    async def _do(self, plan: Plan[Result]) -> Result:
+        """Does a plan, at the connection that has the session."""
+        return await self._store.do(plan, self.stream)
+
+    def _leave(self) -> None:
+        """Gives the place back."""
+        if self._has_place:
+            self._has_place = False
+            self._store.left()
+
+    async def __aenter__(self: Own) -> Own:
+        await self.begin()
+        return self
+
+    async def __aexit__(
+        self, kind: type[BaseException] | None, error: BaseException | None, trace: TracebackType | None
+    ) -> None:
+        with suppress(UnknownSession, ProgramEnded, TimeoutError):
+            await self.stop()
+
+
+class Transaction(Snapshot):
+    """One session, from its begin to its end. Its writes are kept here, and sent when it commits."""
+
+    @property
+    def commit_stamp(self) -> int | None:
+        """The stamp at which it has committed, and None where it hasn't."""
+        return self.session.commit_stamp
+
+    def put(self, row: bytes, family: bytes, value: bytes) -> None:
+        """Writes a value to a cell, when the transaction commits. The first cell that is written is the primary."""
+        self.session.write(row, family, value)
+
+    set = put
+
+    def delete(self, row: bytes, family: bytes) -> None:
+        """Deletes a cell, when the transaction commits."""
+        self.session.write(row, family, None)
 
     async def commit(self) -> int | None:
         """Commits all writes at once, and gives the commit stamp: None where nothing was written. It raises what `commit` of
         the other twin does."""
-        if not self._plan.is_active:
-            raise UnknownSession(named("session", self.start))
-        if not self._plan._writes:
-            await self.stop()
-            return None
-        failure = await self._commit()
-        for cell in self._cleanings.cells:
-            await self._store.clean(cell.row, cell.family)
-        if failure is not None:
-            if isinstance(failure, TransactionConflict) and self._patience.cleans:
-                await self._store.free(failure.cell.row, failure.cell.family, self._patience)
-            raise failure
-        return self.commit_stamp
-
-    async def _commit(self) -> TransactionFailed | None:
-        """Sends the writes and takes the steps: why it came to nothing, where it did."""
-        plan = self._plan
-        operations = [plan._request(cell) for cell in plan._unsent()]
-        if len(plan._writes) == 1:
-            failure, rest = await self._ask([*operations, *plan._steps_left()], len(operations))
-        else:
-            await self._ask(operations, len(operations))
-            failure, rest = await self._ask(plan._steps_left(), 0)
-        while plan.is_active:
-            before = plan._steps
-            if isinstance(rest, MemtableFull):
-                await self._store.make_room()
-            elif rest is not None:
-                raise rest
-            failure, rest = await self._ask(plan._steps_left(), 0)
-            if rest is not None and plan._steps == before:
-                raise rest
-        return failure
-
-    async def _ask(
-        self, operations: Sequence[Set | Delete | Step], writes: int
-    ) -> tuple[TransactionFailed | None, Refused | None]:
-        """Asks for writes and steps in one trip, and has the plan take the answers."""
-        plan = self._plan
-        plan._has_stepped = plan._has_stepped or len(operations) > writes
         try:
-            answers = await self._store.ask_each(operations)
-        except (ProgramEnded, TimeoutError, asyncio.CancelledError):
-            plan.is_active = not plan._has_stepped
-            raise
-        return plan._take_answers(operations, answers, writes)
-
-    async def __aenter__(self) -> Transaction:
-        await self.begin()
-        return self
+            await self._do(self.session.commit())
+        finally:
+            if not self.is_active:
+                self._leave()
+        return self.commit_stamp
 
     async def __aexit__(
         self, kind: type[BaseException] | None, error: BaseException | None, trace: TracebackType | None
@@ -559,6 +715,6 @@ class Transaction:
             if kind is None and self.is_active:
                 await self.commit()
         finally:
-            if not self._plan._has_stepped:
-                with suppress(UnknownSession, ProgramEnded, TimeoutError):
-                    await self.stop()
+            if not self.session.has_stepped:
+                await super().__aexit__(kind, error, trace)
+            self._leave()

@@ -16,33 +16,27 @@ from types import TracebackType
 from typing import TypeVar
 
 from duqishom.answers import (
-    Blocked,
     Cleaned,
     Cleaner,
-    Collected,
     Collection,
     Collector,
-    Decided,
-    Found,
+    Committed,
+    Pending,
     Progress,
     Qualifier,
-    Scanned,
     Version,
 )
-from duqishom.columns import read_lock
+from duqishom.autocommit import AutoCommit
+from duqishom.cells import Cell
 from duqishom.connection import Connection
 from duqishom.copies import NotCopied, copy_checkpoint
 from duqishom.folders import Unsaved, has_log, started
 from duqishom.operations import (
-    MOST_CELLS,
     Begin,
-    Checkpoint,
     CleanBegin,
     CleanStep,
     CollectBegin,
     CollectStep,
-    Delete,
-    Get,
     Major,
     Merge,
     Minor,
@@ -50,8 +44,6 @@ from duqishom.operations import (
     Operation,
     OracleRestart,
     Raw,
-    Scan,
-    Set,
     Split,
     Step,
     Stop,
@@ -59,21 +51,32 @@ from duqishom.operations import (
     answer_or_refusal,
     request_bodies,
 )
-from duqishom.program import ProgramEnded
-from duqishom.recording import Recording
-from duqishom.refusals import MemtableFull, Refused, TooManyFiles
-from duqishom.remote import ConnectionLost, Fate, Gateway, back_up, fate, write_all
-from duqishom.tablets import NEW_STORE, Tablet, TabletMap, tablets_of
-from duqishom.transactions import (
+from duqishom.plans import (
+    LOG,
     MOST_STAMP,
+    Attempts,
     Patience,
+    Pause,
+    Plan,
     StillPending,
-    Transaction,
+    StorePlans,
     TransactionConflict,
     TransactionLost,
+    Trip,
+    patience_of,
 )
+from duqishom.program import ProgramEnded
+from duqishom.recording import Recording
+from duqishom.refusals import Refused
+from duqishom.remote import Address, ConnectionLost, Fate, Gateway, back_up
+from duqishom.sessions import Session
+from duqishom.tablets import NEW_STORE, Tablet, TabletMap, tablets_of
+from duqishom.transactions import Snapshot, Transaction
 
 MOST_VISITS = 1000
+
+# The seconds between two attempts to connect anew.
+RECONNECT_PAUSE = 0.1
 
 Answer = TypeVar("Answer")
 Result = TypeVar("Result")
@@ -83,7 +86,7 @@ class ForkedStore(Exception):
     """The store was opened by a parent process. Each process opens one of its own."""
 
 
-class Store:
+class Store(AutoCommit):
     """A store in a child process that ends with it: a new one in memory, which is lost then, or that of a folder, which lasts
     as of its last answer where the folder has a log. Where it has none, it lasts as its last checkpoint left it: `close` makes one.
 
@@ -95,14 +98,16 @@ class Store:
     def __init__(
         self,
         program: str | None = None,
-        patience: Patience = Patience(),
+        patience: Patience | None = None,
         words: Sequence[str] = (),
         folder: str | PathLike[str] | None = None,
         checkpoint_at_close: bool = True,
         timeout: float | None = None,
-        socket: str | PathLike[str] | None = None,
+        socket: str | PathLike[str] | tuple[str, int] | None = None,
         record: str | PathLike[str] | None = None,
         log: bool | None = None,
+        lock_wait: float | None = None,
+        reconnect: float = 10.0,
     ) -> None:
         """Starts the program, that of TABLETD, PATH or the repository where no other is named, with these words of its command
         line.
@@ -116,18 +121,22 @@ class Store:
 
         With a socket, no program is started: the store is the one that a gateway serves there, beside other clients. What of it
         is open when this client ends, the gateway ends. OSError where nobody serves there, and ConnectionLost where the gateway
-        ends.
+        ends. The next request behind a ConnectionLost connects anew; `run` tries that for `reconnect` seconds. A socket is a path,
+        or a host and a port.
+
+        A lock is waited for `lock_wait` seconds, and then cleaned: 1 s at a gateway, and 0.03 s alone. A patience says more.
 
         With `record`, a folder, the frames that go in and come out are kept there for `tablet_audit`: see `Recording`.
         """
         self._owner = os.getpid()
         self._turn = threading.RLock()
-        self._patience = patience
+        self._patience = patience_of(patience, lock_wait, socket is not None)
+        self._reconnect = reconnect
         self._timeout = timeout
         self.folder = None if folder is None else fspath(folder)
         self._checkpoint_at_close = checkpoint_at_close and folder is not None
         self._is_closed = True
-        self._socket = None if socket is None else fspath(socket)
+        self._socket: Address | None = socket if socket is None or isinstance(socket, tuple) else fspath(socket)
         self._is_remote = socket is not None
         if self._is_remote and (program is not None or words or folder is not None or record is not None):
             raise ValueError("a store at a socket has its program and folder already, and is recorded by its gateway")
@@ -139,6 +148,7 @@ class Store:
         self._is_closed = False
         self._unsaved = Unsaved(self.folder is not None, self.has_log)
         self._tablets = TabletMap(NEW_STORE if self.folder is None else tablets_of(self.folder))
+        self._plans = StorePlans(self._patience, None if self._is_remote else self._tablets, lambda: self.has_log)
         OPEN.add(self)
 
     @property
@@ -153,14 +163,16 @@ class Store:
             raise answer
         return answer
 
-    def ask_each(self, operations: Sequence[Operation[Answer]]) -> list[Answer | Refused]:
+    def ask_each(
+        self, operations: Sequence[Operation[Answer]], connection: Connection | None = None
+    ) -> list[Answer | Refused]:
         """Asks for several operations in one trip, and gives the answer to each, or its refusal. All are sent before a reply is
-        looked at, so each is done whatever becomes of those before it."""
+        looked at, so each is done whatever becomes of those before it. They go to the connection that is named, or to none."""
         bodies = request_bodies(operations)
         with self.alone():
             self._unsaved.note_asked(operations)
             try:
-                replies = self._connection.ask(bodies, self._timeout)
+                replies = self._connected(connection).ask(bodies, self._timeout)
             except ConnectionLost:
                 raise
             except ProgramEnded as ended:
@@ -171,6 +183,42 @@ class Store:
             self._unsaved.note_answered(operations, answers)
             return answers
 
+    def _connected(self, wanted: Connection | None) -> Connection:
+        """The connection, made anew where the last one is known to be lost. ConnectionLost where another one is wanted, which had
+        the session that is asked, and where nobody serves any more."""
+        connection = self._connection
+        if wanted is not None and (wanted is not connection or is_lost(wanted)):
+            raise ConnectionLost("the session went with its connection to the gateway")
+        if is_lost(connection) and self._socket is not None and not self._is_closed:
+            try:
+                self._connection = Gateway(self._socket)
+            except OSError as error:
+                raise ConnectionLost(f"the connection to the gateway was lost, and can't be made anew: {error}") from None
+            LOG.warning("connected anew to the gateway at %s", self._socket)
+        return self._connection
+
+    def do(self, plan: Plan[Result], connection: Connection | None = None) -> Result:
+        """Takes a plan to its end."""
+        try:
+            trip = next(plan)
+            while True:
+                try:
+                    answers = self._take(trip, connection)
+                except BaseException as error:
+                    trip = plan.throw(error)
+                else:
+                    trip = plan.send(answers)
+        except StopIteration as done:
+            result: Result = done.value
+            return result
+
+    def _take(self, trip: Trip, connection: Connection | None) -> list[object]:
+        """Asks for what a plan asks, or waits."""
+        if isinstance(trip, Pause):
+            time.sleep(trip.seconds)
+            return []
+        return self.ask_each(trip, connection)
+
     def alone(self) -> AbstractContextManager[object]:
         """In a `with`, no other thread asks this store anything. ForkedStore in a process that was forked from the store's."""
         if self._owner != os.getpid():
@@ -180,32 +228,6 @@ class Store:
     def begin(self) -> int:
         """Begins a session: its start."""
         return self.ask(Begin())
-
-    def get(self, start: int, row: bytes, family: bytes) -> Found:
-        """Reads a cell as of the session's start."""
-        return self.ask(Get(start, row, family))
-
-    def scan(
-        self,
-        start: int,
-        after: tuple[bytes, bytes] | None = None,
-        end: bytes | None = None,
-        family: bytes | None = None,
-        keys_only: bool = False,
-        cells: int = MOST_CELLS,
-    ) -> Scanned:
-        """Reads the cells of a range as of the session's start: those behind a cell (a row and a family), up to and with a row, of
-        one family or of all. It looks at so many cells, 1 to 1,000, at most; where it ends before the range does, `upto` of
-        the answer is the `after` of the next one. A transaction's `scan` does all that."""
-        return self.ask(Scan(start, after, end, family, keys_only, cells))
-
-    def set(self, start: int, row: bytes, family: bytes, value: bytes) -> None:
-        """Buffers a write in the session."""
-        self.ask(Set(start, row, family, value))
-
-    def delete(self, start: int, row: bytes, family: bytes) -> None:
-        """Buffers the deletion of a cell in the session."""
-        self.ask(Delete(start, row, family))
 
     def step(self, start: int) -> Progress:
         """Takes the session's next step towards its end."""
@@ -229,34 +251,11 @@ class Store:
         A session that hasn't committed is rolled back by this: its next step that matters answers Conflict or Lost.
         """
         with self.alone():
-            cleaner = self.clean_begin(row, family)
-            if cleaner is None:
-                return None
-            cleaned = self._clean_step(cleaner.number, row, family)
-            while cleaned == Decided():
-                cleaned = self._clean_step(cleaner.number, row, family)
-            return cleaned
-
-    def _clean_step(self, cleaner: int, row: bytes, family: bytes) -> Cleaned:
-        """A cleaner's step. Full memtables of its cell and of the lock's first cell are written to files."""
-        try:
-            return self.clean_step(cleaner)
-        except MemtableFull:
-            lock = self.raw(row, family, Qualifier.LOCK)
-            self.make_room(row)
-            if lock is not None:
-                self.make_room(read_lock(lock.value).row)
-            return self.clean_step(cleaner)
+            return self.do(self._plans.clean(row, family))
 
     def free(self, row: bytes, family: bytes, patience: Patience) -> None:
         """Waits for the lock of a cell to go, as long as the patience says, and then cleans it."""
-        first = lock = self.raw(row, family, Qualifier.LOCK)
-        for _ in range(patience.tries):
-            if lock is None or first is None or lock.stamp != first.stamp:
-                return
-            time.sleep(patience.pause)
-            lock = self.raw(row, family, Qualifier.LOCK)
-        self.clean(row, family)
+        self.do(self._plans.free(Cell(row, family), patience))
 
     def collect_begin(self) -> Collector:
         """Opens a collector of old versions. Its floor is the least start of an active session."""
@@ -273,20 +272,7 @@ class Store:
         more to do. A lock below it is of no active session, and is cleaned. Between two requests of so many visits other
         threads may ask the store. Where a refusal is raised, the collector stays open.
         """
-        collector = self.collect_begin()
-        while (done := self._collect_step(collector.number, visits)) != Collected():
-            if isinstance(done, Blocked):
-                self.clean(done.row, done.family)
-        return collector.floor
-
-    def _collect_step(self, collector: int, visits: int) -> Collection:
-        """A collector's step. Where a memtable is full, all are written to files, for the refusal doesn't tell which it is; the
-        visits that were made before it stay, so each try comes further."""
-        while True:
-            try:
-                return self.collect_step(collector, visits)
-            except MemtableFull:
-                self._make_all_room()
+        return self.do(self._plans.collect(visits))
 
     def minor(self, tablet: int) -> None:
         """Writes the memtable of a tablet as a new file."""
@@ -323,11 +309,7 @@ class Store:
         """Writes all that the store keeps into its files: what was committed, and each lock. A folder is opened as its last
         checkpoint left it, with no session. Where a tablet has too many files, all of its files become one first."""
         with self.alone():
-            try:
-                self.ask(Checkpoint())
-            except TooManyFiles:
-                self._write_all()
-                self.ask(Checkpoint())
+            self.do(self._plans.checkpoint())
 
     def restart_oracle(self) -> None:
         """Has the oracle of stamps go on from its stored mark."""
@@ -350,33 +332,7 @@ class Store:
         """Makes room in the memtable of the tablet that holds a row, and in the log where there is one. Where the tablet has too
         many files, all become one."""
         with self.alone():
-            if self._is_remote or self.has_log:
-                self._make_all_room()
-            else:
-                self._write(self._tablets.holder(row).number)
-
-    def _make_all_room(self) -> None:
-        """Makes room in all memtables, and in the log where there is one, which a checkpoint empties."""
-        if self.has_log:
-            self.checkpoint()
-        else:
-            self._write_all()
-
-    def _write_all(self) -> None:
-        """Writes the memtable of each tablet to a file."""
-        if self._is_remote:
-            write_all(self)
-        else:
-            for tablet in self.tablets():
-                self._write(tablet.number)
-
-    def _write(self, tablet: int) -> None:
-        """Writes the memtable of a tablet to a file. Where the tablet has too many files, all become one."""
-        with self.alone():
-            try:
-                self.minor(tablet)
-            except TooManyFiles:
-                self.major(tablet)
+            self.do(self._plans.make_room(row))
 
     def fate(self, start: int, row: bytes, family: bytes) -> Fate:
         """What became of a commit whose answer was lost: of the session of this start, by its first cell. Committed with its
@@ -386,28 +342,76 @@ class Store:
         lock of it is waited for, and then cleaned; where the patience says otherwise, the answer is Pending.
         """
         with self.alone():
-            return fate(self, start, row, family, self._patience)
+            return self.do(self._plans.fate(start, row, family))
 
     def transaction(self) -> Transaction:
         """Begins a transaction. In a `with` it commits at the end, and stops where an exception leaves."""
-        return Transaction(self, self.begin(), self._patience)
+        return Transaction(self, *self._begun())
+
+    def snapshot(self) -> Snapshot:
+        """The store as of now, to be read in a `with`. While it is open, collectors keep what it shows."""
+        return Snapshot(self, *self._begun())
+
+    def _begun(self) -> tuple[Session, Connection]:
+        """A new session, and the connection that has it."""
+        with self.alone():
+            start = self.begin()
+            return Session(start, self._plans), self._connection
 
     def run(self, work: Callable[[Transaction], Result], attempts: int = 10) -> Result:
         """Does work in a transaction, and once more in a new one where it conflicts, is lost or stays pending.
 
         Behind each attempt there is a pause, by chance, up to a time that doubles: first the patience's pause, and at most a
         second. After the last attempt that failure is raised.
+
+        A connection to a gateway that is lost meanwhile is made anew. Where it was lost in the commit, `fate` tells whether there
+        is something left to do.
         """
-        attempt = 1
+        tried = Attempts(self._patience, attempts)
         while True:
+            transaction: Transaction | None = None
+            results: list[Result] = []
             try:
                 with self.transaction() as transaction:
-                    return work(transaction)
-            except (TransactionConflict, TransactionLost, StillPending):
-                if attempt >= attempts:
+                    results.append(work(transaction))
+                return results[0]
+            except (TransactionConflict, TransactionLost, StillPending) as failure:
+                pause = tried.pause_after(failure)
+            except ConnectionLost as lost:
+                pause = tried.pause_after(lost)
+                if self._is_done_nonetheless(lost, transaction) and results:
+                    return results[0]
+            time.sleep(pause)
+
+    def _is_done_nonetheless(self, lost: ConnectionLost, transaction: Transaction | None) -> bool:
+        """Whether a transaction was committed whose connection was lost. It connects anew first. The loss is raised where that
+        comes to nothing, another store's connection was lost, or it can't be told."""
+        connection = self._connection if transaction is None else transaction._connection
+        if connection is self._connection and not is_lost(connection):
+            raise lost
+        end = time.monotonic() + self._reconnect
+        while True:
+            try:
+                with self.alone():
+                    self._connected(None)
+                return transaction is not None and self._is_committed(lost, transaction)
+            except ConnectionLost:
+                if self._is_closed or time.monotonic() >= end:
                     raise
-            time.sleep(self._patience.between(attempt - 1))
-            attempt += 1
+            time.sleep(RECONNECT_PAUSE)
+
+    def _is_committed(self, lost: ConnectionLost, transaction: Transaction) -> bool:
+        """Whether a transaction was committed whose connection was lost. The loss is raised where a lock of it stands, and may not
+        be cleaned."""
+        session = transaction._session
+        if not session.has_stepped or session.first is None:
+            return False
+        fate = self.fate(session.start, *session.first)
+        LOG.warning("the connection was lost while session %d committed: %s", session.start, fate)
+        if isinstance(fate, Pending):
+            raise lost
+        session.commit_stamp = fate.commit if isinstance(fate, Committed) else None
+        return isinstance(fate, Committed)
 
     def backup(self, path: str | PathLike[str]) -> None:
         """Makes a copy of the store's folder at a path, which must be an empty folder or nothing yet: that of a checkpoint that
@@ -469,6 +473,11 @@ class Store:
         if not self.__dict__.get("_is_closed", True) and self._owner == os.getpid():
             warnings.warn(f"{self!r} wasn't closed", ResourceWarning, stacklevel=2)
             self.close()
+
+
+def is_lost(connection: Connection) -> bool:
+    """Whether a connection is one to a gateway, and is known to be lost."""
+    return getattr(connection, "is_lost", False)
 
 
 OPEN: weakref.WeakSet[Store] = weakref.WeakSet()

@@ -9,7 +9,7 @@ from typing import cast
 
 from duqishom.connection import LONGEST_BODY, whole_frames
 from duqishom.refusals import FrameTooLarge
-from duqishom.remote import ConnectionLost
+from duqishom.remote import Address, ConnectionLost, named_error
 
 
 class Trip:
@@ -31,11 +31,19 @@ class FrameStream(asyncio.Protocol):
         self._has_room = asyncio.Event()
         self._has_room.set()
         self.is_open = True
+        self.is_lost = False
 
     @classmethod
-    async def open(cls, path: str) -> FrameStream:
-        """Connects to a gateway's socket. OSError where none serves there."""
-        _, stream = await asyncio.get_running_loop().create_unix_connection(cls, path)
+    async def open(cls, address: Address) -> FrameStream:
+        """Connects to a gateway. OSError, with the path or the host, where none serves there."""
+        loop = asyncio.get_running_loop()
+        try:
+            if isinstance(address, str):
+                _, stream = await loop.create_unix_connection(cls, address)
+            else:
+                _, stream = await loop.create_connection(cls, *address)
+        except OSError as error:
+            raise named_error(error, address) from None
         return stream
 
     async def ask(self, bodies: Sequence[bytes]) -> list[bytes]:
@@ -47,6 +55,7 @@ class FrameStream(asyncio.Protocol):
             raise FrameTooLarge()
         await self._has_room.wait()
         if not self.is_open:
+            self.is_lost = True
             raise ConnectionLost()
         trip = Trip(len(bodies))
         self._trips.append(trip)
@@ -75,6 +84,7 @@ class FrameStream(asyncio.Protocol):
     def connection_lost(self, error: Exception | None) -> None:
         self.is_open = False
         self._has_room.set()
+        self.is_lost = bool(self._trips)
         for trip in self._trips:
             if not trip.done.done():
                 trip.done.set_exception(ConnectionLost())
