@@ -154,13 +154,13 @@ class Cells(unittest.TestCase):
             self.assertRaises(ValueError, snapshot.scan, limit=-1)
 
     def test_a_scan_ends_its_session(self) -> None:
-        started = self.store.begin()
         for ends in (list, next):
             scan = self.store.scan()
             ends(scan)
             del scan
-            started += 1
-            self.assertRaises(UnknownSession, self.store.stop, started)
+            floor, start = self.store.collect(), self.store.begin()
+            self.assertEqual(floor, start)
+            self.store.stop(start)
 
     def test_a_snapshot_stays(self) -> None:
         with self.store.snapshot() as snapshot:
