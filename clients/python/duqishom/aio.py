@@ -167,7 +167,7 @@ class Store:
         bodies = request_bodies(operations)
         async with asyncio.timeout(self._timeout):
             replies = await (await self._connected(stream)).ask(bodies)
-        return [answer_or_refusal(operation, reply) for operation, reply in zip(operations, replies)]
+        return [answer_or_refusal(operation, reply, True) for operation, reply in zip(operations, replies)]
 
     async def _connected(self, wanted: FrameStream | None) -> FrameStream:
         """The connection, made anew where the last one is known to be lost. ConnectionLost where another one is wanted, which had

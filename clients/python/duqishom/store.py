@@ -179,7 +179,7 @@ class Store(AutoCommit):
                 lost = self._unsaved.lost()
                 self._unsaved.forget()
                 raise ProgramEnded(ended.status, lost) from None
-            answers = [answer_or_refusal(operation, reply) for operation, reply in zip(operations, replies)]
+            answers = [answer_or_refusal(operation, reply, self._is_remote) for operation, reply in zip(operations, replies)]
             self._unsaved.note_answered(operations, answers)
             return answers
 

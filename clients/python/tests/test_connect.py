@@ -5,6 +5,7 @@ from __future__ import annotations
 import asyncio
 import os
 import socket
+import time
 import unittest
 from collections.abc import Sequence
 from pathlib import Path
@@ -104,6 +105,24 @@ class Addresses(unittest.TestCase):
             port = free.getsockname()[1]
         with self.assertRaisesRegex(ConnectionRefusedError, f"127.0.0.1:{port}"):
             duqishom.connect(f"127.0.0.1:{port}")
+
+    def test_how_long_a_lock_is_waited_for(self) -> None:
+        gateway = Gateway(self)
+        for lock_wait, tries in ((None, 101), (0.05, 6), (0, 1)):
+            with Store(socket=gateway.path, lock_wait=lock_wait) as store, self.subTest(lock_wait=lock_wait):
+                self.assertEqual(store._patience, Patience(tries, 0.01, True))
+                start = store.begin()
+                store.set(start, ANN, BAL, b"1")
+                store.step(start)
+                began = time.monotonic()
+                self.assertIsNone(store.get(ANN, BAL))
+                self.assertGreaterEqual(time.monotonic() - began, 0.01 * (tries - 1))
+        with Store() as store:
+            self.assertEqual(store._patience, Patience(3, 0.01, True))
+            for _ in range(1024):
+                store.begin()
+            with self.assertRaisesRegex(TooManySessions, "1,024 sessions are the most$"):
+                store.begin()
         with self.assertRaises(ValueError):
             Store(patience=Patience(), lock_wait=1)
 
@@ -302,7 +321,7 @@ class Twin(unittest.TestCase):
         async def main() -> None:
             async with aio.connect(gateway.path) as store:
                 await store.begin()
-                with self.assertRaises(TooManySessions):
+                with self.assertRaisesRegex(TooManySessions, "64 sessions .*--sessions.* 1,024"):
                     await store.get(ANN, BAL)
 
         asyncio.run(main())
