@@ -73,6 +73,7 @@ from duqishom.plans import (
     TransactionConflict,
     TransactionLost,
     Trip,
+    Unwaited,
     patience_of,
 )
 from duqishom.program import ProgramEnded
@@ -146,7 +147,7 @@ class Store:
         self._places = Places(sessions)
         self._connecting = asyncio.Lock()
         self._is_closed = False
-        self._stopping: set[asyncio.Future[None]] = set()
+        self._ending: set[asyncio.Future[Any]] = set()
 
     async def open(self) -> None:
         """Connects. OSError where nobody serves there."""
@@ -167,7 +168,9 @@ class Store:
         bodies = request_bodies(operations)
         async with asyncio.timeout(self._timeout):
             replies = await (await self._connected(stream)).ask(bodies)
-        return [answer_or_refusal(operation, reply, True) for operation, reply in zip(operations, replies)]
+        answers = [answer_or_refusal(operation, reply, True) for operation, reply in zip(operations, replies)]
+        self._plans.stamps.note(operations, answers)
+        return answers
 
     async def _connected(self, wanted: FrameStream | None) -> FrameStream:
         """The connection, made anew where the last one is known to be lost. ConnectionLost where another one is wanted, which had
@@ -203,6 +206,9 @@ class Store:
         if isinstance(trip, Pause):
             await asyncio.sleep(trip.seconds)
             return []
+        if isinstance(trip, Unwaited):
+            (await self._connected(stream)).tell(request_body(trip.operation))
+            return []
         return await self.ask_each(trip, stream)
 
     async def begin(self) -> int:
@@ -223,9 +229,33 @@ class Store:
         return value
 
     async def get_many(self, cells: Iterable[tuple[bytes, bytes]]) -> list[bytes | None]:
-        """The values of cells, all as of one moment and in one trip."""
-        wanted = list(cells)
-        return await self.run(lambda t: t.get_many(wanted))
+        """The values of cells, all as of one moment and in one trip, or two where others use the store."""
+        wanted = [Cell(*cell) for cell in cells]
+        values = None
+        with suppress(ConnectionLost, TooManySessions):
+            values = await self._to_its_end(self._read(wanted))
+        return await self.run(lambda t: t.get_many(wanted)) if values is None else values
+
+    async def _read(self, cells: Sequence[Cell]) -> list[bytes | None] | None:
+        """What cells hold as of now: None if one of them is locked."""
+        await self._places.take()
+        try:
+            return await self.do(self._plans.read(cells), await self._connected(None))
+        finally:
+            self.left()
+
+    async def _to_its_end(self, work: Coroutine[Any, Any, Result]) -> Result:
+        """Awaits what begins and stops a session. It goes on if the task is cancelled, for nobody else would stop the session."""
+        task = asyncio.ensure_future(work)
+        self._ending.add(task)
+        task.add_done_callback(self._note_ended)
+        return await asyncio.shield(task)
+
+    def _note_ended(self, task: asyncio.Future[Any]) -> None:
+        """Forgets a task that has ended. Nobody else may be there to hear why it failed."""
+        self._ending.discard(task)
+        if not task.cancelled():
+            task.exception()
 
     async def row(self, row: bytes) -> dict[bytes, bytes]:
         """The values of a row, by their families."""
@@ -455,8 +485,8 @@ class Store:
             return start
         except asyncio.CancelledError:
             stopping = asyncio.ensure_future(self._stop_begun(beginning, stream))
-            self._stopping.add(stopping)
-            stopping.add_done_callback(self._stopping.discard)
+            self._ending.add(stopping)
+            stopping.add_done_callback(self._note_ended)
             raise
 
     async def _stop_begun(self, beginning: asyncio.Future[list[int | Refused]], stream: FrameStream) -> None:

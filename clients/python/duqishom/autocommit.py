@@ -40,13 +40,12 @@ class AutoCommit:
         """The value of a cell, or None. With a session's start: reads the cell as of it."""
         if isinstance(given[0], int):
             return self.ask(Get(*given))
-        row, family = given
-        return self.run(lambda t: t.get(row, family))
+        [value] = self.get_many([given])
+        return value
 
     def get_many(self, cells: Iterable[tuple[bytes, bytes]]) -> list[bytes | None]:
-        """The values of cells, all as of one moment and in one trip."""
-        wanted = list(cells)
-        return self.run(lambda t: t.get_many(wanted))
+        """The values of cells, all as of one moment."""
+        raise NotImplementedError
 
     def row(self, row: bytes) -> dict[bytes, bytes]:
         """The values of a row, by their families."""

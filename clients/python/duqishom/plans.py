@@ -23,19 +23,24 @@ from duqishom.answers import (
     Lost,
     Pending,
     Qualifier,
+    Stamped,
+    Value,
 )
 from duqishom.cells import Cell
 from duqishom.columns import read_lock, read_record
 from duqishom.operations import (
+    Begin,
     Checkpoint,
     CleanBegin,
     CleanStep,
     CollectBegin,
     CollectStep,
+    Get,
     Major,
     Minor,
     Operation,
     Raw,
+    Stop,
 )
 from duqishom.refusals import BadRequest, MemtableFull, Refused, TooManyFiles, UnknownTablet
 from duqishom.tablets import TabletMap
@@ -66,7 +71,14 @@ class Pause:
     seconds: float
 
 
-Trip = Sequence[Operation[Any]] | Pause
+@dataclass(frozen=True)
+class Unwaited:
+    """A request whose reply isn't waited for, and says nothing that is needed."""
+
+    operation: Operation[Any]
+
+
+Trip = Sequence[Operation[Any]] | Pause | Unwaited
 Plan = Generator[Trip, list[Any], Result]
 
 
@@ -153,14 +165,56 @@ class Attempts:
         return pause
 
 
+class Stamps:
+    """The stamps that a client has seen. If nobody else draws any, the next session's start is one more than the last one."""
+
+    def __init__(self) -> None:
+        self._last = 0
+        self._was_next = False
+
+    def note(self, operations: Sequence[Operation[Any]], answers: Sequence[object]) -> None:
+        """Notes the stamps in the answers to a trip."""
+        for operation, answer in zip(operations, answers):
+            if isinstance(operation, Begin) and isinstance(answer, int):
+                self._was_next = answer == self._last + 1
+                self._last = answer
+            elif isinstance(answer, (Stamped, Committed)):
+                self._last = max(self._last, answer.commit)
+
+    def next(self) -> int | None:
+        """The start that the next session will have, if the last one was as expected."""
+        return self._last + 1 if self._was_next else None
+
+
 class StorePlans:
     """The plans of a store."""
 
     def __init__(self, patience: Patience, tablets: TabletMap | None, has_log: Callable[[], bool]) -> None:
         """Without tablets it is a gateway's store, which others may split."""
         self.patience = patience
+        self.stamps = Stamps()
         self._tablets = tablets
         self._has_log = has_log
+
+    def read(self, cells: Sequence[Cell]) -> Plan[list[bytes | None] | None]:
+        """What cells hold as of now: None if one of them is locked. It takes one trip if the start is as expected: the reads go
+        behind the Begin that they need, and are asked again if it has another answer."""
+        start = self.stamps.next()
+        begin: Sequence[Operation[Any]] = [Begin()] if start is None else [Begin(), *(Get(start, *cell) for cell in cells)]
+        begun, *answers = yield begin
+        if isinstance(begun, Refused):
+            raise begun
+        try:
+            if begun != start:
+                answers = yield [Get(begun, *cell) for cell in cells]
+        finally:
+            yield Unwaited(Stop(begun))
+        for answer in answers:
+            if isinstance(answer, Refused):
+                raise answer
+        if any(isinstance(answer, Pending) for answer in answers):
+            return None
+        return [answer.value if isinstance(answer, Value) else None for answer in answers]
 
     def make_room(self, row: bytes | None = None) -> Plan[None]:
         """Makes room in the memtable of the tablet that holds a row, or in all, and in the log if there is one. Where a tablet

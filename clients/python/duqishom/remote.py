@@ -6,6 +6,7 @@ import os
 import re
 import socket
 from collections.abc import Sequence
+from contextlib import suppress
 from dataclasses import dataclass
 from typing import ClassVar
 
@@ -91,6 +92,12 @@ class Gateway:
             self.is_lost = True
             self.close()
             raise ConnectionLost() from None
+
+    def tell(self, body: bytes, timeout: float | None = None) -> None:
+        """Sends a body in a frame, and doesn't wait for its reply."""
+        if not self._is_closed:
+            with suppress(StreamEnded):
+                self._frames.tell(body, timeout)
 
     def kill(self) -> None:
         """Leaves at once. The gateway ends what is open."""

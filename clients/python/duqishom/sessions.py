@@ -30,6 +30,7 @@ from duqishom.plans import (
     TransactionConflict,
     TransactionFailed,
     TransactionLost,
+    Unwaited,
     ask,
 )
 from duqishom.refusals import (
@@ -145,7 +146,7 @@ class Session:
         """Ends the session where it stands. Before its first step nothing of it stays."""
         if self.is_active:
             self.is_active = False
-            yield from ask(Stop(self.start))
+            yield Unwaited(Stop(self.start))
 
     def commit(self) -> Plan[None]:
         """Commits all writes at once, or stops where nothing was written."""

@@ -9,8 +9,8 @@ import threading
 import time
 import warnings
 import weakref
-from collections.abc import Callable, Sequence
-from contextlib import AbstractContextManager
+from collections.abc import Callable, Iterable, Sequence
+from contextlib import AbstractContextManager, suppress
 from os import PathLike, fspath
 from types import TracebackType
 from typing import TypeVar
@@ -50,6 +50,7 @@ from duqishom.operations import (
     Sweep,
     answer_or_refusal,
     request_bodies,
+    request_body,
 )
 from duqishom.plans import (
     LOG,
@@ -63,6 +64,7 @@ from duqishom.plans import (
     TransactionConflict,
     TransactionLost,
     Trip,
+    Unwaited,
     patience_of,
 )
 from duqishom.program import ProgramEnded
@@ -181,6 +183,7 @@ class Store(AutoCommit):
                 raise ProgramEnded(ended.status, lost) from None
             answers = [answer_or_refusal(operation, reply, self._is_remote) for operation, reply in zip(operations, replies)]
             self._unsaved.note_answered(operations, answers)
+            self._plans.stamps.note(operations, answers)
             return answers
 
     def _connected(self, wanted: Connection | None) -> Connection:
@@ -216,6 +219,10 @@ class Store(AutoCommit):
         """Asks for what a plan asks, or waits."""
         if isinstance(trip, Pause):
             time.sleep(trip.seconds)
+            return []
+        if isinstance(trip, Unwaited):
+            with self.alone():
+                self._connected(connection).tell(request_body(trip.operation), self._timeout)
             return []
         return self.ask_each(trip, connection)
 
@@ -347,6 +354,14 @@ class Store(AutoCommit):
     def transaction(self) -> Transaction:
         """Begins a transaction. In a `with` it commits at the end, and stops where an exception leaves."""
         return Transaction(self, *self._begun())
+
+    def get_many(self, cells: Iterable[tuple[bytes, bytes]]) -> list[bytes | None]:
+        """The values of cells, all as of one moment and in one trip, or two where others use the store."""
+        wanted = [Cell(*cell) for cell in cells]
+        values = None
+        with suppress(ConnectionLost):
+            values = self.do(self._plans.read(wanted))
+        return self.run(lambda t: t.get_many(wanted)) if values is None else values
 
     def snapshot(self) -> Snapshot:
         """The store as of now, to be read in a `with`. While it is open, collectors keep what it shows."""

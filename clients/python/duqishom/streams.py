@@ -18,6 +18,7 @@ class Trip:
     def __init__(self, count: int) -> None:
         self.count = count
         self.replies: list[bytes] = []
+        self.is_waited_for = True
         self.done: asyncio.Future[list[bytes]] = asyncio.get_running_loop().create_future()
 
 
@@ -62,6 +63,15 @@ class FrameStream(asyncio.Protocol):
         self._transport.write(b"".join(len(body).to_bytes(4, "big") + body for body in bodies))
         return await trip.done
 
+    def tell(self, body: bytes) -> None:
+        """Sends a body in a frame, and doesn't wait for its reply."""
+        if self.is_open:
+            trip = Trip(1)
+            trip.done.add_done_callback(lambda done: done.cancelled() or done.exception())
+            trip.is_waited_for = False
+            self._trips.append(trip)
+            self._transport.write(len(body).to_bytes(4, "big") + body)
+
     def connection_made(self, transport: asyncio.BaseTransport) -> None:
         self._transport = cast(asyncio.Transport, transport)
 
@@ -84,7 +94,7 @@ class FrameStream(asyncio.Protocol):
     def connection_lost(self, error: Exception | None) -> None:
         self.is_open = False
         self._has_room.set()
-        self.is_lost = bool(self._trips)
+        self.is_lost = any(trip.is_waited_for for trip in self._trips)
         for trip in self._trips:
             if not trip.done.done():
                 trip.done.set_exception(ConnectionLost())

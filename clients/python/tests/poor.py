@@ -31,6 +31,9 @@ class Poor:
             replies.insert(place, self._refusal)
         return replies
 
+    def tell(self, body: bytes, timeout: float | None = None) -> None:
+        self._connection.tell(body, timeout)
+
     def kill(self) -> None:
         self._connection.kill()
 

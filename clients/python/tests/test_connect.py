@@ -18,6 +18,7 @@ from duqishom import (
     NoMemory,
     NotOpened,
     Patience,
+    ProgramEnded,
     Store,
     TooManySessions,
     Transaction,
@@ -28,10 +29,10 @@ from duqishom import (
     aio,
     protocol,
 )
-from duqishom.connection import Connection
+from duqishom.connection import Connection, whole_frames
 from duqishom.operations import Step
 from duqishom.remote import address_of
-from tests.gateways import Gateway, folder_of
+from tests.gateways import Gateway, folder_of, until
 from tests.peer import peer
 from tests.poor import Poor
 
@@ -224,6 +225,55 @@ class Limits(unittest.TestCase):
             self.assertEqual(list(store.scan(limit=1)), [(b"e", b"c", b"v")])
 
 
+class Trips(unittest.TestCase):
+    """What is asked in one trip, and what isn't waited for."""
+
+    def test_a_read_in_one_trip(self) -> None:
+        def begun(start: int) -> tuple[bytes, bytes]:
+            return b"\x01", b"\x81" + start.to_bytes(8, "big")
+
+        def read(start: int, reply: bytes) -> tuple[bytes, bytes]:
+            return b"\x02" + start.to_bytes(8, "big") + b"\0\0\0\3Ann\0\0\0\3bal", reply
+
+        def stopped(start: int) -> tuple[bytes, bytes]:
+            return b"\x05" + start.to_bytes(8, "big"), b"\x85"
+
+        unknown, pending = b"\xff\1", b"\x82\2" + (4).to_bytes(8, "big")
+        exchanges = [
+            *(begun(1), read(1, b"\x82\1\0\0\0\1a"), stopped(1)),
+            *(begun(2), read(2, b"\x82\1\0\0\0\1b"), stopped(2)),
+            *(begun(9), read(3, unknown), read(9, b"\x82\0"), stopped(9)),
+            *(begun(10), read(10, b"\x82\1\0\0\0\1c"), stopped(10)),
+            *(begun(11), read(11, pending), stopped(11)),
+            *(begun(12), read(12, b"\x82\1\0\0\0\1d"), stopped(12)),
+        ]
+        with Store(peer(self, exchanges)) as store:
+            self.assertEqual([store.get(ANN, BAL) for _ in range(5)], [b"a", b"b", None, b"c", b"d"])
+
+    def test_what_is_not_waited_for(self) -> None:
+        folder = folder_of(self)
+        with Store(record=folder) as store:
+            for number in range(3):
+                store.put(ANN, BAL, b"%d" % number)
+                with store.snapshot() as s, store.snapshot() as t:
+                    self.assertEqual((s.get(ANN, BAL), t.get(ANN, BAL)), (b"%d" % number,) * 2)
+            with self.assertRaises(UnknownSession):
+                store.stop(t.start)
+        replies: list[bytes] = []
+        whole_frames(Path(folder, "replies").read_bytes(), replies)
+        self.assertEqual([reply[0] for reply in replies[-3:]], [0x85, 0x85, 0xFF])
+        self.assertEqual(store.close(), 0)
+
+    def test_the_program_has_ended(self) -> None:
+        store = Store()
+        snapshot = store.snapshot()
+        store.kill()
+        snapshot.stop()
+        with self.assertRaises(ProgramEnded):
+            store.begin()
+        self.assertEqual(store.close(), -9)
+
+
 @duqishom.transactional
 def move(t: Transaction, giver: bytes, taker: bytes, amount: int) -> int:
     """Moves an amount: what is left."""
@@ -296,7 +346,7 @@ class Twin(unittest.TestCase):
                 self.assertEqual(await store.get(ANN, BAL), b"4")
 
         asyncio.run(main())
-        self.assertEqual(gateway.statistics()["open"]["sessions"], 0)
+        self.assertTrue(until(lambda: gateway.statistics()["open"]["sessions"] == 0))
 
     def test_tasks_wait_for_a_place(self) -> None:
         for words, sessions, tasks in (([], 64, 150), (["--sessions", "3"], 64, 20), ([], 1, 10)):
@@ -343,6 +393,9 @@ class Losing:
         self.is_lost = True
         self.close()
         raise ConnectionLost()
+
+    def tell(self, body: bytes, timeout: float | None = None) -> None:
+        self._connection.tell(body, timeout)
 
     def kill(self) -> None:
         self._connection.kill()
