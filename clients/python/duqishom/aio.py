@@ -32,7 +32,7 @@ from duqishom.answers import (
     Scanned,
     Version,
 )
-from duqishom.cells import Cell, range_of
+from duqishom.cells import Cell, CellRange, range_of
 from duqishom.operations import (
     MOST_CELLS,
     Begin,
@@ -201,7 +201,7 @@ class Store:
             result: Result = done.value
             return result
 
-    async def _take(self, trip: Trip, stream: FrameStream | None) -> list[object]:
+    async def _take(self, trip: Trip, stream: FrameStream | None) -> list[Any]:
         """Asks for what a plan asks, or waits."""
         if isinstance(trip, Pause):
             await asyncio.sleep(trip.seconds)
@@ -225,13 +225,14 @@ class Store:
         """The value of a cell, or None. With a session's start: reads the cell as of it."""
         if isinstance(given[0], int):
             return await self.ask(Get(*given))
-        [value] = await self.get_many([given])
+        row, family = given
+        [value] = await self.get_many([(row, family)])
         return value
 
     async def get_many(self, cells: Iterable[tuple[bytes, bytes]]) -> list[bytes | None]:
         """The values of cells, all as of one moment and in one trip, or two where others use the store."""
         wanted = [Cell(*cell) for cell in cells]
-        values = None
+        values: list[bytes | None] | None = None
         with suppress(ConnectionLost, TooManySessions):
             values = await self._to_its_end(self._read(wanted))
         return await self.run(lambda t: t.get_many(wanted)) if values is None else values
@@ -345,11 +346,11 @@ class Store:
         self, start: bytes | None = None, end: bytes | None = None, *, limit: int | None = None, keys: bool = False, **bounds: Any
     ) -> AsyncIterator[Entry]:
         """The cells of a range. Its bounds are checked at once."""
-        range_of(start, end, **{"prefix": None, "family": None, **bounds})
+        asked = range_of(start, end, **bounds)
 
         async def entries() -> AsyncIterator[Entry]:
             async with self.snapshot() as snapshot:
-                async for entry in snapshot.scan(start, end, keys=keys, limit=limit, **bounds):
+                async for entry in snapshot.entries(asked, keys, limit):
                     yield entry
 
         return entries()
@@ -365,8 +366,7 @@ class Store:
         before: bytes | None = None,
     ) -> int:
         """How many cells of a range have a value."""
-        bounds = {"prefix": prefix, "family": family, "after": after, "before": before}
-        return await self.run(lambda t: t.count(start, end, **bounds))
+        return await self.run(lambda t: t.count(start, end, prefix=prefix, family=family, after=after, before=before))
 
     async def step(self, start: int) -> Progress:
         """Takes the session's next step towards its end."""
@@ -656,8 +656,7 @@ class Snapshot:
     ) -> AsyncIterator[Entry]:
         """The cells that have a value, in order, each as its row, its family and its value, for `async for`: as `scan` of the
         other twin gives them."""
-        asked = range_of(start, end, prefix, family, after, before)
-        return self._entries(self.session.scan(asked, keys, own, limit))
+        return self.entries(range_of(start, end, prefix, family, after, before), keys, limit, own)
 
     async def count(
         self,
@@ -676,7 +675,11 @@ class Snapshot:
             count += len(piece)
         return count
 
-    async def _entries(self, scan: RangeScan) -> AsyncIterator[Entry]:
+    def entries(self, asked: CellRange, keys: bool, limit: int | None, own: bool = True) -> AsyncIterator[Entry]:
+        """The cells of a range, as `scan` gives them."""
+        return self._pieces(self.session.scan(asked, keys, own, limit))
+
+    async def _pieces(self, scan: RangeScan) -> AsyncIterator[Entry]:
         """The cells of a scan, piece by piece."""
         while piece := await self._do(scan.piece()):
             for entry in piece:

@@ -40,7 +40,8 @@ class AutoCommit:
         """The value of a cell, or None. With a session's start: reads the cell as of it."""
         if isinstance(given[0], int):
             return self.ask(Get(*given))
-        [value] = self.get_many([given])
+        row, family = given
+        [value] = self.get_many([(row, family)])
         return value
 
     def get_many(self, cells: Iterable[tuple[bytes, bytes]]) -> list[bytes | None]:
@@ -135,11 +136,11 @@ class AutoCommit:
         self, start: bytes | None = None, end: bytes | None = None, *, limit: int | None = None, keys: bool = False, **bounds: Any
     ) -> Iterator[Entry]:
         """The cells of a range. Its bounds are checked at once."""
-        range_of(start, end, **{"prefix": None, "family": None, **bounds})
+        asked = range_of(start, end, **bounds)
 
         def entries() -> Iterator[Entry]:
             with self.snapshot() as snapshot:
-                yield from snapshot.scan(start, end, keys=keys, limit=limit, **bounds)
+                yield from snapshot.entries(asked, keys, limit)
 
         return entries()
 
@@ -154,5 +155,4 @@ class AutoCommit:
         before: bytes | None = None,
     ) -> int:
         """How many cells of a range have a value."""
-        bounds = {"prefix": prefix, "family": family, "after": after, "before": before}
-        return self.run(lambda t: t.count(start, end, **bounds))
+        return self.run(lambda t: t.count(start, end, prefix=prefix, family=family, after=after, before=before))

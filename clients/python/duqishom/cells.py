@@ -55,8 +55,8 @@ LAST_CELL = Cell(b"\xff" * LONGEST_ROW, LAST_FAMILY)
 def range_of(
     start: bytes | None,
     end: bytes | None,
-    prefix: bytes | None,
-    family: bytes | None,
+    prefix: bytes | None = None,
+    family: bytes | None = None,
     after: bytes | None = None,
     before: bytes | None = None,
 ) -> CellRange:

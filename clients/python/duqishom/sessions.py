@@ -317,7 +317,9 @@ class RangeScan:
         locks = {cell: found.start for cell, found in entries.items() if isinstance(found, Pending)}
         read = yield from session._read([], locks)
         for cell, found in entries.items():
-            value = read[cell] if isinstance(found, Pending) else found.value if isinstance(found, Value) else found
+            value: bytes | Unsent | None = found if isinstance(found, Unsent) else read.get(cell)
+            if isinstance(found, Value):
+                value = found.value
             if value is not None:
                 self._found.append((cell, value))
         self._asked = None if scanned.upto is None else asked.behind(Cell(*scanned.upto))
@@ -333,7 +335,7 @@ class RangeScan:
         while at < len(found) and (self._keys or not isinstance(found[at][1], Unsent)):
             at += 1
         self._found = found[at:]
-        return [(*cell, None if self._keys or isinstance(value, Unsent) else value) for cell, value in found[:at]]
+        return [(row, family, None if self._keys or isinstance(value, Unsent) else value) for (row, family), value in found[:at]]
 
     def _take_unsent(self) -> Plan[list[Entry]]:
         """The next cells whose values weren't sent, and are read now."""
@@ -344,4 +346,4 @@ class RangeScan:
             cells.append(cell)
         self._found = self._found[len(cells) :]
         values = yield from self._session.get_many(cells, own=False)
-        return [(*cell, value) for cell, value in zip(cells, values)]
+        return [(row, family, value) for (row, family), value in zip(cells, values)]

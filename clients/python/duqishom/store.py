@@ -13,7 +13,7 @@ from collections.abc import Callable, Iterable, Sequence
 from contextlib import AbstractContextManager, suppress
 from os import PathLike, fspath
 from types import TracebackType
-from typing import TypeVar
+from typing import Any, TypeVar
 
 from duqishom.answers import (
     Cleaned,
@@ -215,7 +215,7 @@ class Store(AutoCommit):
             result: Result = done.value
             return result
 
-    def _take(self, trip: Trip, connection: Connection | None) -> list[object]:
+    def _take(self, trip: Trip, connection: Connection | None) -> list[Any]:
         """Asks for what a plan asks, or waits."""
         if isinstance(trip, Pause):
             time.sleep(trip.seconds)
@@ -358,7 +358,7 @@ class Store(AutoCommit):
     def get_many(self, cells: Iterable[tuple[bytes, bytes]]) -> list[bytes | None]:
         """The values of cells, all as of one moment and in one trip, or two where others use the store."""
         wanted = [Cell(*cell) for cell in cells]
-        values = None
+        values: list[bytes | None] | None = None
         with suppress(ConnectionLost):
             values = self.do(self._plans.read(wanted))
         return self.run(lambda t: t.get_many(wanted)) if values is None else values
@@ -492,7 +492,7 @@ class Store(AutoCommit):
 
 def is_lost(connection: Connection) -> bool:
     """Whether a connection is one to a gateway, and is known to be lost."""
-    return getattr(connection, "is_lost", False)
+    return bool(getattr(connection, "is_lost", False))
 
 
 OPEN: weakref.WeakSet[Store] = weakref.WeakSet()

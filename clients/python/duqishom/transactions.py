@@ -7,7 +7,7 @@ from contextlib import suppress
 from types import TracebackType
 from typing import TYPE_CHECKING, Literal, TypeVar, overload
 
-from duqishom.cells import range_of
+from duqishom.cells import CellRange, range_of
 from duqishom.connection import Connection, RequestTimedOut
 from duqishom.plans import (
     MOST_STAMP,
@@ -132,8 +132,7 @@ class Snapshot:
 
         BadRow or BadColumn at once, as the store would refuse it.
         """
-        asked = range_of(start, end, prefix, family, after, before)
-        return self._entries(self._session.scan(asked, keys, own, limit))
+        return self.entries(range_of(start, end, prefix, family, after, before), keys, limit, own)
 
     def count(
         self,
@@ -148,9 +147,13 @@ class Snapshot:
     ) -> int:
         """How many cells of a range have a value. Their values aren't sent. The range is that of `scan`."""
         asked = range_of(start, end, prefix, family, after, before)
-        return sum(1 for _ in self._entries(self._session.scan(asked, True, own, None)))
+        return sum(1 for _ in self.entries(asked, True, None, own))
 
-    def _entries(self, scan: RangeScan) -> Iterator[Entry]:
+    def entries(self, asked: CellRange, keys: bool, limit: int | None, own: bool = True) -> Iterator[Entry]:
+        """The cells of a range, as `scan` gives them."""
+        return self._pieces(self._session.scan(asked, keys, own, limit))
+
+    def _pieces(self, scan: RangeScan) -> Iterator[Entry]:
         """The cells of a scan, piece by piece."""
         while piece := self._do(scan.piece()):
             yield from piece

@@ -73,7 +73,7 @@ class Addresses(unittest.TestCase):
         with socket.create_server(("127.0.0.1", 0)) as free:
             port = free.getsockname()[1]
         gateway = Gateway(self, ["--tcp", str(port)])
-        addresses = (f"unix:{gateway.path}", gateway.path, Path(gateway.path), f"127.0.0.1:{port}", f"tcp://localhost:{port}")
+        addresses: list[str | Path] = [f"unix:{gateway.path}", gateway.path, Path(gateway.path), f"127.0.0.1:{port}"]
         for number, address in enumerate(addresses):
             with duqishom.connect(address) as store:
                 store.put(ANN, BAL, b"%d" % number)
@@ -174,9 +174,9 @@ class Cells(unittest.TestCase):
             self.assertRaises(ValueError, snapshot.scan, limit=-1)
 
     def test_a_scan_ends_its_session(self) -> None:
-        for ends in (list, next):
+        for is_read in (True, False):
             scan = self.store.scan()
-            ends(scan)
+            self.assertEqual(len(list(scan)) if is_read else next(scan)[0], 5 if is_read else b"a")
             del scan
             floor, start = self.store.collect(), self.store.begin()
             self.assertEqual(floor, start)

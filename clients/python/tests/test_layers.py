@@ -28,7 +28,7 @@ class Tuples(unittest.TestCase):
     """Tuples as rows."""
 
     def test_bytes(self) -> None:
-        for elements, row in (
+        cases: tuple[tuple[tuple[Any, ...], bytes], ...] = (
             ((), b""),
             ((None, False, True), b"\1\x08\x09"),
             ((b"a\0b",), b"\2a\0\xffb\0\1"),
@@ -37,7 +37,8 @@ class Tuples(unittest.TestCase):
             ((1.0, -1.0), b"\7\xbf\xf0\0\0\0\0\0\0\7\x40\x0f\xff\xff\xff\xff\xff\xff"),
             (((b"a",), ()), b"\x0a\2a\0\1\0\x0a\0"),
             ((Descending(1), 0), b"\x0b\xf9\xfe\xfe\5"),
-        ):
+        )
+        for elements, row in cases:
             self.assertEqual((pack(elements), unpack(row)), (row, elements))
 
     def test_order(self) -> None:
