@@ -69,9 +69,9 @@ class Trip:
     def __init__(self, bodies: Sequence[bytes], behind: Trip | None = None, is_waited_for: bool = True) -> None:
         """A trip may go behind one that nobody waits for: it takes its replies, too."""
         self.data = b"".join([len(body).to_bytes(4, "big") + body for body in bodies])
-        self.requests = self.data if behind is None else behind.requests + self.data
-        self.passed = 0 if behind is None else behind.count
-        self.count = self.passed + len(bodies)
+        self.requests: bytes = self.data if behind is None else behind.requests + self.data
+        self.passed: int = 0 if behind is None else behind.count
+        self.count: int = self.passed + len(bodies)
         self.written: list[int] = []
         self.pieces: list[bytes] = [] if behind is None else behind.pieces
         self.is_waited_for = is_waited_for

@@ -46,17 +46,19 @@ class ConnectionLost(ProgramEnded):
 
 def connected(address: Address) -> socket.socket:
     """A socket that is connected to a gateway. OSError, with the path or the host, where nobody serves there."""
-    ours = socket.socket(socket.AF_UNIX) if isinstance(address, str) else None
     try:
-        if ours is None:
+        if isinstance(address, tuple):
             ours = socket.create_connection(address)
             ours.setsockopt(socket.IPPROTO_TCP, socket.TCP_NODELAY, 1)
-        else:
+            return ours
+        ours = socket.socket(socket.AF_UNIX)
+        try:
             ours.connect(address)
+        except OSError:
+            ours.close()
+            raise
         return ours
     except OSError as error:
-        if ours is not None:
-            ours.close()
         raise named_error(error, address) from None
 
 

@@ -7,7 +7,7 @@ import os
 import socket
 import time
 import unittest
-from collections.abc import Sequence
+from collections.abc import Callable, Sequence
 from pathlib import Path
 
 import duqishom
@@ -91,12 +91,13 @@ class Addresses(unittest.TestCase):
             async with aio.connect(f"unix:{path}"):
                 pass
 
-        for open_it in (
+        ways: list[Callable[[], object]] = [
             lambda: duqishom.connect(path),
             lambda: duqishom.connect(f"unix:{path}"),
             lambda: Store(socket=path),
             lambda: asyncio.run(opened()),
-        ):
+        ]
+        for open_it in ways:
             with self.assertRaises(FileNotFoundError) as caught:
                 open_it()
             self.assertEqual(caught.exception.filename, path)
@@ -349,7 +350,8 @@ class Twin(unittest.TestCase):
         self.assertTrue(until(lambda: gateway.statistics()["open"]["sessions"] == 0))
 
     def test_tasks_wait_for_a_place(self) -> None:
-        for words, sessions, tasks in (([], 64, 150), (["--sessions", "3"], 64, 20), ([], 1, 10)):
+        cases: list[tuple[list[str], int, int]] = [([], 64, 150), (["--sessions", "3"], 64, 20), ([], 1, 10)]
+        for words, sessions, tasks in cases:
             gateway = Gateway(self, words)
 
             async def main() -> None:
