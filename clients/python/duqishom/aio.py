@@ -32,6 +32,7 @@ from duqishom.answers import (
     Scanned,
     Version,
 )
+from duqishom.autocommit import cell_of, is_of_session
 from duqishom.cells import Cell, CellRange, range_of
 from duqishom.operations import (
     MOST_CELLS,
@@ -216,17 +217,16 @@ class Store:
         return await self.ask(Begin())
 
     @overload
-    async def get(self, row: bytes, family: bytes, /) -> bytes | None: ...
+    async def get(self, row: bytes, family: bytes) -> bytes | None: ...
 
     @overload
-    async def get(self, start: int, row: bytes, family: bytes, /) -> Found: ...
+    async def get(self, start: int, row: bytes, family: bytes) -> Found: ...
 
-    async def get(self, *given: Any) -> bytes | Found | None:
+    async def get(self, *given: Any, **named: Any) -> bytes | Found | None:
         """The value of a cell, or None. With a session's start: reads the cell as of it."""
-        if isinstance(given[0], int):
-            return await self.ask(Get(*given))
-        row, family = given
-        [value] = await self.get_many([(row, family)])
+        if is_of_session(given, named):
+            return await self.ask(Get(*given, **named))
+        [value] = await self.get_many([cell_of(*given, **named)])
         return value
 
     async def get_many(self, cells: Iterable[tuple[bytes, bytes]]) -> list[bytes | None]:
@@ -271,28 +271,28 @@ class Store:
         await self.run(work)
 
     @overload
-    async def set(self, row: bytes, family: bytes, value: bytes, /) -> None: ...
+    async def set(self, row: bytes, family: bytes, value: bytes) -> None: ...
 
     @overload
-    async def set(self, start: int, row: bytes, family: bytes, value: bytes, /) -> None: ...
+    async def set(self, start: int, row: bytes, family: bytes, value: bytes) -> None: ...
 
-    async def set(self, *given: Any) -> None:
+    async def set(self, *given: Any, **named: Any) -> None:
         """Another name of `put`. With a session's start: buffers a write in the session."""
-        await (self.ask(Set(*given)) if isinstance(given[0], int) else self.put(*given))
+        await (self.ask(Set(*given, **named)) if is_of_session(given, named) else self.put(*given, **named))
 
     @overload
-    async def delete(self, row: bytes, family: bytes, /) -> None: ...
+    async def delete(self, row: bytes, family: bytes) -> None: ...
 
     @overload
-    async def delete(self, start: int, row: bytes, family: bytes, /) -> None: ...
+    async def delete(self, start: int, row: bytes, family: bytes) -> None: ...
 
-    async def delete(self, *given: Any) -> None:
+    async def delete(self, *given: Any, **named: Any) -> None:
         """Deletes a cell. With a session's start: buffers the deletion in the session."""
 
         async def work(t: Transaction) -> None:
-            t.delete(*given)
+            t.delete(*given, **named)
 
-        await (self.ask(Delete(*given)) if isinstance(given[0], int) else self.run(work))
+        await (self.ask(Delete(*given, **named)) if is_of_session(given, named) else self.run(work))
 
     @overload
     def scan(

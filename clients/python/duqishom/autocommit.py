@@ -2,7 +2,7 @@
 
 from __future__ import annotations
 
-from collections.abc import Callable, Iterable, Iterator
+from collections.abc import Callable, Iterable, Iterator, Mapping, Sequence
 from typing import Any, Literal, TypeVar, overload
 
 from duqishom.answers import Found, Scanned
@@ -13,6 +13,16 @@ from duqishom.transactions import Snapshot, Transaction
 
 Answer = TypeVar("Answer")
 Result = TypeVar("Result")
+
+
+def is_of_session(given: Sequence[object], named: Mapping[str, object]) -> bool:
+    """Whether arguments begin with a session's start."""
+    return "start" in named or isinstance(next(iter(given), None), int)
+
+
+def cell_of(row: bytes, family: bytes) -> tuple[bytes, bytes]:
+    """A cell, by arguments with these names."""
+    return row, family
 
 
 class AutoCommit:
@@ -31,17 +41,16 @@ class AutoCommit:
         raise NotImplementedError
 
     @overload
-    def get(self, row: bytes, family: bytes, /) -> bytes | None: ...
+    def get(self, row: bytes, family: bytes) -> bytes | None: ...
 
     @overload
-    def get(self, start: int, row: bytes, family: bytes, /) -> Found: ...
+    def get(self, start: int, row: bytes, family: bytes) -> Found: ...
 
-    def get(self, *given: Any) -> bytes | Found | None:
+    def get(self, *given: Any, **named: Any) -> bytes | Found | None:
         """The value of a cell, or None. With a session's start: reads the cell as of it."""
-        if isinstance(given[0], int):
-            return self.ask(Get(*given))
-        row, family = given
-        [value] = self.get_many([(row, family)])
+        if is_of_session(given, named):
+            return self.ask(Get(*given, **named))
+        [value] = self.get_many([cell_of(*given, **named)])
         return value
 
     def get_many(self, cells: Iterable[tuple[bytes, bytes]]) -> list[bytes | None]:
@@ -57,31 +66,31 @@ class AutoCommit:
         self.run(lambda t: t.put(row, family, value))
 
     @overload
-    def set(self, row: bytes, family: bytes, value: bytes, /) -> None: ...
+    def set(self, row: bytes, family: bytes, value: bytes) -> None: ...
 
     @overload
-    def set(self, start: int, row: bytes, family: bytes, value: bytes, /) -> None: ...
+    def set(self, start: int, row: bytes, family: bytes, value: bytes) -> None: ...
 
-    def set(self, *given: Any) -> None:
+    def set(self, *given: Any, **named: Any) -> None:
         """Another name of `put`. With a session's start: buffers a write in the session."""
-        if isinstance(given[0], int):
-            self.ask(Set(*given))
+        if is_of_session(given, named):
+            self.ask(Set(*given, **named))
         else:
-            self.put(*given)
+            self.put(*given, **named)
 
     @overload
-    def delete(self, row: bytes, family: bytes, /) -> None: ...
+    def delete(self, row: bytes, family: bytes) -> None: ...
 
     @overload
-    def delete(self, start: int, row: bytes, family: bytes, /) -> None: ...
+    def delete(self, start: int, row: bytes, family: bytes) -> None: ...
 
-    def delete(self, *given: Any) -> None:
+    def delete(self, *given: Any, **named: Any) -> None:
         """Deletes a cell. With a session's start: buffers the deletion in the session."""
-        if isinstance(given[0], int):
-            self.ask(Delete(*given))
-            return
-        row, family = given
-        self.run(lambda t: t.delete(row, family))
+        if is_of_session(given, named):
+            self.ask(Delete(*given, **named))
+        else:
+            row, family = cell_of(*given, **named)
+            self.run(lambda t: t.delete(row, family))
 
     @overload
     def scan(

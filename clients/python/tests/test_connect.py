@@ -9,6 +9,7 @@ import time
 import unittest
 from collections.abc import Callable, Sequence
 from pathlib import Path
+from typing import Any
 
 import duqishom
 from duqishom import (
@@ -198,7 +199,12 @@ class Cells(unittest.TestCase):
         self.store.delete(start, BOB, BAL)
         self.assertEqual(self.store.ask(protocol.Get(start, b"a", b"f")), Value(b"a"))
         self.assertEqual(self.store.get(start, b"a", b"f"), Value(b"a"))
+        self.assertEqual(self.store.get(start=start, row=b"a", family=b"f"), Value(b"a"))
         self.assertEqual(len(self.store.scan(start, cells=2).items), 2)
+        self.assertEqual(self.store.get(family=b"f", row=b"a"), b"a")
+        store: Any = self.store
+        for method, given in ((store.get, (b"a",)), (store.put, (b"a", b"f")), (store.delete, (b"a",))):
+            self.assertRaisesRegex(TypeError, "missing 1 required positional argument", method, *given)
 
 
 class Limits(unittest.TestCase):
