@@ -514,9 +514,11 @@ class Store:
             except (TransactionConflict, TransactionLost, StillPending) as failure:
                 pause = tried.pause_after(failure)
             except ConnectionLost as lost:
+                if await self._is_done_nonetheless(lost, transaction):
+                    if results:
+                        return results[0]
+                    raise
                 pause = tried.pause_after(lost)
-                if await self._is_done_nonetheless(lost, transaction) and results:
-                    return results[0]
             await asyncio.sleep(pause)
 
     async def _is_done_nonetheless(self, lost: ConnectionLost, transaction: Transaction) -> bool:

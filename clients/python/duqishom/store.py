@@ -393,9 +393,11 @@ class Store(AutoCommit):
             except (TransactionConflict, TransactionLost, StillPending) as failure:
                 pause = tried.pause_after(failure)
             except ConnectionLost as lost:
+                if self._is_done_nonetheless(lost, transaction):
+                    if results:
+                        return results[0]
+                    raise
                 pause = tried.pause_after(lost)
-                if self._is_done_nonetheless(lost, transaction) and results:
-                    return results[0]
             time.sleep(pause)
 
     def _is_done_nonetheless(self, lost: ConnectionLost, transaction: Transaction | None) -> bool:

@@ -10,6 +10,7 @@ import unittest
 from collections.abc import Callable, Sequence
 from pathlib import Path
 from typing import Any
+from unittest.mock import patch
 
 import duqishom
 from duqishom import (
@@ -453,9 +454,47 @@ class Losses(unittest.TestCase):
                     return len(worked)
 
                 before = int(store.get(ANN, BAL) or b"0")
-                self.assertEqual(store.run(work), 1 if is_done else 2)
+                self.assertEqual(store.run(work, attempts=1 if is_done else 2), 1 if is_done else 2)
                 self.assertEqual(store.get_many([(ANN, BAL), (BOB, BAL)]), [b"%d" % (before + 1)] * 2)
                 self.assertEqual(store.fate(worked[-1].start, ANN, BAL), Committed(worked[-1].commit_stamp or 0))
+
+    def test_in_a_commit_of_a_task(self) -> None:
+        gateway = Gateway(self)
+
+        async def main(is_done: bool) -> None:
+            async with aio.connect(gateway.path) as store:
+                stream, ask = store._stream, store._stream.ask
+                before = int(await store.get(ANN, BAL) or b"0")
+
+                async def losing(bodies: Sequence[bytes]) -> list[bytes]:
+                    if bodies[-1][0] != 4:
+                        return await ask(bodies)
+                    if is_done:
+                        await ask(bodies)
+                    stream.is_lost = True
+                    stream.close()
+                    raise ConnectionLost()
+
+                with patch.object(stream, "ask", losing):
+                    await add_one(store, ANN)
+                self.assertEqual(await store.get(ANN, BAL), b"%d" % (before + 1))
+
+        for is_done in (True, False):
+            asyncio.run(main(is_done))
+
+    def test_in_a_commit_of_the_work_itself(self) -> None:
+        def work(t: Transaction) -> None:
+            worked.append(t.start)
+            t.put(ANN, BAL, b"1")
+            t.commit()
+            worked.append(0)
+
+        worked: list[int] = []
+        gateway = Gateway(self)
+        with Store(socket=gateway.path) as store:
+            store._connection = Losing(store._connection, True)
+            self.assertRaises(ConnectionLost, store.run, work)
+            self.assertEqual((len(worked), store.get(ANN, BAL)), (1, b"1"))
 
     def test_why_it_was_lost(self) -> None:
         with Store() as store:
