@@ -13,6 +13,7 @@ Many tasks share one store and its connection, each with transactions of its own
 from __future__ import annotations
 
 import asyncio
+import logging
 from collections.abc import AsyncIterator, Awaitable, Callable, Coroutine, Iterable, Sequence
 from contextlib import suppress
 from os import PathLike, fspath
@@ -107,11 +108,12 @@ def connect(
     timeout: float | None = None,
     reconnect: float = 10.0,
     sessions: int = MOST_SESSIONS,
+    connections: int = 1,
 ) -> Store:
     """The store of the gateway at `unix:PATH`, at the path of a socket, or at HOST:PORT, which `async with` connects. The options
     are those of `Store`."""
     path = fspath(address)
-    return Store(address_of(path) or path, patience, timeout, lock_wait, reconnect, sessions)
+    return Store(address_of(path) or path, patience, timeout, lock_wait, reconnect, sessions, connections)
 
 
 def transactional(
@@ -119,6 +121,15 @@ def transactional(
 ) -> Callable[Concatenate[Store | Transaction, Given], Awaitable[Result]]:
     """Makes of a coroutine function of a transaction one of a store, too, as `duqishom.transactional` does."""
     return either(work)
+
+
+class Link:
+    """A place of the pool for a connection, and how many sessions it has. It is connected when it is needed."""
+
+    def __init__(self) -> None:
+        self.stream: FrameStream | None = None
+        self.sessions = 0
+        self.connecting = asyncio.Lock()
 
 
 class Store:
@@ -134,25 +145,36 @@ class Store:
         lock_wait: float | None = None,
         reconnect: float = 10.0,
         sessions: int = MOST_SESSIONS,
+        connections: int = 1,
     ) -> None:
         """A store that isn't connected yet: `open` connects it, and so does `async with`.
 
-        At most so many transactions and snapshots are open at once; others wait for one to end. So a task must not begin one
-        inside of another if all tasks do. The other options are those of the other twin.
+        At most so many transactions and snapshots are open at once on each of so many connections; others wait for one to end. So
+        a task must not begin one inside of another if all tasks do. The other options are those of the other twin.
         """
         self._address: Address = socket if isinstance(socket, tuple) else fspath(socket)
         self._patience = patience_of(patience, lock_wait, is_remote=True)
         self._timeout = timeout
         self._reconnect = reconnect
         self._plans = StorePlans(self._patience, None, lambda: False)
-        self._places = Places(sessions)
-        self._connecting = asyncio.Lock()
+        if connections < 1:
+            raise ValueError(f"there must be 1 connection or more, and not {connections}")
+        self._places = Places(sessions * connections)
+        self._links = [Link() for _ in range(connections)]
         self._is_closed = False
         self._ending: set[asyncio.Future[Any]] = set()
 
     async def open(self) -> None:
         """Connects. OSError where nobody serves there."""
-        self._stream = await FrameStream.open(self._address)
+        self._links[0].stream = await FrameStream.open(self._address)
+
+    @property
+    def _stream(self) -> FrameStream:
+        """The first connection, which takes what is of no session."""
+        stream = self._links[0].stream
+        if stream is None:
+            raise ValueError("the store isn't open: `async with`, or `open`, opens it")
+        return stream
 
     async def ask(self, operation: Operation[Answer]) -> Answer:
         """Asks for an operation, and gives the answer."""
@@ -173,19 +195,27 @@ class Store:
         self._plans.stamps.note(operations, answers)
         return answers
 
-    async def _connected(self, wanted: FrameStream | None) -> FrameStream:
-        """The connection, made anew where the last one is known to be lost. ConnectionLost where another one is wanted, which had
-        the session that is asked, and where nobody serves any more."""
-        if wanted is not None and (wanted is not self._stream or wanted.is_lost):
-            raise ConnectionLost("the session went with its connection to the gateway")
-        async with self._connecting:
-            if self._stream.is_lost and not self._is_closed:
+    async def _connected(self, wanted: FrameStream | None, link: Link | None = None) -> FrameStream:
+        """The connection of a link, the first one if none is named, made anew where the last one is known to be lost.
+        ConnectionLost where another one is wanted, which had the session that is asked, and where nobody serves any more."""
+        if wanted is not None:
+            if self._is_lost(wanted):
+                raise ConnectionLost("the session went with its connection to the gateway")
+            return wanted
+        link = link or self._links[0]
+        async with link.connecting:
+            before = link.stream or self._stream
+            if link.stream is None or (before.is_lost and not self._is_closed):
                 try:
-                    self._stream = await FrameStream.open(self._address)
+                    link.stream = await FrameStream.open(self._address)
                 except OSError as error:
-                    raise ConnectionLost(f"the connection to the gateway was lost, and can't be made anew: {error}") from None
-                LOG.warning("connected anew to the gateway at %s", self._address)
-        return self._stream
+                    raise ConnectionLost(f"there is no connection to the gateway, and none can be made: {error}") from None
+                LOG.log(logging.WARNING if before.is_lost else logging.INFO, "connected to the gateway at %s", self._address)
+            return link.stream
+
+    def _is_lost(self, stream: FrameStream) -> bool:
+        """Whether a connection is known to be lost, or there is another one in its place."""
+        return stream.is_lost or all(link.stream is not stream for link in self._links)
 
     async def do(self, plan: Plan[Result], stream: FrameStream | None = None) -> Result:
         """Takes a plan to its end."""
@@ -239,11 +269,11 @@ class Store:
 
     async def _read(self, cells: Sequence[Cell]) -> list[bytes | None] | None:
         """What cells hold as of now: None if one of them is locked."""
-        await self._places.take()
+        link = await self._link()
         try:
-            return await self.do(self._plans.read(cells), await self._connected(None))
+            return await self.do(self._plans.read(cells), await self._connected(None, link))
         finally:
-            self.left()
+            self.left(link)
 
     async def _to_its_end(self, work: Coroutine[Any, Any, Result]) -> Result:
         """Awaits what begins and stops a session. It goes on if the task is cancelled, for nobody else would stop the session."""
@@ -460,21 +490,28 @@ class Store:
         """A snapshot, that `async with` begins: the store as of then. While it is open, collectors keep what it shows."""
         return Snapshot(self)
 
-    async def begun(self) -> tuple[Session, FrameStream]:
-        """A new session of a snapshot or a transaction, and the connection that has it. It waits for a place first, which `left`
-        gives back; and where the gateway has fewer, for another one to end."""
-        await self._places.take()
+    async def begun(self) -> tuple[Session, FrameStream, Link]:
+        """A new session of a snapshot or a transaction, the connection that has it, and its link. It waits for a place there first,
+        which `left` gives back; and where the gateway has fewer, for another one to end."""
+        link = await self._link()
         try:
             while True:
-                stream = await self._connected(None)
+                stream = await self._connected(None, link)
                 start = await self._begun(stream)
                 if isinstance(start, int):
-                    return Session(start, self._plans), stream
+                    return Session(start, self._plans), stream, link
                 if not (isinstance(start, TooManySessions) and await self._places.one_left()):
                     raise start
         except BaseException:
-            self.left()
+            self.left(link)
             raise
+
+    async def _link(self) -> Link:
+        """The link with the fewest sessions, and a place for one there."""
+        await self._places.take()
+        link = min(self._links, key=lambda each: each.sessions)
+        link.sessions += 1
+        return link
 
     async def _begun(self, stream: FrameStream) -> int | Refused:
         """The start of a new session, or the refusal. If the task is cancelled meanwhile, the session is stopped when it is there,
@@ -496,8 +533,9 @@ class Store:
             if isinstance(start, int):
                 await self.ask_each([Stop(start)], stream)
 
-    def left(self) -> None:
+    def left(self, link: Link) -> None:
         """Gives the place of a session back."""
+        link.sessions -= 1
         self._places.give_back()
 
     async def run(self, work: Callable[[Transaction], Awaitable[Result]], attempts: int = 10) -> Result:
@@ -524,8 +562,7 @@ class Store:
     async def _is_done_nonetheless(self, lost: ConnectionLost, transaction: Transaction) -> bool:
         """Whether a transaction was committed whose connection was lost. It connects anew first. The loss is raised where that
         comes to nothing, another store's connection was lost, or it can't be told."""
-        stream = transaction.stream or self._stream
-        if stream is self._stream and not stream.is_lost:
+        if transaction.stream is not None and not self._is_lost(transaction.stream):
             raise lost
         end = asyncio.get_running_loop().time() + self._reconnect
         while True:
@@ -563,7 +600,9 @@ class Store:
     async def close(self) -> int:
         """Leaves the gateway, which ends what is open."""
         self._is_closed = True
-        self._stream.close()
+        for link in self._links:
+            if link.stream is not None:
+                link.stream.close()
         return 0
 
     async def __aenter__(self) -> Store:
@@ -581,14 +620,13 @@ class Snapshot:
 
     def __init__(self, asked: Store) -> None:
         self._store = asked
-        self._has_place = False
+        self._link: Link | None = None
         self.stream: FrameStream | None = None
 
     async def begin(self) -> None:
         """Begins the session."""
         self._leave()
-        self.session, self.stream = await self._store.begun()
-        self._has_place = True
+        self.session, self.stream, self._link = await self._store.begun()
 
     @property
     def start(self) -> int:
@@ -700,9 +738,9 @@ class Snapshot:
 
     def _leave(self) -> None:
         """Gives the place back."""
-        if self._has_place:
-            self._has_place = False
-            self._store.left()
+        link, self._link = self._link, None
+        if link is not None:
+            self._store.left(link)
 
     async def __aenter__(self: Own) -> Own:
         await self.begin()

@@ -8,6 +8,7 @@ import socket
 import time
 import unittest
 from collections.abc import Callable, Sequence
+from contextlib import AsyncExitStack
 from pathlib import Path
 from typing import Any
 from unittest.mock import patch
@@ -373,6 +374,24 @@ class Twin(unittest.TestCase):
                     self.assertEqual(await store.get_many([(b"0", BAL)] * 3), [b"1"] * 3)
 
             asyncio.run(main())
+
+    def test_a_pool(self) -> None:
+        gateway = Gateway(self, ["--sessions", "2"])
+
+        async def main() -> None:
+            async with aio.connect(gateway.path, sessions=2, connections=3) as store:
+                async with AsyncExitStack() as stack:
+                    snapshots = [await stack.enter_async_context(store.snapshot()) for _ in range(6)]
+                    self.assertEqual([await each.get(ANN, BAL) for each in snapshots], [None] * 6)
+                    with self.assertRaises(TimeoutError):
+                        async with asyncio.timeout(0.1):
+                            await store.put(ANN, BAL, b"1")
+                    self.assertEqual(gateway.statistics()["open"]["sessions"], 6)
+                await asyncio.gather(*(add_one(store, b"%d" % number) for number in range(30)))
+                self.assertEqual((await store.count(), await store.get(ANN, BAL)), (30, None))
+
+        asyncio.run(main())
+        self.assertRaises(ValueError, aio.connect, gateway.path, connections=0)
 
     def test_a_store_that_is_full(self) -> None:
         gateway = Gateway(self, ["--sessions", "1"])
