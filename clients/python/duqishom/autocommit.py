@@ -1,4 +1,5 @@
-"""Reads and writes in transactions of their own. With a session's start as first argument they are the protocol's requests."""
+"""Reads and writes in transactions of their own. With a session's start as first argument they are the protocol's
+requests."""
 
 from __future__ import annotations
 
@@ -134,15 +135,21 @@ class AutoCommit:
     def scan(self, start: bytes | int | None = None, *bounds: Any, **options: Any) -> Iterator[Entry] | Scanned:
         """The cells of a range, as a transaction's `scan` gives them, from one snapshot that ends with the iterator.
 
-        With a session's start: reads the cells of a range as of it, those behind a cell (a row and a family), up to and with a row,
-        of one family or of all. It looks at so many cells, 1 to 1,000, at most; where it ends before the range does, `upto` of the
-        answer is the `after` of the next one."""
+        With a session's start: reads the cells of a range as of it, those behind a cell (a row and a family), up to and
+        with a row, of one family or of all. It looks at so many cells, 1 to 1,000, at most; where it ends before the
+        range does, `upto` of the answer is the `after` of the next one."""
         if isinstance(start, int):
             return self.ask(Scan(start, *bounds, **options))
         return self._entries(start, *bounds, **options)
 
     def _entries(
-        self, start: bytes | None = None, end: bytes | None = None, *, limit: int | None = None, keys: bool = False, **bounds: Any
+        self,
+        start: bytes | None = None,
+        end: bytes | None = None,
+        *,
+        limit: int | None = None,
+        keys: bool = False,
+        **bounds: Any,
     ) -> Iterator[Entry]:
         """The cells of a range. Its bounds are checked at once."""
         asked = range_of(start, end, **bounds)

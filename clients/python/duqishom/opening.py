@@ -31,11 +31,11 @@ def connect(
     record: str | PathLike[str] | None = None,
     log: bool | None = None,
 ) -> Store:
-    """Opens the store of a folder, which is made if it isn't there, or that of the gateway at `unix:PATH`, at the path of a socket,
-    or at HOST:PORT; a new one in memory if no address is given. The options are those of `Store`.
+    """Opens the store of a folder, which is made if it isn't there, or that of the gateway at `unix:PATH`, at the path
+    of a socket, or at HOST:PORT; a new one in memory if no address is given. The options are those of `Store`.
 
-    A folder with a colon and digits at its end is written with a slash, as ./name:1. OSError, with the path, where a folder can't
-    be made, or nobody serves at a gateway's address; NotOpened where a store can't be opened.
+    A folder with a colon and digits at its end is written with a slash, as ./name:1. OSError, with the path, where a
+    folder can't be made, or nobody serves at a gateway's address; NotOpened where a store can't be opened.
     """
     folder = None if address is None else fspath(address)
     socket = None if folder is None else gateway_at(folder)
@@ -60,8 +60,8 @@ def gateway_at(text: str) -> Address | None:
 def transactional(
     work: Callable[Concatenate[Transaction, Given], Result],
 ) -> Callable[Concatenate[Store | Transaction, Given], Result]:
-    """Makes of a function of a transaction one of a store, too. Called with a store it runs as `Store.run` has it, in a transaction
-    of its own, once more where that conflicts. Called with a transaction it is a part of it."""
+    """Makes of a function of a transaction one of a store, too. Called with a store it runs as `Store.run` has it, in a
+    transaction of its own, once more where that conflicts. Called with a transaction it is a part of it."""
     return either(work)
 
 

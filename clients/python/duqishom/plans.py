@@ -1,7 +1,7 @@
 """What a client does in several requests, without input or output, so that `Store` and its twin for `asyncio` share it.
 
-A plan is a generator. It yields the requests of a trip and is sent their answers, or it yields a pause. Whoever drives it
-sends, reads and waits.
+A plan is a generator. It yields the requests of a trip and is sent their answers, or it yields a pause. Whoever drives
+it sends, reads and waits.
 """
 
 from __future__ import annotations
@@ -134,7 +134,8 @@ class Patience:
         return cls(tries=1 + round(seconds / cls.pause))
 
     def between(self, attempt: int) -> float:
-        """How many seconds to wait behind so many attempts: by chance, up to a time that doubles, and is at most a second."""
+        """How many seconds to wait behind so many attempts: by chance, up to a time that doubles, and is at most a
+        second."""
         return random.uniform(0, min(LONGEST_PAUSE, self.pause * 2.0 ** min(attempt, 30)))
 
 
@@ -166,7 +167,8 @@ class Attempts:
 
 
 class Stamps:
-    """The stamps that a client has seen. If nobody else draws any, the next session's start is one more than the last one."""
+    """The stamps that a client has seen. If nobody else draws any, the next session's start is one more than the last
+    one."""
 
     def __init__(self) -> None:
         self._last = 0
@@ -197,18 +199,22 @@ class StorePlans:
         self._has_log = has_log
 
     def read(self, cells: Sequence[Cell]) -> Plan[list[bytes | None] | None]:
-        """What cells hold as of now: None if one of them is locked. It takes one trip if the start is as expected: the reads go
-        behind the Begin that they need, and are asked again if it has another answer."""
+        """What cells hold as of now: None if one of them is locked. It takes one trip if the start is as expected: the
+        reads go behind the Begin that they need, and are asked again if it has another answer."""
         start = self.stamps.next()
-        begin: Sequence[Operation[Any]] = [Begin()] if start is None else [Begin(), *(Get(start, *cell) for cell in cells)]
-        begun, *answers = yield begin
+        reads = [] if start is None else [Get(start, *cell) for cell in cells]
+        begun, *answers = yield [Begin(), *reads]
         if isinstance(begun, Refused):
             raise begun
         try:
             if begun != start:
                 answers = yield [Get(begun, *cell) for cell in cells]
-        finally:
+        except GeneratorExit:
+            raise
+        except BaseException:
             yield Unwaited(Stop(begun))
+            raise
+        yield Unwaited(Stop(begun))
         for answer in answers:
             if isinstance(answer, Refused):
                 raise answer
@@ -217,8 +223,8 @@ class StorePlans:
         return [answer.value if isinstance(answer, Value) else None for answer in answers]
 
     def make_room(self, row: bytes | None = None) -> Plan[None]:
-        """Makes room in the memtable of the tablet that holds a row, or in all, and in the log if there is one. Where a tablet
-        has too many files, all become one."""
+        """Makes room in the memtable of the tablet that holds a row, or in all, and in the log if there is one. Where a
+        tablet has too many files, all become one."""
         LOG.info("a memtable or the log is full: makes room")
         if self._tablets is None or row is None:
             yield from self.checkpoint() if self._has_log() else self._write_all()
@@ -236,9 +242,9 @@ class StorePlans:
             yield from ask(Checkpoint())
 
     def _write_all(self) -> Plan[None]:
-        """Writes the memtable of each tablet to a file. Of a gateway's store the tablets aren't known, and a checkpoint is made
-        too, for the log may be what is full; a gateway that has a socket of the administrator refuses both, and has done it
-        itself."""
+        """Writes the memtable of each tablet to a file. Of a gateway's store the tablets aren't known, and a checkpoint
+        is made too, for the log may be what is full; a gateway that has a socket of the administrator refuses both, and
+        has done it itself."""
         if self._tablets is not None:
             for each in self._tablets.all():
                 yield from self._write(each.number)
@@ -297,8 +303,8 @@ class StorePlans:
         return collector.floor
 
     def _collect_step(self, collector: int, visits: int) -> Plan[Collection]:
-        """A collector's step. Where a memtable is full, all are written to files, for the refusal doesn't tell which it is; the
-        visits that were made before it stay, so each try comes further."""
+        """A collector's step. Where a memtable is full, all are written to files, for the refusal doesn't tell which it
+        is; the visits that were made before it stay, so each try comes further."""
         while True:
             try:
                 return (yield from ask(CollectStep(collector, visits)))
@@ -306,9 +312,9 @@ class StorePlans:
                 yield from self.make_room()
 
     def fate(self, start: int, row: bytes, family: bytes) -> Plan[Fate]:
-        """What became of a session's commit, by its first cell. A record there that names the session says that it has committed.
-        Its lock is waited for, and then cleaned, unless the patience says otherwise; where neither stands, nothing was
-        committed."""
+        """What became of a session's commit, by its first cell. A record there that names the session says that it has
+        committed. Its lock is waited for, and then cleaned, unless the patience says otherwise; where neither stands,
+        nothing was committed."""
         lock = yield from ask(Raw(row, family, Qualifier.LOCK, start, start))
         if lock is not None and self.patience.cleans:
             yield from self.free(Cell(row, family), self.patience)

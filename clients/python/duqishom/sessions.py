@@ -195,7 +195,8 @@ class Session:
         return Delete(self.start, *cell) if value is None else Set(self.start, *cell, value)
 
     def _steps_left(self) -> list[Step]:
-        """The steps that are to be taken: each cell is held, the stamp is drawn, the first cell commits, each other is finished."""
+        """The steps that are to be taken: each cell is held, the stamp is drawn, the first cell commits, each other is
+        finished."""
         return [Step(self.start)] * (2 * len(self._writes) + 1 - self._steps)
 
     def _place(self) -> int:
@@ -206,8 +207,8 @@ class Session:
     def _ask(
         self, operations: Sequence[Set | Delete | Step], writes: int
     ) -> Plan[tuple[TransactionFailed | None, Refused | None]]:
-        """Asks for writes and steps in one trip: why the transaction came to nothing, where it did, and the refusal of the last
-        step, where it was refused. A write that is refused raises its refusal."""
+        """Asks for writes and steps in one trip: why the transaction came to nothing, where it did, and the refusal of
+        the last step, where it was refused. A write that is refused raises its refusal."""
         if not self.has_stepped and len(operations) > writes:
             self.has_stepped, self._stepped_at = True, time.monotonic()
         try:
@@ -272,8 +273,8 @@ class Session:
         """Why a cleaner may have rolled the transaction back."""
         seconds = time.monotonic() - self._stepped_at
         return (
-            f"another client met the lock of {self._sent[0]}, took its session for dead, and rolled it back; the commit had"
-            f" begun {seconds:.2f} s before. The others' `lock_wait` says how long they wait"
+            f"another client met the lock of {self._sent[0]}, took its session for dead, and rolled it back; the commit"
+            f" had begun {seconds:.2f} s before. The others' `lock_wait` says how long they wait"
         )
 
     def _given_up(self, count: int, failure: TransactionFailed) -> TransactionFailed:
@@ -310,7 +311,8 @@ class RangeScan:
         return (yield from self._take_unsent())
 
     def _look_on(self, asked: CellRange) -> Plan[None]:
-        """Asks for the next batch. The locks of a batch are waited for together. If it had too few, the next one is larger."""
+        """Asks for the next batch. The locks of a batch are waited for together. If it had too few, the next one is
+        larger."""
         session = self._session
         scanned = yield from ask(Scan(session.start, asked.after, asked.end, asked.family, self._keys, self._cells))
         entries = entries_of(scanned, self._writes)
@@ -335,7 +337,8 @@ class RangeScan:
         while at < len(found) and (self._keys or not isinstance(found[at][1], Unsent)):
             at += 1
         self._found = found[at:]
-        return [(row, family, None if self._keys or isinstance(value, Unsent) else value) for (row, family), value in found[:at]]
+        values = [None if self._keys or isinstance(value, Unsent) else value for _, value in found[:at]]
+        return [(row, family, value) for ((row, family), _), value in zip(found, values)]
 
     def _take_unsent(self) -> Plan[list[Entry]]:
         """The next cells whose values weren't sent, and are read now."""

@@ -145,7 +145,8 @@ class Cells(unittest.TestCase):
 
     def test_reads_and_writes(self) -> None:
         store = self.store
-        self.assertEqual(store.get_many([(b"b", b"g"), (b"a", b"g"), (b"b", b"g"), (b"c", b"f")]), [b"2", None, b"2", b"c"])
+        cells = [(b"b", b"g"), (b"a", b"g"), (b"b", b"g"), (b"c", b"f")]
+        self.assertEqual(store.get_many(cells), [b"2", None, b"2", b"c"])
         self.assertEqual(store.get_many([]), [])
         self.assertEqual((store.row(b"b"), store.row(b"d")), ({b"f": b"b", b"g": b"2"}, {}))
         store.delete(b"b", b"f")

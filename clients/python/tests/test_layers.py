@@ -54,7 +54,8 @@ class Tuples(unittest.TestCase):
                 self.assertEqual(unpack(pack(elements)), elements)
 
     def test_refused(self) -> None:
-        for element, refusal in (([1], TypeError), ({}, TypeError), (float("nan"), ValueError), (1 << 2040, ValueError)):
+        nan = float("nan")
+        for element, refusal in (([1], TypeError), ({}, TypeError), (nan, ValueError), (1 << 2040, ValueError)):
             with self.assertRaises(refusal):
                 pack((element,))
         for row in (b"\0", b"\x0c", b"\2a", b"\2a\0", b"\6", b"\6\2\1", b"\7\0", b"\x0a\1", b"\x0b", b"\xff"):

@@ -4,8 +4,8 @@
     by_city.put(t, b"Bob", {b"city": b"Bonn", b"age": b"7"})
     list(by_city.rows(t, b"Bonn")) == [b"Bob"]
 
-Each row that has a value in all these families has a cell in the index. It is right for as long as these families are written
-by `put` alone, in the transaction that reads and writes whatever else.
+Each row that has a value in all these families has a cell in the index. It is right for as long as these families are
+written by `put` alone, in the transaction that reads and writes whatever else.
 """
 
 from __future__ import annotations
@@ -57,7 +57,8 @@ class Index:
         await self.put_async(t, row, dict.fromkeys(await t.row(row)))
 
     def rows(self, t: Snapshot, *values: bytes, limit: int | None = None) -> Iterator[bytes]:
-        """The rows that have these values in the first families, in the order of the values of the others, and then of rows."""
+        """The rows that have these values in the first families, in the order of the values of the others, and then of
+        rows."""
         for entry, _, _ in t.scan(prefix=pack((self._name, *values)), keys=True, limit=limit):
             yield unpack(entry)[-1]
 

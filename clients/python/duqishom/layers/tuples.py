@@ -2,7 +2,7 @@
 
     unpack(pack(("order", 7, b"line"))) == ("order", 7, b"line")
 
-A tuple's row begins with the rows of its own beginnings, so `t.scan(prefix=pack(("order", 7)))` has all tuples that begin so.
+A tuple's row begins with those of its beginnings, so `t.scan(prefix=pack(("order", 7)))` has all tuples that begin so.
 Elements are None, bytes, str, int, float, bool, tuples of these, and `Descending` of one; types stand in this order.
 """
 
@@ -30,7 +30,7 @@ class Descending:
 
 
 def pack(elements: Iterable[Any]) -> bytes:
-    """The row of a tuple. TypeError at an element that has no order here, and ValueError at a number that is too large or none."""
+    """The row of a tuple. TypeError at an element that has no order here, and ValueError at a number without one."""
     return b"".join(map(packed, elements))
 
 
@@ -83,8 +83,8 @@ def element_at(row: bytes, at: int) -> tuple[Any, int]:
         return (given if code == BYTES else given.decode()), end + 2
     if code in (NEGATIVE, POSITIVE):
         end = at + 1 + (row[at] if code == POSITIVE else 255 - row[at])
-        digits = row[at + 1 : end]
-        return (int.from_bytes(digits, "big") if code == POSITIVE else -int.from_bytes(digits.translate(REVERSED), "big")), end
+        digits = row[at + 1 : end].translate(None if code == POSITIVE else REVERSED)
+        return int.from_bytes(digits, "big") * (1 if code == POSITIVE else -1), end
     if code == FLOAT:
         [bits] = struct.unpack_from(">Q", row, at)
         return struct.unpack(">d", struct.pack(">Q", bits ^ (SIGN if bits & SIGN else 2 * SIGN - 1)))[0], at + 8
