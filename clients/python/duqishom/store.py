@@ -360,7 +360,9 @@ class Store(AutoCommit):
         wanted = [Cell(*cell) for cell in cells]
         values: list[bytes | None] | None = None
         with suppress(ConnectionLost):
-            values = self.do(self._plans.read(wanted))
+            with self.alone():
+                connection = self._connected(None)
+            values = self.do(self._plans.read(wanted), connection)
         return self.run(lambda t: t.get_many(wanted)) if values is None else values
 
     def snapshot(self) -> Snapshot:
