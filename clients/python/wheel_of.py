@@ -1,4 +1,7 @@
-"""Makes the wheel of this package, for pip: without any other package, so that it needs no network."""
+"""Builds the wheel of this package for pip, without any other package, so that it needs no network.
+
+`scripts/package` builds one that has a program in it too, for one kind of machine.
+"""
 
 from __future__ import annotations
 
@@ -8,10 +11,13 @@ import runpy
 import tarfile
 import tomllib
 from pathlib import Path
-from zipfile import ZIP_DEFLATED, ZipFile
+from zipfile import ZIP_DEFLATED, ZipFile, ZipInfo
 
 HERE = Path(__file__).resolve().parent
-WHEEL = "Wheel-Version: 1.0\nGenerator: wheel_of\nRoot-Is-Purelib: true\nTag: py3-none-any\n"
+
+# The place of the program in a wheel, and the tag of a wheel without one.
+PROGRAM = "duqishom/tabletd"
+ANY = "py3-none-any"
 
 
 def described() -> tuple[str, str, dict[str, str]]:
@@ -32,42 +38,51 @@ def sources() -> dict[str, bytes]:
 
 
 def build_wheel(wheel_directory: str, config_settings: object = None, metadata_directory: object = None) -> str:
-    """Writes the wheel into a folder: its name."""
+    """Writes the wheel into a folder. Returns its name."""
     return write_wheel(wheel_directory, sources())
 
 
 def build_editable(wheel_directory: str, config_settings: object = None, metadata_directory: object = None) -> str:
-    """Writes a wheel that points to the sources here into a folder: its name."""
+    """Writes a wheel that points to the sources here into a folder. Returns its name."""
     return write_wheel(wheel_directory, {"duqishom.pth": f"{HERE}\n".encode()})
 
 
-def write_wheel(folder: str, files: dict[str, bytes]) -> str:
-    """Writes a wheel of these files: its name."""
+def build_program_wheel(folder: str, program: bytes, platform: str) -> str:
+    """Writes the wheel with a program for this platform, and a command that runs it, into a folder. Returns its name."""
+    return write_wheel(folder, {**sources(), PROGRAM: program}, f"py3-none-{platform}", {"tabletd": "duqishom.program:run"})
+
+
+def write_wheel(folder: str, files: dict[str, bytes], tag: str = ANY, more: dict[str, str] | None = None) -> str:
+    """Writes a wheel of these files, with more commands if any are given. It has no times, so that the same files give
+    the same wheel. Returns its name."""
     name, metadata, commands = described()
     info = f"{name}.dist-info"
-    entries = "".join(f"{command} = {target}\n" for command, target in commands.items())
+    entries = "".join(f"{command} = {target}\n" for command, target in {**commands, **(more or {})}.items())
+    pure = "true" if tag == ANY else "false"
     files = {
         **files,
         f"{info}/METADATA": metadata.encode(),
-        f"{info}/WHEEL": WHEEL.encode(),
+        f"{info}/WHEEL": f"Wheel-Version: 1.0\nGenerator: wheel_of\nRoot-Is-Purelib: {pure}\nTag: {tag}\n".encode(),
         f"{info}/entry_points.txt": f"[console_scripts]\n{entries}".encode(),
     }
     record = "".join(f"{file},sha256={digest(data)},{len(data)}\n" for file, data in files.items())
-    wheel = f"{name}-py3-none-any.whl"
+    files[f"{info}/RECORD"] = f"{record}{info}/RECORD,,\n".encode()
+    wheel = f"{name}-{tag}.whl"
     with ZipFile(Path(folder) / wheel, "w", ZIP_DEFLATED) as made:
         for file, data in files.items():
-            made.writestr(file, data)
-        made.writestr(f"{info}/RECORD", f"{record}{info}/RECORD,,\n")
+            entry = ZipInfo(file)
+            entry.external_attr = (0o100755 if file == PROGRAM else 0o100644) << 16
+            made.writestr(entry, data, ZIP_DEFLATED)
     return wheel
 
 
 def digest(data: bytes) -> str:
-    """The checksum of a file, as a wheel has it."""
+    """The checksum of a file, in a wheel's format."""
     return base64.urlsafe_b64encode(hashlib.sha256(data).digest()).rstrip(b"=").decode()
 
 
 def build_sdist(sdist_directory: str, config_settings: object = None) -> str:
-    """Writes the sources as an archive into a folder: its name."""
+    """Writes the sources as an archive into a folder. Returns its name."""
     name = described()[0]
     with tarfile.open(Path(sdist_directory) / f"{name}.tar.gz", "w:gz") as made:
         for file in ("pyproject.toml", "wheel_of.py", *sources()):

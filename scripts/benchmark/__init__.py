@@ -1,1 +1,1 @@
-"""What scripts/bench is made of: requests, the shapes of their streams, and the runs of a program that are measured."""
+"""The parts of scripts/bench: requests, the shapes of their streams, and measured runs of a program."""

@@ -1,4 +1,5 @@
-"""The figures of the plots: what requests cost beside a map, and as a store grows; those of logs and of the gateway."""
+"""The figures of the plots: costs of requests compared with a map, and as a store grows; and the figures of logs and of
+the gateway."""
 
 from __future__ import annotations
 
@@ -19,7 +20,7 @@ from benchmark.shapes import SHAPES, middle_value, short_value
 TOP = Path(__file__).resolve().parents[2]
 MAP_SOURCE = Path(__file__).with_name("map.cc")
 
-# What is measured beside the map: shapes, each with its N and what a plot calls it.
+# The shapes compared with the map, each with its N and its name in a plot.
 BESIDE_MAP = {
     "rows": (10_000, "commits of one cell"),
     "transfer": (5_000, "transfers: two Gets and two Sets"),
@@ -31,17 +32,17 @@ BESIDE_MAP = {
     "missing": (9_600, "Gets of rows that aren't there"),
 }
 
-# The sizes of the stores that grow, in rows, and what such a store is started with.
+# The sizes of the growing stores, in rows, and the options that such a store is started with.
 SIZES = (1_000, 10_000, 100_000, 1_000_000)
 GROWING = ("--merge", "8")
 
-# How many rows such a store is given in each commit.
+# The rows set in each commit.
 BATCH = 100
 
-# How many requests are sent to such a store: Gets, Gets of rows that aren't there, and commits of one cell.
+# The number of requests to such a store: of Gets, of Gets of missing rows, and of commits of one cell.
 GETS, MISSING, COMMITS = 2_000, 20_000, 2_000
 
-# A program begins with a new range of so many stamps.
+# A program begins with a new range of this many stamps.
 STAMPS = 1_000
 
 
@@ -51,7 +52,7 @@ def row(number: int) -> bytes:
 
 
 def loaded(size: int) -> Iterator[Exchange]:
-    """Sets so many rows in a random order."""
+    """Sets this many rows in a random order."""
     order = list(range(size))
     random.Random(1).shuffle(order)
     for number, first in enumerate(range(0, size, BATCH)):
@@ -59,7 +60,7 @@ def loaded(size: int) -> Iterator[Exchange]:
 
 
 def gets(size: int, stamps: int) -> Iterator[Exchange]:
-    """Gets of rows that are there."""
+    """Gets of existing rows."""
     draws = random.Random(2)
     yield begin(stamps + 1)
     for number in (draws.randrange(size) for _ in range(GETS)):
@@ -67,20 +68,20 @@ def gets(size: int, stamps: int) -> Iterator[Exchange]:
 
 
 def missing(size: int, stamps: int) -> Iterator[Exchange]:
-    """Gets of rows that aren't there, between these."""
+    """Gets of missing rows, between the existing ones."""
     draws = random.Random(3)
     yield begin(stamps + 1)
     yield from (get(stamps + 1, row(draws.randrange(size)) + b"x", None) for _ in range(MISSING))
 
 
 def commits(size: int, stamps: int) -> Iterator[Exchange]:
-    """Commits of one cell on rows that are there."""
+    """Commits of one cell on existing rows."""
     draws = random.Random(4)
     for number in range(stamps // 2, stamps // 2 + COMMITS):
         yield from transaction(number, [(row(draws.randrange(size)), short_value(number))])
 
 
-# What is asked of such a store, in turn.
+# The requests to such a store, in turn.
 ASKED = {
     "a Get": gets,
     "a Get of a row that isn't there": missing,
@@ -89,13 +90,13 @@ ASKED = {
 
 
 def run(runs: Runs, meter: Meter, exchanges: Iterable[Exchange], words: Iterable[str]) -> Figures:
-    """What a run costs, which must not take too long."""
+    """The cost of a run, which must not take too long."""
     figures = runs.run(meter, exchanges, tuple(words))
     return figures or sys.exit("bench: a run takes too long")
 
 
 def grown(program: str, meter: Meter, size: int) -> dict[str, float]:
-    """What is asked of a folder of so many rows costs a request, and opening it a row."""
+    """The costs of requests to a folder of this many rows, each by request, and of opening it, by row."""
     with tempfile.TemporaryDirectory() as place:
         runs = Runs(program, Path(place))
         words = (*GROWING, "--dir", f"{place}/folder")
@@ -119,13 +120,13 @@ def compiled_map(place: Path) -> str:
 
 
 def each(program: str, meter: Meter, name: str, words: tuple[str, ...]) -> float:
-    """What a request of a shape costs."""
+    """The cost of a request of a shape."""
     figures = measured(program, meter, SHAPES[name]._replace(words=words), BESIDE_MAP[name][0])
     return figures.cost / figures.count if figures else sys.exit("bench: a run takes too long")
 
 
 def beside_map(tabletd: str, meter: Meter) -> Iterator[tuple[str, dict[str, float]]]:
-    """What requests cost with tabletd and with the map, by shape."""
+    """The costs of requests with tabletd and with the map, by shape."""
     with tempfile.TemporaryDirectory() as place:
         other = compiled_map(Path(place))
         for name, (_, title) in BESIDE_MAP.items():
@@ -133,12 +134,12 @@ def beside_map(tabletd: str, meter: Meter) -> Iterator[tuple[str, dict[str, floa
 
 
 def growing(tabletd: str, meter: Meter) -> Iterator[tuple[str, dict[str, float]]]:
-    """What requests cost as a store grows, by its size."""
+    """The costs of requests as a store grows, by its size."""
     return ((str(size), grown(tabletd, meter, size)) for size in SIZES)
 
 
 def table(title: str, lines: Iterable[tuple[str, dict[str, float]]], scale: float) -> dict[str, dict[str, float]]:
-    """Prints a table, line by line, and gives it. Figures are multiplied by the scale."""
+    """Prints a table, line by line, and returns it. Figures are multiplied by the scale."""
     found: dict[str, dict[str, float]] = {}
     for name, costs in lines:
         if not found:
@@ -158,7 +159,7 @@ def of_script(name: str, tabletd: str) -> Any:
 
 
 def plotted(tabletd: str, are_counted: bool) -> dict[str, Any]:
-    """All figures of the plots: costs in instructions if they are counted, else in microseconds of the processor."""
+    """All figures of the plots: costs in instructions if they are counted, else in microseconds of processor time."""
     meter, scale = (instructions, 1.0) if are_counted else (seconds, 1e6)
     return {
         "unit": "instructions" if are_counted else "microseconds",

@@ -12,7 +12,7 @@ HEADER = Path("/usr/include/leveldb/db.h")
 
 
 def compiled(place: Path) -> str | None:
-    """The program that drives LevelDB's iterator: none if LevelDB's header or a compiler isn't here."""
+    """The program that drives LevelDB's iterator, or None if LevelDB's header or a compiler is missing."""
     compiler = shutil.which("c++")
     if compiler is None or not HEADER.exists():
         return None
@@ -22,7 +22,7 @@ def compiled(place: Path) -> str | None:
 
 
 def scan_seconds(program: str, count: int, passes: int) -> float:
-    """The processor seconds in which LevelDB reads so many rows so often."""
+    """The processor seconds in which LevelDB reads `count` rows `passes` times."""
     with tempfile.TemporaryDirectory() as place:
         words = [program, f"{place}/store", str(count), str(passes)]
         return float(subprocess.run(words, check=True, capture_output=True, text=True).stdout)

@@ -1,6 +1,6 @@
-// leveldb_log write FOLDER BATCH SECONDS: puts batches of so many new rows into a new store of LevelDB for so many seconds, each
-// batch in one write that is synced, and prints how many rows a second that are.
-// leveldb_log fill FOLDER COUNT: puts so many rows, which stay in the log, and ends without closing the store.
+// leveldb_log write FOLDER BATCH SECONDS: puts batches of BATCH new rows into a new store of LevelDB for SECONDS
+// seconds, each batch in one synced write, and prints the rows per second.
+// leveldb_log fill FOLDER COUNT: puts COUNT rows, which stay in the log, and ends without closing the store.
 // leveldb_log open FOLDER: prints the seconds in which a store opens.
 #include <cstdio>
 #include <cstdlib>
@@ -17,7 +17,7 @@ namespace {
 
 constexpr int kValueBytes = 100;
 
-// The bytes of a memtable, and so of a log, at the most.
+// The maximum bytes of a memtable, and so of a log.
 constexpr int kBufferBytes = 64 << 20;
 
 double Seconds() {

@@ -1,6 +1,6 @@
-// leveldb_scan FOLDER COUNT PASSES: writes the rows of the shape scan into a new store of LevelDB, as one sorted run, and reads
-// all of them so often by an iterator over a snapshot, with checksums and no block from a cache. It prints the processor seconds
-// of all passes.
+// leveldb_scan FOLDER COUNT PASSES: writes the rows of the shape scan into a new store of LevelDB, as one sorted run,
+// and reads all of them PASSES times with an iterator over a snapshot, with checksums and without caching blocks. It
+// prints the processor seconds of all passes.
 #include <cstdio>
 #include <cstdlib>
 #include <ctime>
@@ -12,7 +12,7 @@
 
 namespace {
 
-// How many rows are written, or read into one buffer, at once.
+// The number of rows written, or read into one buffer, at once.
 constexpr int kBatch = 1000;
 
 double ProcessorSeconds() {
@@ -45,7 +45,7 @@ void Write(leveldb::DB* db, int count) {
   db->CompactRange(nullptr, nullptr);
 }
 
-// Reads all rows, into a buffer for each kBatch of them, and gives how many there are.
+// Reads all rows, into a buffer for each kBatch of them, and returns their number.
 int Read(leveldb::DB* db) {
   leveldb::ReadOptions options;
   options.verify_checksums = true;

@@ -1,4 +1,4 @@
-"""Stores whose writes are forced to the disk before they are answered: how fast they write, and how fast they open a log."""
+"""Stores whose writes are synced before they are answered: how fast they write, and how fast they open a log."""
 
 from __future__ import annotations
 
@@ -26,16 +26,16 @@ VALUE = b"v" * 100
 FAMILY = b"c"
 BEGIN, COMMITTED = b"\x01", b"\x84\x04"
 
-# The bytes of a one-cell commit's edits with such a row and value.
+# The size in bytes of a one-cell commit's edits with such a row and value.
 COMMIT_BYTES = 312
 
-# Entries at which a memtable is compacted, so many that it isn't while a log is filled.
+# The entries at which a memtable is compacted, more than a log has when it is filled.
 MANY = "99000"
 
-# How many cells a commit has at the most.
+# The maximum number of cells of a commit.
 MOST_CELLS = 256
 
-# Edits of a log that no checkpoint has emptied yet.
+# The maximum number of edits of a log before a checkpoint empties it.
 MOST_EDITS = 49_500
 
 
@@ -60,7 +60,7 @@ class Program:
         self.ask([b""])
 
     def ask(self, bodies: list[bytes]) -> list[bytes]:
-        """The bodies of the replies to these requests, which are sent in one write where that has room."""
+        """The bodies of the replies to these requests, which are sent in one write if they fit."""
         data, replies = memoryview(b"".join(map(field, bodies))), list[bytes]()
         while len(replies) < len(bodies):
             if data:
@@ -95,14 +95,14 @@ def set_in(start: bytes, row: bytes) -> bytes:
 
 
 def commits(program: Program, new: Iterator[bytes], count: int) -> None:
-    """Commits so many rows, each in a session of its own: all begin in one trip, and commit in the next one."""
+    """Commits this many rows, each in a session of its own: all begin in one trip, and commit in the next one."""
     starts = [reply[1:] for reply in program.ask([BEGIN] * count)]
     bodies = [body for start in starts for body in (set_in(start, next(new)), *[b"\x04" + start] * 3)]
     check(program.ask(bodies)[3::4])
 
 
 def commit(program: Program, new: Iterator[bytes], count: int) -> None:
-    """Commits so many rows in one session."""
+    """Commits this many rows in one session."""
     [reply] = program.ask([BEGIN])
     start = reply[1:]
     bodies = [*(set_in(start, next(new)) for _ in range(count)), *[b"\x04" + start] * (2 * count + 1)]
@@ -110,13 +110,13 @@ def commit(program: Program, new: Iterator[bytes], count: int) -> None:
 
 
 def check(replies: list[bytes]) -> None:
-    """Ends the script where a commit isn't answered as it must be."""
+    """Ends the script if a commit has a wrong answer."""
     if any(reply[:2] != COMMITTED for reply in replies):
         sys.exit("not the replies that are wanted")
 
 
 def rate(write: Callable[[int], None], count: int, seconds: float) -> float:
-    """How many rows a second are written, so many at once."""
+    """The rows written per second, `count` at once."""
     began, written = time.monotonic(), 0
     while (took := time.monotonic() - began) < seconds:
         write(count)
@@ -145,7 +145,7 @@ def opened_sqlite(folder: Path) -> sqlite3.Connection:
 
 
 def insert(database: sqlite3.Connection, new: Iterator[bytes], count: int) -> None:
-    """Inserts so many rows in one transaction."""
+    """Inserts this many rows in one transaction."""
     database.execute("BEGIN")
     database.executemany("INSERT INTO cells VALUES (?, ?)", [(next(new), VALUE) for _ in range(count)])
     database.execute("COMMIT")
@@ -161,7 +161,7 @@ def sqlite_rate(folder: Path, count: int, seconds: float) -> float:
 
 
 def file_rate(folder: Path, count: int, seconds: float) -> float:
-    """The rate of a file to which the bytes of so many commits are added at once, each time forced to the disk."""
+    """The rate of a file to which the bytes of `count` commits are appended at once, with a sync each time."""
     with (folder / "file").open("ab", buffering=0) as file:
 
         def add(count: int) -> None:
@@ -172,7 +172,7 @@ def file_rate(folder: Path, count: int, seconds: float) -> float:
 
 
 def compiled_leveldb(place: Path) -> str | None:
-    """The program that drives LevelDB: none if its header or a compiler isn't here."""
+    """The program that drives LevelDB, or None if its header or a compiler is missing."""
     compiler = shutil.which("c++")
     if compiler is None or not HEADER.exists():
         return None
@@ -182,13 +182,13 @@ def compiled_leveldb(place: Path) -> str | None:
 
 
 def leveldb(program: str, what: str, folder: Path, *words: object) -> float:
-    """What the program that drives LevelDB measures."""
+    """The figure measured by the program that drives LevelDB."""
     ran = subprocess.run([program, what, str(folder), *map(str, words)], check=True, capture_output=True, text=True)
     return float(ran.stdout or "0")
 
 
 def fill_log(program: str, folder: Path, new: Iterator[bytes], edits: int) -> None:
-    """Makes a store whose log has so many edits, or a few more: four of each commit."""
+    """Makes a store whose log has this many edits, or a few more: four for each commit."""
     running = Program(program, folder, "--log", "--flush", MANY)
     left = edits // 4
     while left > 0:
@@ -198,7 +198,7 @@ def fill_log(program: str, folder: Path, new: Iterator[bytes], edits: int) -> No
 
 
 def add_edits(log: Path, other: Path) -> None:
-    """Adds the edits of another store's log to a log, numbered on."""
+    """Appends the edits of another store's log to a log, with continued numbers."""
     to, new = log_of(log.read_bytes()), log_of(other.read_bytes())
     edits = [record for record in new.records if record.kind is RecordKind.EDITS]
     with log.open("ab") as joined:
@@ -207,9 +207,11 @@ def add_edits(log: Path, other: Path) -> None:
 
 
 def tabletd_opening(program: str, folder: Path, edits: int) -> tuple[float, int]:
-    """The seconds in which tabletd opens a folder whose log has so many edits, up to some 99,000, and the bytes of that log.
+    """The seconds in which tabletd opens a folder whose log has this many edits, up to some 99,000, and the log's size
+    in bytes.
 
-    A checkpoint empties a log before it has so many. So the records of a second store, with other rows, are added to it.
+    A checkpoint empties a log before it has that many. So the records of a second store, with other rows, are appended
+    to it.
     """
     new, log = rows(), folder / "commit.log"
     fill_log(program, folder, new, min(edits, MOST_EDITS))
@@ -240,7 +242,7 @@ os._exit(0)
 
 
 def sqlite_opening(folder: Path, count: int) -> tuple[float, int]:
-    """The same of SQLite, with so many rows in its log, and the first read."""
+    """The same for SQLite, with this many rows in its log, and the first read."""
     place = {**os.environ, "PYTHONPATH": str(SOURCE.parents[1])}
     subprocess.run([sys.executable, "-B", "-c", FILL_SQLITE, str(folder), str(count)], check=True, env=place)
     size = (folder / "database-wal").stat().st_size
@@ -253,7 +255,7 @@ def sqlite_opening(folder: Path, count: int) -> tuple[float, int]:
 
 
 def leveldb_opening(program: str, folder: Path, count: int) -> tuple[float, int]:
-    """The same of LevelDB."""
+    """The same for LevelDB."""
     leveldb(program, "fill", folder, count)
     size = sum(log.stat().st_size for log in folder.glob("*.log"))
     return leveldb(program, "open", folder), size

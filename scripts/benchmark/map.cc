@@ -21,7 +21,7 @@ using std::string_view;
 constexpr uint64_t kAny = UINT64_MAX;
 constexpr size_t kPiece = 262144;
 
-// What the key of a cell's column has behind its place: a value by its start, a lock, a record of a commit.
+// The kind of a column, which follows the cell's place in a key: a value by its start, a lock, a record of a commit.
 constexpr string_view kData("data\0\0", 6), kLock("lock\0\0", 6), kWrite("write\0\0", 7);
 
 uint64_t Number(const char* at, int size) {
@@ -194,7 +194,7 @@ class Server {
     return true;
   }
 
-  // Puts the record of the commit in place of the lock.
+  // Replaces the lock with the commit record.
   void Settle(uint64_t start, Session& session) {
     const Buffered& write = session.writes[session.next++];
     string_view lock;

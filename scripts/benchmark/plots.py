@@ -11,7 +11,7 @@ from matplotlib.axes import Axes
 from matplotlib.figure import Figure
 from matplotlib.ticker import FuncFormatter, LogLocator
 
-# Text stays text, and the same figures give the same bytes.
+# Text isn't converted to paths, and the same figures give the same bytes.
 matplotlib.rcParams.update({"svg.fonttype": "none", "svg.hashsalt": "bench", "font.family": "sans-serif", "font.size": 10})
 
 UNITS = {"instructions": "instructions", "microseconds": "microseconds of the processor"}
@@ -19,10 +19,10 @@ STYLES = (("o", "-"), ("s", "--"), ("^", "-."), ("D", ":"), ("v", "-"), ("x", "-
 GRAYS = ("0", "0.35", "0", "0.35", "0.5", "0.6")
 PLAIN = FuncFormatter(lambda number, _: f"{number:,.10g}")
 
-# What the plot of the log leaves out, since it isn't on the disk yet when it is answered.
+# The store that the plot of the log leaves out, since its writes aren't durable yet when they are answered.
 NOT_ON_DISK = "tabletd without log"
 
-# What the plot of the gateway calls its lines, and where it has the pipe: left of one client.
+# The names of the lines in the plot of the gateway, and the position of the pipe: left of one client.
 WAYS = {
     "one at a time": "reads, one at a time",
     "64 ahead": "reads, 64 ahead",
@@ -31,12 +31,13 @@ WAYS = {
 }
 PIPE = 0.3
 
-# The lines of a plot by what they show: each has places from left to right, and figures.
+# The lines of a plot by their names: each has positions from left to right, and figures.
 Lines = dict[str, list[float]]
 
 
 def draw_lines(axes: Axes, places: list[float], lines: Lines) -> None:
-    """Draws lines, each with a mark and a dash of its own, over places of a logarithmic axis, and figures of another one."""
+    """Draws lines, each with its own marker and dash, with positions on one logarithmic axis and figures on the
+    other."""
     for (name, figures), (mark, dash), gray in zip(lines.items(), STYLES, GRAYS):
         axes.plot(places, figures, marker=mark, linestyle=dash, color=gray, label=name)
     axes.set_xscale("log")
@@ -51,13 +52,13 @@ def draw_lines(axes: Axes, places: list[float], lines: Lines) -> None:
 
 
 def turned(figures: dict[str, dict[str, float]]) -> Lines:
-    """Figures by place and line, as lines."""
+    """Figures by position and line, as lines."""
     names = next(iter(figures.values()))
     return {name: [each[name] for each in figures.values()] for name in names}
 
 
 def draw_map(axes: Axes, figures: dict[str, Any]) -> None:
-    """What requests cost with tabletd and with the map."""
+    """The costs of requests with tabletd and with the map."""
     costs: dict[str, dict[str, float]] = figures["map"]
     tabletd, other = turned(costs).values()
     places = range(len(costs))
@@ -74,7 +75,7 @@ def draw_map(axes: Axes, figures: dict[str, Any]) -> None:
 
 
 def draw_growth(axes: Axes, figures: dict[str, Any]) -> None:
-    """What requests cost as a store grows."""
+    """The costs of requests as a store grows."""
     draw_lines(axes, [float(size) for size in figures["growth"]], turned(figures["growth"]))
     axes.set_xlabel("rows of the folder, with --merge 8")
     axes.set_ylabel(UNITS[figures["unit"]])
@@ -82,7 +83,7 @@ def draw_growth(axes: Axes, figures: dict[str, Any]) -> None:
 
 
 def draw_log(axes: Axes, figures: dict[str, Any]) -> None:
-    """Rows a second of stores that force each write to the disk."""
+    """Rows a second of stores that sync each write."""
     rates: dict[str, dict[str, float]] = figures["log"]["rates"]
     places = [float(count) for count in next(iter(rates.values()))]
     draw_lines(axes, places, {name: list(each.values()) for name, each in rates.items() if name != NOT_ON_DISK})
@@ -103,7 +104,7 @@ def draw_gateway(axes: Axes, figures: dict[str, Any]) -> None:
     axes.set_ylabel("reads or commits a second")
 
 
-# What is drawn: by the name of the file, the title, the size in inches, and how.
+# The plots: by the name of the file, the title, the size in inches, and the function that draws it.
 PLOTS: dict[str, tuple[str, tuple[float, float], Callable[[Axes, dict[str, Any]], None]]] = {
     "map": ("What a request costs, beside one ordered map in memory", (8, 4.5), draw_map),
     "growth": ("What a request costs in a folder that grows to a million rows", (8, 4), draw_growth),

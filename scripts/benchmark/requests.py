@@ -1,4 +1,4 @@
-"""Requests of tabletd, each with the reply that is wanted."""
+"""Requests of tabletd, each with the expected reply."""
 
 from __future__ import annotations
 
@@ -8,10 +8,10 @@ from collections.abc import Iterator, Sequence
 # A request and its reply, both without the lengths of their frames.
 Exchange = tuple[bytes, bytes]
 
-# A row and the value that is set there.
+# A row and the value set in it.
 Write = tuple[bytes, bytes]
 
-# The most cells that a scan looks at, and the most bytes of what it names.
+# The maximum number of cells that a scan visits, and the maximum bytes of its items.
 MOST_CELLS, MOST_BYTES = 1000, 61_440
 
 MINOR: Exchange = b"\x0a\0\0\0\x01", b"\x8a"
@@ -30,7 +30,7 @@ def stamp(number: int) -> bytes:
 
 
 def cell(row: bytes) -> bytes:
-    """A row, and the family that all cells here have."""
+    """A row, and the family of all cells here."""
     return field(row) + field(b"c")
 
 
@@ -71,18 +71,19 @@ def stop(start: int) -> Exchange:
 
 
 def get(start: int, row: bytes, value: bytes | None) -> Exchange:
-    """Reads a cell, which has this value or none."""
+    """Reads a cell, which has this value or no value."""
     return b"\x02" + stamp(start) + cell(row), b"\x82\0" if value is None else b"\x82\x01" + field(value)
 
 
 def item(write: Write) -> bytes:
-    """What a scan says of a cell that has a value."""
+    """A scan's item of a cell with a value."""
     row, value = write
     return cell(row) + b"\x01" + field(value)
 
 
 def scan(start: int, after: bytes | None, found: Sequence[Write], is_last: bool) -> Exchange:
-    """Reads cells behind that of a row, or from the first one on. It finds these, and all that there are if it is the last one."""
+    """Reads the cells after a row's cell, or from the first one on. It finds these cells, and reaches the end if
+    `is_last`."""
     behind = b"\0" if after is None else b"\x01" + cell(after)
     reach = b"\x01" if is_last else b"\x02" + cell(found[-1][0])
     request = b"\x31" + stamp(start) + b"\0" + behind + b"\0\0" + struct.pack(">I", MOST_CELLS)
@@ -90,7 +91,7 @@ def scan(start: int, after: bytes | None, found: Sequence[Write], is_last: bool)
 
 
 def scans(start: int, writes: Sequence[Write]) -> Iterator[Exchange]:
-    """Reads all cells, which are these in their order, by as few scans as can be."""
+    """Reads all cells, which are these in order, with as few scans as possible."""
     at, after, is_last = 0, None, False
     while not is_last:
         found = batch(writes, at)
@@ -101,7 +102,7 @@ def scans(start: int, writes: Sequence[Write]) -> Iterator[Exchange]:
 
 
 def batch(writes: Sequence[Write], at: int) -> list[Write]:
-    """What one scan finds of these cells from a place on."""
+    """The cells that one scan finds from a position on."""
     found: list[Write] = []
     size = 0
     for write in writes[at : at + MOST_CELLS]:
@@ -113,7 +114,7 @@ def batch(writes: Sequence[Write], at: int) -> list[Write]:
 
 
 def split(row: bytes, tablet: int) -> Exchange:
-    """Cuts the tablet that holds the row; the part that ends with it becomes this one."""
+    """Splits the tablet that holds the row; the part that ends with the row gets this number."""
     return b"\x0d" + field(row), b"\x8d" + struct.pack(">I", tablet)
 
 

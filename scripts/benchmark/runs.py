@@ -1,4 +1,4 @@
-"""Runs of a program over streams of requests, and what they cost."""
+"""Runs of a program over streams of requests, and their costs."""
 
 from __future__ import annotations
 
@@ -16,25 +16,25 @@ from typing import IO, NamedTuple
 from benchmark.requests import CHECKPOINT, Exchange, field
 from benchmark.shapes import Shape
 
-# How long a run may take under callgrind.
+# The longest run under callgrind in seconds.
 MOST_SECONDS = 600
 
-# The least time that is taken for one that was measured: less is noise.
+# The least time that counts as measured: less is noise.
 LEAST_SECONDS = 0.001
 
-# What a run of a command costs, with its standard input and output; none if it takes too long.
+# The cost of a run of a command, with its standard input and output, or None if it takes too long.
 Meter = Callable[[Sequence[str], IO[bytes], IO[bytes]], float | None]
 
 
 class Figures(NamedTuple):
-    """What requests cost together, and how many they are."""
+    """The total cost of requests, and their number."""
 
     cost: float
     count: int
 
 
 class Growth(NamedTuple):
-    """The power of the size as which the time grows, over all sizes and over the last two."""
+    """The exponent with which the time grows with the size, over all sizes and over the last two."""
 
     fitted: float
     last: float
@@ -75,7 +75,7 @@ def instructions(command: Sequence[str], asked: IO[bytes], written: IO[bytes]) -
 
 
 def count_written(exchanges: Iterable[Exchange], asked: Path, wanted: Path) -> int:
-    """Writes requests and replies to files, and answers how many they are."""
+    """Writes requests and replies to files, and returns their number."""
     count = 0
     with open(asked, "wb") as requests, open(wanted, "wb") as replies:
         for request, reply in exchanges:
@@ -93,7 +93,7 @@ class Runs:
         self._place = place
 
     def run(self, meter: Meter, exchanges: Iterable[Exchange], words: Sequence[str]) -> Figures | None:
-        """What a run over a stream costs; none if it takes too long."""
+        """The cost of a run over a stream, or None if it takes too long."""
         asked, wanted, written = (self._place / name for name in ("asked", "wanted", "written"))
         count = count_written(exchanges, asked, wanted)
         command = [self._program, *words]
@@ -106,14 +106,14 @@ class Runs:
         return Figures(cost, count)
 
     def in_memory(self, meter: Meter, shape: Shape, size: int) -> tuple[Figures | None, Figures | None]:
-        """What runs of a shape in memory cost: without its requests, and with them."""
+        """The costs of runs of a shape in memory, without its requests and with them."""
         with_them = itertools.chain(shape.loaded(size), shape.asked(size))
         return self.run(meter, shape.loaded(size), shape.words), self.run(meter, with_them, shape.words)
 
     def in_folder(self, meter: Meter, shape: Shape, size: int) -> tuple[Figures | None, Figures | None]:
-        """What runs of a shape in a folder cost, after the folder was made: without its requests, and with them.
+        """The costs of runs of a shape in a folder, after the folder was made: without its requests, and with them.
 
-        If opening is measured the first run is one in memory.
+        If opening is measured, the first run is in memory.
         """
         folder = self._place / "folder"
         folder.mkdir()
@@ -124,7 +124,7 @@ class Runs:
 
 
 def measured(program: str, meter: Meter, shape: Shape, size: int) -> Figures | None:
-    """What the requests of a shape cost, beyond a run without them; none if that takes too long."""
+    """The cost of the requests of a shape, beyond a run without them, or None if that takes too long."""
     with tempfile.TemporaryDirectory() as place:
         runs = Runs(program, Path(place))
         two_runs = runs.in_folder if shape.is_folder else runs.in_memory
@@ -135,14 +135,14 @@ def measured(program: str, meter: Meter, shape: Shape, size: int) -> Figures | N
 
 
 def timed(program: str, shape: Shape, size: int) -> Figures:
-    """The processor seconds of the requests of a shape, and how many they are."""
+    """The processor seconds of the requests of a shape, and their number."""
     figures = measured(program, seconds, shape, size)
     assert figures
     return figures._replace(cost=max(figures.cost, LEAST_SECONDS))
 
 
 def exponent(points: Sequence[tuple[int, float]]) -> float:
-    """The power of the size as which the time grows: the slope of the line through the logarithms."""
+    """The exponent with which the time grows with the size: the slope of the line through the logarithms."""
     sizes = [math.log(size) for size, _ in points]
     times = [math.log(time) for _, time in points]
     size, time = sum(sizes) / len(points), sum(times) / len(points)
@@ -151,7 +151,7 @@ def exponent(points: Sequence[tuple[int, float]]) -> float:
 
 
 def growth(program: str, shape: Shape, most: int, figures: Figures) -> Growth:
-    """How the time grows from an eighth of the size to all of it, of which the figures are."""
+    """How the time grows from an eighth of the size to the whole size, whose figures are given."""
     points = [(size, timed(program, shape, size).cost) for size in (most // 8, most // 4, most // 2)]
     points.append((most, figures.cost))
     return Growth(exponent(points), exponent(points[2:]))

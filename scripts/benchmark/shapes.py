@@ -30,16 +30,16 @@ from benchmark.requests import (
     visit,
 )
 
-# How many files a store has whose rows are read, and a folder that is opened.
+# The number of files of a store whose rows are read, and of a folder that is opened.
 FILES = 48
 
-# The memtable's entries at which none of these streams has a compaction that it doesn't ask for.
+# A number of memtable entries with which none of these streams has an automatic compaction.
 LARGE_MEMTABLE = ("--flush", "99999")
 
 # Requests by the size of a stream.
 Stream = Callable[[int], Iterable[Exchange]]
 
-# A row that is read, and the value that is there, or none.
+# A row that is read, and its value, or None.
 Found = tuple[bytes, bytes | None]
 
 
@@ -48,8 +48,8 @@ PASSES = 10
 
 
 class Shape(NamedTuple):
-    """A stream of requests by its size, and the store that it is sent to. The figures are those of a request, or of a row that
-    is gone over: the size says how many rows there are, and `passes` how often each is gone over, or 0."""
+    """A stream of requests by its size, and the store that it is sent to. The figures are per request, or per row read:
+    the size is the number of rows, and `passes` how often each is read, or 0."""
 
     size: int
     what: str
@@ -82,7 +82,7 @@ def short_row(number: int) -> bytes:
 
 
 def long_row(number: int) -> bytes:
-    """One of 1,000 rows of 4,000 bytes, which differ in their last ones."""
+    """One of 1,000 rows of 4,000 bytes, which differ in their last bytes."""
     return short_row(number).rjust(4000, b"r")
 
 
@@ -157,7 +157,7 @@ def stopped(number: int) -> Iterator[Exchange]:
 
 
 def cleaned(number: int) -> Iterator[Exchange]:
-    """What a cleaner does for the lock that such a transaction left."""
+    """The requests of a cleaner of the lock that such a transaction left."""
     start, commit = stamps_of(number)
     yield begin_clean(number + 1, second_row(number), start)
     yield decide(number + 1)
@@ -174,8 +174,8 @@ def stranded(count: int) -> Iterator[Exchange]:
 def collected(count: int) -> Iterator[Exchange]:
     """Writes 100 versions of each cell, collects the old ones, and reads each cell.
 
-    A collector's first pass visits each cell once. Its second erases what is old in a cell, and then finds the cell
-    tidy. At the end of each pass one visit finds no cell.
+    A collector's first pass visits each cell once. Its second pass erases the old versions of a cell, and then finds
+    the cell clean. At the end of each pass one visit finds no cell.
     """
     rows = count // 100
     for number in range(100 * rows):
@@ -193,7 +193,7 @@ def collected(count: int) -> Iterator[Exchange]:
 def together(first: int, sessions: int) -> Iterator[Exchange]:
     """Sessions with one write each that are open at once, and take each of their steps in turn.
 
-    Before them there were as many transactions as `first` says.
+    `first` transactions come before them.
     """
     begun, _ = stamps_of(first)
     pairs = [(begun + number, begun + sessions + number) for number in range(sessions)]
@@ -218,7 +218,7 @@ def wide_commits(count: int) -> Iterator[Exchange]:
 
 
 def rows_in_files(count: int) -> Iterator[Exchange]:
-    """Rows that are set in a random order, and written to files, as many to each."""
+    """Rows that are set in a random order, and written to files of equal numbers of rows."""
     for number, row in enumerate(shuffled_rows(count)):
         yield from transaction(number, [(row, middle_value(number))])
         if (number + 1) * FILES // count > number * FILES // count:
@@ -254,17 +254,17 @@ def all_scans(count: int) -> Iterator[Exchange]:
 
 
 def present(rows: list[bytes], number: int) -> Found:
-    """A row that is there, and its value."""
+    """An existing row, and its value."""
     return rows[number], middle_value(number)
 
 
 def missing(rows: list[bytes], number: int) -> Found:
-    """A row between those that are there."""
+    """A missing row between the existing ones."""
     return rows[number] + b"x", None
 
 
 def gets(count: int, start: int, found: Callable[[list[bytes], int], Found], passes: int = 1) -> Iterator[Exchange]:
-    """Reads in one session, drawn at random, over as many rows in files: one read a row and pass."""
+    """Random reads in one session, over `count` rows in files: one read per row and pass."""
     rows = shuffled_rows(count)
     draws = random.Random(2)
     yield begin(start)

@@ -1,24 +1,31 @@
-"""`python3 -m duqishom`: asks a store in words, from a terminal, a pipe or the command line; or looks into a folder."""
+"""`python3 -m duqishom`: a command shell for a store, used from a terminal, a pipe or the command line, and
+subcommands."""
 
 from __future__ import annotations
 
 import argparse
 import sys
-from collections.abc import Iterator, Sequence
-from contextlib import suppress
+from collections.abc import Sequence
+from contextlib import nullcontext
 
 from duqishom import backups, dumps, inspection, statistics
 from duqishom.gateway import command as gateway
 from duqishom.program import ProgramEnded
 from duqishom.refusals import Refused
 from duqishom.store import Store
+from duqishom.tellings import Form, show
+from duqishom.terminal import editing, lines
 from duqishom.version import VERSION
-from duqishom.words import Words, answer_all
+from duqishom.words import LINES, Quit, Words, answer_all, complete, help_of
 
-PROMPT = "> "
 GREETING = "duqishom {version}: {store}. The line help shows all lines; quit or the end of the input ends it."
 
-# The first words that stand for commands of their own, each with what runs it on the words behind.
+DESCRIPTION = """\
+Asks a store in words. Those of the command line are one line; without any,
+each line of the input is one. LINE --help shows the help of one. Subcommands
+have options of their own."""
+
+# The subcommands by their first words, each with the function that runs it on the words after it.
 COMMANDS = {
     "inspect": inspection.main,
     "serve": gateway.main,
@@ -29,43 +36,40 @@ COMMANDS = {
     "load": dumps.load_main,
 }
 
+# The subcommands as the help shows them.
+SHOWN = (
+    ("inspect FOLDER", "looks into a folder, without a program"),
+    ("serve --socket PATH", "serves a store to many clients"),
+    ("stats --socket PATH", "what such a gateway counts"),
+    ("verify FOLDER", "reads all of a folder, or of a backup"),
+    ("restore BACKUP FOLDER", "copies a backup back"),
+    ("dump, load", "write the cells of a store as lines of JSON, and read them"),
+)
 
-def lines() -> Iterator[str]:
-    """The lines of the input; at a terminal with a prompt before each, with editing and a history."""
-    is_terminal = sys.stdin.isatty()
-    if is_terminal:
-        with suppress(ImportError):
-            import readline  # noqa: F401
-    while True:
-        try:
-            yield input(PROMPT if is_terminal else "")
-        except EOFError:
-            if is_terminal:
-                print()
-            return
-        except KeyboardInterrupt:
-            if not is_terminal:
-                raise
-            print("^C (quit ends it)")
+
+def epilog() -> str:
+    """The lines and the subcommands, in two tables."""
+    table = [(line.usage, line.help) for line in LINES if line.help]
+    parts = (("lines", table), ("subcommands", SHOWN))
+    return "\n\n".join("\n".join([f"{name}:", *(f"  {form:33}{does}" for form, does in part)]) for name, part in parts)
 
 
 def parser() -> argparse.ArgumentParser:
     """The parser of the command line."""
     made = argparse.ArgumentParser(
         prog="duqishom",
-        description="Asks a store in words: in those of the command line, or a line for each request from the input. The word help"
-        " shows all lines. `inspect FOLDER` looks into a folder without a program, `serve` serves a store at a socket, and"
-        " `stats` says what such a gateway counts. `verify FOLDER` reads all of a folder or of a backup, and `restore BACKUP"
-        " FOLDER` copies one back. `dump` and `load` write the cells of a store as lines of JSON, and read them.",
+        description=DESCRIPTION,
+        epilog=epilog(),
+        formatter_class=argparse.RawDescriptionHelpFormatter,
     )
-    made.add_argument("--program", help="the tabletd to start: that of TABLETD, PATH or the repository where none is named")
+    made.add_argument("--program", help="the tabletd to start: that of TABLETD, this package or PATH if none is named")
     place = made.add_mutually_exclusive_group()
-    place.add_argument("--dir", help="the folder of the store: a new store in memory where none is named")
+    place.add_argument("--dir", help="the folder of the store: a new store in memory if none is named")
     place.add_argument("--socket", metavar="PATH", help="ask the store that a gateway serves there; no program is started")
     made.add_argument(
         "--log",
         action=argparse.BooleanOptionalAction,
-        help="have the folder get a log, or a new one get none: a new one gets a log where nothing is said",
+        help="have the folder get a log, or a new one get none: a new one gets a log if nothing is said",
     )
     made.add_argument("--log-bytes", metavar="L", help="given to the program: bytes of a log before a checkpoint empties it")
     made.add_argument("--flush", metavar="N", help="given to the program: how many entries a memtable has before it is compacted")
@@ -74,20 +78,24 @@ def parser() -> argparse.ArgumentParser:
     made.add_argument("--cache", metavar="C", help="given to the program: how many blocks of each file stay in memory")
     made.add_argument("--no-checkpoint", action="store_true", help="make no checkpoint of a folder at the end")
     made.add_argument("--record", metavar="FOLDER", help="keep all frames there, for tablet_audit")
+    form = made.add_mutually_exclusive_group()
+    form.add_argument("--json", dest="form", action="store_const", const=Form.JSON, help="show each answer as a line of JSON")
+    form.add_argument("--raw", dest="form", action="store_const", const=Form.RAW, help="show values as their bytes, with a line's end")
+    made.set_defaults(form=Form.TEXT)
     made.add_argument("--version", action="version", version=VERSION)
-    made.add_argument("words", nargs=argparse.REMAINDER, help="one line to be done")
+    made.add_argument("words", metavar="LINE", nargs=argparse.REMAINDER, help="one line to be done")
     return made
 
 
 def place_of(options: argparse.Namespace) -> str:
-    """Which store is asked, in words."""
+    """The store that is asked, in words."""
     if options.socket:
         return f"the store that is served at {options.socket}"
     return f"the store of {options.dir}" if options.dir else "a new store in memory, which ends with this command"
 
 
 def main(given: Sequence[str]) -> int:
-    """Runs the command. The status is 0 where each line was done, 1 where one was not, and 2 where the program failed."""
+    """Runs the command. The status is 0 if each line was done, 1 if one was not, and 2 if the program failed."""
     if given[:1] and given[0] in COMMANDS:
         try:
             return COMMANDS[given[0]](given[1:])
@@ -97,31 +105,50 @@ def main(given: Sequence[str]) -> int:
     options = parsing.parse_args(given)
     if options.log and options.dir is None:
         parsing.error("--log needs --dir")
-    named = ("log-bytes", "flush", "flush-bytes", "merge", "cache")
-    words = [word for name in named if (value := getattr(options, name.replace("-", "_"))) for word in (f"--{name}", value)]
+    told = help_of(options.words)
+    if told is not None:
+        print(told)
+        return 0
     try:
-        with Store(
-            options.program,
-            folder=options.dir,
-            words=words,
-            checkpoint_at_close=not options.no_checkpoint,
-            socket=options.socket,
-            record=options.record,
-            log=options.log,
-        ) as store:
-            asked = Words(store)
-            if options.words:
-                is_done, answer = asked.answer_words(options.words)
-                print(answer)
-                return 0 if is_done else 1
-            if sys.stdin.isatty():
-                print(GREETING.format(version=VERSION, store=place_of(options)))
-            return 0 if answer_all(asked, lines()) else 1
+        with opened(options) as store:
+            return asked(Words(store, options.socket), options)
     except (OSError, ProgramEnded, Refused) as failure:
         print(f"duqishom: {failure}", file=sys.stderr)
         return 2
     except KeyboardInterrupt:
         return 130
+
+
+def opened(options: argparse.Namespace) -> Store:
+    """The store that the options name."""
+    named = ("log-bytes", "flush", "flush-bytes", "merge", "cache")
+    words = [word for name in named if (value := getattr(options, name.replace("-", "_"))) for word in (f"--{name}", value)]
+    return Store(
+        options.program,
+        folder=options.dir,
+        words=words,
+        checkpoint_at_close=not options.no_checkpoint,
+        socket=options.socket,
+        record=options.record,
+        log=options.log,
+    )
+
+
+def asked(words: Words, options: argparse.Namespace) -> int:
+    """Does the line of the options, or else those of the input. Returns 0 if each was done, and 1 if one was not."""
+    if options.words:
+        try:
+            is_done, told = words.answer_words(options.words)
+        except Quit:
+            return 0
+        show(told, options.form)
+        return 0 if is_done else 1
+    is_terminal = sys.stdin.isatty()
+    by_pages = is_terminal and sys.stdout.isatty()
+    if is_terminal:
+        print(GREETING.format(version=VERSION, store=place_of(options)))
+    with editing(complete) if is_terminal else nullcontext():
+        return 0 if answer_all(words, lines(is_terminal), options.form, by_pages) else 1
 
 
 def run() -> int:

@@ -133,9 +133,9 @@ class Link:
 
 
 class Store:
-    """The store that a gateway serves at a socket. Each method that asks raises a `Refused` where the store refuses,
-    `ConnectionLost` where the gateway has closed the connection, and `TimeoutError` where a timeout was given and has
-    passed."""
+    """The store that a gateway serves at a socket. Each method that sends a request raises a `Refused` if the store
+    refuses it, `ConnectionLost` if the gateway has closed the connection, and `TimeoutError` if a timeout was given and
+    has passed."""
 
     def __init__(
         self,
@@ -243,7 +243,7 @@ class Store:
         return await self.ask_each(trip, stream)
 
     async def begin(self) -> int:
-        """Begins a session: its start."""
+        """Begins a session, and returns its start."""
         return await self.ask(Begin())
 
     @overload
@@ -403,11 +403,11 @@ class Store:
         return await self.ask(Step(start))
 
     async def stop(self, start: int) -> None:
-        """Ends the session where it stands. The cells that it holds stay locked until they are cleaned."""
+        """Ends the session in its current phase. The cells that it holds stay locked until they are cleaned."""
         await self.ask(Stop(start))
 
     async def clean_begin(self, row: bytes, family: bytes) -> Cleaner | None:
-        """Opens a cleaner at the lock of a cell, and None where no lock stands."""
+        """Opens a cleaner at the lock of a cell. Returns None if the cell isn't locked."""
         return await self.ask(CleanBegin(row, family))
 
     async def clean_step(self, cleaner: int) -> Cleaned:
@@ -427,7 +427,7 @@ class Store:
         return await self.ask(CollectBegin())
 
     async def collect_step(self, collector: int, visits: int = MOST_VISITS) -> Collection:
-        """Has a collector make so many visits, 1 to 1,000."""
+        """Has a collector make this many visits, 1 to 1,000."""
         return await self.ask(CollectStep(collector, visits))
 
     async def collect(self, visits: int = MOST_VISITS) -> int:
@@ -439,15 +439,15 @@ class Store:
         await self.ask(Minor(tablet))
 
     async def merge(self, tablet: int, count: int) -> None:
-        """Writes so many of a tablet's newest files as one."""
+        """Merges this many of a tablet's newest files into one."""
         await self.ask(Merge(tablet, count))
 
     async def major(self, tablet: int) -> None:
-        """Writes the memtable and all files of a tablet as one file."""
+        """Merges the memtable and all files of a tablet into one file."""
         await self.ask(Major(tablet))
 
     async def split(self, row: bytes) -> int:
-        """Cuts the tablet that holds a row behind that row: the number of the left part."""
+        """Splits the tablet that holds a row behind that row. Returns the number of the left part."""
         return await self.ask(Split(row))
 
     async def move(self, tablet: int, server: int) -> None:
@@ -455,8 +455,8 @@ class Store:
         await self.ask(Move(tablet, server))
 
     async def sweep(self) -> int:
-        """Removes the files that no tablet names: how many these were. In a folder without a log, the gateway makes a checkpoint
-        right behind it."""
+        """Removes the files that no tablet names, and returns their number. In a folder without a log, the gateway
+        makes a checkpoint right after it."""
         return await self.ask(Sweep())
 
     async def checkpoint(self) -> None:
@@ -464,13 +464,14 @@ class Store:
         await self.do(self._plans.checkpoint())
 
     async def restart_oracle(self) -> None:
-        """Has the oracle of stamps go on from its stored mark."""
+        """Restarts the oracle of stamps from its stored mark."""
         await self.ask(OracleRestart())
 
     async def raw(
         self, row: bytes, family: bytes, qualifier: Qualifier, lo: int = 0, hi: int = MOST_STAMP
     ) -> Version | None:
-        """The newest version of a cell's column in a range of stamps, both bounds included, and None where none is."""
+        """The newest version of a cell's column in a range of stamps, both bounds included, or None if there is no such
+        version."""
         return await self.ask(Raw(row, family, qualifier, lo, hi))
 
     async def make_room(self) -> None:

@@ -1,4 +1,4 @@
-"""What the store answers to reads, to steps, to cleaners and to collectors."""
+"""The store's answers to reads, steps, cleaners and collectors."""
 
 from __future__ import annotations
 
@@ -19,19 +19,19 @@ class Qualifier(IntEnum):
 
 @dataclass(frozen=True)
 class Nothing:
-    """Nothing was committed in the cell by the session's start."""
+    """Nothing was committed in the cell by the session's start, or the cell was deleted."""
 
 
 @dataclass(frozen=True)
 class Value:
-    """The value that was committed last by the session's start."""
+    """The last value committed by the session's start."""
 
     value: bytes
 
 
 @dataclass(frozen=True)
 class Pending:
-    """A lock at or below the session's start keeps the answer back: that of the session that began here."""
+    """A lock at or below the session's start hides the value. `start` is the start of the lock's session."""
 
     start: int
 
@@ -41,11 +41,11 @@ Found = Nothing | Value | Pending
 
 @dataclass(frozen=True)
 class Unsent:
-    """The cell has a value that isn't sent: keys alone were asked for, or it is too long. A Get reads it."""
+    """The cell has a value that isn't sent: only keys were asked for, or it is too long. A Get reads it."""
 
 
 class ScanItem(NamedTuple):
-    """A cell that a scan names, and what it has there."""
+    """A cell that a scan names, and what the scan found in it."""
 
     row: bytes
     family: bytes
@@ -54,8 +54,8 @@ class ScanItem(NamedTuple):
 
 @dataclass(frozen=True)
 class Scanned:
-    """What a scan found: the cells that it names, in order, and the row and the family up to and with which it has gone: None if
-    it has gone over all of its range. A cell that it has gone over and doesn't name has nothing."""
+    """A scan's result: the cells that it names, in order, and the row and family of the last cell that it visited, or
+    None if it reached the end of its range. A cell that it visited and doesn't name has no value."""
 
     items: tuple[ScanItem, ...]
     upto: tuple[bytes, bytes] | None
@@ -63,7 +63,7 @@ class Scanned:
 
 @dataclass(frozen=True)
 class Held:
-    """The session holds this cell, of so many."""
+    """The session holds this cell, number `place` of `count`."""
 
     place: int
     count: int
@@ -98,7 +98,8 @@ class Lost:
 
 @dataclass(frozen=True)
 class Finished:
-    """This cell, of so many, has its record, and its lock is gone. With the last one the session has ended."""
+    """This cell, number `place` of `count`, has its commit record, and its lock is gone. The session ends with the last
+    cell."""
 
     place: int
     count: int
@@ -109,7 +110,7 @@ Progress = Held | Conflict | Stamped | Committed | Lost | Finished
 
 @dataclass(frozen=True)
 class Cleaner:
-    """A cleaner: its number, and the start of the session whose lock it is to clear."""
+    """A cleaner: its number, and the start of the session whose lock it clears."""
 
     number: int
     start: int
@@ -122,7 +123,7 @@ class Decided:
 
 @dataclass(frozen=True)
 class RolledForward:
-    """The session has committed at this stamp: the lock gave way to its record."""
+    """The session has committed at this stamp: its commit record has replaced the lock."""
 
     commit: int
 
@@ -142,8 +143,8 @@ Cleaned = Decided | RolledForward | RolledBack | Gone
 
 @dataclass(frozen=True)
 class Collector:
-    """A collector: its number, and its floor: the start of the oldest session that was active when it began, or one more
-    than the greatest stamp that was answered where none was."""
+    """A collector: its number, and its floor: the start of the oldest session that was active when it began, or, if
+    none was, one more than the greatest stamp answered."""
 
     number: int
     floor: int
@@ -156,7 +157,7 @@ class More:
 
 @dataclass(frozen=True)
 class Blocked:
-    """A lock below the floor stands on this cell, that of the session that began here: clean it, and go on."""
+    """This cell has a lock below the floor, of the session with this start. Clean it, and continue."""
 
     row: bytes
     family: bytes
@@ -165,7 +166,7 @@ class Blocked:
 
 @dataclass(frozen=True)
 class Collected:
-    """What no session from the floor on can read is erased, and the collector has closed."""
+    """All versions that no session from the floor on can read are erased, and the collector is closed."""
 
 
 Collection = More | Blocked | Collected

@@ -12,13 +12,13 @@ from duqishom.files import ROOT_FILE
 from duqishom.folders import FolderDamaged, has_log, holder_of
 from duqishom.inspection import Folder, committed, note_state, status_of
 
-# What a backup can't be checked for.
+# The limits of the check of a backup.
 NO_CHECKSUMS = "Sorted files have no checksums: a changed byte inside a value isn't noticed."
 
 
 def whole(path: Path) -> str:
-    """What a folder has, in a line, once all of it was read. FolderDamaged, or BadForm of a lock or a record, where it isn't
-    whole."""
+    """A one-line summary of a folder, after all of it was read. FolderDamaged, or BadForm for a lock or a record, if it
+    isn't intact."""
     if not (path / ROOT_FILE).exists():
         raise FolderDamaged(path / ROOT_FILE, "there is no root")
     folder = Folder(path)
@@ -31,7 +31,7 @@ def whole(path: Path) -> str:
 
 
 def verify_main(words: Sequence[str]) -> int:
-    """Verifies a folder. The status is 0, 1 where something is wrong, and 2 where it can't be read."""
+    """Verifies a folder. The status is 0, 1 if something is wrong, and 2 if the folder can't be read."""
     parser = argparse.ArgumentParser(
         prog="duqishom verify",
         description="Reads all files of a folder or of a backup, and names the first one that is outside its form, and its first"
@@ -49,7 +49,7 @@ def verify_main(words: Sequence[str]) -> int:
 
 
 def restore_main(words: Sequence[str]) -> int:
-    """Restores a backup. The status is 0, 1 where the backup isn't whole, and 2 where it can't be read or copied."""
+    """Restores a backup. The status is 0, 1 if the backup isn't intact, and 2 if it can't be read or copied."""
     parser = argparse.ArgumentParser(
         prog="duqishom restore",
         description="Verifies a backup, and copies it into a folder that is empty or new: its store is then opened there. The root"

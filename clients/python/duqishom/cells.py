@@ -15,12 +15,12 @@ from duqishom.texts import text_of
 LONGEST_ROW = 4000
 FAMILY = re.compile(rb"[!-9;-~]{1,64}")
 
-# No family comes behind this one.
+# The greatest family: none sorts after it.
 LAST_FAMILY = b"~" * 64
 
 
 class Cell(NamedTuple):
-    """A row and a family. Cells stand in the order of their rows, and those of a row in the order of their families."""
+    """A row and a family. Cells are ordered by row, and then by family."""
 
     row: bytes
     family: bytes
@@ -31,7 +31,7 @@ class Cell(NamedTuple):
 
 @dataclass(frozen=True)
 class CellRange:
-    """The cells behind a cell, up to and with a row, of one family or of all."""
+    """The cells after a cell, up to and including a row, of one family or of all."""
 
     after: Cell | None
     end: bytes | None
@@ -44,7 +44,7 @@ class CellRange:
         return is_before_end and is_of_family and (self.after is None or self.after < cell)
 
     def behind(self, cell: Cell) -> CellRange:
-        """What is left of the range behind a cell."""
+        """The rest of the range after a cell."""
         return replace(self, after=cell)
 
 
@@ -84,7 +84,7 @@ def range_of(
 
 
 def row_argument(name: str, row: bytes | None, shortest: int) -> bytes | None:
-    """A row that was given for this argument, where one was. BadRow where it is shorter than this, or too long."""
+    """A row given for this argument, if any. BadRow if it is shorter than `shortest`, or too long."""
     if row is None:
         return None
     if not shortest <= len(row := bytes_argument(name, row)) <= LONGEST_ROW:
@@ -93,7 +93,7 @@ def row_argument(name: str, row: bytes | None, shortest: int) -> bytes | None:
 
 
 def last_before(row: bytes) -> Cell | None:
-    """The last cell that may stand before those of a row: None if none may."""
+    """The greatest cell that sorts before the cells of a row, or None if there can't be any."""
     if row == b"" or row == b"\0":
         return None
     shorter, last = row[:-1], row[-1]
@@ -101,8 +101,9 @@ def last_before(row: bytes) -> Cell | None:
 
 
 def entries_of(scanned: Scanned, writes: dict[Cell, bytes | None]) -> dict[Cell, Value | Pending | Unsent]:
-    """What a scan found, in order, as a transaction with these writes in the rest of the range sees it: what it has set in place
-    of what was there, and nothing of what it has deleted. The writes that the scan has gone over are taken out."""
+    """A scan's cells, in order, as seen by a transaction with these writes in the rest of the range: values that it has
+    set replace the values found, and cells that it has deleted are left out. The writes that the scan has passed are
+    removed from `writes`."""
     found = {Cell(item.row, item.family): item.found for item in scanned.items}
     mine = [cell for cell in writes if scanned.upto is None or cell <= scanned.upto]
     for cell in mine:

@@ -1,4 +1,4 @@
-"""What a lock and a record say: the values of the columns lock and write."""
+"""The contents of a lock and of a commit record: the values of the columns lock and write."""
 
 from __future__ import annotations
 
@@ -9,7 +9,7 @@ START_BYTES = 8
 
 
 class BadForm(Exception):
-    """Bytes are outside their form. `at` is the offset of the first that is wrong, where there is one."""
+    """Bytes are malformed. `at` is the offset of the first wrong byte, if there is one."""
 
     def __init__(self, what: str, at: int = 0) -> None:
         super().__init__(what)
@@ -18,14 +18,15 @@ class BadForm(Exception):
 
 
 class Kind(IntEnum):
-    """What a session does to a cell."""
+    """The kind of a session's write to a cell."""
 
     SET = 0x53
     DELETE = 0x44
 
 
 class Lock(NamedTuple):
-    """A lock: the first cell of its session, which decides what becomes of it, and what the session does to the cell here."""
+    """A lock: the first cell of its session, which decides its fate, and the kind of the session's write to the locked
+    cell."""
 
     row: bytes
     family: bytes
@@ -33,15 +34,15 @@ class Lock(NamedTuple):
 
 
 class Record(NamedTuple):
-    """A record of a commit: the start of its session, and what it did to the cell."""
+    """A commit record: the start of its session, and the kind of its write to the cell."""
 
     start: int
     kind: Kind
 
 
 def read_place(place: bytes) -> tuple[bytes, bytes, int]:
-    """The row and the family at the front of a text, and how many bytes they take. Each byte 00 of a row is followed by FF there,
-    and 00 00 ends row and family."""
+    """The row and the family at the front of a text, and the number of bytes that they take. Each byte 00 of a row is
+    followed by FF there, and 00 00 ends row and family."""
     at = 0
     while (zero := place.find(b"\x00", at)) >= 0 and place[zero + 1 : zero + 2] == b"\xff":
         at = zero + 2
@@ -54,7 +55,7 @@ def read_place(place: bytes) -> tuple[bytes, bytes, int]:
 
 
 def read_kind(value: bytes, at: int) -> Kind:
-    """The kind at the end of a value: a set where the value ends before it, as older programs wrote it."""
+    """The kind at the end of a value: a set if the value ends before it, as older programs wrote it."""
     if len(value) == at:
         return Kind.SET
     if value[at] not in (Kind.SET, Kind.DELETE):
@@ -65,13 +66,13 @@ def read_kind(value: bytes, at: int) -> Kind:
 
 
 def read_lock(value: bytes) -> Lock:
-    """The lock that a value of the column lock says. BadForm where it says none."""
+    """The lock that a value of the column lock encodes. BadForm if it is malformed."""
     row, family, end = read_place(value)
     return Lock(row, family, read_kind(value, end))
 
 
 def read_record(value: bytes) -> Record:
-    """The record that a value of the column write says. BadForm where it says none."""
+    """The commit record that a value of the column write encodes. BadForm if it is malformed."""
     if len(value) < START_BYTES:
         raise BadForm("a start has 8 bytes", len(value))
     return Record(int.from_bytes(value[:START_BYTES], "big"), read_kind(value, START_BYTES))

@@ -1,4 +1,4 @@
-"""Frames between a client and a store. The requests of a trip leave in one write where there is room for it."""
+"""Frames between a client and a store. The requests of a trip are sent in one write if they fit."""
 
 from __future__ import annotations
 
@@ -12,18 +12,18 @@ from typing import Protocol
 
 LONGEST_BODY = 1_048_576
 
-# The most bytes that are read at once.
+# The maximum size of a read in bytes.
 PIECE = 65_536
 
 
 class Connection(Protocol):
-    """A way to a store."""
+    """A connection to a store."""
 
     def ask(self, bodies: Sequence[bytes], timeout: float | None = None) -> list[bytes]:
         """Sends these bodies of requests, each in a frame, and gives the bodies of their replies, in order.
 
-        FrameTooLarge where a body is too long: then nothing is sent. RequestTimedOut where so many seconds pass. ProgramEnded
-        where the store ends in place of a reply.
+        FrameTooLarge if a body is too long: then nothing is sent. RequestTimedOut after `timeout` seconds. ProgramEnded
+        if the store ends instead of replying.
         """
 
     def tell(self, body: bytes, timeout: float | None = None) -> None:
@@ -31,21 +31,21 @@ class Connection(Protocol):
         where an earlier request that was interrupted has no reply in so many seconds."""
 
     def kill(self) -> None:
-        """Leaves the store at once, whatever it is at."""
+        """Disconnects from the store at once, whatever it is doing."""
 
     def close(self) -> int:
-        """Leaves the store behind its last reply, and gives the status with which it ended: 0 where all was well."""
+        """Disconnects from the store after its last reply, and returns its exit status: 0 if all was well."""
 
 
 class Descriptor(Protocol):
-    """What bytes are read from or written to: a pipe's end, or a socket."""
+    """An object to read bytes from or write bytes to: a pipe's end, or a socket."""
 
     def fileno(self) -> int: ...
     def close(self) -> None: ...
 
 
 class Recorder(Protocol):
-    """Whoever keeps the frames that go in and those that come out."""
+    """A recorder of the frames sent and received."""
 
     def note_requests(self, frames: bytes) -> None: ...
     def note_replies(self, frames: bytes) -> None: ...
@@ -56,14 +56,15 @@ class StreamEnded(Exception):
 
 
 class RequestTimedOut(Exception):
-    """No reply came in the time that was given. The request may be done nonetheless, now or later; the next one waits for both."""
+    """No reply came within the timeout. The request may still be done, now or later; the next request waits for both
+    replies."""
 
 
 class Trip:
-    """Requests on their way: what of them is written, and what of their replies is read.
+    """Requests in flight: the numbers of bytes written so far, and the pieces of replies read so far.
 
-    Both only grow, each by one call that nothing can interrupt; so whatever stops the one who asked, Ctrl-C too, the trip can be
-    taken to its end later.
+    Both only grow, each by one call that nothing can interrupt. So whatever interrupts the caller, Ctrl-C too, the trip
+    can be completed later.
     """
 
     def __init__(self, bodies: Sequence[bytes], behind: Trip | None = None, is_waited_for: bool = True) -> None:
@@ -85,7 +86,7 @@ class Frames:
     """A stream of frames each way, over two descriptors or one."""
 
     def __init__(self, reads: Descriptor, writes: Descriptor, recorder: Recorder | None = None) -> None:
-        """Takes over both. The one that is written to no longer blocks. Each trip that comes to its end is recorded."""
+        """Takes over both descriptors, and makes the one written to non-blocking. Each completed trip is recorded."""
         self._reads, self._writes = reads, writes
         self._recorder = recorder
         self._trip: Trip | None = None
@@ -93,9 +94,9 @@ class Frames:
         OPEN.add(self)
 
     def ask(self, bodies: Sequence[bytes], timeout: float | None = None) -> list[bytes]:
-        """The bodies of the replies to these requests. A trip that was interrupted is taken to its end before.
+        """The bodies of the replies to these requests. A trip that was interrupted is completed first.
 
-        StreamEnded where the other side closes, and RequestTimedOut.
+        StreamEnded if the other side closes, and RequestTimedOut.
         """
         deadline = None if timeout is None else time.monotonic() + timeout
         self._trip = trip = Trip(bodies, self._unwaited(deadline))
@@ -127,7 +128,7 @@ class Frames:
                 self._finish(self._trip, time.monotonic() + timeout)
 
     def _finish(self, trip: Trip, deadline: float | None) -> list[bytes]:
-        """Takes a trip to its end: the bodies of its replies."""
+        """Completes a trip, and returns the bodies of its replies."""
         replies: list[bytes] = []
         rest, taken = b"", 0
         while len(replies) < trip.count:
@@ -143,17 +144,17 @@ class Frames:
         return replies
 
     def _move(self, trip: Trip, deadline: float | None) -> None:
-        """Writes or reads once, what can be done first."""
+        """Writes or reads once, whichever is possible first."""
         unsent = trip.unsent()
         try:
             if unsent:
-                # `extend` notes what the call gives before a signal's handler can run
+                # `extend` records the call's result before a signal's handler can run
                 trip.written.extend(map(os.write, (self._writes.fileno(),), (unsent,)))
                 return
         except BlockingIOError:
             pass
         except ConnectionError:
-            # What the other side has answered before it closed is still there
+            # Replies that the other side sent before it closed can still be read
             unsent = memoryview(b"")
         except ValueError:
             raise StreamEnded() from None
@@ -175,7 +176,8 @@ class Frames:
             raise StreamEnded()
 
     def _is_readable(self, is_sending: bool, deadline: float | None) -> bool:
-        """Waits until there is something to read, or room to write where something is left: whether there is something to read."""
+        """Waits until there is something to read or, if bytes are unsent, space to write. Returns whether there is
+        something to read."""
         poll = select.poll()
         reads, writes = self._reads.fileno(), self._writes.fileno()
         if is_sending:
@@ -197,7 +199,7 @@ OPEN: weakref.WeakSet[Frames] = weakref.WeakSet()
 
 
 def whole_frames(read: bytes, replies: list[bytes]) -> int:
-    """Adds the bodies of the whole frames that were read: the bytes that these take."""
+    """Appends the bodies of the whole frames that were read, and returns the number of bytes that the frames take."""
     at, end = 0, len(read)
     while at + 4 <= end:
         behind = at + 4 + int.from_bytes(read[at : at + 4], "big")
@@ -209,7 +211,8 @@ def whole_frames(read: bytes, replies: list[bytes]) -> int:
 
 
 def close_all() -> None:
-    """Closes all streams: those of the parent, in a process that was forked. Otherwise its program would wait for both to close."""
+    """Closes all streams: in a forked process, the parent's streams. Otherwise the program would wait for both to
+    close."""
     for frames in list(OPEN):
         frames.close()
 

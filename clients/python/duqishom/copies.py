@@ -11,23 +11,25 @@ from typing import BinaryIO
 from duqishom.files import LOG_FILE, MARK_FILE, ROOT_FILE, SIGN_FILE, file_name, renewed_log, sign_of
 from duqishom.folders import read_log, root_in
 
-# The bytes that are copied at once.
+# The size of a piece that is copied at once, in bytes.
 PIECE = 1 << 20
 
 
 class NotCopied(ValueError):
-    """A store wasn't copied: the text says why. What there is of the copy has no root, so it is none."""
+    """A store wasn't copied: the text says why. A partial copy has no root, so it isn't a store."""
 
 
 def nothing() -> None:
-    """Goes on."""
+    """Does nothing: the copying continues."""
 
 
 def copy_checkpoint(source: str, target: str, go_on: Callable[[], None] = nothing) -> None:
-    """Copies the last checkpoint of a folder into another one, which is empty, or is made. If it has a log, the copy has its sign
-    and a log without edits over the root. The program may put another root meanwhile, but may remove no file.
+    """Copies the last checkpoint of a folder into another one, which is empty or is created. If it has a log, the copy
+    gets its sign and a log without edits over the root. The program may put another root meanwhile, but must not remove
+    a file.
 
-    `go_on` is called before each piece, and may raise what ends the copying. NotCopied where the other folder has files.
+    `go_on` is called before each piece, and may raise an exception to end the copying. NotCopied if the other folder
+    has files.
     """
     place, copy = Path(source), empty_folder(target)
     data = (place / ROOT_FILE).read_bytes()
@@ -40,15 +42,16 @@ def copy_checkpoint(source: str, target: str, go_on: Callable[[], None] = nothin
 
 
 def restore(backup: str, target: str) -> None:
-    """Copies the store of a folder that no program has, its log with all edits too, into a folder which is empty, or is made.
-    NotCopied where that has files."""
+    """Copies the store of a folder that no program has open, with its log and all edits, into a folder that is empty or
+    is created. NotCopied if that has files."""
     place, copy = Path(backup), empty_folder(target)
     beside = {name: (place / name).read_bytes() for name in (SIGN_FILE, LOG_FILE) if (place / name).exists()}
     copy_store(place, copy, (place / ROOT_FILE).read_bytes(), beside, nothing)
 
 
 def empty_folder(target: str) -> Path:
-    """A folder without files: one that is made, for its owner alone, where there is nothing. NotCopied where it has some."""
+    """A folder without files. If it doesn't exist it is created, accessible to its owner only. NotCopied if it has
+    files."""
     copy = Path(target)
     copy.mkdir(mode=0o700, exist_ok=True)
     if any(copy.iterdir()):
@@ -58,8 +61,8 @@ def empty_folder(target: str) -> Path:
 
 
 def copy_store(place: Path, copy: Path, data: bytes, beside: Mapping[str, bytes], go_on: Callable[[], None]) -> None:
-    """Copies what a root of these bytes names, and the mark, beside files of these bytes. The root is last: so a copy that was cut
-    short has none."""
+    """Copies the files that a root of these bytes names and the mark, and writes the files in `beside`. The root is
+    written last, so an incomplete copy has no root."""
     root = root_in(place, data)
     for name, said in beside.items():
         write_synced(copy / name, BytesIO(said), go_on)
@@ -74,9 +77,9 @@ def copy_store(place: Path, copy: Path, data: bytes, beside: Mapping[str, bytes]
 
 
 def write_synced(path: Path, source: BinaryIO, go_on: Callable[[], None] = nothing) -> None:
-    """Writes a new file, and forces it and its name to the disk. OSError, which names the file, where that can't be done."""
+    """Writes a new file, and syncs it and its name to disk. OSError, which names the file, if that fails."""
     try:
-        with path.open("xb") as file:
+        with open(path, "xb", opener=open_private) as file:
             while piece := source.read(PIECE):
                 go_on()
                 file.write(piece)
@@ -88,8 +91,13 @@ def write_synced(path: Path, source: BinaryIO, go_on: Callable[[], None] = nothi
         raise
 
 
+def open_private(path: str, flags: int) -> int:
+    """Opens a file which, where it is made, is for its owner alone."""
+    return os.open(path, flags, 0o600)
+
+
 def sync_folder(path: Path) -> None:
-    """Forces the names of a folder to the disk."""
+    """Syncs the names of a folder to disk."""
     descriptor = os.open(path, os.O_RDONLY)
     try:
         os.fsync(descriptor)

@@ -2,7 +2,8 @@
 
     {"row": "Bob", "family": "bal", "value": "10"}
 
-Each text stands for bytes: it is UTF-8, in which `\\x0a` stands for the byte 0A. So no byte is lost, whatever reads the lines.
+Each text encodes bytes: it is UTF-8, in which `\\x0a` stands for the byte 0A. So no byte is lost, whatever reads the
+lines.
 """
 
 from __future__ import annotations
@@ -27,20 +28,20 @@ from duqishom.transactions import MOST_WRITES, Patience, Transaction, Transactio
 Entry = tuple[bytes, bytes, bytes]
 NAMES = ("row", "family", "value")
 
-# A dump waits for each lock for a second before it takes that for one that was left behind. A load merges files as it goes.
+# A dump waits a second for each lock before it treats the lock as abandoned. A load merges files on the way.
 DUMP_PATIENCE = Patience(tries=100)
 LOAD_WORDS = ("--merge", "8")
 
-# How many cells are dumped between two reports of progress.
+# The number of cells dumped between two reports of progress.
 REPORTED = 1000
 
 
 class BadLine(Exception):
-    """A line isn't that of a cell."""
+    """A line isn't a cell's."""
 
 
 class Progress:
-    """How many cells are done: on the standard error, where that is a terminal."""
+    """The number of cells done, shown on the standard error if that is a terminal."""
 
     def __init__(self, is_shown: bool = True) -> None:
         self.cells = 0
@@ -65,7 +66,7 @@ def line_of(cell: Entry) -> bytes:
 
 
 def cell_of(line: bytes) -> Entry:
-    """The cell of a line. BadLine where it is none."""
+    """The cell of a line. BadLine if it is malformed."""
     try:
         told = json.loads(line)
     except (ValueError, RecursionError) as why:
@@ -89,7 +90,8 @@ def dump(cells: Iterable[Entry], out: BinaryIO, progress: Progress) -> None:
 
 
 def load(store: Store, lines: Iterable[bytes], progress: Progress) -> None:
-    """Sets the cells of lines, as many at a time as a transaction may. BadLine, with its number, at a line that is none."""
+    """Sets the cells of lines, in transactions of as many cells as possible. BadLine, with the line's number, at a
+    malformed line."""
     numbered = enumerate(lines, start=1)
     while batch := list(islice(numbered, MOST_WRITES)):
         cells = list(cells_of(batch))
@@ -125,7 +127,7 @@ def parser_of(command: str, description: str, file: str) -> argparse.ArgumentPar
 
 
 def status(command: str, work: Callable[[], None]) -> int:
-    """The status of work at a store: 0, 1 where a line or a transaction came to nothing, 2 where the store or a file failed."""
+    """The status of work at a store: 0, 1 if a line or a transaction failed, 2 if the store or a file failed."""
     try:
         work()
     except BrokenPipeError:
@@ -140,7 +142,7 @@ def status(command: str, work: Callable[[], None]) -> int:
 
 
 def dump_main(words: Sequence[str]) -> int:
-    """Dumps a store. The status is 0, 1 where a folder isn't whole, and 2 where the store or the file failed."""
+    """Dumps a store. The status is 0, 1 if a folder isn't intact, and 2 if the store or the file failed."""
     options = parser_of(
         "dump",
         "Writes the committed cells of one moment, each as a line of JSON. Of a folder it reads the files alone: the last"
@@ -170,7 +172,7 @@ def dump_main(words: Sequence[str]) -> int:
 
 
 def load_main(words: Sequence[str]) -> int:
-    """Loads a dump. The status is 0, 1 where a line or a transaction came to nothing, and 2 where the store or the file failed."""
+    """Loads a dump. The status is 0, 1 if a line or a transaction failed, and 2 if the store or the file failed."""
     options = parser_of(
         "load",
         f"Sets the cells of a dump, {MOST_WRITES} in a transaction. Where it ends early, it says how many are set; it may be begun"

@@ -1,4 +1,4 @@
-"""Fields of request and reply bodies. Numbers are big-endian, and bytes stand behind their length."""
+"""Fields of request and reply bodies. Numbers are big-endian, and bytes follow their length."""
 
 from __future__ import annotations
 
@@ -8,17 +8,17 @@ class MalformedReply(Exception):
 
 
 def number(width: int, value: int) -> bytes:
-    """A number in so many bytes. OverflowError where it has no room there."""
+    """A number in `width` bytes. OverflowError if it doesn't fit."""
     return value.to_bytes(width, "big")
 
 
 def counted(text: bytes) -> bytes:
-    """Bytes behind their length."""
+    """Bytes after their length."""
     return number(4, len(text)) + text
 
 
 def bytes_argument(name: str, given: bytes) -> bytes:
-    """What was given for this argument, as bytes. TypeError, with its name, where it is something else."""
+    """The value given for this argument, as bytes. TypeError, with the argument's name, if it has another type."""
     if isinstance(given, bytes):
         return given
     if isinstance(given, (bytearray, memoryview)):
@@ -27,7 +27,7 @@ def bytes_argument(name: str, given: bytes) -> bytes:
 
 
 def counted_argument(name: str, given: bytes) -> bytes:
-    """What was given for this argument, behind its length."""
+    """The value given for this argument, after its length."""
     return counted(bytes_argument(name, given))
 
 
@@ -39,7 +39,7 @@ class FieldReader:
         self._at = 0
 
     def bytes_of(self, length: int) -> bytes:
-        """The next so many bytes."""
+        """The next `length` bytes."""
         taken = self._body[self._at : self._at + length]
         if len(taken) < length:
             raise MalformedReply(f"the body ends inside a field: {self._body.hex(' ')}")
@@ -47,21 +47,21 @@ class FieldReader:
         return taken
 
     def number(self, width: int) -> int:
-        """The next number, which has so many bytes."""
+        """The next number, of `width` bytes."""
         at, self._at = self._at, self._at + width
         if self._at > len(self._body):
             raise MalformedReply(f"the body ends inside a field: {self._body.hex(' ')}")
         return int.from_bytes(self._body[at : self._at], "big")
 
     def counted(self) -> bytes:
-        """The next bytes that stand behind their length."""
+        """The next bytes with a length before them."""
         return self.bytes_of(self.number(4))
 
     def rest(self) -> bytes:
-        """All that is left."""
+        """All remaining bytes."""
         return self.bytes_of(len(self._body) - self._at)
 
     def end(self) -> None:
-        """MalformedReply where the body goes on."""
+        """MalformedReply if bytes remain."""
         if self._at < len(self._body):
             raise MalformedReply(f"the body goes on behind its last field: {self._body.hex(' ')}")

@@ -1,6 +1,6 @@
 """The forms of the files of a folder: sorted files, the root, the log and its sign, the mark. `docs/FORMATS.md` has them in words.
 
-Each is read as the program reads it, and what stands outside its form is named by its first wrong byte.
+Each is read as the program reads it, and malformed files are reported with the offset of their first wrong byte.
 """
 
 from __future__ import annotations
@@ -43,7 +43,7 @@ Bytes = bytes | mmap
 
 
 def file_name(name: int) -> str:
-    """How the file of a name is called in its folder. That of 0 is the root."""
+    """The file name for a number in its folder. Number 0 is the root."""
     return f"t{name:016x}.tab"
 
 
@@ -60,7 +60,7 @@ class Key(NamedTuple):
 
 
 class Entry(NamedTuple):
-    """An entry of a sorted file: a version with its value, or its erasure where there is none."""
+    """An entry of a sorted file: a version with its value, or its erasure if the value is None."""
 
     text: bytes
     value: bytes | None
@@ -86,7 +86,7 @@ LOG_RECORD = struct.Struct(">QBQ")
 
 
 def first_difference(got: bytes, wanted: bytes) -> int:
-    """The offset of the first byte that two texts don't share."""
+    """The offset of the first byte in which two texts differ."""
     for at, (one, other) in enumerate(zip(got, wanted)):
         if one != other:
             return at
@@ -94,7 +94,7 @@ def first_difference(got: bytes, wanted: bytes) -> int:
 
 
 def key_of(text: bytes) -> Key:
-    """The key that a text spells: row, family, column and stamp. BadForm where it spells none."""
+    """The key that a text encodes: row, family, column and stamp. BadForm if it is malformed."""
     zero, at = text.find(b"\x00"), 0
     while zero >= 0 and text[zero + 1 : zero + 2] == b"\xff":
         at = zero + 2
@@ -120,7 +120,7 @@ def key_of(text: bytes) -> Key:
 
 
 class SortedFile:
-    """The bytes of a sorted file: its head and foot are read at once, and its entries when they are asked for."""
+    """The bytes of a sorted file: its header and footer are read at once, its entries on demand."""
 
     def __init__(self, data: Bytes) -> None:
         self._data = data
@@ -141,7 +141,7 @@ class SortedFile:
             raise BadForm("the index isn't where the foot says", self._foot)
 
     def entries(self) -> Iterator[Entry]:
-        """The entries, in order, with no more looked at than where each of them ends."""
+        """The entries, in order. Only the end of each entry is checked."""
         data, at = self._data, 8
         while at < self.index:
             key, kind = self._counted(at, "a key")
@@ -149,7 +149,7 @@ class SortedFile:
             yield Entry(key, value)
 
     def _counted(self, at: int, what: str) -> tuple[bytes, int]:
-        """Bytes behind their length, and where they end."""
+        """Bytes after their length, and the offset of their end."""
         data, text = self._data, at + 4
         if text > self.index:
             raise BadForm(f"the entries end inside {what}", at)
@@ -159,7 +159,7 @@ class SortedFile:
         return bytes(data[text:end]), end
 
     def check(self) -> None:
-        """Reads all of it. BadForm at the first byte that is wrong."""
+        """Reads the whole file. BadForm at the first wrong byte."""
         index, count = self._check_entries()
         found = bytes(self._data[self.index : self._foot])
         wanted = b"".join(self.form.place.pack(at, length, len(key)) + key for at, length, key in index)
@@ -171,7 +171,7 @@ class SortedFile:
             raise BadForm("the foot's numbers aren't those of the file", self._foot + first_difference(said, numbers))
 
     def _check_entries(self) -> tuple[list[tuple[int, int, bytes]], int]:
-        """The blocks that the entries make, each with its offset, its length and its first key, and how many entries there are."""
+        """The blocks of the entries, each with its offset, its length and its first key, and the number of entries."""
         blocks: list[tuple[int, int, bytes]] = []
         at, count, last = 8, 0, b""
         for text, value in self.entries():
@@ -202,7 +202,7 @@ class FileRef(NamedTuple):
 
 
 class RootTablet(NamedTuple):
-    """A tablet of a root: the last has no end. The newest of its files stands first."""
+    """A tablet of a root: the last has no end. Its newest file is first."""
 
     number: int
     end: bytes | None
@@ -211,7 +211,7 @@ class RootTablet(NamedTuple):
 
 
 class Root(NamedTuple):
-    """What a root says: of a new store, where there is none."""
+    """The contents of a root file, or those of a new store if there isn't one."""
 
     format: int
     top: int
@@ -224,14 +224,14 @@ NEW_ROOT = Root(0, 0, 0, 1, (RootTablet(1, None, 0, ()),))
 
 
 class RootReader:
-    """Takes the parts of a root from its front. BadForm at the byte where one isn't as it must be."""
+    """Reads the parts of a root from its front. BadForm at the byte where a part is wrong."""
 
     def __init__(self, data: bytes) -> None:
         self.data = data
         self.at = 0
 
     def take(self, count: int) -> bytes:
-        """The next so many bytes."""
+        """The next `count` bytes."""
         taken = self.data[self.at : self.at + count]
         if len(taken) < count:
             raise BadForm("the root ends inside a field", len(self.data))
@@ -239,7 +239,7 @@ class RootReader:
         return taken
 
     def number(self, width: int, least: int, most: int, what: str) -> int:
-        """The next number, which has so many bytes and lies within these bounds."""
+        """The next number, of `width` bytes and within these bounds."""
         at, found = self.at, int.from_bytes(self.take(width), "big")
         if not least <= found <= most:
             raise BadForm(f"{what} is {found}, and not {least} to {most}", at)
@@ -258,7 +258,7 @@ class RootReader:
 
 
 def root_of(data: bytes) -> Root:
-    """The root that these bytes spell."""
+    """The root that these bytes encode."""
     fields = RootReader(data)
     head = fields.take(8)
     if head not in ROOT_HEADS:
@@ -285,7 +285,7 @@ def root_of(data: bytes) -> Root:
 def read_root_tablet(
     fields: RootReader, form: int, next_name: int, count: int, before: list[RootTablet]
 ) -> RootTablet:
-    """The next tablet of a root, of so many, behind those before it."""
+    """The next tablet of a root of `count` tablets, after the tablets before it."""
     at, number = fields.at, fields.number(4, 1, count, "the number of a tablet")
     if any(number == other.number for other in before):
         raise BadForm("two tablets have this number", at)
@@ -303,7 +303,7 @@ def read_root_tablet(
 
 
 def root_sum(root: Root) -> int:
-    """The checksum by which a log names a root: of its bytes in format 2, where each file has the length 0."""
+    """The checksum by which a log names a root: of its bytes in format 2, with 0 as each file's length."""
     count = len(root.tablets)
     said = b"TABROOT2" + struct.pack(">QQQII", root.top, root.floor, root.next_name, count + 1, count)
     for tablet in root.tablets:
@@ -314,7 +314,7 @@ def root_sum(root: Root) -> int:
 
 
 class RecordKind(IntEnum):
-    """What a record of a log says: edits, or over which root the log is."""
+    """The kind of a log record: edits, or the root that the log continues."""
 
     EDITS = 0
     ROOT = 1
@@ -322,7 +322,7 @@ class RecordKind(IntEnum):
 
 
 class LogRecord(NamedTuple):
-    """A record: the greatest stamp that was answered by then, and its body, with the offset at which that begins."""
+    """A record: the greatest stamp answered by then, and its body with the body's offset."""
 
     kind: RecordKind
     stamp: int
@@ -332,8 +332,8 @@ class LogRecord(NamedTuple):
 
 @dataclass(frozen=True)
 class Log:
-    """The records of the whole frames of a log, where these end, and where behind that a later whole frame begins, if one does. In
-    format 1 there is no store and no first number, and each record is one of edits."""
+    """The records of the whole frames of a log, the offset of their end, and the offset after it at which a later whole
+    frame begins, if one does. In format 1 there is no store and no first number, and all records are edits."""
 
     format: int
     store: int
@@ -343,13 +343,13 @@ class Log:
     later: int | None = None
 
     def edits(self) -> Iterator[Entry]:
-        """The edits, in their order. BadForm at the byte where one isn't in its form."""
+        """The edits, in order. BadForm at the byte where an edit is malformed."""
         for record in self.records:
             if record.kind is RecordKind.EDITS:
                 yield from edits_in(record.body, record.at)
 
     def is_over_any(self) -> bool:
-        """Whether it is over whichever root is there."""
+        """Whether it continues any root."""
         return self.format == 1 or any(record.kind is RecordKind.ANY_ROOT for record in self.records)
 
     def roots(self) -> list[tuple[int, int]]:
@@ -358,7 +358,7 @@ class Log:
         return [(record.stamp, int.from_bytes(record.body, "big")) for record in named]
 
     def is_over(self, root: Root) -> bool:
-        """Whether it is over this root."""
+        """Whether it continues this root."""
         return self.is_over_any() or (root.top, root_sum(root)) in self.roots()
 
     def greatest(self) -> int:
@@ -367,7 +367,8 @@ class Log:
 
 
 def log_of(data: bytes) -> Log:
-    """What a log has. BadForm where it isn't in its form; a frame that isn't whole, and what stands behind it, is left out."""
+    """The contents of a log. BadForm if it is malformed; a frame that isn't whole and all bytes after it are left
+    out."""
     form = LOG_HEADS.get(data[:8])
     if form is None:
         near = min(LOG_HEADS, key=lambda head: -first_difference(data[:8], head))
@@ -402,7 +403,7 @@ def frame_at(data: bytes, at: int) -> bytes | None:
 
 
 def frames_of(data: bytes, at: int) -> Iterator[tuple[int, bytes]]:
-    """The records of the whole frames that stand one behind the other from an offset on, each with where it begins."""
+    """The records of the consecutive whole frames from an offset on, each with its offset."""
     while (record := frame_at(data, at)) is not None:
         yield at + FRAME.size, record
         at += FRAME.size + len(record)
@@ -415,7 +416,7 @@ def number_at(data: bytes, at: int) -> int | None:
 
 
 def later_frame(data: bytes, at: int, number: int) -> int | None:
-    """Where, from an offset on, the first whole frame begins whose number is this one or one of those next to it."""
+    """The offset, from `at` on, of the first whole frame whose number is this one or one of the next numbers."""
     # The first five bytes of these numbers are alike, or of two kinds
     starts = {LONG_NUMBER.pack(one)[:5] for one in (number, number + WINDOW - 1)}
     for found in re.finditer(b"(?=" + b"|".join(map(re.escape, starts)) + b")", data[at + FRAME.size :]):
@@ -426,7 +427,7 @@ def later_frame(data: bytes, at: int, number: int) -> int | None:
 
 
 def log_record(record: bytes, at: int) -> LogRecord:
-    """The record that stands at an offset, behind its number."""
+    """The record at an offset, after its number."""
     if len(record) < LOG_RECORD.size:
         raise BadForm("the record ends before its body", at + len(record))
     _, kind, stamp = LOG_RECORD.unpack_from(record)
@@ -440,7 +441,8 @@ def log_record(record: bytes, at: int) -> LogRecord:
 
 
 def renewed_log(log: Log, root: Root) -> bytes:
-    """The bytes of a log of the same store behind a checkpoint: in the place of all its records one, that it is over this root."""
+    """The bytes of a log of the same store after a checkpoint: one record, which names this root, instead of all its
+    records."""
     if log.format == 1:
         return b"TABLOG01"
     body = NUMBER.pack(root_sum(root))
@@ -456,13 +458,13 @@ def frame_of(number: int, kind: RecordKind, stamp: int, body: bytes) -> bytes:
 
 
 def sign_of(store: int) -> bytes:
-    """The sign that a folder has a log: that of the store of this number."""
+    """The sign that a folder has a log: the sign of the store with this number."""
     said = SIGN_HEAD + LONG_NUMBER.pack(store)
     return said + NUMBER.pack(crc32(said))
 
 
 def store_of(data: bytes) -> int:
-    """The number of the store whose sign these bytes are."""
+    """The store's number in a sign of these bytes."""
     store = int.from_bytes(data[8:16], "big")
     if data != sign_of(store):
         raise BadForm("this is no sign of a store", first_difference(data, sign_of(store)))
@@ -487,7 +489,7 @@ def edits_in(record: bytes, begin: int = 0) -> Iterator[Entry]:
 
 
 def counted_in(record: bytes, at: int, begin: int) -> tuple[bytes, int]:
-    """Bytes of a record behind their length, and where they end. BadForm where the record ends before."""
+    """Bytes of a record after their length, and the offset of their end. BadForm if the record ends before it."""
     text = at + NUMBER.size
     end = text + NUMBER.unpack_from(record, at)[0] if text <= len(record) else text
     if end > len(record):
@@ -496,7 +498,7 @@ def counted_in(record: bytes, at: int, begin: int) -> tuple[bytes, int]:
 
 
 def mark_of(data: bytes) -> int:
-    """The mark that these bytes spell: the stamp above which the next ones go on."""
+    """The mark that these bytes encode: the next stamps are above it."""
     if len(data) != 8:
         raise BadForm("a mark has 8 bytes", min(len(data), 8))
     mark = int.from_bytes(data, "big")

@@ -1,4 +1,4 @@
-"""Folders of stores: what the client looks at beside its program, and what of a store isn't kept yet."""
+"""Folders of stores: the client's own reads of them, and a record of changes that aren't durable yet."""
 
 from __future__ import annotations
 
@@ -44,7 +44,7 @@ from duqishom.program import ENDS, Program, ProgramEnded
 from duqishom.recording import Recording
 from duqishom.refusals import Refused
 
-# The operations behind which a folder without a log lacks something until the next checkpoint.
+# The operations whose effects are missing from a folder without a log until the next checkpoint.
 CHANGING = {
     Step.code,
     CleanStep.code,
@@ -70,46 +70,46 @@ class NotOpened(ProgramEnded):
 
 
 class FolderDamaged(Exception):
-    """A file of a folder is outside its form: the text names it, and its first wrong byte."""
+    """A file of a folder is malformed: the text names it, and its first wrong byte."""
 
     def __init__(self, file: Path, what: str, at: int | None = None) -> None:
         super().__init__(f"{file}: {what}" + ("" if at is None else f", at byte {at}"))
 
 
 class Unsaved:
-    """What was done to a store since its last checkpoint."""
+    """The changes of a store since its last checkpoint."""
 
     def __init__(self, is_kept: bool, is_logged: bool) -> None:
-        """Of a store in a folder or in memory, and of a folder with a log or without one."""
+        """For a store in a folder or in memory, and for a folder with a log or without one."""
         self._is_kept, self._is_logged = is_kept, is_logged
         self._lost: str | None = None
         self.forget()
 
     def forget(self) -> None:
-        """Begins anew: all is kept, or nothing more can be."""
+        """Starts over: everything is durable, or nothing more can be."""
         self.is_changed = False
         self._commits = 0
         self._since = datetime.now()
 
     def note_asked(self, operations: Sequence[object]) -> None:
-        """Notes requests before they are sent."""
+        """Records requests before they are sent."""
         if not self.is_changed:
             self.is_changed = any(getattr(operation, "code") in CHANGING for operation in operations)
 
     def note_answered(self, operations: Sequence[object], answers: Sequence[object]) -> None:
-        """Notes the answers to requests."""
+        """Records the answers to requests."""
         self._commits += sum(isinstance(answer, Committed) for answer in answers)
         if isinstance(operations[-1], Checkpoint) and not isinstance(answers[-1], Refused):
             self.forget()
 
     def lost(self) -> str:
-        """What is lost where the program has ended. It is said once for all: what is asked later finds the same."""
+        """The changes lost if the program has ended, as a text. It stays the same for all later requests."""
         if self._lost is None:
             self._lost = self.unkept() if self._is_kept else "what was in memory is lost"
         return self._lost
 
     def unkept(self) -> str:
-        """What isn't in the folder now."""
+        """The changes that aren't in the folder now, as a text."""
         if self._is_logged:
             return "the folder has all that was answered"
         if not self.is_changed:
@@ -119,22 +119,22 @@ class Unsaved:
 
 
 def tuned(words: Sequence[str], has_folder: bool) -> list[str]:
-    """These words of a command line, behind those that a store asks for where they say nothing else: a memtable is compacted at
-    32 MiB too, so that large values don't fill it, and of each file in a folder 256 blocks stay in memory."""
+    """These words of a command line, after the client's defaults for options that they don't set: a memtable is also
+    compacted at 32 MiB, so that large values don't fill it, and 256 blocks of each file in a folder are cached."""
     wanted = [("--flush-bytes", "33554432"), *([("--cache", "256")] if has_folder else [])]
     named = {word.partition("=")[0] for word in words}
     return [*(part for option in wanted if option[0] not in named for part in option), *words]
 
 
 def has_log(folder: str) -> bool:
-    """Whether a folder has a log, or the sign of one: whether it has all that was answered, then, and not only what the last
-    checkpoint left."""
+    """Whether a folder has a log, or the sign of one: it then has everything that was answered, and not only the last
+    checkpoint."""
     return any(os.path.exists(os.path.join(folder, name)) for name in (LOG_FILE, SIGN_FILE))
 
 
 def log_words(folder: str, log: bool | None) -> list[str]:
-    """The words that have a folder get a log where it has none: none of them where that isn't asked for. Where nothing is said, a
-    folder without a root gets one, for its store is new."""
+    """The words that give a folder a log if it has none, or no words if that isn't asked for. If `log` is None, a
+    folder without a root gets one, since its store is new."""
     is_new = not os.path.exists(os.path.join(folder, ROOT_FILE))
     return ["--log"] if log or (log is None and is_new) else []
 
@@ -146,7 +146,7 @@ def started(
     recording: Recording | None = None,
     log: bool | None = None,
 ) -> Connection:
-    """A program that has opened its store, and records its frames. NotOpened where it can't."""
+    """A program that has opened its store, and whose frames are recorded. NotOpened if it can't."""
     if folder is not None and (why := why_no_folder(folder)):
         raise NotOpened(4, why)
     placed = [] if folder is None else ["--dir", folder, *log_words(folder, log)]
@@ -165,14 +165,14 @@ def started(
 
 
 def why_no_folder(folder: str) -> str:
-    """Why a path is no folder: nothing where it is one."""
+    """The reason why a path isn't a folder, or an empty text if it is one."""
     if os.path.isdir(folder):
         return ""
     return f"{folder} is a file, and no folder" if os.path.exists(folder) else f"there is no folder {folder}"
 
 
 def why_not_opened(folder: str | None, status: int) -> str:
-    """Why a program ended with this status at a folder, as far as the folder tells."""
+    """The reason why a program ended with this status at a folder, as far as the folder shows it."""
     if folder is None or status not in (4, 5):
         return ""
     holder = holder_of(folder)
@@ -201,7 +201,8 @@ def why_not_opened(folder: str | None, status: int) -> str:
 
 
 def holder_of(folder: str) -> str | None:
-    """The process that has a folder, in words: None where none has it, or the system doesn't tell. It locks nothing."""
+    """The process that has a folder open, in words, or None if there isn't one or the system doesn't tell. Locks
+    nothing."""
     try:
         lock = os.stat(os.path.join(folder, LOCK_FILE))
         held = Path("/proc/locks").read_text()
@@ -215,7 +216,7 @@ def holder_of(folder: str) -> str | None:
 
 
 def process_named(process: int) -> str:
-    """A process in words: its number, its command line, and the number of the process that has started it."""
+    """A process in words: its number, its command line, and the number of its parent process."""
     text = f"process {process}"
     with suppress(OSError, IndexError):
         words = Path(f"/proc/{process}/cmdline").read_bytes().rstrip(b"\x00").split(b"\x00")
@@ -226,7 +227,7 @@ def process_named(process: int) -> str:
 
 
 def read_root(folder: Path) -> Root:
-    """The root of a folder: that of a new store, where there is none."""
+    """The root of a folder, or a new store's if there is no root file."""
     file = folder / ROOT_FILE
     try:
         data = file.read_bytes()
@@ -236,7 +237,7 @@ def read_root(folder: Path) -> Root:
 
 
 def root_in(folder: Path, data: bytes) -> Root:
-    """The root of a folder, by the bytes of its file."""
+    """The root of a folder, from the bytes of its file."""
     try:
         return root_of(data)
     except BadForm as bad:
@@ -244,7 +245,7 @@ def root_in(folder: Path, data: bytes) -> Root:
 
 
 def read_mark(folder: Path) -> int:
-    """The mark of a folder: 0 where there is none."""
+    """The mark of a folder, 0 if there is none."""
     file = folder / MARK_FILE
     try:
         return mark_of(file.read_bytes())
@@ -255,8 +256,8 @@ def read_mark(folder: Path) -> int:
 
 
 def read_log(folder: Path) -> Log | None:
-    """The log of a folder, if it has one. FolderDamaged where it isn't in its form, a later frame stands behind one that isn't
-    whole, or the folder's sign is of another log."""
+    """The log of a folder, if it has one. FolderDamaged if it is malformed, a later frame follows one that isn't whole,
+    or the folder's sign is another log's."""
     log = read_frames(folder)
     if log is None:
         return None
@@ -272,7 +273,7 @@ def read_log(folder: Path) -> Log | None:
 
 
 def read_frames(folder: Path) -> Log | None:
-    """What stands in the whole frames of a folder's log, if it has one. FolderDamaged where there is a sign alone."""
+    """The contents of the whole frames of a folder's log, if it has one. FolderDamaged if there is only a sign."""
     file = folder / LOG_FILE
     try:
         return log_of(file.read_bytes())
@@ -285,7 +286,7 @@ def read_frames(folder: Path) -> Log | None:
 
 
 def read_sign(folder: Path) -> int | None:
-    """The store of which a folder's sign is, if it has one."""
+    """The number of the store in a folder's sign, if it has one."""
     file = folder / SIGN_FILE
     try:
         return store_of(file.read_bytes())
@@ -296,7 +297,7 @@ def read_sign(folder: Path) -> int | None:
 
 
 def last_edits(folder: Path, log: Log | None) -> dict[bytes, bytes | None]:
-    """What the log of a folder has put and erased: of each key's text the last value, and None where it was erased last."""
+    """The last edit of each key in a folder's log: the value, or None for an erasure."""
     try:
         return {} if log is None else dict(log.edits())
     except BadForm as bad:
@@ -304,7 +305,7 @@ def last_edits(folder: Path, log: Log | None) -> dict[bytes, bytes | None]:
 
 
 def check_over(folder: Path, log: Log | None, root: Root) -> None:
-    """Looks whether a folder's log is over its root. FolderDamaged where it isn't."""
+    """Checks that a folder's log continues its root. FolderDamaged if it doesn't."""
     if log is None or log.is_over(root) and root != NEW_ROOT:
         return
     if root != NEW_ROOT:
@@ -316,7 +317,7 @@ def check_over(folder: Path, log: Log | None, root: Root) -> None:
 
 
 def check_mark(folder: Path, mark: int, root: Root, log: Log | None) -> None:
-    """Looks whether a folder's mark is above its stamps. FolderDamaged where it isn't."""
+    """Checks that a folder's mark isn't below its stamps. FolderDamaged if it is."""
     if mark < root.top:
         raise FolderDamaged(folder / MARK_FILE, f"the mark {mark} is below the root's greatest stamp {root.top}")
     if log is not None and mark < log.greatest():
@@ -324,7 +325,8 @@ def check_mark(folder: Path, mark: int, root: Root, log: Log | None) -> None:
 
 
 def check_folder(folder: Path) -> Root:
-    """Reads all that a program reads when it opens a folder: the root. FolderDamaged where something is outside its form."""
+    """Reads everything that a program reads when it opens a folder, and returns the root. FolderDamaged if something is
+    malformed."""
     root, mark, log = read_root(folder), read_mark(folder), read_log(folder)
     last_edits(folder, log)
     check_over(folder, log, root)

@@ -1,7 +1,8 @@
-"""`python3 -m duqishom inspect FOLDER [stats | files | tablets | log | locks | cells [PREFIX]]`: what a folder has, from its files alone.
+"""`python3 -m duqishom inspect FOLDER [stats | files | tablets | log | locks | cells [PREFIX]]`: the contents of a
+folder, from its files only.
 
-It is the store as of its last checkpoint with the edits of its log, also while a program has the folder. Nothing is written and
-nothing is locked.
+It is the store as of its last checkpoint with the edits of its log, also while a program has the folder open. Nothing
+is written and nothing is locked.
 """
 
 from __future__ import annotations
@@ -48,7 +49,7 @@ from duqishom.texts import bytes_of, text_of
 
 WORDS = ("stats", "files", "tablets", "log", "locks", "cells")
 
-# How often a folder is read anew, where a program changes it meanwhile.
+# How often a folder is read again if a program changes it meanwhile.
 TRIES = 10
 
 
@@ -56,7 +57,7 @@ Read = TypeVar("Read")
 
 
 class Found(NamedTuple):
-    """A version that counts, with its value, and the tablet that it is in."""
+    """A live version, with its value, and the tablet that it is in."""
 
     tablet: int
     key: Key
@@ -64,12 +65,12 @@ class Found(NamedTuple):
 
 
 class Folder:
-    """The last checkpoint of a folder, its root and the files that the root names, all open; and the edits of its log, which are
-    newer than the files. The log is read first: edits that a root has already change nothing. Where it is over another root, or a
-    file is gone, a program has put a root meanwhile, and all is read anew."""
+    """The last checkpoint of a folder, its root and the files that the root names, all open; and the edits of its log,
+    which are newer than the files. The log is read first: edits that a root has already change nothing. If it continues
+    another root, or a file is gone, a program has put a root meanwhile, and everything is read again."""
 
     def __init__(self, path: Path) -> None:
-        """Opens a folder. OSError or FolderDamaged where that can't be done."""
+        """Opens a folder. OSError or FolderDamaged if that fails."""
         self.path = path
         for left in reversed(range(TRIES)):
             self._logged, self.root = read_log(path), read_root(path)
@@ -81,11 +82,11 @@ class Folder:
                 if not left:
                     raise
         self.log = last_edits(path, self._logged)
-        # A program that has the folder raises its mark before it uses stamps
+        # A program that has the folder open raises its mark before it uses stamps
         self.mark = read_mark(path)
 
     def _opened(self, name: int) -> SortedFile:
-        """A file, with its head and its foot."""
+        """A file, with its header and its footer."""
         place = self.path / file_name(name)
         try:
             with place.open("rb") as file:
@@ -96,14 +97,14 @@ class Folder:
         return self._checked(name, lambda: SortedFile(data))
 
     def _checked(self, name: int, read: Callable[[], Read]) -> Read:
-        """What is read of a file. FolderDamaged where it is outside its form."""
+        """The result of a read of a file. FolderDamaged if the file is malformed."""
         try:
             return read()
         except BadForm as bad:
             raise FolderDamaged(self.path / file_name(name), bad.what, bad.at) from None
 
     def check(self) -> None:
-        """Reads all of it, as a program does that opens the folder. FolderDamaged at the first wrong byte."""
+        """Reads the whole folder, as a program does at an open. FolderDamaged at the first wrong byte."""
         check_mark(self.path, self.mark, self.root, self._logged)
         for tablet in self.root.tablets:
             for name, length in tablet.files:
@@ -114,18 +115,18 @@ class Folder:
             self._checked(name, file.check)
 
     def unnamed(self) -> list[int]:
-        """The files that are there and that the root doesn't name."""
+        """The files that exist and that the root doesn't name."""
         names = {int(path.name[1:17], 16) for path in self.path.glob("t????????????????.tab")}
         return sorted(names - set(self.files) - {0})
 
     def may_have_locks(self) -> bool:
-        """Whether the log or a file has a lock, be it erased in a newer one."""
+        """Whether the log or a file has a lock, even if a newer file has its erasure."""
         texts = (text for file in self.files.values() for text, _ in file.entries())
         return any(text[-14:-8] == b"lock\x00\x00" for text in chain(self.log, texts))
 
     def versions(self) -> Iterator[Found]:
-        """What counts of all tablets, in the order of keys: of a key, the log's last edit, or the entry of the newest file, where
-        it is no erasure."""
+        """The live versions of all tablets, in the order of keys: for each key the log's last edit, or else the newest
+        file's entry, unless it is an erasure."""
         low = b""
         for tablet in self.root.tablets:
             for key, value in self._live(tablet):
@@ -134,7 +135,7 @@ class Folder:
             low = tablet.end or b""
 
     def _live(self, tablet: RootTablet) -> Iterator[tuple[Key, bytes]]:
-        """The entries of a tablet's files, and of the log, that count, whatever their rows."""
+        """The live entries of a tablet's files and of the log, whatever their rows."""
         logged = ((text, -1, value) for text, value in sorted(self.log.items(), key=lambda edit: edit[0]))
         aged = (self._aged(name, age) for age, (name, _) in enumerate(tablet.files))
         for text, same in groupby(merge(logged, *aged), key=lambda entry: entry[0]):
@@ -143,7 +144,7 @@ class Folder:
                 yield key_of(text), value
 
     def _aged(self, name: int, age: int) -> Iterator[tuple[bytes, int, bytes | None]]:
-        """The entries of a file, with its age among those of its tablet."""
+        """The entries of a file, with the file's age among its tablet's files."""
         return ((text, age, value) for text, value in self.files[name].entries())
 
 
@@ -153,12 +154,12 @@ def named_by(root: Root) -> list[int]:
 
 
 def end_of(tablet: RootTablet) -> str:
-    """Where a tablet ends, in words."""
+    """The end of a tablet, in words."""
     return "the last row" if tablet.end is None else text_of(tablet.end)
 
 
 def stats(folder: Folder) -> Iterator[str]:
-    """Counts of all that there is."""
+    """Counts of everything in the folder."""
     root, unnamed = folder.root, folder.unnamed()
     size = sum(file.size for file in folder.files.values())
     numbers = f"greatest stamp {root.top}, floor {root.floor}, mark {folder.mark}, next file {root.next_name:x}"
@@ -190,7 +191,7 @@ def with_newest(versions: Iterator[Found]) -> Iterator[tuple[Found, bool]]:
 
 
 def files(folder: Folder) -> Iterator[str]:
-    """The files, with their sizes and who has them."""
+    """The files, with their sizes and their tablets."""
     owners: defaultdict[int, list[str]] = defaultdict(list)
     for tablet in folder.root.tablets:
         for name, _ in tablet.files:
@@ -213,7 +214,8 @@ def tablets(folder: Folder) -> Iterator[str]:
 
 
 def log_lines(path: Path) -> Iterator[str]:
-    """What stands in the log, also where the folder isn't opened with it: one that is damaged is told of as far as it is read."""
+    """The contents of the log, also if the folder can't be opened with it: a damaged log is shown as far as it can be
+    read."""
     log = read_frames(path)
     if log is None:
         yield "no log"
@@ -242,7 +244,8 @@ def locks(folder: Folder) -> Iterator[str]:
 
 
 def finished(folder: Folder) -> dict[Cell, Record]:
-    """The cells that are locked by sessions that have committed, as their first cells tell, with the records that cleaners put."""
+    """The cells locked by sessions that have committed, as their first cells show, with the commit records that
+    cleaners put."""
     if not folder.may_have_locks():
         return {}
     standing = [(found.key, read_lock(found.value)) for found in folder.versions() if found.key.column is Qualifier.LOCK]
@@ -260,7 +263,7 @@ def finished(folder: Folder) -> dict[Cell, Record]:
 
 
 def committed(folder: Folder, prefix: bytes = b"") -> Iterator[tuple[bytes, bytes, bytes]]:
-    """The cells whose rows begin so, each as its row, its family and the value that was committed last."""
+    """The cells whose rows have this prefix, each as its row, its family and the last committed value."""
     locked = finished(folder)
     for (row, family), group in groupby(folder.versions(), key=lambda found: found.key[:2]):
         if not row.startswith(prefix):
@@ -285,7 +288,7 @@ def cells(folder: Folder, prefix: bytes = b"") -> Iterator[str]:
 
 
 def lines_of(path: Path, what: str, prefix: str) -> Iterator[str]:
-    """The lines that a word asks for. FolderDamaged, before the first one, where the folder is."""
+    """The lines for a word of the command. FolderDamaged, before the first line, if the folder is damaged."""
     if what == "log":
         return log_lines(path)
     folder = Folder(path)
@@ -304,7 +307,7 @@ def lines_of(path: Path, what: str, prefix: str) -> Iterator[str]:
 
 
 def main(words: Sequence[str]) -> int:
-    """Runs the command. The status is 0, 1 where something is outside its form, and 2 where the folder can't be read."""
+    """Runs the command. The status is 0, 1 if something is malformed, and 2 if the folder can't be read."""
     parser = argparse.ArgumentParser(
         prog="duqishom inspect",
         description="Shows what the last checkpoint of a folder and its log have, from its files alone. It writes nothing. Each"
@@ -330,7 +333,7 @@ def main(words: Sequence[str]) -> int:
 
 
 def note_state(command: str, folder: str) -> None:
-    """Says on the standard error where a folder has no checkpoint, and who has it, where somebody does."""
+    """Says on the standard error if a folder has no checkpoint, and which process has it open, if any."""
     if not os.path.exists(os.path.join(folder, ROOT_FILE)):
         print(f"{command}: {folder} has no checkpoint", file=sys.stderr)
     holder = holder_of(folder)
@@ -340,13 +343,13 @@ def note_state(command: str, folder: str) -> None:
 
 
 def drop_output() -> None:
-    """Has what is still written to the standard output go nowhere, for nobody reads it any more."""
+    """Discards all further standard output, since nobody reads it any more."""
     os.dup2(os.open(os.devnull, os.O_WRONLY), sys.stdout.fileno())
 
 
 def status_of(command: str, folder: str, work: Callable[[], int]) -> int:
-    """The status of a command that reads a folder: that of its work, 1 where something is outside its form, and 2 where there is no
-    folder or something can't be read or written. The standard error says which."""
+    """The status of a command that reads a folder: its work's, 1 if something is malformed, and 2 if there is no folder
+    or something can't be read or written. The standard error says which."""
     try:
         if not os.path.isdir(folder):
             print(f"{command}: there is no folder {folder}", file=sys.stderr)

@@ -1,4 +1,4 @@
-"""The twenty operations: how each is asked, and how its answer is read."""
+"""The twenty operations: the encoding of their requests and the decoding of their answers."""
 
 from __future__ import annotations
 
@@ -29,7 +29,7 @@ from duqishom.refusals import BY_NUMBER, Refused, TooManySessions
 
 REFUSED = 0xFF
 
-# As many cells as a scan may look at.
+# The maximum number of cells that a scan visits.
 MOST_CELLS = 1000
 
 Answer = TypeVar("Answer", covariant=True)
@@ -41,10 +41,10 @@ class Operation(Protocol[Answer]):
     code: ClassVar[int]
 
     def fields(self) -> bytes:
-        """The fields, as they stand in the body behind the number of the operation."""
+        """The encoded fields, which follow the operation's number in the body."""
 
     def read(self, fields: FieldReader) -> Answer:
-        """The answer, from the fields of the reply."""
+        """Decodes the answer from the fields of the reply."""
 
 
 class WithoutAnswer:
@@ -56,7 +56,7 @@ class WithoutAnswer:
 
 @dataclass(frozen=True)
 class Begin:
-    """Begins a session, and answers its start."""
+    """Begins a session. The answer is its start."""
 
     code: ClassVar[int] = 0x01
 
@@ -114,7 +114,7 @@ class Step:
 
 @dataclass(frozen=True)
 class Stop(WithoutAnswer):
-    """Ends the session where it stands."""
+    """Ends the session in its current phase."""
 
     start: int
     code: ClassVar[int] = 0x05
@@ -125,7 +125,7 @@ class Stop(WithoutAnswer):
 
 @dataclass(frozen=True)
 class CleanBegin:
-    """Opens a cleaner at the lock of a cell, and answers it: None where no lock stands."""
+    """Opens a cleaner at the lock of a cell. The answer is the cleaner, or None if the cell isn't locked."""
 
     row: bytes
     family: bytes
@@ -154,7 +154,7 @@ class CleanStep:
 
 @dataclass(frozen=True)
 class CollectBegin:
-    """Opens a collector of old versions, and answers it."""
+    """Opens a collector of old versions. The answer is the collector."""
 
     code: ClassVar[int] = 0x08
 
@@ -167,7 +167,7 @@ class CollectBegin:
 
 @dataclass(frozen=True)
 class CollectStep:
-    """Has a collector make so many visits."""
+    """Has a collector make this many visits."""
 
     collector: int
     visits: int
@@ -193,7 +193,7 @@ class Minor(WithoutAnswer):
 
 @dataclass(frozen=True)
 class Merge(WithoutAnswer):
-    """Writes so many of a tablet's newest files as one."""
+    """Merges this many of a tablet's newest files into one."""
 
     tablet: int
     count: int
@@ -205,7 +205,7 @@ class Merge(WithoutAnswer):
 
 @dataclass(frozen=True)
 class Major(WithoutAnswer):
-    """Writes all that a tablet has as one file."""
+    """Merges the memtable and all files of a tablet into one file."""
 
     tablet: int
     code: ClassVar[int] = 0x0C
@@ -216,7 +216,7 @@ class Major(WithoutAnswer):
 
 @dataclass(frozen=True)
 class Split:
-    """Cuts the tablet that holds a row behind that row, and answers the number of the left part."""
+    """Splits the tablet that holds a row behind that row. The answer is the number of the left part."""
 
     row: bytes
     code: ClassVar[int] = 0x0D
@@ -242,7 +242,7 @@ class Move(WithoutAnswer):
 
 @dataclass(frozen=True)
 class Sweep:
-    """Removes the files that no tablet names, and answers how many these were."""
+    """Removes the files that no tablet names. The answer is their number."""
 
     code: ClassVar[int] = 0x0F
 
@@ -255,7 +255,7 @@ class Sweep:
 
 @dataclass(frozen=True)
 class OracleRestart(WithoutAnswer):
-    """Has the oracle of stamps go on from its stored mark."""
+    """Restarts the oracle of stamps from its stored mark."""
 
     code: ClassVar[int] = 0x10
 
@@ -284,7 +284,8 @@ class Raw:
 
 @dataclass(frozen=True)
 class Checkpoint(WithoutAnswer):
-    """Writes all memtables as files, and then the root file, which names what the store needs to be opened again."""
+    """Writes all memtables as files, and then the root file, which names the files from which the store is opened
+    again."""
 
     code: ClassVar[int] = 0x12
 
@@ -307,8 +308,8 @@ class Delete(WithoutAnswer):
 
 @dataclass(frozen=True)
 class Scan:
-    """Reads the cells of a range as of the session's start: those behind a cell (a row and a family), up to and with a row, of one
-    family or of all. It looks at so many cells, 1 to 1,000, at most."""
+    """Reads the cells of a range as of the session's start: those after a cell (a row and a family), up to and
+    including a row, of one family or of all. It visits at most `cells` cells, 1 to 1,000."""
 
     start: int
     after: tuple[bytes, bytes] | None = None
@@ -330,17 +331,18 @@ class Scan:
 
 
 def optional_arguments(*given: tuple[str, bytes]) -> bytes:
-    """A byte 00 if nothing was given; otherwise a byte 01, and what was given for these arguments, each behind its length."""
+    """A byte 00 if nothing was given; otherwise a byte 01 and the values given for these arguments, each after its
+    length."""
     return number(1, bool(given)) + b"".join([counted_argument(name, each) for name, each in given])
 
 
 def request_body(operation: Operation[Answer]) -> bytes:
-    """The body that asks for an operation."""
+    """The body of a request for an operation."""
     return number(1, operation.code) + operation.fields()
 
 
 def request_bodies(operations: Sequence[Operation[Answer]]) -> list[bytes]:
-    """The bodies that ask for operations. One that stands several times in a row is made once."""
+    """The bodies of requests for operations. An operation repeated several times in a row is encoded once."""
     bodies: list[bytes] = []
     last: Operation[Answer] | None = None
     for operation in operations:
@@ -371,7 +373,8 @@ def answer_or_refusal(operation: Operation[Answer], body: bytes, is_remote: bool
 
 
 def spoken_of(refusal: type[Refused], operation: object) -> str:
-    """What of a request its refusal speaks of, with its name: nothing where that isn't in the request."""
+    """The part of a request that its refusal is about, with its name, or an empty text if the request has no such
+    part."""
     for field in refusal.speaks_of:
         given = getattr(operation, field, None)
         if given is not None:
@@ -379,15 +382,15 @@ def spoken_of(refusal: type[Refused], operation: object) -> str:
     return ""
 
 
-# What a start stands for.
+# The name of a start in a text.
 SESSION = "session"
 
-# So many bytes of a row, a family or a value stand in a text.
+# The number of bytes of a row, a family or a value shown in a text.
 SHOWN = 32
 
 
 def named(name: str, given: object) -> str:
-    """Something that was given, with its name. Of long bytes the first ones stand for all."""
+    """A given value, with its name. Of long bytes only the first are shown."""
     if isinstance(given, bytes) and len(given) > SHOWN:
         return f"{name} {given[:SHOWN]!r}.. of {len(given):,} bytes"
     return f"{name} {given!r}"

@@ -6,15 +6,20 @@ import os
 import shutil
 import signal
 import subprocess
+import sys
 from collections.abc import Sequence
 from contextlib import suppress
 from pathlib import Path
+from typing import NoReturn
 
 from duqishom.connection import LONGEST_BODY, Frames, StreamEnded
 from duqishom.recording import Recording
 from duqishom.refusals import FrameTooLarge
 
-# How many seconds a program may take to end once its input has ended.
+# The place of the program in a package that was built with one.
+OWN = Path(__file__).resolve().parent / "tabletd"
+
+# The seconds that a program may take to end after its input has ended.
 PATIENCE = 300
 
 ENDS = {
@@ -30,7 +35,8 @@ ENDS = {
 
 
 class ProgramEnded(Exception):
-    """The program has ended, and what it kept in memory is lost. The status is its exit status: below 0 where a signal ended it."""
+    """The program has ended, and its state in memory is lost. The status is its exit status, negative if a signal ended
+    it."""
 
     def __init__(self, status: int, lost: str = "") -> None:
         why = f": {ENDS[status]}" if status in ENDS else ""
@@ -40,18 +46,27 @@ class ProgramEnded(Exception):
 
 
 def default_program() -> str:
-    """The program that is started where none is named: that of the environment's TABLETD, then the tabletd on PATH, then the
-    scripts/tabletd of the repository in which this package stands, which builds it where need be."""
-    repository = Path(__file__).resolve().parents[3] / "scripts" / "tabletd"
-    return os.environ.get("TABLETD") or shutil.which("tabletd") or str(repository)
+    """The program that is started if none is named: the environment's TABLETD, or else the one that was installed with
+    this package, or else the tabletd on PATH, or else scripts/tabletd of the repository that this package is in, which
+    builds it if necessary. FileNotFoundError if there is none."""
+    repository = str((OWN.parent / "../../../scripts/tabletd").resolve())
+    found = os.environ.get("TABLETD") or shutil.which(str(OWN)) or shutil.which("tabletd") or shutil.which(repository)
+    if found is None:
+        raise FileNotFoundError("there is no tabletd: neither on PATH nor in this package, and TABLETD names none")
+    return found
+
+
+def run() -> NoReturn:
+    """Becomes the program that was installed with this package, with the words of the command line."""
+    os.execv(OWN, ["tabletd", *sys.argv[1:]])
 
 
 class Program:
     """A running `tabletd`. Its standard error is the caller's, and a Ctrl-C at the terminal doesn't reach it."""
 
     def __init__(self, program: str | None = None, words: Sequence[str] = (), recording: Recording | None = None) -> None:
-        """Starts the program with these words, in a process group of its own, and takes over the recording of its frames. OSError
-        where it can't be started."""
+        """Starts the program with these words, in a process group of its own, and takes over the recording of its
+        frames. OSError if it can't be started."""
         command = [program or default_program(), *words]
         pipe = subprocess.PIPE
         self._child = subprocess.Popen(command, stdin=pipe, stdout=pipe, bufsize=0, process_group=0)
@@ -62,8 +77,8 @@ class Program:
     def ask(self, bodies: Sequence[bytes], timeout: float | None = None) -> list[bytes]:
         """Sends these bodies in frames, and gives the bodies of the replies.
 
-        FrameTooLarge where a body is too long: then nothing is sent, for the program would end at it. RequestTimedOut where
-        so many seconds pass. ProgramEnded where the program ends in place of a reply.
+        FrameTooLarge if a body is too long: then nothing is sent, since the program would end at it. RequestTimedOut
+        after `timeout` seconds. ProgramEnded if the program ends instead of replying.
         """
         if any(len(body) > LONGEST_BODY for body in bodies):
             raise FrameTooLarge()
@@ -78,7 +93,7 @@ class Program:
             self._frames.tell(body, timeout)
 
     def kill(self) -> None:
-        """Ends the program at once, whatever it is at."""
+        """Kills the program at once, whatever it is doing."""
         if self._child.poll() is None:
             os.killpg(self._child.pid, signal.SIGKILL)
 

@@ -1,4 +1,4 @@
-"""A recording of a store: the frames that went in and those that came out, in two files, which `tablet_audit` judges."""
+"""A recording of a store: the frames sent and the frames received, in two files, which `tablet_audit` judges."""
 
 from __future__ import annotations
 
@@ -14,14 +14,15 @@ from duqishom.files import LOG_FILE, MARK_FILE, mark_of
 class Recording:
     """The files `requests` and `replies` of a folder. They begin with a new store.
 
-    Where the folder has a recording already, it goes on: the store was closed behind it and opened again. The file `reopened-at`
-    has the numbers of the last replies before that, for the option of this name. If the store has a log, it is the file
-    `recovered-at`, and each number has the oracle's mark behind it. OSError, which names the file, where one can't be written.
+    If the folder already has a recording, it is continued: the store was closed at its end and opened again. The file
+    `reopened-at` has the numbers of the last replies before that, for the option of this name. If the store has a log,
+    the file is `recovered-at`, and each number is followed by the oracle's mark. OSError, which names the file, if one
+    can't be written.
     """
 
     def __init__(self, folder: str | PathLike[str], store: str | None = None) -> None:
-        """Begins a recording, or goes on with one. The folder is made where there is none. The store, which isn't opened yet, is in
-        its own folder, if one is named. OSError where the recording can't be written."""
+        """Begins a recording, or continues one. The folder is created if it doesn't exist. The store, which isn't
+        opened yet, is in its own folder, if one is named. OSError if the recording can't be written."""
         place = Path(folder)
         place.mkdir(mode=0o700, parents=True, exist_ok=True)
         self._requests = private(place / "requests")
@@ -34,15 +35,15 @@ class Recording:
             note_reopened(place, store)
 
     def note_requests(self, frames: bytes) -> None:
-        """Adds frames that went in."""
+        """Adds frames that were sent."""
         write(self._requests, frames)
 
     def note_replies(self, frames: bytes) -> None:
-        """Adds bytes of frames that came out."""
+        """Adds bytes of frames that were received."""
         write(self._replies, frames)
 
     def close(self) -> None:
-        """Writes what is left to the files, and closes them. It may be called again."""
+        """Writes the remaining bytes to the files, and closes them. It may be called again."""
         try:
             close(self._requests)
         finally:
@@ -50,7 +51,8 @@ class Recording:
 
 
 def private(path: str | PathLike[str]) -> BufferedWriter:
-    """A file to add to, which is made if it isn't there, and which only its owner may read. OSError at a link or a pipe."""
+    """A file opened to append to, created if it doesn't exist, which only its owner may read. OSError at a link or a
+    pipe."""
     flags = os.O_NOFOLLOW | os.O_NONBLOCK
     return open(path, "ab", opener=lambda name, mode: os.open(name, mode | flags, 0o600))
 
@@ -65,7 +67,7 @@ def write(file: BufferedWriter, data: bytes) -> None:
 
 
 def close(file: BufferedWriter) -> None:
-    """Writes what is left to a file, and closes it."""
+    """Writes the remaining bytes to a file, and closes it."""
     try:
         file.close()
     except OSError as error:
@@ -74,7 +76,7 @@ def close(file: BufferedWriter) -> None:
 
 
 def note_reopened(place: Path, store: str | None) -> None:
-    """Notes that the store is opened again behind the last reply."""
+    """Records that the store is opened again after the last reply."""
     replies: list[bytes] = []
     whole_frames((place / "replies").read_bytes(), replies)
     mark = logged_mark(store)

@@ -1,6 +1,6 @@
-"""Why the store refuses a request: an exception for each refusal, with its number and its name.
+"""The refusals of the store: an exception for each, with its number and its name.
 
-A refused request has changed nothing that a session can see. Those that no request can be answered today are here too.
+A refused request has changed nothing that a session can see. Refusals that no request gets today are included.
 """
 
 from __future__ import annotations
@@ -9,7 +9,8 @@ from typing import ClassVar
 
 
 class Refused(Exception):
-    """The store refused a request, or the client did in its place. `what` is what was given, and `limit` what is allowed."""
+    """The store refused a request, or the client did instead of the store. `what` is the value given, and `limit` the
+    limit."""
 
     number: ClassVar[int] = 0
     limit: str = ""
@@ -78,8 +79,9 @@ class TooManyWrites(Refused):
 
 
 class TooManySessions(Refused):
-    """1,024 sessions are active; or, of a cleaner that is to open, 1,024 of these are open, and of a collector 64. A gateway has
-    lower limits for each connection, and refuses so one that it has no place for."""
+    """1,024 sessions are active; or, when a cleaner is opened, 1,024 cleaners are open; or, when a collector is opened,
+    64 collectors are. A gateway has lower limits for each connection, and also refuses in this way a connection for
+    which it has no place."""
 
     number = 7
     limit = "1,024 sessions, 1,024 cleaners and 64 collectors are the most; a gateway has limits of its own, of connections too"
@@ -152,8 +154,8 @@ class UnknownServer(Refused):
 
 
 class BadCount(Refused):
-    """A Merge takes at least two files, and no more than the tablet has. A CollectStep makes 1 to 1,000 visits, and a Scan looks at
-    1 to 1,000 cells."""
+    """A Merge takes at least two files, and at most as many as the tablet has. A CollectStep makes 1 to 1,000 visits,
+    and a Scan visits 1 to 1,000 cells."""
 
     number = 14
     limit = (
@@ -166,8 +168,8 @@ class BadCount(Refused):
 class MemtableFull(Refused):
     """The memtable of the row's tablet has no room for the edits of this step. A Minor of the tablet makes room.
 
-    A collector's step doesn't tell the row: a Minor of each tablet makes room for it. Where there is a log, that may be what is
-    full, and a Checkpoint makes room in both.
+    A collector's step doesn't say which row: a Minor of each tablet makes room for it. If there is a log, the log may
+    be full instead, and a Checkpoint makes room in both.
     """
 
     number = 15
@@ -197,20 +199,20 @@ class Exhausted(Refused):
 
 
 class Device(Refused):
-    """The disk failed in this request, or was full. A store in memory has none."""
+    """The disk failed in this request, or was full. This can't happen in a store in memory."""
 
     number = 19
     limit = "the disk failed, or is full"
 
 
 class NoMemory(Refused):
-    """The system gave no memory."""
+    """An allocation failed."""
 
     number = 20
 
 
 class Damaged(Refused):
-    """Bytes that were read are outside their form. A store in memory has none such."""
+    """Bytes that were read are malformed. This can't happen in a store in memory."""
 
     number = 21
     limit = "something else has changed the folder; `inspect` says which byte"

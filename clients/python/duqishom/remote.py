@@ -36,8 +36,8 @@ def address_of(text: str) -> Address | None:
 
 
 class ConnectionLost(ProgramEnded):
-    """The gateway has closed the connection, or has ended. What was asked and not answered may be done: `Store.fate` tells what
-    became of a commit. The program's status isn't known, and 0 stands for it."""
+    """The gateway has closed the connection, or has ended. Unanswered requests may have been done: `Store.fate` tells
+    the fate of a commit. The program's status isn't known, and is given as 0."""
 
     def __init__(self, why: str = "the gateway has closed the connection; what had no answer may be done or not") -> None:
         Exception.__init__(self, why)
@@ -81,8 +81,8 @@ class Gateway:
     def ask(self, bodies: Sequence[bytes], timeout: float | None = None) -> list[bytes]:
         """Sends these bodies in frames, and gives the bodies of the replies.
 
-        FrameTooLarge where a body is too long: then nothing is sent. RequestTimedOut where so many seconds pass. ConnectionLost
-        where the connection ends in place of a reply.
+        FrameTooLarge if a body is too long: then nothing is sent. RequestTimedOut after `timeout` seconds.
+        ConnectionLost if the connection ends instead of a reply.
         """
         if any(len(body) > LONGEST_BODY for body in bodies):
             raise FrameTooLarge()
@@ -102,7 +102,7 @@ class Gateway:
                 self._frames.tell(body, timeout)
 
     def kill(self) -> None:
-        """Leaves at once. The gateway ends what is open."""
+        """Disconnects at once. The gateway ends what is open."""
         self.close()
 
     def close(self) -> int:
@@ -114,7 +114,8 @@ class Gateway:
 
 @dataclass(frozen=True)
 class Backup:
-    """Has a gateway copy the folder of its store to a path, and answers why it hasn't: nothing where it has."""
+    """Has a gateway copy the folder of its store to a path. The answer is the reason why it failed, empty if it
+    didn't."""
 
     path: str
     code: ClassVar[int] = 0x71
@@ -138,7 +139,7 @@ def back_up(address: Address, path: str) -> None:
 
 
 def check_copied(asked: Backup, reply: bytes) -> None:
-    """Looks at the reply to a Backup. NotCopied, or a Refused, where it wasn't made."""
+    """Checks the reply to a Backup. NotCopied, or a Refused, if no copy was made."""
     answer = answer_or_refusal(asked, reply)
     if isinstance(answer, Refused):
         raise answer

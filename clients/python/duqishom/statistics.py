@@ -1,4 +1,4 @@
-"""What a gateway counts: as lines, or as Prometheus reads them.
+"""The counts of a gateway: as lines, or in the text format of Prometheus.
 
     python3 -m duqishom stats --socket PATH [--prometheus]
 """
@@ -24,8 +24,8 @@ Counted = Number | Mapping[str, Number]
 
 @dataclass(frozen=True)
 class Metric:
-    """A name that Prometheus reads, whether it only grows, what it is, where that stands in what is told, and the label of the
-    names under it."""
+    """A Prometheus metric: its name, whether it is a counter, its help text, its path in the statistics, and the label
+    for the names under that path."""
 
     name: str
     grows: bool
@@ -53,8 +53,8 @@ METRICS = (
 
 
 def statistics(path: str) -> dict[str, Counted]:
-    """What the gateway at a socket counts. OSError where none serves there, ConnectionLost where it ends, and TooManySessions where
-    it has no place."""
+    """The counts of the gateway at a socket. OSError if none serves there, ConnectionLost if it ends, and
+    TooManySessions if it has no place."""
     gateway = Gateway(path)
     try:
         [reply] = gateway.ask([REQUEST])
@@ -69,7 +69,7 @@ def statistics(path: str) -> dict[str, Counted]:
 
 
 def lines(told: Mapping[str, Counted]) -> Iterator[str]:
-    """A line for each number: its name, and what it is."""
+    """A line for each number: its name and its value."""
     for name, counted in told.items():
         if isinstance(counted, Mapping):
             yield from (f"{name} {part}: {number}" for part, number in counted.items())
@@ -91,13 +91,13 @@ def prometheus(told: Mapping[str, Counted]) -> Iterator[str]:
 
 
 def found(told: Mapping[str, Counted], path: Sequence[str]) -> Counted:
-    """What stands at the end of a path."""
+    """The value at the end of a path."""
     counted = told[path[0]]
     return counted[path[1]] if len(path) > 1 and isinstance(counted, Mapping) else counted
 
 
 def main(words: Sequence[str]) -> int:
-    """Prints the statistics. The status is 0, or 2 where no gateway answers."""
+    """Prints the statistics. The status is 0, or 2 if no gateway answers."""
     parser = argparse.ArgumentParser(prog="duqishom stats", description="What a gateway counts.")
     parser.add_argument("--socket", metavar="PATH", required=True, help="the gateway's socket")
     parser.add_argument("--prometheus", action="store_true", help="in the text format of Prometheus")

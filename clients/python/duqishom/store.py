@@ -1,4 +1,4 @@
-"""A store: a `tabletd` of one's own, with a method for each operation."""
+"""A store: a private `tabletd`, with a method for each operation."""
 
 from __future__ import annotations
 
@@ -92,9 +92,9 @@ class Store(AutoCommit):
     """A store in a child process that ends with it: a new one in memory, which is lost then, or that of a folder, which lasts
     as of its last answer where the folder has a log. Where it has none, it lasts as its last checkpoint left it: `close` makes one.
 
-    Several threads may use one store, each with transactions of its own; a process that is forked may not. Each method that asks
-    the store raises a `Refused` where it refuses, `ProgramEnded` where the program has ended, and `RequestTimedOut` where a
-    timeout was asked for.
+    Several threads may use one store, each with transactions of its own; a process that is forked may not. Each method
+    that sends a request raises a `Refused` if the store refuses it, `ProgramEnded` if the program has ended, and
+    `RequestTimedOut` if a timeout was given and has passed.
     """
 
     def __init__(
@@ -111,15 +111,16 @@ class Store(AutoCommit):
         lock_wait: float | None = None,
         reconnect: float = 10.0,
     ) -> None:
-        """Starts the program, that of TABLETD, PATH or the repository where no other is named, with these words of its command
+        """Starts the program, from TABLETD, PATH or the repository if none is named, with these words on its command
         line.
 
-        With a folder, which must be there, the store is opened of it, or is new where the folder is empty. One program has a
-        folder at a time. At the end a checkpoint is made, unless `checkpoint_at_close` is false. With a timeout, no request is
-        waited for longer than so many seconds. NotOpened, with the reason, where the store isn't there to be asked.
+        With a folder, which must exist, the store is opened from it, or is new if the folder is empty. Only one program
+        can have a folder open at a time. At the end a checkpoint is made, unless `checkpoint_at_close` is false. With a
+        timeout, no request is waited for longer than this many seconds. NotOpened, with the reason, if the store can't
+        be opened.
 
-        With a log, what was answered is in the folder, whatever ends the program. A new folder gets one, unless `log` is false; one
-        that has a store gets one where `log` is true. A folder that has a log is always opened with it.
+        With a log, everything answered is durable, whatever ends the program. A new folder gets a log, unless `log` is
+        false; a folder with a store gets one if `log` is true. A folder that has a log is always opened with it.
 
         With a socket, no program is started: the store is the one that a gateway serves there, beside other clients. What of it
         is open when this client ends, the gateway ends. OSError where nobody serves there, and ConnectionLost where the gateway
@@ -128,7 +129,7 @@ class Store(AutoCommit):
 
         A lock is waited for `lock_wait` seconds, and then cleaned: 1 s at a gateway, and 0.03 s alone. A patience says more.
 
-        With `record`, a folder, the frames that go in and come out are kept there for `tablet_audit`: see `Recording`.
+        With `record`, a folder, all frames sent and received are recorded there for `tablet_audit`: see `Recording`.
         """
         self._owner = os.getpid()
         self._turn = threading.RLock()
@@ -155,7 +156,7 @@ class Store(AutoCommit):
 
     @property
     def has_log(self) -> bool:
-        """Whether the store is in a folder that has a log. What is served at a socket doesn't say."""
+        """Whether the store is in a folder that has a log. For a store at a socket this isn't known."""
         return self.folder is not None and has_log(self.folder)
 
     def ask(self, operation: Operation[Answer]) -> Answer:
@@ -227,13 +228,13 @@ class Store(AutoCommit):
         return self.ask_each(trip, connection)
 
     def alone(self) -> AbstractContextManager[object]:
-        """In a `with`, no other thread asks this store anything. ForkedStore in a process that was forked from the store's."""
+        """In a `with`, no other thread sends this store a request. ForkedStore in a process forked from the store's."""
         if self._owner != os.getpid():
             raise ForkedStore(f"process {self._owner} has opened this store, and not its child {os.getpid()}")
         return self._turn
 
     def begin(self) -> int:
-        """Begins a session: its start."""
+        """Begins a session, and returns its start."""
         return self.ask(Begin())
 
     def step(self, start: int) -> Progress:
@@ -241,11 +242,11 @@ class Store(AutoCommit):
         return self.ask(Step(start))
 
     def stop(self, start: int) -> None:
-        """Ends the session where it stands. The cells that it holds stay locked until they are cleaned."""
+        """Ends the session in its current phase. The cells that it holds stay locked until they are cleaned."""
         self.ask(Stop(start))
 
     def clean_begin(self, row: bytes, family: bytes) -> Cleaner | None:
-        """Opens a cleaner at the lock of a cell, and None where no lock stands."""
+        """Opens a cleaner at the lock of a cell. Returns None if the cell isn't locked."""
         return self.ask(CleanBegin(row, family))
 
     def clean_step(self, cleaner: int) -> Cleaned:
@@ -253,9 +254,11 @@ class Store(AutoCommit):
         return self.ask(CleanStep(cleaner))
 
     def clean(self, row: bytes, family: bytes) -> Cleaned | None:
-        """Clears the lock of a cell, whether its session runs or has stopped: what became of it, and None where none stood.
+        """Clears the lock of a cell, whether its session runs or has stopped. Returns the outcome, or None if the cell
+        wasn't locked.
 
-        A session that hasn't committed is rolled back by this: its next step that matters answers Conflict or Lost.
+        This rolls back a session that hasn't committed: its next step that depends on the lock answers Conflict or
+        Lost.
         """
         with self.alone():
             return self.do(self._plans.clean(row, family))
@@ -269,15 +272,16 @@ class Store(AutoCommit):
         return self.ask(CollectBegin())
 
     def collect_step(self, collector: int, visits: int = MOST_VISITS) -> Collection:
-        """Has a collector make so many visits, 1 to 1,000. Each is of one cell: it looks for a lock, or erases old versions."""
+        """Has a collector make this many visits, 1 to 1,000. Each is of one cell: it looks for a lock, or erases old
+        versions."""
         return self.ask(CollectStep(collector, visits))
 
     def collect(self, visits: int = MOST_VISITS) -> int:
-        """Erases the versions that no active session reads, and none that begins later: the floor up to which that was done.
+        """Erases the versions that no active or later session can read. Returns the floor up to which it erased.
 
-        The floor is the least start of an active session, so a session that is left open keeps versions: stop those that have no
-        more to do. A lock below it is of no active session, and is cleaned. Between two requests of so many visits other
-        threads may ask the store. Where a refusal is raised, the collector stays open.
+        The floor is the least start of an active session, so a session that is left open keeps versions: stop the
+        sessions that have no more to do. A lock below the floor isn't an active session's, and is cleaned. Between two
+        requests of `visits` visits other threads may use the store. If a refusal is raised, the collector stays open.
         """
         return self.do(self._plans.collect(visits))
 
@@ -286,15 +290,15 @@ class Store(AutoCommit):
         self.ask(Minor(tablet))
 
     def merge(self, tablet: int, count: int) -> None:
-        """Writes so many of a tablet's newest files as one."""
+        """Merges this many of a tablet's newest files into one."""
         self.ask(Merge(tablet, count))
 
     def major(self, tablet: int) -> None:
-        """Writes the memtable and all files of a tablet as one file."""
+        """Merges the memtable and all files of a tablet into one file."""
         self.ask(Major(tablet))
 
     def split(self, row: bytes) -> int:
-        """Cuts the tablet that holds a row behind that row: the number of the left part."""
+        """Splits the tablet that holds a row behind that row. Returns the number of the left part."""
         with self.alone():
             left = self.ask(Split(row))
             self._tablets.split(row, left)
@@ -305,48 +309,50 @@ class Store(AutoCommit):
         self.ask(Move(tablet, server))
 
     def sweep(self) -> int:
-        """Removes the files that no tablet names: how many these were.
+        """Removes the files that no tablet names, and returns their number.
 
-        A file that only the root file names goes too. So a store in a folder makes a checkpoint next, or it is damaged when it
-        is opened again.
+        A file that only the root file names is removed too. So a store in a folder must make a checkpoint next, or the
+        folder is damaged when it is opened again.
         """
         return self.ask(Sweep())
 
     def checkpoint(self) -> None:
-        """Writes all that the store keeps into its files: what was committed, and each lock. A folder is opened as its last
-        checkpoint left it, with no session. Where a tablet has too many files, all of its files become one first."""
+        """Writes the store's whole state to its files: all commits and all locks. A folder is opened as its last
+        checkpoint left it, with no session. If a tablet has too many files, they are first merged into one."""
         with self.alone():
             self.do(self._plans.checkpoint())
 
     def restart_oracle(self) -> None:
-        """Has the oracle of stamps go on from its stored mark."""
+        """Restarts the oracle of stamps from its stored mark."""
         self.ask(OracleRestart())
 
     def raw(
         self, row: bytes, family: bytes, qualifier: Qualifier, lo: int = 0, hi: int = MOST_STAMP
     ) -> Version | None:
-        """The newest version of a cell's column in a range of stamps, both bounds included, and None where none is."""
+        """The newest version of a cell's column in a range of stamps, both bounds included, or None if there is no such
+        version."""
         return self.ask(Raw(row, family, qualifier, lo, hi))
 
     def tablets(self) -> tuple[Tablet, ...]:
-        """The tablets, in the order of their rows. ValueError where a gateway serves the store, for others may have split them."""
+        """The tablets, in the order of their rows. ValueError if a gateway serves the store, since other clients may
+        have split them."""
         if self._is_remote:
             raise ValueError("other clients may have split the tablets of a gateway's store")
         with self.alone():
             return self._tablets.all()
 
     def make_room(self, row: bytes) -> None:
-        """Makes room in the memtable of the tablet that holds a row, and in the log where there is one. Where the tablet has too
-        many files, all become one."""
+        """Makes room in the memtable of the tablet that holds a row, and in the log if there is one. If the tablet has
+        too many files, they are merged into one."""
         with self.alone():
             self.do(self._plans.make_room(row))
 
     def fate(self, start: int, row: bytes, family: bytes) -> Fate:
-        """What became of a commit whose answer was lost: of the session of this start, by its first cell. Committed with its
-        stamp, or Lost.
+        """The fate of a commit whose answer was lost: of the session with this start, by its first cell. Committed with
+        its stamp, or Lost.
 
-        To be asked when the session has ended, as it has where its connection is lost, and before its versions are collected. A
-        lock of it is waited for, and then cleaned; where the patience says otherwise, the answer is Pending.
+        Ask this after the session has ended, as it has if its connection is lost, and before its versions are
+        collected. A lock of it is waited for, and then cleaned; if the patience says otherwise, the answer is Pending.
         """
         with self.alone():
             return self.do(self._plans.fate(start, row, family))
@@ -376,7 +382,7 @@ class Store(AutoCommit):
             return Session(start, self._plans), self._connection
 
     def run(self, work: Callable[[Transaction], Result], attempts: int = 10) -> Result:
-        """Does work in a transaction, and once more in a new one where it conflicts, is lost or stays pending.
+        """Does work in a transaction, and retries in a new one after a conflict, a loss or a lock that stays.
 
         Behind each attempt there is a pause, by chance, up to a time that doubles: first the patience's pause, and at most a
         second. After the last attempt that failure is raised.
@@ -433,10 +439,10 @@ class Store(AutoCommit):
         return isinstance(fate, Committed)
 
     def backup(self, path: str | PathLike[str]) -> None:
-        """Makes a copy of the store's folder at a path, which must be an empty folder or nothing yet: that of a checkpoint that
-        is made now. Other threads wait meanwhile. Where a gateway serves the store, the gateway makes the copy, and nobody waits
-        for it but a Sweep. NotCopied where the store is in memory, the path has files, or the gateway can't copy; OSError where
-        this process can't."""
+        """Makes a copy of the store's folder at a path, which must be an empty folder or not exist: the state of a
+        checkpoint made now. Other threads wait meanwhile. If a gateway serves the store, the gateway makes the copy,
+        and only a Sweep waits for it. NotCopied if the store is in memory, the path has files, or the gateway can't
+        copy; OSError if this process can't."""
         if self._socket is not None:
             back_up(self._socket, fspath(path))
             return
@@ -447,19 +453,19 @@ class Store(AutoCommit):
             copy_checkpoint(self.folder, fspath(path))
 
     def kill(self) -> None:
-        """Ends the program at once, whatever it is at. A folder then has what was answered, or without a log what its last
-        checkpoint left."""
+        """Kills the program at once, whatever it is doing. A folder with a log then has everything that was answered,
+        and a folder without one its last checkpoint."""
         self._connection.kill()
         self._unsaved.lost()
         self._unsaved.forget()
 
     def close(self, checkpoint: bool | None = None) -> int:
-        """Ends the program, and gives its exit status. A store in a folder makes a checkpoint first, where anything was done since
-        the last one, unless it was opened to make none; `checkpoint` says it for this end alone. With a log it is for the next
-        opening, which then has no log to read. It may be called again.
+        """Ends the program, and gives its exit status. A store in a folder makes a checkpoint first if anything has
+        changed since the last one, unless it was opened with `checkpoint_at_close` false; `checkpoint` overrides that
+        for this call. With a log, the checkpoint only saves the next open from reading the log. It may be called again.
 
-        A Refused where that checkpoint is refused: the store stays open. ProgramEnded where the program has ended before. Both
-        texts say what isn't in the folder.
+        A Refused if that checkpoint is refused: the store stays open. ProgramEnded if the program has ended before.
+        Both texts say which changes aren't in the folder.
         """
         with self.alone():
             wanted = self._checkpoint_at_close if checkpoint is None else checkpoint
@@ -469,7 +475,7 @@ class Store(AutoCommit):
             return self._connection.close()
 
     def _save(self) -> None:
-        """Makes the checkpoint of the end, however long it takes."""
+        """Makes the checkpoint of `close`, however long it takes."""
         self._timeout = None
         try:
             self.checkpoint()
@@ -504,7 +510,7 @@ OPEN: weakref.WeakSet[Store] = weakref.WeakSet()
 
 @atexit.register
 def close_all() -> None:
-    """Closes the stores that are still open at the end, so that folders have their checkpoints."""
+    """Closes the stores that are still open at exit, so that folders have their checkpoints."""
     for store in list(OPEN):
         if store._owner == os.getpid():
             try:

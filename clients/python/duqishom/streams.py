@@ -13,7 +13,7 @@ from duqishom.remote import Address, ConnectionLost, named_error
 
 
 class Trip:
-    """Requests on their way: how many, and the bodies of their replies."""
+    """Requests in flight: how many, and the bodies of their replies."""
 
     def __init__(self, count: int) -> None:
         self.count = count
@@ -23,8 +23,8 @@ class Trip:
 
 
 class FrameStream(asyncio.Protocol):
-    """A connection to a gateway. Replies come in the order of the requests, so those of a trip whose task was cancelled are
-    passed by."""
+    """A connection to a gateway. Replies come in the order of the requests, so the replies to a trip whose task was
+    cancelled are skipped."""
 
     def __init__(self) -> None:
         self._trips: deque[Trip] = deque()
@@ -50,7 +50,8 @@ class FrameStream(asyncio.Protocol):
     async def ask(self, bodies: Sequence[bytes]) -> list[bytes]:
         """Sends these bodies, each in a frame, in one piece, and gives the bodies of the replies.
 
-        FrameTooLarge where a body is too long: then nothing is sent. ConnectionLost where the connection ends in place of a reply.
+        FrameTooLarge if a body is too long: then nothing is sent. ConnectionLost if the connection ends instead of a
+        reply.
         """
         if any(len(body) > LONGEST_BODY for body in bodies):
             raise FrameTooLarge()
@@ -107,5 +108,5 @@ class FrameStream(asyncio.Protocol):
         self._has_room.set()
 
     def close(self) -> None:
-        """Leaves. It may be called again."""
+        """Disconnects. It may be called again."""
         self._transport.close()

@@ -1,5 +1,5 @@
-"""Which tablet holds a row. The store doesn't tell, so the client keeps what its own splits have made, over what the root
-file of a folder tells."""
+"""A map from rows to tablets. The store doesn't give one, so the client keeps its own: the tablets in a folder's root
+file, changed by the client's own splits."""
 
 from __future__ import annotations
 
@@ -12,7 +12,8 @@ from duqishom.folders import FolderDamaged, read_root
 
 @dataclass(frozen=True)
 class Tablet:
-    """A tablet: the rows behind the end of the one before it, up to and with its own end. The last has no end."""
+    """A tablet: the rows after the end of the tablet before it, up to and including its own end. The last has no
+    end."""
 
     number: int
     end: bytes | None
@@ -22,8 +23,8 @@ NEW_STORE = (Tablet(1, None),)
 
 
 def tablets_of(folder: str) -> tuple[Tablet, ...]:
-    """The tablets that the root file of a folder tells. Without one they are those of a new store; where it is out of its form, the
-    program tells."""
+    """The tablets in the root file of a folder, or a new store's if there is no root file. If it is malformed, the
+    program reports that."""
     try:
         return tuple(Tablet(tablet.number, tablet.end) for tablet in read_root(Path(folder)).tablets)
     except FolderDamaged:
@@ -45,7 +46,7 @@ class TabletMap:
         return self._tablets[self._place(row)]
 
     def split(self, row: bytes, left: int) -> None:
-        """Cuts the tablet that holds a row: the left part ends with the row, and has this number."""
+        """Splits the tablet that holds a row: the left part ends with the row, and has this number."""
         self._tablets.insert(self._place(row), Tablet(left, row))
 
     def _place(self, row: bytes) -> int:

@@ -13,11 +13,12 @@ def bytes_of(word: str) -> bytes:
 
 
 def text_of(given: bytes, marks: str = " \\") -> str:
-    """A word that stands for these bytes. Letters that can't be shown are escaped, and these marks; a backslash is always one."""
+    """A word that stands for these bytes. Characters that can't be shown are escaped, and so are these marks and each
+    backslash."""
     text = given.decode("utf-8", "surrogateescape")
     return "".join(letter if letter.isprintable() and letter not in marks else escaped(letter) for letter in text)
 
 
 def escaped(letter: str) -> str:
-    """The bytes of a letter, each as an escape."""
+    """The bytes of a character, each as an escape."""
     return "".join(f"\\x{byte:02x}" for byte in letter.encode("utf-8", "surrogateescape"))

@@ -61,11 +61,11 @@ class Snapshot:
         return self._session.is_active
 
     def get(self, row: bytes, family: bytes, own: bool = True) -> bytes | None:
-        """What the transaction has written to the cell; otherwise the value that was committed last by the start. None where
-        the cell is deleted, or nothing was committed.
+        """The transaction's own write to the cell, if any; otherwise the last value committed by the start. None if the
+        cell is deleted, or nothing was committed.
 
-        With `own=False` the transaction's own writes are not looked at. A lock that still stands after some tries is cleaned,
-        unless the patience says otherwise: then StillPending is raised.
+        With `own=False` the transaction's own writes are ignored. A lock that is still there after some tries is
+        cleaned, unless the patience says otherwise: then StillPending is raised.
         """
         [value] = self.get_many([(row, family)], own)
         return value
@@ -202,11 +202,12 @@ class Transaction(Snapshot):
         self._session.write(row, family, None)
 
     def commit(self) -> int | None:
-        """Commits all writes at once, and gives the commit stamp: None where nothing was written.
+        """Commits all writes atomically, and returns the commit stamp, or None if nothing was written.
 
-        TransactionConflict where a cell is taken, and TransactionLost where a cleaner was faster: what was held is free again, and
-        a lock of another session is waited for, and then cleaned. Where a step is refused, the session goes on, and `commit` may
-        be called again. Where a request is interrupted or times out, it isn't known whether all is committed or nothing.
+        TransactionConflict if a cell is locked or was written since, and TransactionLost if a cleaner was faster: the
+        transaction's locks are released, and a lock of another session is waited for, and then cleaned. If a step is
+        refused, the session continues, and `commit` may be called again. If a request is interrupted or times out, it
+        isn't known whether everything is committed or nothing.
         """
         self._do(self._session.commit())
         return self.commit_stamp

@@ -1,3 +1,4 @@
-"""The version of this package. docs/CHANGELOG.md has it beside those of the program, the protocol and the files."""
+"""The version of this package. docs/CHANGELOG.md lists it with the versions of the program, the protocol and the
+files."""
 
 VERSION = "0.7.0"

@@ -1,45 +1,37 @@
-"""The command: a store that is asked in words, a line for each request."""
+"""The command shell: requests to a store in words, one a line."""
 
 from __future__ import annotations
 
-import shlex
-from collections.abc import Callable, Iterable, Sequence
-from contextlib import suppress
-from dataclasses import dataclass
+from collections.abc import Iterable, Iterator, Sequence
+from itertools import islice
 from pathlib import Path
-from typing import NamedTuple
 
-from duqishom.answers import (
-    Cleaned,
-    Committed,
-    Conflict,
-    Decided,
-    Finished,
-    Found,
-    Gone,
-    Held,
-    Lost,
-    Nothing,
-    Pending,
-    Progress,
-    Qualifier,
-    RolledBack,
-    RolledForward,
-    Stamped,
-    Value,
-    Version,
-)
-from duqishom.columns import BadForm, Kind, read_lock, read_record
+from duqishom import explained, states
+from duqishom.answers import Qualifier
+from duqishom.cells import Cell, range_of
+from duqishom.columns import BadForm
+from duqishom.fields import MalformedReply
 from duqishom.files import file_name
 from duqishom.folders import read_root
+from duqishom.lines import HELP, Line, Misspelled, add_range, add_scan, completions, parsers_of, read_line, split_words
 from duqishom.refusals import Refused
 from duqishom.store import Store
-from duqishom.texts import bytes_of, text_of
-from duqishom.transactions import MOST_STAMP, Transaction, TransactionFailed
-
-
-class Misspelled(Exception):
-    """A line is none of the command's."""
+from duqishom.tellings import (
+    Form,
+    Told,
+    as_data,
+    cell_data,
+    failed,
+    said,
+    show,
+    text_of_cleaned,
+    text_of_found,
+    text_of_progress,
+    text_of_version,
+)
+from duqishom.terminal import is_long, show_pages
+from duqishom.texts import text_of
+from duqishom.transactions import Transaction, TransactionFailed
 
 
 class Quit(Exception):
@@ -47,26 +39,11 @@ class Quit(Exception):
 
 
 class NotDone(Exception):
-    """A line asks for what can't be done, and nothing was."""
-
-
-def number_of(word: str) -> int:
-    """The number that a word stands for."""
-    if not (word.isascii() and word.isdigit()):
-        raise Misspelled(f"{word} is no number")
-    return int(word)
-
-
-def qualifier_of(word: str) -> Qualifier:
-    """The column that a word names."""
-    try:
-        return Qualifier[word.upper()]
-    except KeyError:
-        raise Misspelled(f"{word} is none of data, lock and write") from None
+    """A line can't be done, and nothing was."""
 
 
 def amount_in(transaction: Transaction, row: bytes, family: bytes) -> int:
-    """The number in a cell, 0 where nothing is."""
+    """The number in a cell, 0 if the cell has no value."""
     value = transaction.get(row, family)
     if value is None:
         return 0
@@ -75,392 +52,320 @@ def amount_in(transaction: Transaction, row: bytes, family: bytes) -> int:
     return int(value)
 
 
-def text_of_found(found: Found) -> str:
-    """What a read of a session found, in words."""
-    match found:
-        case Nothing():
-            return "nothing"
-        case Value(value):
-            return text_of(value)
-        case Pending(start):
-            return f"pending: locked by {start}"
-
-
-def text_of_progress(progress: Progress) -> str:
-    """What a step did, in words."""
-    match progress:
-        case Held(place, count):
-            return f"held {place} of {count}"
-        case Conflict(place):
-            return f"conflict at {place}"
-        case Stamped(commit):
-            return f"stamped {commit}"
-        case Committed(commit):
-            return f"committed at {commit}"
-        case Lost():
-            return "lost"
-        case Finished(place, count):
-            return f"finished {place} of {count}"
-
-
-def text_of_cleaned(cleaned: Cleaned) -> str:
-    """What a cleaner did, in words."""
-    match cleaned:
-        case Decided():
-            return "decided"
-        case RolledForward(commit):
-            return f"rolled forward, committed at {commit}"
-        case RolledBack():
-            return "rolled back"
-        case Gone():
-            return "gone"
-
-
-def text_of_version(version: Version | None, qualifier: Qualifier) -> str:
-    """What a raw read found, in words: a record names a start, and a lock the first cell of its session."""
-    if version is None:
-        return "nothing"
-    with suppress(BadForm):
-        if qualifier is Qualifier.WRITE:
-            record = read_record(version.value)
-            return f"{version.stamp}: start {record.start}{text_of_kind(record.kind)}"
-        if qualifier is Qualifier.LOCK:
-            lock = read_lock(version.value)
-            first = f"{text_of(lock.row)} {text_of(lock.family)}"
-            return f"{version.stamp}: first cell {first}{text_of_kind(lock.kind)}"
-    return f"{version.stamp}: {text_of(version.value)}"
-
-
-def text_of_kind(kind: Kind) -> str:
-    """What a lock or a record adds where it is that of a deletion."""
-    return ", a deletion" if kind is Kind.DELETE else ""
-
-
-def split_words(text: str) -> list[str]:
-    """The words of a line. Between quotes blanks belong to a word; a backslash is nothing special, for escapes begin with it."""
-    parts = shlex.shlex(text, posix=True)
-    parts.whitespace_split = True
-    parts.commenters = ""
-    parts.escape = ""
-    return list(parts)
-
-
-def size_of(folder: str | None, name: int) -> int:
-    """The size of a file of a folder: 0 where it is gone."""
-    try:
-        return (Path(folder or "") / file_name(name)).stat().st_size
-    except FileNotFoundError:
-        return 0
-
-
 def text_of_end(end: bytes | None) -> str:
-    """Where a tablet ends, in words."""
+    """The end of a tablet, in words."""
     return "the last row" if end is None else text_of(end)
 
 
-@dataclass(frozen=True)
-class Line:
-    """A line of the command: its words, what it does, how it is done, and whether all words behind the first one are taken as they
-    come."""
-
-    usage: str
-    help: str
-    do: Callable[..., str]
-    is_open: bool = False
-
-    def fits(self, words: list[str]) -> bool:
-        """Whether these words are such a line: those in small letters as they stand, and any others in their places."""
-        form = self.usage.split()
-        if self.is_open:
-            return form[0] == words[0]
-        pairs = zip(form, words)
-        return len(form) == len(words) and all(name.isupper() or name == word for name, word in pairs)
-
-    def arguments(self, words: list[str]) -> list[str]:
-        """The words that stand for something."""
-        if self.is_open:
-            return words[1:]
-        return [word for name, word in zip(self.usage.split(), words) if name.isupper()]
-
-
-SCAN_HELP = "reads the cells from a row to a row, in a transaction; OPTIONS are --prefix ROW, --family FAMILY and --keys"
-
-
-class RangeWords(NamedTuple):
-    """The words of a range: its first row, its last one, a prefix and a family, where they are named, and whether keys alone are
-    asked for."""
-
-    start: bytes | None
-    end: bytes | None
-    prefix: bytes | None
-    family: bytes | None
-    keys: bool
-
-
-def range_words(words: Sequence[str]) -> RangeWords:
-    """A range, of the words of a line behind the first one."""
-    rows: list[bytes] = []
-    options: dict[str, bytes] = {}
-    left = list(words)
-    while left:
-        word = left.pop(0)
-        if word in ("--prefix", "--family") and left:
-            options[word] = bytes_of(left.pop(0))
-        elif word == "--keys":
-            options[word] = b""
-        elif word.startswith("--") or len(rows) == 2:
-            raise Misspelled("a range is [START [END]] [--prefix ROW] [--family FAMILY] [--keys]")
-        else:
-            rows.append(bytes_of(word))
-    start, end = [*rows, None, None][:2]
-    return RangeWords(start, end, options.get("--prefix"), options.get("--family"), "--keys" in options)
+def committed(transaction: Transaction) -> Told:
+    """The answer to a line that wrote something."""
+    return Told(f"committed at {transaction.commit_stamp}", {"commit": transaction.commit_stamp})
 
 
 class Words:
-    """A store that is asked in words."""
+    """A store that takes requests in words. `socket` is its gateway's, if it has one."""
 
-    def __init__(self, store: Store) -> None:
+    def __init__(self, store: Store, socket: str | None = None) -> None:
         self._store = store
-        self.lines = (
-            Line("set ROW FAMILY VALUE", "sets a cell, in a transaction", self.set),
-            Line("get ROW FAMILY", "reads a cell, in a transaction", self.get),
-            Line("delete ROW FAMILY", "deletes a cell, in a transaction", self.delete),
-            Line("scan [START [END]] [OPTIONS]", SCAN_HELP, self.scan, is_open=True),
-            Line("count [START [END]] [OPTIONS]", "how many cells such a range has", self.count, is_open=True),
-            Line("transfer ROW ROW FAMILY AMOUNT", "moves an amount from one row to the other", self.transfer),
-            Line("begin", "begins a session, and names its start", self.begin),
-            Line("in START set ROW FAMILY VALUE", "buffers a write in the session", self.session_set),
-            Line("in START delete ROW FAMILY", "buffers a deletion in the session", self.session_delete),
-            Line("in START get ROW FAMILY", "reads a cell as of the start", self.session_get),
-            Line("in START step", "takes the session's next step", self.session_step),
-            Line("in START stop", "ends the session where it stands", self.session_stop),
-            Line("clean ROW FAMILY", "clears the lock of a cell", self.clean),
-            Line("collect", "erases the versions that no session reads", self.collect),
-            Line("raw ROW FAMILY COLUMN LO HI", "the newest version in data, lock or write; HI may be last", self.raw),
-            Line("tablets", "the tablets, in the order of their rows; of a folder, what the last checkpoint has", self.tablets),
-            Line("split ROW", "cuts the tablet that holds the row behind it", self.split),
-            Line("move TABLET SERVER", "puts a tablet on a server", self.move),
-            Line("compact TABLET minor", "writes the tablet's memtable as a file", self.minor),
-            Line("compact TABLET merge COUNT", "makes one file of so many newest ones", self.merge),
-            Line("compact TABLET major", "makes one file of all that the tablet has", self.major),
-            Line("sweep", "removes the files that no tablet names", self.sweep),
-            Line("checkpoint", "writes all into files, from which a folder is opened", self.checkpoint),
-            Line("backup PATH", "copies the folder, as of now, to an empty folder or a new one", self.backup),
-            Line("restart", "has the oracle go on from its mark", self.restart),
-            Line("help", "these lines", self.help),
-            Line("quit", "ends the command; so does exit", self.quit),
-            Line("exit", "", self.quit),
-        )
+        self._socket = socket
 
-    def answer(self, text: str) -> tuple[bool, str]:
-        """Whether a line was done, and what there is to say of it: nothing of an empty line. Quotes make one word of several, and
-        of none. Quit where the line ends the command."""
+    def answer(self, text: str) -> tuple[bool, Told | None]:
+        """Whether a line was done, and the answer to show: none for an empty line. Quotes make one word of several or of
+        none. Quit if the line ends the command."""
         try:
             words = split_words(text)
         except ValueError as why:
-            return False, f"not done: {why}".lower()
-        return self.answer_words(words) if words else (True, "")
+            return False, failed(f"not done: {why}".lower())
+        return self.answer_words(words) if words else (True, None)
 
-    def answer_words(self, words: list[str]) -> tuple[bool, str]:
-        """Whether a line of these words was done, and what there is to say of it."""
+    def answer_words(self, words: list[str]) -> tuple[bool, Told]:
+        """Whether a line of these words was done, and the answer to show."""
         try:
             return True, self._do(words)
         except Refused as refusal:
-            return False, str(refusal)
+            return False, failed(str(refusal))
         except TransactionFailed as failure:
-            return False, f"not committed: {failure}"
-        except (Misspelled, NotDone) as why:
-            return False, f"not done: {why}"
-        except (OSError, ValueError) as why:
-            return False, f"not done: {why}"
+            return False, failed(f"not committed: {failure}")
         except OverflowError:
-            return False, "not done: a number is too large"
+            return False, failed("not done: a number is too large")
+        except (Misspelled, NotDone, OSError, ValueError, BadForm, MalformedReply) as why:
+            return False, failed(f"not done: {why}")
 
-    def _do(self, words: list[str]) -> str:
-        for line in self.lines:
-            if line.fits(words):
-                return line.do(*line.arguments(words))
-        meant = [line.usage for line in self.lines if line.usage.split()[0] == words[0]]
-        if not meant:
-            raise Misspelled(f"no line begins with {words[0]}; help shows all")
-        raise Misspelled("the line is " + ", or ".join(meant))
+    def _do(self, words: list[str]) -> Told:
+        told = help_of(words)
+        if told is not None:
+            return said(told)
+        line, places, options = read_line(PARSERS, words)
+        return line.do(self, *places, **options)
 
-    def help(self) -> str:
-        """All lines that there are."""
-        return "\n".join(f"{line.usage:31}{line.help}" for line in self.lines if line.help)
+    def help(self) -> Told:
+        """All lines of the command."""
+        return said("\n".join(help_lines()))
 
-    def quit(self) -> str:
+    def quit(self) -> Told:
         """Ends the command."""
         raise Quit()
 
-    def set(self, row: str, family: str, value: str) -> str:
+    def set(self, row: bytes, family: bytes, value: bytes) -> Told:
         """Sets a cell, in a transaction."""
 
         def work(transaction: Transaction) -> Transaction:
-            transaction.set(bytes_of(row), bytes_of(family), bytes_of(value))
+            transaction.set(row, family, value)
             return transaction
 
-        return f"committed at {self._store.run(work).commit_stamp}"
+        return committed(self._store.run(work))
 
-    def get(self, row: str, family: str) -> str:
+    def get(self, row: bytes, family: bytes) -> Told:
         """Reads a cell, in a transaction."""
-        value = self._store.run(lambda transaction: transaction.get(bytes_of(row), bytes_of(family)))
-        return "nothing" if value is None else text_of(value)
+        value = self._store.run(lambda transaction: transaction.get(row, family))
+        data = cell_data(row, family) | {"value": None if value is None else as_data(value)}
+        return Told("nothing" if value is None else text_of(value), data, value or b"")
 
-    def delete(self, row: str, family: str) -> str:
+    def delete(self, row: bytes, family: bytes) -> Told:
         """Deletes a cell, in a transaction."""
 
         def work(transaction: Transaction) -> Transaction:
-            transaction.delete(bytes_of(row), bytes_of(family))
+            transaction.delete(row, family)
             return transaction
 
-        return f"committed at {self._store.run(work).commit_stamp}"
+        return committed(self._store.run(work))
 
-    def scan(self, *words: str) -> str:
+    def scan(
+        self,
+        start: bytes | None,
+        end: bytes | None,
+        prefix: bytes | None,
+        family: bytes | None,
+        keys: bool,
+        limit: int | None,
+    ) -> Told:
         """Reads the cells of a range, in a transaction: a line for each."""
-        start, end, prefix, family, keys = range_words(words)
 
-        def work(transaction: Transaction) -> list[str]:
+        def work(transaction: Transaction) -> list[tuple[bytes, ...]]:
             if keys:
                 named = transaction.scan(start, end, prefix=prefix, family=family, keys=True)
-                return [f"{text_of(row)} {text_of(column)}" for row, column, _ in named]
-            cells = transaction.scan(start, end, prefix=prefix, family=family)
-            return [f"{text_of(row)} {text_of(column)} {text_of(value)}" for row, column, value in cells]
+                return [(row, column) for row, column, _ in islice(named, limit)]
+            return list(islice(transaction.scan(start, end, prefix=prefix, family=family), limit))
 
-        return "\n".join(self._store.run(work)) or "nothing"
+        cells = self._store.run(work)
+        text = "\n".join(" ".join(map(text_of, cell)) for cell in cells) or "nothing"
+        data = [dict(zip(("row", "family", "value"), map(as_data, cell))) for cell in cells]
+        return Told(text, data, b"\n".join(map(b"\t".join, cells)))
 
-    def count(self, *words: str) -> str:
-        """How many cells of a range have a value."""
-        start, end, prefix, family, _ = range_words(words)
-        return str(self._store.run(lambda transaction: transaction.count(start, end, prefix=prefix, family=family)))
+    def count(self, start: bytes | None, end: bytes | None, prefix: bytes | None, family: bytes | None) -> Told:
+        """The number of cells of a range that have a value."""
+        count = self._store.run(lambda transaction: transaction.count(start, end, prefix=prefix, family=family))
+        return Told(str(count), {"count": count})
 
-    def transfer(self, giver: str, taker: str, family: str, amount: str) -> str:
+    def transfer(self, giver: bytes, taker: bytes, family: bytes, amount: int) -> Told:
         """Moves an amount from one row to the other, in a transaction."""
-        rows, column, moved = (bytes_of(giver), bytes_of(taker)), bytes_of(family), number_of(amount)
-        if rows[0] == rows[1]:
+        names = text_of(giver), text_of(taker)
+        if giver == taker:
             raise NotDone("the two rows are one")
 
         def work(transaction: Transaction) -> tuple[Transaction, int, int]:
-            left = amount_in(transaction, rows[0], column) - moved
+            left = amount_in(transaction, giver, family) - amount
             if left < 0:
-                raise NotDone(f"{giver} has {left + moved}")
-            got = amount_in(transaction, rows[1], column) + moved
-            transaction.set(rows[0], column, b"%d" % left)
-            transaction.set(rows[1], column, b"%d" % got)
+                raise NotDone(f"{names[0]} has {left + amount}")
+            got = amount_in(transaction, taker, family) + amount
+            transaction.set(giver, family, b"%d" % left)
+            transaction.set(taker, family, b"%d" % got)
             return transaction, left, got
 
         transaction, left, got = self._store.run(work)
-        return f"committed at {transaction.commit_stamp}: {giver} has {left}, {taker} has {got}"
+        stamp = transaction.commit_stamp
+        text = f"committed at {stamp}: {names[0]} has {left}, {names[1]} has {got}"
+        return Told(text, {"commit": stamp, "left": left, "got": got})
 
-    def begin(self) -> str:
+    def begin(self) -> Told:
         """Begins a session."""
-        return f"session {self._store.begin()}"
+        start = self._store.begin()
+        return Told(f"session {start}", {"session": start})
 
-    def session_set(self, start: str, row: str, family: str, value: str) -> str:
+    def session_set(self, start: int, row: bytes, family: bytes, value: bytes) -> Told:
         """Buffers a write in a session."""
-        self._store.set(number_of(start), bytes_of(row), bytes_of(family), bytes_of(value))
-        return "set"
+        self._store.set(start, row, family, value)
+        return said("set")
 
-    def session_delete(self, start: str, row: str, family: str) -> str:
+    def session_delete(self, start: int, row: bytes, family: bytes) -> Told:
         """Buffers a deletion in a session."""
-        self._store.delete(number_of(start), bytes_of(row), bytes_of(family))
-        return "set to be deleted"
+        self._store.delete(start, row, family)
+        return said("set to be deleted")
 
-    def session_get(self, start: str, row: str, family: str) -> str:
+    def session_get(self, start: int, row: bytes, family: bytes) -> Told:
         """Reads a cell as of a session's start."""
-        return text_of_found(self._store.get(number_of(start), bytes_of(row), bytes_of(family)))
+        return said(text_of_found(self._store.get(start, row, family)))
 
-    def session_step(self, start: str) -> str:
+    def session_step(self, start: int) -> Told:
         """Takes a session's next step."""
-        return text_of_progress(self._store.step(number_of(start)))
+        return said(text_of_progress(self._store.step(start)))
 
-    def session_stop(self, start: str) -> str:
-        """Ends a session where it stands."""
-        self._store.stop(number_of(start))
-        return "stopped"
+    def session_stop(self, start: int) -> Told:
+        """Ends a session in its current phase."""
+        self._store.stop(start)
+        return said("stopped")
 
-    def clean(self, row: str, family: str) -> str:
+    def explain(self, row: bytes, family: bytes) -> Told:
+        """Shows all versions of a cell."""
+        return explained.explain(self._store, Cell(row, family))
+
+    def locks(self, start: bytes | None, end: bytes | None, prefix: bytes | None, family: bytes | None) -> Told:
+        """Shows the locks of a range."""
+        return explained.told_locks(explained.locks(self._store, range_of(start, end, prefix, family)))
+
+    def status(self) -> Told:
+        """Shows the state of the store."""
+        return states.state(self._store, self._socket)
+
+    def clients(self) -> Told:
+        """Shows the number of clients."""
+        return states.clients(self._socket)
+
+    def clean(self, row: bytes, family: bytes) -> Told:
         """Clears the lock of a cell."""
-        cleaned = self._store.clean(bytes_of(row), bytes_of(family))
-        return "no lock" if cleaned is None else text_of_cleaned(cleaned)
+        cleaned = self._store.clean(row, family)
+        return said("no lock" if cleaned is None else text_of_cleaned(cleaned))
 
-    def collect(self) -> str:
+    def collect(self) -> Told:
         """Erases the versions that no session reads."""
-        return f"collected up to {self._store.collect()}"
+        floor = self._store.collect()
+        return Told(f"collected up to {floor}", {"floor": floor})
 
-    def raw(self, row: str, family: str, column: str, lo: str, hi: str) -> str:
+    def raw(self, row: bytes, family: bytes, column: Qualifier, lo: int, hi: int) -> Told:
         """Reads the newest version of a column in a range of stamps."""
-        qualifier = qualifier_of(column)
-        most = MOST_STAMP if hi == "last" else number_of(hi)
-        version = self._store.raw(bytes_of(row), bytes_of(family), qualifier, number_of(lo), most)
-        return text_of_version(version, qualifier)
+        version = self._store.raw(row, family, column, lo, hi)
+        data = None if version is None else {"stamp": version.stamp, "value": as_data(version.value)}
+        return Told(text_of_version(version, column), data, b"" if version is None else version.value)
 
-    def tablets(self) -> str:
-        """The tablets, in the order of their rows. Those of a folder with their servers and files at the last checkpoint."""
+    def tablets(self) -> Told:
+        """The tablets, in the order of their rows. A folder's have their servers and files at the last checkpoint."""
         folder = self._store.folder
         kept = {} if folder is None else {tablet.number: tablet for tablet in read_root(Path(folder)).tablets}
-        said = []
+        lines, data = list[str](), list[dict[str, object]]()
         for tablet in self._store.tablets():
             text = f"{tablet.number} up to {text_of_end(tablet.end)}"
-            if (place := kept.get(tablet.number)) is not None:
-                sizes = [size_of(folder, name) for name, _ in place.files]
+            end = None if tablet.end is None else as_data(tablet.end)
+            figures: dict[str, object] = {"tablet": tablet.number, "end": end}
+            if folder is not None and (place := kept.get(tablet.number)) is not None:
+                sizes = [states.size_of(Path(folder) / file_name(name)) for name, _ in place.files]
                 text += f": server {place.server}, {len(sizes)} files, {sum(sizes):,} bytes"
-            said.append(text)
-        return "\n".join(said)
+                figures |= {"server": place.server, "files": len(sizes), "bytes": sum(sizes)}
+            lines.append(text)
+            data.append(figures)
+        return Told("\n".join(lines), data)
 
-    def split(self, row: str) -> str:
-        """Cuts the tablet that holds a row behind it."""
-        return f"tablet {self._store.split(bytes_of(row))} ends with {row}"
+    def split(self, row: bytes) -> Told:
+        """Splits the tablet that holds a row behind the row."""
+        tablet = self._store.split(row)
+        return Told(f"tablet {tablet} ends with {text_of(row)}", {"tablet": tablet})
 
-    def move(self, tablet: str, server: str) -> str:
+    def move(self, tablet: int, server: int) -> Told:
         """Puts a tablet on a server."""
-        self._store.move(number_of(tablet), number_of(server))
-        return "moved"
+        self._store.move(tablet, server)
+        return said("moved")
 
-    def minor(self, tablet: str) -> str:
+    def minor(self, tablet: int) -> Told:
         """Writes a tablet's memtable as a file."""
-        self._store.minor(number_of(tablet))
-        return "compacted"
+        self._store.minor(tablet)
+        return said("compacted")
 
-    def merge(self, tablet: str, count: str) -> str:
+    def merge(self, tablet: int, count: int) -> Told:
         """Makes one file of so many newest ones."""
-        self._store.merge(number_of(tablet), number_of(count))
-        return "compacted"
+        self._store.merge(tablet, count)
+        return said("compacted")
 
-    def major(self, tablet: str) -> str:
+    def major(self, tablet: int) -> Told:
         """Makes one file of all that a tablet has."""
-        self._store.major(number_of(tablet))
-        return "compacted"
+        self._store.major(tablet)
+        return said("compacted")
 
-    def sweep(self) -> str:
+    def sweep(self) -> Told:
         """Removes the files that no tablet names."""
-        return f"{self._store.sweep()} files removed"
+        count = self._store.sweep()
+        return Told(f"{count} files removed", {"files": count})
 
-    def checkpoint(self) -> str:
+    def checkpoint(self) -> Told:
         """Writes all into files."""
         self._store.checkpoint()
-        return "written"
+        return said("written")
 
-    def backup(self, path: str) -> str:
+    def backup(self, path: str) -> Told:
         """Copies the folder."""
         self._store.backup(path)
-        return f"copied to {path}"
+        return said(f"copied to {path}")
 
-    def restart(self) -> str:
+    def restart(self) -> Told:
         """Has the oracle go on from its mark."""
         self._store.restart_oracle()
-        return "restarted"
+        return said("restarted")
 
 
-def answer_all(words: Words, texts: Iterable[str]) -> bool:
-    """Prints the answer to each line, up to the one that ends the command, and tells whether all were done."""
+LINES = (
+    Line("set ROW FAMILY VALUE", "sets a cell, in a transaction", Words.set),
+    Line("get ROW FAMILY", "reads a cell, in a transaction", Words.get),
+    Line("delete ROW FAMILY", "deletes a cell, in a transaction", Words.delete),
+    Line("scan [START [END]] [OPTIONS]", "reads the cells from a row to a row, in a transaction", Words.scan, add_scan),
+    Line("count [START [END]] [OPTIONS]", "how many cells such a range has", Words.count, add_range),
+    Line("transfer ROW ROW FAMILY AMOUNT", "moves an amount from one row to the other", Words.transfer),
+    Line("begin", "begins a session, and names its start", Words.begin),
+    Line("in START set ROW FAMILY VALUE", "buffers a write in the session", Words.session_set),
+    Line("in START delete ROW FAMILY", "buffers a deletion in the session", Words.session_delete),
+    Line("in START get ROW FAMILY", "reads a cell as of the start", Words.session_get),
+    Line("in START step", "takes the session's next step", Words.session_step),
+    Line("in START stop", "ends the session in its current phase", Words.session_stop),
+    Line("explain ROW FAMILY", "all that a cell has: its value, locks, records and data", Words.explain),
+    Line("locks [START [END]] [OPTIONS]", "the locks of such a range, and their sessions' ends", Words.locks, add_range),
+    Line("status", "the state of the store: of its folder, or as its gateway counts", Words.status),
+    Line("clients", "how many clients the gateway has", Words.clients),
+    Line("clean ROW FAMILY", "clears the lock of a cell", Words.clean),
+    Line("collect", "erases the versions that no session reads", Words.collect),
+    Line("raw ROW FAMILY COLUMN LO HI", "the newest version in data, lock or write; HI may be last", Words.raw),
+    Line("tablets", "the tablets, in the order of their rows; of a folder, what the last checkpoint has", Words.tablets),
+    Line("split ROW", "splits the tablet that holds the row behind the row", Words.split),
+    Line("move TABLET SERVER", "puts a tablet on a server", Words.move),
+    Line("compact TABLET minor", "writes the tablet's memtable as a file", Words.minor),
+    Line("compact TABLET merge COUNT", "makes one file of so many newest ones", Words.merge),
+    Line("compact TABLET major", "makes one file of all that the tablet has", Words.major),
+    Line("sweep", "removes the files that no tablet names", Words.sweep),
+    Line("checkpoint", "writes all into files, from which a folder is opened", Words.checkpoint),
+    Line("backup PATH", "copies the folder, as of now, to an empty folder or a new one", Words.backup),
+    Line("restart", "has the oracle go on from its mark", Words.restart),
+    Line("help", "these lines; LINE --help shows the options of one", Words.help),
+    Line("quit", "ends the command; so does exit", Words.quit),
+    Line("exit", "", Words.quit),
+)
+PARSERS = parsers_of(LINES)
+
+
+def help_lines() -> Iterator[str]:
+    """All lines that there are, and what each does."""
+    return (f"{line.usage:31}{line.help}" for line in LINES if line.help)
+
+
+def help_of(words: Sequence[str]) -> str | None:
+    """The help of a line, if these words ask for it."""
+    return PARSERS[words[0]].format_help().rstrip() if words[1:] in HELP and words[0] in PARSERS else None
+
+
+def complete(text: str) -> Iterator[str]:
+    """The words that may follow a text."""
+    try:
+        return completions(LINES, PARSERS, split_words(text))
+    except ValueError:
+        return iter(())
+
+
+def answer_all(words: Words, texts: Iterable[str], form: Form = Form.TEXT, by_pages: bool = False) -> bool:
+    """Shows the answer to each line, up to the one that ends the command. Returns whether all were done."""
     is_well = True
     for text in texts:
         try:
-            is_done, answer = words.answer(text)
+            is_done, told = words.answer(text)
         except Quit:
             break
         is_well = is_well and is_done
-        if answer:
-            print(answer, flush=True)
+        if told is not None and by_pages and form is Form.TEXT and is_long(told.text):
+            show_pages(told.text)
+        elif told is not None:
+            show(told, form)
     return is_well

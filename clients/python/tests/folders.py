@@ -1,4 +1,4 @@
-"""A folder for a test, which goes with it, and what the command says of folders."""
+"""A folder for a test, removed with it, and the command's output about folders."""
 
 from __future__ import annotations
 
@@ -22,7 +22,7 @@ class FolderTest(unittest.TestCase):
 
 
 def said(*words: object) -> tuple[int, str]:
-    """The status of the command, and what it prints."""
+    """The status of the command, and its output."""
     out = StringIO()
     with redirect_stdout(out), redirect_stderr(out):
         status = main([str(word) for word in words])

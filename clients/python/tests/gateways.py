@@ -17,7 +17,7 @@ from typing import Any
 
 from duqishom.fields import counted, number
 
-# No wait of a test is longer than so many seconds.
+# The longest wait of a test in seconds.
 PATIENCE = 60
 PACKAGE = Path(__file__).resolve().parents[1]
 COLUMN = b"c"
@@ -36,7 +36,7 @@ def get(start: bytes, row: bytes) -> bytes:
 
 
 def scan(start: bytes, bounds: bytes = b"\0\0\0", cells: int = 1000, keys: bytes = b"\0") -> bytes:
-    """A scan, by the bytes of its bounds: the cell behind which it begins, its last row, and its family."""
+    """A scan, by the bytes of its bounds: the cell after which it begins, its last row, and its family."""
     return frame(b"\x31" + start + keys + bounds + number(4, cells))
 
 
@@ -85,7 +85,7 @@ class Wire:
         self.socket.sendall(frames)
 
     def reply(self) -> bytes:
-        """The body of the next reply. EOFError where the connection ends in place of it."""
+        """The body of the next reply. EOFError if the connection ends instead."""
         length = int.from_bytes(self._take(4), "big")
         return self._take(length)
 
@@ -103,19 +103,19 @@ class Wire:
         return self.reply()
 
     def begin(self) -> bytes:
-        """Begins a session, and gives the eight bytes of its start."""
+        """Begins a session, and returns the eight bytes of its start."""
         reply = self.ask(BEGIN)
         assert reply[0] == 0x81, reply
         return reply[1:]
 
     def commit(self, row: bytes, value: bytes) -> bytes:
-        """Writes a cell in a session of its own, and gives the answer to its last step."""
+        """Writes a cell in a session of its own, and returns the answer to its last step."""
         start = self.begin()
         self.send(set_(start, row, value) + 3 * step(start))
         return [self.reply() for _ in range(4)][3]
 
     def read(self, row: bytes) -> bytes:
-        """What a session that begins now reads of a cell."""
+        """The reply to a read of a cell in a new session."""
         start = self.begin()
         self.send(get(start, row) + stop(start))
         return [self.reply() for _ in range(2)][0]
@@ -165,11 +165,11 @@ class Gateway:
         return int(self.statistics()["program"]["process"])
 
     def memory(self) -> int:
-        """The bytes of memory that the gateway has."""
+        """The gateway's memory in bytes."""
         return int(Path(f"/proc/{self.process.pid}/statm").read_text().split()[1]) * os.sysconf("SC_PAGE_SIZE")
 
     def stop(self) -> int:
-        """Asks for the gateway's end, and gives its status."""
+        """Asks the gateway to end, and returns its status."""
         self.process.send_signal(signal.SIGTERM)
         return self.process.wait(PATIENCE)
 
@@ -191,14 +191,14 @@ def command_of(path: str) -> list[str]:
 
 
 def folder_of(case: unittest.TestCase) -> str:
-    """A folder that is there for one test."""
+    """A folder that exists for one test."""
     folder = tempfile.TemporaryDirectory()
     case.addCleanup(folder.cleanup)
     return folder.name
 
 
 def until(holds: Callable[[], object]) -> bool:
-    """Waits until something holds. Gives whether it came to hold in time."""
+    """Waits until something holds. Returns whether it held in time."""
     end = time.monotonic() + PATIENCE
     while not holds():
         if time.monotonic() > end:
@@ -225,8 +225,8 @@ while head := sys.stdin.buffer.read(4):
 
 
 def stand_in(case: unittest.TestCase, answer: str) -> str:
-    """A program that answers each body by this line of Python. `asked` has the operations up to now, and `plain` an accepting
-    reply."""
+    """A program that answers each body by this line of Python. `asked` has the operations so far, and `plain` an
+    accepting reply."""
     place = Path(folder_of(case), "stand_in")
     place.write_text(STAND_IN.format(python=sys.executable, answer=answer))
     place.chmod(0o755)

@@ -12,7 +12,7 @@ FENCE = re.compile(r"^```(\S+)(?: ([^\n]*))?\n(.*?)^```$", re.MULTILINE | re.DOT
 
 @dataclass(frozen=True)
 class Fenced:
-    """A fenced block: the words behind its fence, and its lines."""
+    """A fenced block: the words after its fence, and its lines."""
 
     kind: str
     more: str
@@ -32,7 +32,7 @@ class Sent:
 
 @dataclass(frozen=True)
 class Got:
-    """Bytes that it gets."""
+    """Bytes that the client gets."""
 
     frame: bytes
 
@@ -47,7 +47,7 @@ class Ends:
 
 @dataclass(frozen=True)
 class Exchange:
-    """A block of frames, on a new store or on that of the block before it."""
+    """A block of frames, on a new store or on the store of the block before it."""
 
     is_new: bool
     lines: list[Sent | Got | Ends] = field(default_factory=list)
@@ -55,7 +55,7 @@ class Exchange:
 
 @dataclass(frozen=True)
 class Command:
-    """A command, and what it prints."""
+    """A command, and its output."""
 
     command: str
     output: str
@@ -69,7 +69,7 @@ def fenced(page: str, kind: str) -> list[Fenced]:
 
 
 def line_of_frames(line: str) -> Sent | Got | Ends:
-    """What a line of a block of frames says."""
+    """The meaning of a line of a block of frames."""
     mark, _, rest = line.partition(" ")
     if mark == "ends":
         status, _, told = rest.partition(" ")

@@ -1,4 +1,4 @@
-"""A program that answers from a table: each body that it is asked, in order, and its reply."""
+"""A program that answers from a table of request bodies, in order, and their replies."""
 
 from __future__ import annotations
 
@@ -24,7 +24,7 @@ while head := sys.stdin.buffer.read(4):
 
 
 def peer(case: unittest.TestCase, exchanges: Sequence[tuple[bytes, bytes]]) -> str:
-    """A program that is asked these bodies and answers these. Where it is asked something else, it says so and ends."""
+    """A program that expects these bodies and sends these replies. If it gets another body, it says so and ends."""
     place = Path(folder_of(case), "peer")
     place.write_text(PEER.format(python=sys.executable, exchanges=list(exchanges)))
     place.chmod(0o755)

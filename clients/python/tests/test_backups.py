@@ -18,7 +18,7 @@ EMPTY = b"TABLET02" + (8).to_bytes(8, "big") + bytes(16) + (48).to_bytes(8, "big
 
 
 class Copies(FolderTest):
-    """What `verify` and `restore` say of a store with a log of edits, and of one that has drawn no stamp."""
+    """The output of `verify` and `restore` for a store with a log of edits, and for one that has drawn no stamp."""
 
     def setUp(self) -> None:
         super().setUp()

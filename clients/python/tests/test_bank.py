@@ -1,4 +1,4 @@
-"""A bank whose sum never changes, whoever pays whom, and whoever stops between."""
+"""A bank whose sum never changes, whichever clients pay or stop in between."""
 
 from __future__ import annotations
 
@@ -26,8 +26,8 @@ from duqishom import (
     read_record,
 )
 
-# How many transfers commit, and how many each of four threads makes. A tabletd that is built with checks is slow, and has
-# fewer to do.
+# The number of transfers that commit, and the number that each of four threads makes. A tabletd that is built with
+# checks is slow, and gets fewer.
 TRANSACTIONS = int(os.environ.get("BANK_TRANSACTIONS", "10000"))
 OF_A_THREAD = TRANSACTIONS // 40
 BALANCE = b"balance"
@@ -35,13 +35,13 @@ FIRST = 100
 
 
 def amount(value: bytes | None) -> int:
-    """The amount that an account's value says."""
+    """The amount in an account's value."""
     assert value is not None
     return int(value)
 
 
 class Bank:
-    """Accounts in a store, and what the clients know of them."""
+    """Accounts in a store, and the clients' knowledge of them."""
 
     def __init__(self, store: Store, seed: int, accounts: int, transactions: int, strandings: int) -> None:
         self.store = store
@@ -58,12 +58,13 @@ class Bank:
             for account in self.accounts:
                 transaction.set(account, BALANCE, b"%d" % FIRST)
 
-    # What stands in the store, whoever has stopped: read raw, and writing nothing.
+    # The state of the store, whichever clients have stopped: raw reads only.
 
     def committed_start(self, account: bytes) -> int:
         """The start whose data is the account's committed value.
 
-        Where a lock stands, its session's first cell tells whether it has committed: a record there names its start.
+        If the cell is locked, the first cell of the lock's session tells whether it has committed: a record there names
+        its start.
         """
         lock = self.store.raw(account, BALANCE, Qualifier.LOCK)
         if lock is not None:
@@ -83,7 +84,7 @@ class Bank:
         return False
 
     def balances(self) -> dict[bytes, int]:
-        """What each account has."""
+        """The amount in each account."""
         found = {}
         for account in self.accounts:
             start = self.committed_start(account)
@@ -150,7 +151,8 @@ class Bank:
         yield
 
     def read(self, start: int, account: bytes) -> Generator[None, None, int | None]:
-        """What the account has as of the start. None where a lock stood on it for 20 turns: it is cleaned then."""
+        """The amount in the account as of the start, or None if it was locked for 20 turns: then the lock is
+        cleaned."""
         for _ in range(20):
             found = self.store.get(start, account, BALANCE)
             yield
@@ -187,7 +189,7 @@ class Bank:
         self.counts[why] += 1
 
     def strands(self, phase: str) -> bool:
-        """Whether a session stops here for good. What it has locked stays so until somebody cleans it."""
+        """Whether a session stops here for good. Its cells stay locked until a client cleans them."""
         phases = ("held", "stamped", "committed")
         due = self.strandings * self.counts["committed"] // self.wanted
         if self.counts["strandings"] >= due or phase != phases[self.counts["strandings"] % 3]:
@@ -196,7 +198,7 @@ class Bank:
         return True
 
     def keep_house(self) -> None:
-        """One request of upkeep, whichever."""
+        """One random request of upkeep."""
         tablet = self.random.choice(self.store.tablets()).number
         requests: tuple[Callable[[], object], ...] = (
             lambda: self.store.minor(tablet),
@@ -242,7 +244,7 @@ class Interleaved(unittest.TestCase):
                 self.assertEqual(sum(bank.balances().values()), FIRST * len(bank.accounts))
 
     def assert_rest_is_read(self, bank: Bank) -> None:
-        """Once all locks are cleaned, a new session reads each account."""
+        """After all locks are cleaned, a new session reads each account."""
         for account in bank.accounts:
             bank.store.clean(account, BALANCE)
         start = bank.store.begin()

@@ -1,4 +1,4 @@
-"""Stores in folders: what lasts where the program ends, however it does."""
+"""Stores in folders: the state that lasts however the program ends."""
 
 from __future__ import annotations
 
@@ -36,7 +36,7 @@ from tests.folders import FolderTest
 from tests.pages import TOP
 from tests.poor import Poor
 
-# How many cells are kept, and how many times the program is killed. A tabletd that is built with checks is slow, and has fewer.
+# The number of cells kept, and of kills of the program. A tabletd that is built with checks is slow, and gets fewer.
 CELLS = int(os.environ.get("FOLDER_CELLS", "1000"))
 KILLS = int(os.environ.get("FOLDER_KILLS", "50"))
 OF_A_TRANSACTION = 100
@@ -50,14 +50,14 @@ def kill(store: Store) -> None:
 
 
 class Folders(FolderTest):
-    """What a folder keeps."""
+    """The state that a folder keeps."""
 
     def opened(self, *words: str) -> Store:
-        """The store of the folder, without a log where it is new. Its end makes no checkpoint."""
+        """The store of the folder, without a log if it is new. Its end makes no checkpoint."""
         return Store(folder=self.folder, words=words, checkpoint_at_close=False, log=False)
 
     def counter(self) -> bytes | None:
-        """What the folder has in one cell."""
+        """The folder's value of one cell."""
         with self.opened() as store:
             return store.run(lambda transaction: transaction.get(ROW, FAMILY))
 
@@ -80,7 +80,7 @@ class Folders(FolderTest):
         self.assertEqual(root.stat().st_ino, was)
 
     def test_a_disk_that_was_full_has_room_again(self) -> None:
-        """A limit of the size of files stands for the disk's end: what passes it can't be written whole."""
+        """A limit of the file size simulates a full disk: writes beyond it fail or are cut short."""
         number, program, folder = self.path / "number", self.path / "program", self.path / "store"
         program.write_text(f"""#!/bin/sh\ntrap '' XFSZ\necho $$ >{number}\nexec {default_program()} "$@"\n""")
         program.chmod(0o755)
@@ -222,7 +222,8 @@ class Folders(FolderTest):
         self.assertEqual(caught.exception.status, status)
 
     def test_a_folder_of_the_first_format(self) -> None:
-        """What the program wrote before format 2, stopped right behind the commit of Bob's and Joe's second values."""
+        """A folder as the program wrote it before format 2, stopped right after the commit of Bob's and Joe's second
+        values."""
         shutil.copytree(Path(__file__).parent / "data" / "format1", self.folder, dirs_exist_ok=True)
         folder = Folder(self.path)
         folder.check()
@@ -263,7 +264,7 @@ class Folders(FolderTest):
         self.assert_nothing_is_left()
 
     def assert_nothing_is_left(self) -> None:
-        """No file that was being written stands in the folder. A mark that was is written anew."""
+        """No partly written file is left in the folder. A partly written mark is rewritten."""
         self.assertEqual([file.name for file in self.path.glob("t*.new")], [])
 
     def test_automatic_compactions_on_both_sides_of_a_split(self) -> None:
@@ -295,13 +296,14 @@ class Folders(FolderTest):
 
 
 class Counting:
-    """A number in two cells that rises with each transaction, with a checkpoint behind some of them."""
+    """A number in two cells that rises with each transaction, with a checkpoint after some of them."""
 
     def __init__(self, kept: int) -> None:
         self.may_be_kept = [kept]
 
     def until_killed(self, store: Store) -> None:
-        """Counts until the program has ended. What may be kept then is the last checkpoint, and the one that was under way."""
+        """Counts until the program has ended. The folder may then have the last checkpoint, or the one that was under
+        way."""
         number = self.may_be_kept[0]
         try:
             while True:

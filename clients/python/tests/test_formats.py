@@ -1,4 +1,5 @@
-"""The forms of files: each example of docs/FORMATS.md is what the client reads, and what is outside a form is named by its byte."""
+"""The file formats: the client reads each example of docs/FORMATS.md, and reports malformed files with the offset of
+the wrong byte."""
 
 from __future__ import annotations
 
@@ -86,7 +87,8 @@ class Examples(unittest.TestCase):
         self.assertEqual(root_of(data), Root(int(form), int(top), int(floor), int(next_name), wanted))
 
     def is_log(self, data: bytes, form: str, *words: str) -> None:
-        """A log, however it is cut. In format 2 a word of a record has its kind, its stamp, and a body, of edits their length."""
+        """A log, however it is cut. In format 2 a record's word has its kind, its stamp, and its body, or the body's
+        length for edits."""
         store, first, *records = words if form == "2" else ("0", "0", *words)
         for cut in range(45 if form == "2" else 8, len(data) + 1):
             log = log_of(data[:cut])
@@ -115,10 +117,10 @@ class Examples(unittest.TestCase):
 
 
 class OutsideTheForm(unittest.TestCase):
-    """Bytes outside their forms."""
+    """Malformed bytes."""
 
     def test_cut_short_and_going_on(self) -> None:
-        """No file and no root that is cut short is in its form, and nothing that goes on."""
+        """Files and roots that are cut short or have extra bytes are malformed."""
         readers: dict[str, Callable[[bytes], object]] = {
             "file": lambda data: SortedFile(data).check(),
             "root": root_of,
@@ -146,7 +148,7 @@ class OutsideTheForm(unittest.TestCase):
             self.assertRaises(BadForm, log_of, head)
 
     def test_the_checksum_of_a_root(self) -> None:
-        """A log names the root of the page: the lengths of its files don't count."""
+        """A log names the root of the page: the lengths of the root's files don't matter."""
         data = {block.more.split()[0] + block.more.split()[1]: bytes_in(block) for block in fenced(PAGE, "form")}
         root, log = root_of(data["root2"]), log_of(data["log2"][:45])
         self.assertTrue(log.is_over(root))
@@ -163,10 +165,10 @@ class OutsideTheForm(unittest.TestCase):
 
 
 class Inspection(FolderTest):
-    """What `inspect` tells of a folder is what the program answers."""
+    """The output of `inspect` for a folder agrees with the program's answers."""
 
     def inspected(self, *words: str) -> tuple[int, list[str], str]:
-        """The status of the command, and what it writes on both streams."""
+        """The status of the command, and its output on both streams."""
         written, told = io.StringIO(), io.StringIO()
         with redirect_stdout(written), redirect_stderr(told):
             status = main([self.folder, *words])

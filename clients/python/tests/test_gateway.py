@@ -1,4 +1,4 @@
-"""Frames through a gateway: each client has its own replies, in its order, and none harms another."""
+"""Frames through a gateway: each client gets its own replies in their order, and none harms another."""
 
 from __future__ import annotations
 
@@ -37,7 +37,7 @@ UNKNOWN_SESSION, UNKNOWN_CLEANER, UNKNOWN_COLLECTOR = b"\xff\x01", b"\xff\x09", 
 TOO_MANY, BAD_REQUEST, TOO_LARGE = b"\xff\x07", b"\xff\x16", b"\xff\x17"
 NOTHING = b"\x91\x00"
 
-# Where scans begin and end, and bytes that say no such thing.
+# Bounds of scans, and malformed ones.
 SCAN_BOUNDS = (
     b"\0\0\0",
     b"\1\0\0\0\1r\0\0\0\1c\0\0",
@@ -49,7 +49,7 @@ NO_SCAN_BOUNDS = (b"", b"\0\0", b"\0\0\0\0", b"\2\0\0", b"\0\2\0", b"\0\0\2", b"
 
 
 class Frames(unittest.TestCase):
-    """What passes, and what is answered on the way."""
+    """Requests that pass, and requests that the gateway answers."""
 
     def test_modes_of_the_sockets(self) -> None:
         for word, modes in (("--mode", [0o660, 0o600]), ("--admin-mode", [0o600, 0o660])):
@@ -134,14 +134,14 @@ class Frames(unittest.TestCase):
         with socket.create_connection(("127.0.0.1", port)) as wire:
             wire.sendall(BEGIN)
             self.assertEqual(wire.recv(100)[:5], b"\0\0\0\x09\x81")
-            # A backup, for which nobody may ask from elsewhere
+            # A backup, which may be asked for only by the gateway's own user
             wire.sendall(frame(b"\x71copy"))
             self.assertEqual(wire.recv(100), b"\0\0\0\x02\xff\x16")
         self.assertEqual(gateway.wire().ask(BEGIN)[0], 0x81)
 
 
 class Weights(unittest.TestCase):
-    """What a request weighs before the program."""
+    """The weights of requests."""
 
     def test_by_count(self) -> None:
         table, one = passages(notes_reads=False), (1).to_bytes(8, "big")
@@ -159,7 +159,7 @@ class Weights(unittest.TestCase):
 
 
 class Belongings(unittest.TestCase):
-    """Whose sessions, cleaners and collectors are, and how many."""
+    """Owners of sessions, cleaners and collectors, and their numbers."""
 
     def test_another_s_are_unknown(self) -> None:
         gateway = Gateway(self)

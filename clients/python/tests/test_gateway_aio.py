@@ -16,7 +16,7 @@ TASKS, EACH = 10, 10
 
 
 async def add_one(t: Transaction) -> None:
-    """Counts one more in a cell."""
+    """Adds one to the number in a cell."""
     t.set(ROW, FAMILY, b"%d" % (int(await t.get(ROW, FAMILY) or b"0") + 1))
 
 
@@ -117,7 +117,7 @@ class Aio(unittest.TestCase):
             async with Store(socket=gateway.path) as early, Store(socket=gateway.path) as late:
                 with self.assertRaises(TooManySessions):
                     await early.begin()
-                # It hears that there is no place before it asks, for others have come behind it
+                # It is told that there is no place before it sends a request, since others have connected after it
                 others = [gateway.wire() for _ in range(40)]
                 while late._stream.is_open:
                     await asyncio.sleep(0.01)

@@ -109,10 +109,11 @@ class Running(FolderTest):
                     self.assertEqual(total, FIRST * len(ACCOUNTS))
 
     def held_up(self, *words: str) -> tuple[Gateway, Wire, int]:
-        """A gateway of a folder whose file is a pipe, a client that waits for its copy, and the pipe's end that is written to."""
+        """A gateway of a folder whose file is a pipe, a client that waits for its copy, and the write end of the
+        pipe."""
         (self.path / ROOT_FILE).write_bytes(ROOT)
         os.mkfifo(self.path / FILE)
-        # A raw read tells whether a Sweep has come
+        # A raw read shows whether a Sweep has come
         program = stand_in(self, "return bytes((0x91, 0)) + bytes((15 in asked,) if 15 in asked else ()) if body[0] == 17 else plain(body)")
         gateway = Gateway(self, ["--program", program, "--dir", self.folder, "--no-log", *words])
         waits = gateway.wire()
@@ -152,11 +153,11 @@ class Running(FolderTest):
                     waits.socket.shutdown(socket.SHUT_WR)
                 else:
                     waits.close()
-                # What is answered now came later
+                # The request answered now came later
                 gateway.statistics()
                 os.write(pipe, b"file")
                 os.close(pipe)
-                # It is answered once no copy is being made
+                # It is answered when no copy is being made any more
                 self.assertEqual(gateway.wire().ask(SWEEP)[0], 0x8F)
                 self.assertFalse((self.path / "copy" / ROOT_FILE).exists())
                 if is_half:
@@ -176,13 +177,13 @@ class Running(FolderTest):
         self.assertEqual((self.path / "copy" / ROOT_FILE).exists(), is_made)
 
     def is_closed(self, path: str) -> bool:
-        """Whether nobody listens at a socket any more."""
+        """Whether no process listens at a socket any more."""
         with socket.socket(socket.AF_UNIX) as probe:
             return probe.connect_ex(path) != 0
 
 
 class Refusals(FolderTest):
-    """Copies that aren't made, with the sentence that says so, and a store that is well behind them."""
+    """Failed copies, with the sentence that says so, and a store that still works after them."""
 
     def test_sentences(self) -> None:
         full, folder = self.path / "full", self.path / "store"
@@ -208,7 +209,7 @@ class Refusals(FolderTest):
                 self.assertFalse((self.path / place / ROOT_FILE).exists())
 
     def test_a_full_disk(self) -> None:
-        """A limit of the size of files stands for it."""
+        """A limit of the file size simulates it."""
         store_folder = self.path / "store"
         store_folder.mkdir()
         gateway = Gateway(self, ["--dir", str(store_folder)])

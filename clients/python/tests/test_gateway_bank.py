@@ -1,5 +1,5 @@
-"""A bank of 20 accounts behind a gateway: its clients are processes that are killed at any moment and begun anew, and its sum
-stays."""
+"""A bank of 20 accounts behind a gateway: its clients are processes that are killed at any moment and restarted, and
+its sum never changes."""
 
 from __future__ import annotations
 
@@ -13,7 +13,7 @@ import unittest
 from duqishom import Patience, Store, Transaction
 from tests.gateways import PACKAGE, Gateway
 
-# How many seconds the bank is open, and how many clients it has.
+# The seconds for which the bank is open, and the number of its clients.
 SECONDS = float(os.environ.get("GATEWAY_SECONDS", "5"))
 CLIENTS = 8
 ACCOUNTS = [b"account %02d" % number for number in range(20)]

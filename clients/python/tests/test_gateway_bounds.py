@@ -1,4 +1,4 @@
-"""Bounds of the gateway: its memory whatever clients do, and how long one client may hold up another."""
+"""Limits of the gateway: its memory whatever clients do, and how long one client can delay another."""
 
 from __future__ import annotations
 
@@ -27,14 +27,14 @@ from tests.gateways import (
     until,
 )
 
-# What docs/GATEWAY.md says: the gateway has at most so many bytes of memory, whatever its clients do.
+# The maximum memory of the gateway in bytes, whatever its clients do, as in docs/GATEWAY.md.
 MOST_MEMORY = 512 << 20
 VALUE = b"v" * 65_536
 CLIENTS = 1000
 
 
 class Bounds(unittest.TestCase):
-    """What clients can't make the gateway do."""
+    """Limits that clients can't break."""
 
     def setUp(self) -> None:
         soft, hard = resource.getrlimit(resource.RLIMIT_NOFILE)
@@ -42,14 +42,14 @@ class Bounds(unittest.TestCase):
         self.addCleanup(resource.setrlimit, resource.RLIMIT_NOFILE, (soft, hard))
 
     def clients(self, gateway: Gateway, count: int) -> list[Wire]:
-        """So many connections that don't wait for room to send."""
+        """This many non-blocking connections."""
         wires = [gateway.wire() for _ in range(count)]
         for wire in wires:
             wire.socket.setblocking(False)
         return wires
 
     def send_to_all(self, wires: list[Wire], data: bytes, seconds: float) -> int:
-        """Sends as much of the data as each connection takes: how many bytes all took."""
+        """Sends as much of the data as each connection takes. Returns the total number of bytes taken."""
         end, sent = time.monotonic() + seconds, [0] * len(wires)
         while time.monotonic() < end:
             for place, wire in enumerate(wires):
@@ -60,7 +60,7 @@ class Bounds(unittest.TestCase):
         return sum(sent)
 
     def answers_soon(self, wire: Wire) -> None:
-        """Asks a hundred things, and wants all answered within seconds."""
+        """Sends a hundred requests, and expects all answers within seconds."""
         began = time.monotonic()
         for _ in range(100):
             self.assertEqual(wire.ask(raw(b"other", 1)), b"\x91\x00")
@@ -116,7 +116,7 @@ class Bounds(unittest.TestCase):
         gateway = Gateway(self, ["--clients", "2"])
         wires = [gateway.wire() for _ in range(2)]
         self.assertEqual([wire.ask(raw(b"r", 1)) for wire in wires], 2 * [b"\x91\x00"])
-        # One that asks, one whose request is long and isn't whole, and more that ask nothing than may stay for a while
+        # One that sends a request, one with a long incomplete request, and more silent ones than may stay for a while
         for request in (BEGIN, frame(b"\x01" * 1_048_576)[:200_000], *40 * [b""]):
             wires.append(gateway.wire())
             wires[-1].send(request)
@@ -133,7 +133,7 @@ class Bounds(unittest.TestCase):
 
 
 class Fairness(unittest.TestCase):
-    """One client's heavy requests don't hold up another's light ones."""
+    """One client's heavy requests don't delay another's light ones."""
 
     def test_a_get_waits_for_a_few_of_a_thousand_collections(self) -> None:
         gateway = Gateway(self)
@@ -151,19 +151,19 @@ class Fairness(unittest.TestCase):
             self.assertLess(sum(began < time_of < ended for time_of in came), 8)
 
     def take(self, wire: Wire, came: list[float]) -> None:
-        """Notes when each reply comes, up to the connection's end."""
+        """Records the time of each reply, up to the connection's end."""
         with suppress(EOFError, OSError):
             while wire.reply()[0] == 0x89:
                 came.append(time.monotonic())
 
     def times(self, wire: Wire) -> tuple[float, float]:
-        """When a light request was sent, and when its reply came."""
+        """The times at which a light request was sent and its reply came."""
         began = time.monotonic()
         self.assertEqual(wire.ask(raw(b"none", 1)), b"\x91\x00")
         return began, time.monotonic()
 
     def fill(self, wire: Wire, sessions: int, cells: int) -> None:
-        """Commits so many cells in each of so many sessions."""
+        """Commits `cells` cells in each of `sessions` sessions."""
         for session in range(sessions):
             start = wire.begin()
             sets = [set_(start, b"%d %d" % (session, cell), b"v") for cell in range(cells)]

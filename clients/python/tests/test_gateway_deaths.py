@@ -1,4 +1,4 @@
-"""Clients that die: what they had open ends, and nobody else is harmed."""
+"""Clients that die: their sessions, cleaners and collectors are ended, and no other client is harmed."""
 
 from __future__ import annotations
 
@@ -26,15 +26,15 @@ PENDING = b"\x82\x02"
 
 
 class Deaths(unittest.TestCase):
-    """What becomes of what a dead client had open."""
+    """The fate of the things that a dead client had open."""
 
     def open_are(self, gateway: Gateway, sessions: int, cleaners: int = 0, collectors: int = 0) -> None:
-        """Waits until so many are open, and no more."""
+        """Waits until exactly these numbers of things are open."""
         wanted = {"sessions": sessions, "cleaners": cleaners, "collectors": collectors}
         self.assertTrue(until(lambda: gateway.statistics()["open"] == wanted), gateway.statistics()["open"])
 
     def read_cleaned(self, wire: Wire, row: bytes) -> bytes:
-        """What a cell has, once a lock on it is cleaned."""
+        """The value of a cell, after a lock on it is cleaned."""
         reply = wire.read(row)
         if reply[:2] == PENDING:
             cleaner = wire.ask(clean_begin(row))[2:10]

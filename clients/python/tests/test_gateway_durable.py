@@ -1,4 +1,4 @@
-"""Durable answers: what was answered is in the folder, whoever is killed, and nobody reads what isn't."""
+"""Durable answers: answered commits are in the folder, whichever process is killed, and no client reads others."""
 
 from __future__ import annotations
 
@@ -47,7 +47,7 @@ class Durable(unittest.TestCase):
         self.assertEqual(lost, [])
 
     def write(self, wire: Wire, client: int, told: list[bytes]) -> None:
-        """Commits row after row, and notes each whose commit was answered, up to the connection's end."""
+        """Commits row after row, and records each row whose commit was answered, up to the connection's end."""
         with suppress(EOFError, OSError):
             for number in itertools.count():
                 row = b"%d %d" % (client, number)
@@ -55,7 +55,7 @@ class Durable(unittest.TestCase):
                     told.append(row)
 
     def read(self, wire: Wire, seen: list[bytes]) -> None:
-        """Reads the rows that are written, in order, and notes each that has a value, up to the connection's end."""
+        """Reads the rows that are written, in order, and records each that has a value, up to the connection's end."""
         number = 0
         with suppress(EOFError, OSError):
             while True:

@@ -34,18 +34,18 @@ VALUE, NOTHING = b"\x82\x01\0\0\0\x01v", b"\x82\x00"
 
 
 def run_program(folder: str) -> int:
-    """The status with which a program ends that opens a folder and is asked nothing."""
+    """The status of a program that opens a folder and gets no request."""
     quiet = subprocess.DEVNULL
     return subprocess.run([default_program(), "--dir", folder], stdin=quiet, stderr=quiet, timeout=60).returncode
 
 
 def run_again(path: str) -> subprocess.CompletedProcess[str]:
-    """A gateway that can't begin."""
+    """A gateway that can't start."""
     return subprocess.run(command_of(path), cwd=PACKAGE, capture_output=True, text=True, timeout=60)
 
 
 class Ends(unittest.TestCase):
-    """What is left when it ends."""
+    """The state that is left when it ends."""
 
     def test_a_signal_keeps_a_folder(self) -> None:
         folder = folder_of(self)
@@ -106,7 +106,7 @@ class Ends(unittest.TestCase):
         self.assertTrue(until(lambda: bool(gateway.statistics()["checkpoints"] > made)))
         program = Path(f"/proc/{gateway.program()}")
         gateway.kill()
-        # The program has the folder until it has ended too
+        # The program has the folder open until it has ended too
         self.assertTrue(until(lambda: not program.exists()))
         self.assertEqual(Gateway(self, ["--dir", folder]).wire().read(b"r"), VALUE)
 
@@ -161,7 +161,7 @@ class Kills(unittest.TestCase):
 
 
 class Begins(unittest.TestCase):
-    """Where it can listen."""
+    """The places where it can listen."""
 
     def test_beside_another_gateway(self) -> None:
         gateway = Gateway(self)
@@ -173,7 +173,7 @@ class Begins(unittest.TestCase):
         path = folder_of(self) + "/socket"
         with socket.socket(socket.AF_UNIX) as left, open(path + ".lock", "w") as lock:
             left.bind(path)
-            # One that has begun, and isn't at its socket yet
+            # A gateway that has started, but doesn't listen at its socket yet
             fcntl.flock(lock, fcntl.LOCK_EX)
             refused = run_again(path)
         self.assertEqual((refused.returncode, refused.stderr), (2, f"duqishom: another gateway serves {path}\n"))

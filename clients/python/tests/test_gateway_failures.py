@@ -1,4 +1,4 @@
-"""A gateway that fails: it ends with a status and a line of its own, and nobody gets another's reply."""
+"""A gateway that fails: it ends with a status and a line of its own, and no client gets another's reply."""
 
 from __future__ import annotations
 
@@ -24,7 +24,7 @@ class Failures(unittest.TestCase):
         self.assertFalse(os.path.exists(gateway.path))
 
     def limit(self, gateway: Gateway, size: int) -> None:
-        """Lets no file of the gateway grow beyond so many bytes."""
+        """Limits the size of the gateway's files to this many bytes."""
         resource.prlimit(gateway.process.pid, resource.RLIMIT_FSIZE, (size, size))
 
     def goes_on(self, wire: Wire, reply: bytes) -> bool:
@@ -65,7 +65,8 @@ class Failures(unittest.TestCase):
 
     def test_what_nothing_expects(self) -> None:
         twice = "sys.stdout.buffer.write(b'\\0\\0\\0\\1\\x90') and plain(body)"
-        # A reply too many, a reply that is cut, and cut replies to what the gateway asks itself: now and then, and for who is gone
+        # A reply too many, a reply that is cut, and cut replies to the gateway's own requests: periodic ones, and those
+        # for dead clients
         for answer, words, request, why in (
             (f"{twice} if body[0] == 16", "", frame(b"\x10"), "IndexError"),
             ("b'' if body[0] == 1", "", BEGIN, "IndexError"),

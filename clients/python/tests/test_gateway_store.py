@@ -1,4 +1,5 @@
-"""A store over a gateway's socket: several clients, processes and threads, and what became of commits whose answers were lost."""
+"""A store over a gateway's socket: several clients, processes and threads, and the fates of commits whose answers were
+lost."""
 
 from __future__ import annotations
 
@@ -83,7 +84,7 @@ class Stores(unittest.TestCase):
 
 
 class Fates(unittest.TestCase):
-    """What became of a commit, asked by another client than the one that made it."""
+    """The fate of a commit, asked for by another client than the one that made it."""
 
     def setUp(self) -> None:
         gateway = Gateway(self, ["--leave"])
@@ -93,7 +94,7 @@ class Fates(unittest.TestCase):
             self.addCleanup(store.close)
 
     def begun(self, steps: int) -> int:
-        """A session over two cells whose client is lost behind so many steps."""
+        """A session over two cells whose client is lost after this many steps."""
         start = self.lost.begin()
         for row in (ROW, OTHER):
             self.lost.set(start, row, FAMILY, b"%d" % start)

@@ -1,4 +1,4 @@
-"""Folders with a log: what was answered is there, however the program ends."""
+"""Folders with a log: everything answered is durable, however the program ends."""
 
 from __future__ import annotations
 
@@ -25,7 +25,7 @@ from duqishom.program import default_program
 from tests.folders import FolderTest
 from tests.gateways import Gateway, folder_of, until
 
-# How many times the program of eight clients is killed.
+# The number of kills of the program of eight clients.
 KILLS = int(os.environ.get("LOG_KILLS", "20"))
 CLIENTS, ACCOUNTS, FIRST = 8, 12, 100
 ROW, FAMILY = b"counter", b"c"
@@ -38,20 +38,20 @@ def put(store: Store, value: bytes) -> None:
 
 
 class Logs(FolderTest):
-    """The log of a store of one's own."""
+    """The log of a private store."""
 
     def opened(self, log: bool | None = None, *words: str) -> Store:
         """The store of the folder. Its end makes no checkpoint."""
         return Store(folder=self.folder, words=words, checkpoint_at_close=False, log=log)
 
     def value(self) -> bytes | None:
-        """What the folder has in one cell."""
+        """The folder's value of one cell."""
         with self.opened() as store:
             return store.run(lambda t: t.get(ROW, FAMILY))
 
     def test_who_gets_a_log(self) -> None:
         self.assertRaises(ValueError, Store, log=True)
-        # What made the folder's store, what opens it then, and whether the folder has a log behind both
+        # How the folder's store is made, how it is opened again, and whether the folder has a log after both
         table: tuple[tuple[bool | None, bool | None, bool, bool], ...] = (
             (None, None, True, True),
             (None, False, True, True),
@@ -105,7 +105,7 @@ class Logs(FolderTest):
             self.assertEqual(store.run(lambda t: [t.get(row, FAMILY) for row in numbers]), numbers)
 
     def test_a_copy_has_a_log(self) -> None:
-        """It is over the copy's root, and of the same store."""
+        """It continues the copy's root, and has the same store's number."""
         copy = self.path / "copy"
         with self.opened() as store:
             put(store, b"1")
@@ -120,7 +120,8 @@ class Logs(FolderTest):
         self.assertEqual(self.value(), b"1")
 
     def test_a_checkpoint_that_was_refused_is_not_the_last(self) -> None:
-        """It was refused for a tablet's 64 files. Once they are merged, and a checkpoint is asked for, others come by themselves."""
+        """It was refused for a tablet's 64 files. After they are merged, and a checkpoint is requested, others follow
+        automatically."""
         value = bytes(60_000)
         with self.opened(None, "--log-bytes", "1048576") as store:
             for _ in range(64):
@@ -136,7 +137,7 @@ class Logs(FolderTest):
             self.assertLess((self.path / LOG).stat().st_size, 1_100_000)
 
     def test_tails_of_logs(self) -> None:
-        """A log whose last frame isn't whole ends before that frame. What stood there is said and kept."""
+        """A log whose last frame isn't whole ends before that frame. Its bytes are reported and kept."""
         with self.opened() as store:
             put(store, b"1")
             short = (self.path / LOG).stat().st_size
@@ -160,13 +161,13 @@ class Logs(FolderTest):
             self.assertEqual((told, kept, self.value()), ((0, said), cut, value), len(log))
 
     def told(self, *words: str) -> tuple[int, str]:
-        """The status of a program that opens the folder and is asked nothing, and what it says."""
+        """The status of a program that opens the folder and gets no request, and its output."""
         line = [default_program(), "--dir", self.folder, *words]
         ended = subprocess.run(line, stdin=subprocess.DEVNULL, capture_output=True, text=True)
         return ended.returncode, ended.stderr
 
     def test_logs_that_are_not_opened(self) -> None:
-        """Each way in which a folder can lose a part, or get one of another folder. What is refused stays as it was."""
+        """Each way in which a folder can lose a file, or get one of another folder. A refused folder is unchanged."""
         other = self.path / "other"
         other.mkdir()
         with Store(folder=other) as store:
@@ -220,7 +221,8 @@ class Logs(FolderTest):
         self.assertEqual(self.value(), b"2")
 
     def test_an_older_log_than_the_root(self) -> None:
-        """A copy of a folder that takes the log before a checkpoint and the root behind it: a collected cell would come back."""
+        """A copy of a folder with the log from before a checkpoint and the root from after it: a collected cell would
+        come back."""
         with self.opened() as store:
             put(store, b"1")
             log = (self.path / LOG).read_bytes()
@@ -232,7 +234,7 @@ class Logs(FolderTest):
             self.opened()
 
     def test_a_log_for_a_folder_that_lost_its_root(self) -> None:
-        """One that has a file or a mark and no root gets none, and without one it is a new store."""
+        """A folder with a file or a mark but no root gets no log, and without a log it is opened as a new store."""
         for lost in (MARK, "t0000000000000001.tab"):
             with self.subTest(lost):
                 (self.path / lost).write_bytes(bytes(7) + b"\1")
@@ -243,7 +245,7 @@ class Logs(FolderTest):
         self.assertEqual(self.told("--log"), (0, ""))
 
     def test_a_log_whose_mark_is_gone(self) -> None:
-        """The root of a new store has no stamp, and the log has."""
+        """The root of a new store has no stamp, but the log has."""
         with self.opened() as store:
             put(store, b"1")
         (self.path / MARK).unlink()
@@ -269,7 +271,7 @@ class Logs(FolderTest):
         self.assertEqual((self.path / CUT).read_bytes(), tail)
 
     def test_a_log_that_failed_ends_the_program(self) -> None:
-        """A limit of the size of files stands for a full disk."""
+        """A limit of the file size simulates a full disk."""
         number, program, folder = self.path / "number", self.path / "program", self.path / "store"
         program.write_text(f"""#!/bin/sh\ntrap '' XFSZ\necho $$ >{number}\nexec {default_program()} "$@"\n""")
         program.chmod(0o755)
@@ -305,7 +307,7 @@ class Logs(FolderTest):
         self.assertIn(f"whole frames up to byte {size} of {size}", self.inspected("log"))
 
     def inspected(self, what: str) -> str:
-        """What `inspect` writes of the folder."""
+        """The output of `inspect` for the folder."""
         written = io.StringIO()
         with redirect_stdout(written), redirect_stderr(written):
             self.assertEqual(inspect([self.folder, what]), 0)
@@ -318,7 +320,7 @@ def account(number: int) -> bytes:
 
 
 def transfer(client: int, number: int) -> tuple[int, int, int]:
-    """A client's transfer of this number: who gives, who takes, and how much."""
+    """A client's transfer with this number: the giver, the taker and the amount."""
     dice = random.Random(client * 1_000_003 + number)
     giver, taker = dice.sample(range(ACCOUNTS), 2)
     return giver, taker, dice.randint(1, 9)
@@ -327,8 +329,8 @@ def transfer(client: int, number: int) -> tuple[int, int, int]:
 class Killed(unittest.TestCase):
     """Eight clients of a gateway, whose program is killed at any moment.
 
-    A transfer moves money between two accounts, and counts itself in a cell of its client. So what each account must have is known
-    from the counts: one cell of a transfer that is there without the others would show.
+    A transfer moves money between two accounts, and raises a count in a cell of its client. So each account's amount
+    follows from the counts: a partial transfer would show.
     """
 
     def setUp(self) -> None:
@@ -340,7 +342,7 @@ class Killed(unittest.TestCase):
         return Store(folder=self.folder, patience=Patience(pause=0), checkpoint_at_close=False)
 
     def pay(self, path: str, client: int) -> None:
-        """Makes transfers, and counts those that are answered, until the connection ends."""
+        """Makes transfers, and counts the answered ones, until the connection ends."""
 
         def move(t: Transaction) -> None:
             number = int(t.get(b"client %d" % client, FAMILY) or b"0") + 1
@@ -356,7 +358,7 @@ class Killed(unittest.TestCase):
                     self.answered[client] += 1
 
     def kill_once(self, words: list[str], wait: float) -> None:
-        """Begins a gateway with its clients, and kills its program so many seconds behind the first answer."""
+        """Starts a gateway with its clients, and kills its program `wait` seconds after the first answer."""
         gateway = Gateway(self, ["--dir", self.folder, *words])
         program, before = gateway.program(), self.answered.total()
         clients = [threading.Thread(target=self.pay, args=(gateway.path, client)) for client in range(CLIENTS)]
@@ -371,8 +373,8 @@ class Killed(unittest.TestCase):
         gateway.end()
 
     def check(self) -> None:
-        """What is in the folder is what the counts of the clients say, and no count is below what was answered. A transfer that
-        was on its way may be there."""
+        """The folder's amounts agree with the clients' counts, and no count is below the number of answered transfers.
+        A transfer in flight may be included."""
         balances = [FIRST] * ACCOUNTS
         with self.opened() as store, store.transaction() as t:
             for client in range(CLIENTS):

@@ -1,4 +1,4 @@
-"""What the pages name: names in backquotes, files and sections that they link, and counts, which are those of the tree."""
+"""The names in the pages: names in backquotes, linked files and sections, and counts, all checked against the tree."""
 
 from __future__ import annotations
 
@@ -18,13 +18,12 @@ LEFT = {".git", "out", "__pycache__", "build", ".mypy_cache", ".ruff_cache"}
 
 PAGE = re.compile(r"(?:README|CONTRIBUTING|docs/[^/]+|crates/[^/]+/DESIGN)\.md")
 
-# Names of other programs' and of what a program makes as it runs, which the tree needn't have.
+# Names of other programs, and of things that a program makes as it runs, which the tree needn't have.
 FOREIGN = {
     "doc": "a command of rt",
     "plant": "a command of rt",
     "--only": "an option of rt",
     "ssh": "a program",
-    "FileDescriptorName": "a line of systemd",
     "PWD/clients/python": "PWD is the shell's",
     "run/recovered-at": "a file of a recording",
     "run/reopened-at": "a file of a recording",
@@ -38,15 +37,15 @@ SPAN = re.compile(r"(?<!`)(`+)(?!`)(.+?)(?<!`)\1(?!`)", re.DOTALL)
 PIECE = re.compile(r"[\w./*:-]+")
 NAME = re.compile(r"\b[A-Za-z_]\w*")
 
-# The section of edits that are gone, and the first two columns of its table: the second one has their names.
+# The section of removed edits, and the first two columns of its table: the second has their names.
 GONE = re.compile(r"^## [^\n]*no longer tries\n.*?(?=^## |\Z)", re.MULTILINE | re.DOTALL)
 TWO_COLUMNS = re.compile(r"^(\|[^|\n]*\|)[^|\n]*", re.MULTILINE)
 
-# A table of how many edits a crate has.
+# A table of the number of edits by crate.
 EDITS_TABLE = re.compile(r"^\| Crate \| Edits \|.*\n\|[-|]+\n((?:\|.*\n)*)", re.MULTILINE)
 EDITS_ROW = re.compile(r"^\| `(\w+)` \| (\d+) \|", re.MULTILINE)
 
-# A word in capitals stands for any, as that of crates/NAME, if it isn't that of a page.
+# A word in capitals is a placeholder, as in crates/NAME, unless it is the name of a page.
 ANY = re.compile(r"\\\*|\b[A-Z_]{2,}(?=/|\\\.(?!md\b)|$)")
 
 LINK = re.compile(r"\]\(([^)\s]+)\)|\b(?:href|src)=\"([^\"]+)\"|`([\w./-]+\.md#[\w-]+)`")
@@ -57,7 +56,7 @@ TEENS = "ten eleven twelve thirteen fourteen fifteen sixteen seventeen eighteen 
 TENS = "twenty thirty forty fifty sixty seventy eighty ninety"
 A_NUMBER = r"(\bsome )?([\d,]*\d|\b[a-z]+(?:-[a-z]+)?)"
 
-# A smaller number is one of a few, and no count of all.
+# A smaller number isn't a count of everything.
 LEAST_COUNT = 10
 
 
@@ -137,7 +136,7 @@ def is_known(piece: str) -> bool:
 
 
 def unknown(page: str) -> Iterator[str]:
-    """What a page has in backquotes and the tree hasn't, with its line."""
+    """The words in backquotes of a page that the tree doesn't have, each with its line."""
     text = GONE.sub(lambda section: TWO_COLUMNS.sub(r"\1", section[0]), prose(page))
     for span in SPAN.finditer(text):
         pieces = [] if NO_NAMES.fullmatch(span[2]) else PIECE.findall(span[2])
@@ -158,14 +157,15 @@ def anchors(page: str) -> set[str]:
 
 
 def leads(page: Path, folder: Path, target: str) -> bool:
-    """Whether a link of a page leads somewhere from a folder."""
+    """Whether the target of a page's link exists, seen from a folder."""
     path, _, anchor = target.partition("#")
     place = (folder / path).resolve() if path else page
     return place.exists() and (not anchor or anchor in anchors(str(place.relative_to(TOP))))
 
 
 def lost(page: str) -> Iterator[str]:
-    """The links of a page that lead nowhere from its folder, and sections in backquotes that aren't there from the top."""
+    """The links of a page whose targets don't exist, seen from its folder, and sections in backquotes that don't exist,
+    seen from the top."""
     text, place = prose(page), TOP / page
     for link in LINK.finditer(text):
         target = next(filter(None, link.groups()))
@@ -182,7 +182,7 @@ def edits() -> Counter[str]:
 
 @cache
 def counts() -> dict[str, tuple[re.Pattern[str], int]]:
-    """How pages say each count, and what it is."""
+    """The pattern in which pages state each count, and its value."""
     kinds = [kind for kind in vars(operations).values() if isinstance(kind, type) and isinstance(vars(kind).get("code"), int)]
     tests = (path.read_text(encoding="utf-8") for path in Path(__file__).parent.glob("test_*.py"))
     test_count = sum(len(re.findall(r"^    (?:async )?def test_", text, re.MULTILINE)) for text in tests)
@@ -205,7 +205,7 @@ def number_words() -> dict[str, int]:
 
 
 def number_of(word: str) -> int:
-    """The number that a word says, or 0."""
+    """The number in a word, or 0."""
     digits = word.replace(",", "")
     return int(digits) if digits.isdecimal() else number_words().get(word, 0)
 
@@ -216,7 +216,8 @@ def is_count(said: int, count: int, is_rough: bool) -> bool:
 
 
 def miscounted(page: str) -> Iterator[str]:
-    """The counts of a page that aren't those of the tree. Edits are those that must fail if the paragraph speaks of these."""
+    """The counts of a page that aren't those of the tree. Edits are counted as edits that must fail if the paragraph
+    says so."""
     text = prose(page)
     for crate, said in (row for table in EDITS_TABLE.findall(text) for row in EDITS_ROW.findall(table)):
         if int(said) != edits()[crate]:

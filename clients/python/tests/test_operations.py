@@ -1,4 +1,4 @@
-"""Each operation once, each answer, and each refusal that the store can be brought to."""
+"""Each operation once, each answer, and each refusal that a request can get."""
 
 from __future__ import annotations
 
@@ -72,7 +72,7 @@ class StoreTest(unittest.TestCase):
         self.assertEqual(self.store.close(), 0)
 
     def commit(self, row: bytes, value: bytes) -> int:
-        """Commits a value in a transaction of one cell, by the operations alone: its commit stamp."""
+        """Commits a value in a transaction of one cell, by operations only. Returns its commit stamp."""
         start = self.store.begin()
         self.store.set(start, row, BAL, value)
         self.store.step(start)
@@ -117,7 +117,7 @@ class Operations(StoreTest):
             self.store.stop(start)
 
     def hold(self, *rows: bytes) -> int:
-        """A session that holds a cell in each of these rows: its start."""
+        """The start of a new session that holds a cell in each of these rows."""
         start = self.store.begin()
         for row in rows:
             self.store.set(start, row, BAL, b"1")
@@ -279,10 +279,10 @@ class Operations(StoreTest):
 
 
 class Deletions(StoreTest):
-    """A session deletes cells, and what others see of it."""
+    """Sessions that delete cells, and reads of these cells by others."""
 
     def delete(self, *rows: bytes) -> int:
-        """A session that holds the deletion of a cell in each of these rows: its start."""
+        """The start of a new session that holds the deletion of a cell in each of these rows."""
         start = self.store.begin()
         for row in rows:
             self.store.delete(start, row, BAL)
@@ -291,7 +291,7 @@ class Deletions(StoreTest):
         return start
 
     def finish(self, start: int) -> int:
-        """Commits a session of one cell: its commit stamp."""
+        """Commits a session of one cell. Returns its commit stamp."""
         self.store.step(start)
         committed = self.store.step(start)
         assert isinstance(committed, Committed)
@@ -401,7 +401,7 @@ class Deletions(StoreTest):
 
 
 class Refusals(StoreTest):
-    """The refusals that a client can bring about, and the limits that they tell of."""
+    """The refusals that a client can cause, and their limits."""
 
     def test_names(self) -> None:
         self.assertEqual(list(BY_NUMBER), list(range(1, 24)))
@@ -611,7 +611,7 @@ class Unasked(unittest.TestCase):
 
 
 class Ends(unittest.TestCase):
-    """How a store ends."""
+    """The end of a store."""
 
     def test_after_close(self) -> None:
         with Store() as store:

@@ -1,4 +1,5 @@
-"""The options of a folder's program: each does what it says, with a log and without one. And what a program holds of the system."""
+"""The options of a folder's program: each does what it says, with a log and without one. And the system's resources
+that a program holds."""
 
 from __future__ import annotations
 
@@ -16,20 +17,20 @@ FAMILY = b"c"
 
 
 def process_of(store: Store) -> Path:
-    """What the system says of a store's program."""
+    """The /proc folder of a store's program."""
     program = store._connection
     assert isinstance(program, Program)
     return Path(f"/proc/{program._child.pid}")
 
 
 def bytes_read(store: Store) -> int:
-    """How many bytes a store's program has read so far."""
+    """The number of bytes that a store's program has read so far."""
     words = (process_of(store) / "io").read_text().split()
     return int(words[words.index("rchar:") + 1])
 
 
 def handles(store: Store) -> list[str]:
-    """What a store's program has open."""
+    """The open files of a store's program."""
     return [os.readlink(handle) for handle in (process_of(store) / "fd").iterdir()]
 
 
@@ -41,7 +42,7 @@ class Options(FolderTest):
         self.top, self.count = self.path, 0
 
     def new_folder(self) -> None:
-        """Goes on in a new folder."""
+        """Continues in a new folder."""
         self.count += 1
         self.path = self.top / str(self.count)
         self.path.mkdir()
@@ -51,7 +52,7 @@ class Options(FolderTest):
         return Store(folder=self.path, words=words, checkpoint_at_close=False, log=log)
 
     def put(self, store: Store, count: int, size: int = 1) -> None:
-        """Commits so many rows, one after the other, with values of this size."""
+        """Commits this many rows, one after the other, with values of this size."""
         for number in range(count):
             store.run(lambda t: t.set(b"%02d" % number, FAMILY, b"v" * size))
 
@@ -70,7 +71,7 @@ class Options(FolderTest):
                         store.kill()
 
     def test_log_bytes(self) -> None:
-        """An edit counts as 671 bytes at least: a log of 4,096 bytes is emptied at each seventh."""
+        """An edit counts as at least 671 bytes: a log of 4,096 bytes is emptied at each seventh edit."""
         for words, least, most in (((), 2_500, 10_000), (("--log-bytes", "4096"), 8, 1_000)):
             with self.subTest(words=words):
                 self.new_folder()
@@ -82,7 +83,8 @@ class Options(FolderTest):
                     self.assertGreaterEqual(size, least)
 
     def test_flush_and_merge(self) -> None:
-        # The words, how many commits follow, of values of how many bytes, and how many files their tablet has then
+        # The words, the number of commits, the size of their values in bytes, and the number of files that the tablet
+        # then has
         table: tuple[tuple[tuple[str, ...], int, int, range], ...] = (
             (("--flush-bytes", "1048576"), 17, 65_000, range(2, 3)),
             (("--flush", "100"), 10, 1, range(1, 2)),
@@ -99,7 +101,8 @@ class Options(FolderTest):
                     self.assertIn(len(read_root(self.path).tablets[0].files), files)
 
     def test_cache(self) -> None:
-        """Each of 16 values fills a block. When all are read again, the file is read where it keeps fewer."""
+        """Each of 16 values fills a block. A second read of all of them reads the file again if fewer blocks are
+        cached."""
         for log in (False, True):
             for blocks, read in (("8", range(80_000, 120_000)), ("64", range(10_000))):
                 with self.subTest(log=log, blocks=blocks):
@@ -115,7 +118,7 @@ class Options(FolderTest):
                         self.assertIn(bytes_read(store) - before, read)
 
     def test_a_second_program_does_nothing(self) -> None:
-        """It is refused. A file that the first one is writing stays."""
+        """It is refused. A file that the first program is writing is kept."""
         for first in (False, True):
             self.new_folder()
             with self.opened(log=first) as store:
@@ -134,7 +137,7 @@ class Options(FolderTest):
         return {file.name for file in self.path.iterdir()}
 
     def test_few_files_are_open(self) -> None:
-        """Of more files 128 stay open, and of those that a sweep removes none."""
+        """At most 128 files are kept open, and no file that a sweep removes."""
         with self.opened("--flush", "1", log=False) as store:
             for row in (b"25", b"50"):
                 store.split(row)

@@ -1,4 +1,5 @@
-"""The order of a program's calls over a folder with a log: what a reply says is on the disk before the reply leaves."""
+"""The order of a program's calls over a folder with a log: the state that a reply shows is synced before the reply is
+sent."""
 
 from __future__ import annotations
 
@@ -15,13 +16,13 @@ from tests.folders import FolderTest
 
 CALLS = "write,pwrite64,writev,fdatasync,fsync,rename,renameat,renameat2,openat,ftruncate,unlink,unlinkat"
 
-# A call on an open file, and one on a file by its path.
+# A call on an open file, and a call on a file by its path.
 ON_FILE = re.compile(r"(write|pwrite64|writev|ftruncate|fdatasync|fsync)\((\d+)<([^>]*)>.* = \d+$")
 BY_PATH = re.compile(r'(rename|renameat|renameat2|unlink|unlinkat)\((?:AT_FDCWD[^,]*, )?"([^"]*)"(?:, (?:AT_FDCWD[^,]*, )?"([^"]*)")?.* = 0$')
 
 
 class Disk:
-    """What a folder's calls so far have forced to the disk, and what they haven't."""
+    """The changes of a folder that its calls so far have synced to disk, and those that they haven't."""
 
     def __init__(self, folder: str) -> None:
         self._folder = folder
@@ -62,14 +63,15 @@ class Disk:
 
 
 def judged(folder: str, trace: Iterable[str]) -> Disk:
-    """What a trace says of a folder."""
+    """The state of a folder after a trace."""
     disk = Disk(folder)
     for line in trace:
         disk.take(line)
     return disk
 
 
-# A commit, and a file that is put in its place. Without any one of these syncs a reply, or a rename, comes too early.
+# A commit, and a file that is renamed to its final name. Without any one of these syncs a reply, or a rename, comes too
+# early.
 TRACE = (
     'write(3</d/commit.log>, "e", 1) = 1',
     "fdatasync(3</d/commit.log>) = 0",

@@ -1,4 +1,4 @@
-"""The documents' examples: each frame, command and line of Python is run, and gives what the page says."""
+"""The documents' examples: each frame, command and line of Python is run, and gives the output on the page."""
 
 from __future__ import annotations
 
@@ -15,7 +15,8 @@ PAGES = (README, PROTOCOL, CLIENT, OPERATIONS)
 
 
 class Conversation:
-    """A program that is sent frames, byte by byte as they stand on a page. It has a minute: it waits where a page is wrong."""
+    """A program that is sent frames, byte by byte as on a page. It has a minute, since it waits forever if a page is
+    wrong."""
 
     def __init__(self) -> None:
         pipe = subprocess.PIPE
@@ -33,7 +34,7 @@ class Conversation:
         return self._child.stdout.read(count)
 
     def end(self) -> tuple[bytes, int, str]:
-        """What comes behind the last reply that was read, the exit status, and what the standard error says."""
+        """The output after the last reply that was read, the exit status, and the standard error."""
         written, told = self._child.communicate()
         self._limit.cancel()
         return written, self._child.returncode, told.decode().rstrip("\n")
@@ -84,7 +85,7 @@ class Commands(unittest.TestCase):
 
 
 class Python(unittest.TestCase):
-    """The lines of Python of all pages, each page's in one go."""
+    """The lines of Python of all pages, each page's run together."""
 
     def test_lines(self) -> None:
         for page in (README, CLIENT):

@@ -1,4 +1,4 @@
-"""Recordings: what a store and a gateway keep of their frames, and what `tablet_audit` says of them."""
+"""Recordings: the frames recorded by a store and a gateway, and the judgements of `tablet_audit`."""
 
 from __future__ import annotations
 
@@ -15,12 +15,12 @@ from duqishom.connection import whole_frames
 from tests.gateways import Gateway, folder_of
 from tests.pages import TOP
 
-# The program that judges a recording: that of the environment's TABLET_AUDIT, or the proved one, where it is built.
+# The program that judges a recording: the environment's TABLET_AUDIT, or the proved one, if it is built.
 AUDIT = os.environ.get("TABLET_AUDIT") or str(TOP / "crates" / "tablet_audit" / "out" / "tablet_audit")
 
 
 def bodies(file: Path) -> list[bytes]:
-    """The bodies of the frames of a file, which has nothing else."""
+    """The bodies of the frames of a file, which has no other bytes."""
     frames: list[bytes] = []
     data = file.read_bytes()
     assert whole_frames(data, frames) == len(data)

@@ -1,4 +1,4 @@
-"""Scans: their bodies, what a transaction makes of them, and what the program answers."""
+"""Scans: their bodies, their use by transactions, and the program's answers."""
 
 from __future__ import annotations
 
@@ -91,7 +91,7 @@ class Bodies(unittest.TestCase):
 
 
 class Ranges(unittest.TestCase):
-    """Where a range begins and ends."""
+    """The bounds of ranges."""
 
     def test_last_before_a_row(self) -> None:
         for row, before in (
@@ -141,7 +141,7 @@ class Ranges(unittest.TestCase):
 
 
 class Batches(unittest.TestCase):
-    """What a transaction asks, and what it makes of the answers. The program answers from a table."""
+    """The requests of a transaction, and its results from the answers. The program answers from a table."""
 
     def store(self, *exchanges: tuple[bytes, bytes], patience: Patience = Patience(tries=1)) -> Store:
         store = Store(peer(self, [BEGIN, *exchanges, STOP]), patience=patience)
@@ -213,7 +213,7 @@ class Batches(unittest.TestCase):
 
 
 class Scans(StoreTest):
-    """What the program answers."""
+    """The program's answers."""
 
     def test_one_start_for_all_batches(self) -> None:
         rows = [b"%02d" % number for number in range(10)]

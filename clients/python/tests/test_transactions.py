@@ -1,4 +1,4 @@
-"""Transactions: how they end, what they leave, and when they are tried again."""
+"""Transactions: their ends, the state that they leave, and their retries."""
 
 from __future__ import annotations
 
@@ -271,7 +271,7 @@ with Store(folder=sys.argv[1], checkpoint_at_close=False) as store:
 
 
 class Interruptions(FolderTest):
-    """What interrupts a client, and what it leaves of the store."""
+    """Interruptions of a client, and the state that they leave."""
 
     def test_timeouts(self) -> None:
         slow = self.path / "slow"

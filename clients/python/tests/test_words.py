@@ -2,6 +2,10 @@
 
 from __future__ import annotations
 
+import importlib.util
+import json
+import os
+import pty
 import subprocess
 import sys
 import tempfile
@@ -9,19 +13,21 @@ import unittest
 from pathlib import Path
 
 from duqishom.texts import bytes_of, text_of
+from duqishom.version import VERSION
+from tests.gateways import Gateway, set_, step
 
 FOLDER = Path(__file__).resolve().parents[1]
 
 
 def answers(lines: str, *words: str) -> tuple[int, list[str]]:
-    """The exit status of the command, and what it prints, where these lines come through a pipe."""
+    """The exit status of the command, and its output, for these lines through a pipe."""
     command = [sys.executable, "-m", "duqishom", *words]
     ran = subprocess.run(command, cwd=FOLDER, input=lines, capture_output=True, text=True)
     return ran.returncode, (ran.stdout + ran.stderr).splitlines()
 
 
 class Words(unittest.TestCase):
-    """Each line of the command, with what it prints."""
+    """Each line of the command, with its output."""
 
     def assert_answered(self, table: list[tuple[str, str]], status: int) -> None:
         lines = "\n".join(line for line, _ in table)
@@ -136,7 +142,7 @@ class Words(unittest.TestCase):
 
     def test_help(self) -> None:
         status, lines = answers("help\nquit\nfoo\n")
-        self.assertEqual((status, len(lines)), (0, 27))
+        self.assertEqual((status, len(lines)), (0, 31))
 
     def test_deletions(self) -> None:
         table = [
@@ -165,12 +171,121 @@ class Words(unittest.TestCase):
             ("count C", "1"),
             ("scan K L", "nothing"),
             ("in 9 stop", "refused 1: UnknownSession: session 9: it has ended, or never began"),
-            ("scan a b c", "not done: a range is [START [END]] [--prefix ROW] [--family FAMILY] [--keys]"),
-            ("count --prefix", "not done: a range is [START [END]] [--prefix ROW] [--family FAMILY] [--keys]"),
+            ("scan --keys --limit 2", "B\\x00b bal\nBob bal"),
+            (
+                "scan a b c",
+                "not done: the line is scan [--prefix ROW] [--family FAMILY] [--keys] [--limit N] [START] [END]",
+            ),
+            ("count --prefix", "not done: the line is count [--prefix ROW] [--family FAMILY] [START] [END]"),
             ("scan --family a:b", "refused 4: BadColumn: family b'a:b': 1 to 64 bytes of 21 to 7E without ':'"),
         ]
         lines = "\n".join(line for line, _ in table)
         self.assertEqual(answers(lines), (1, "\n".join(answer for _, answer in table).splitlines()))
+
+    def test_explain(self) -> None:
+        told = "; its first cell is Bob bal; it"
+        table = [
+            ("set Joe bal 2", "committed at 2"),
+            ("delete Joe bal", "committed at 4"),
+            ("begin", "session 5"),
+            ("in 5 set Bob bal 3", "set"),
+            ("in 5 set Joe bal -9", "set"),
+            ("in 5 step", "held 1 of 2"),
+            ("in 5 step", "held 2 of 2"),
+            ("explain Bob bal", f"Bob bal: nothing\nlock 5: session 5 sets it to 3{told} hasn't committed"),
+            ("locks --prefix J", f"Joe bal: session 5 sets it{told} hasn't committed"),
+            ("clean Bob bal", "gone"),
+            ("locks", f"Joe bal: session 5 sets it{told} was rolled back"),
+            ("clean Joe bal", "rolled back"),
+            ("set Joe bal 7", "committed at 9"),
+            ("explain Joe bal", "Joe bal: 7\nrecord 9: set to 7 by session 8"),
+            ("", "record 4: deleted by session 3\nrecord 2: set to 2 by session 1"),
+            ("", "data 5: -9, of session 5, which has no lock and no record here"),
+            ("locks", "no locks"),
+        ]
+        lines = "\n".join(line for line, _ in table)
+        self.assertEqual(answers(lines), (0, "\n".join(answer for _, answer in table).splitlines()))
+
+    def test_committed_lock(self) -> None:
+        with tempfile.TemporaryDirectory() as folder:
+            words = ("begin", "in 1 set Bob bal 3", "in 1 delete Joe bal", *["in 1 step"] * 4, "in 1 stop")
+            self.assertEqual(answers("\n".join(words), "--dir", folder)[0], 0)
+            told = "session 1 deletes it; its first cell is Bob bal; it has committed at 2"
+            self.assertEqual(answers("locks", "--dir", folder), (0, [f"Joe bal: {told}"]))
+            status, lines = answers("status", "--dir", folder)
+            self.assertEqual((status, lines[1:3]), (0, ["tablets: 1", "files: 1"]))
+
+    def test_gateway(self) -> None:
+        """Another client holds a cell. Its lock is shown, and the client is counted."""
+        gateway = Gateway(self)
+        wire = gateway.wire()
+        wire.ask(set_(start := wire.begin(), b"Bob", b"3"))
+        wire.ask(step(start))
+        status, lines = answers("locks\nclients\nstatus\ntablets", "--socket", gateway.path)
+        held = "Bob c: session 1 sets it; its first cell is Bob c; it hasn't committed"
+        self.assertEqual((status, lines[:2]), (1, [held, "3 connected, twice by this command"]))
+        self.assertLessEqual({f"version: {VERSION}", "requests Step: 1", "open sessions: 1"}, set(lines))
+        self.assertNotIn("requests Major: 0", lines)
+        self.assertEqual(lines[-1], "not done: other clients may have split the tablets of a gateway's store")
+
+    def test_forms(self) -> None:
+        words = "set Bob bal 'a \\x00'\nget Bob bal\nget Joe bal\nscan --keys\ncount\nexplain Bob bal\nfoo\n"
+        wanted: list[object] = [
+            {"commit": 2},
+            {"row": "Bob", "family": "bal", "value": "a \\x00"},
+            {"row": "Joe", "family": "bal", "value": None},
+            [{"row": "Bob", "family": "bal"}],
+            {"count": 1},
+            {
+                "row": "Bob",
+                "family": "bal",
+                "value": "a \\x00",
+                "locks": [],
+                "records": [{"commit": 2, "session": 1, "kind": "set"}],
+                "data": [{"session": 1, "value": "a \\x00"}],
+            },
+            {"error": "not done: no line begins with foo; help shows all"},
+        ]
+        status, lines = answers(words, "--json")
+        self.assertEqual((status, [json.loads(line) for line in lines]), (1, wanted))
+        words = "set Bob bal 'a b'\nget Bob bal\nget Joe bal\nscan"
+        self.assertEqual(answers(words, "--raw"), (0, ["committed at 2", "a b", "Bob\tbal\ta b"]))
+
+    def test_help_of_a_line(self) -> None:
+        """No store is opened for it. In a line without options a word with hyphens is an argument."""
+        for words, first in (
+            (("get", "--help"), "usage: get ROW FAMILY"),
+            (("compact", "-h"), "usage: compact TABLET {minor,merge,major} ..."),
+            (("--dir", "no/such/folder", "count", "--help"), "usage: count [--prefix ROW] [--family FAMILY] [START] [END]"),
+        ):
+            status, lines = answers("", *words)
+            self.assertEqual((status, lines[0]), (0, first))
+        self.assertEqual(answers("set --help --prefix -x\nget --help --prefix"), (0, ["committed at 2", "-x"]))
+
+    @unittest.skipUnless(importlib.util.find_spec("readline"), "this Python has no readline")
+    def test_terminal(self) -> None:
+        """Words are completed, long answers come in pages, and the history lasts."""
+        with tempfile.TemporaryDirectory() as folder:
+            ours, theirs = pty.openpty()
+            shown = {"TERM": "dumb", "PAGER": "tr a-z A-Z", "LINES": "9", "COLUMNS": "80"}
+            place = {**os.environ, **shown, "XDG_STATE_HOME": folder}
+            command = [sys.executable, "-m", "duqishom"]
+            with subprocess.Popen(command, cwd=FOLDER, env=place, stdin=theirs, stdout=theirs, stderr=theirs) as child:
+                os.close(theirs)
+                told = b""
+                for line in (b"sta\t\n", b"in 1 st\t\t\n", b"help\n", b"quit\n"):
+                    while not told.endswith(b"> "):
+                        told += os.read(ours, 4096)
+                    os.write(ours, line)
+                    told += b"|"
+                self.assertEqual(child.wait(60), 1)
+            told += os.read(ours, 65_536)
+            os.close(ours)
+            for part in (rb"\|status \r\n", rb"\ntablets: 1\r\n", rb"\nstep +stop +\r\n", rb"\nSET ROW FAMILY VALUE  "):
+                self.assertRegex(told, part)
+            history = Path(folder) / "duqishom" / "history"
+            self.assertEqual(history.read_text().split(), ["status", "in", "1", "st", "help", "quit"])
+            self.assertEqual(history.stat().st_mode & 0o777, 0o600)
 
     def test_one_shot(self) -> None:
         for log, last in (("--no-log", "two\\x20words"), ("--log", "3")):

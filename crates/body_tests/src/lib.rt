@@ -1,4 +1,4 @@
-//! Tests of the bodies of requests and replies, and of how the audit judges recorded ones.
+//! Tests of the bodies of requests and replies, and of the audit's judgements of recorded ones.
 #![tactic(auto)]
 
 #[cfg(test)]

@@ -11,13 +11,13 @@ use Rattle.cell_key.specs.declared.keys.CellKey.{CellKey}
 abbrev pub column_text : CellKey → List ℕ
 column_text key = ended (escaped key.row) ++ (ended key.family ++ ended (qualifier_name key.qualifier))
 
--- with a stamp it is the text of the same column's key there
+-- with a stamp it is the text of the key in the same column at that stamp
 pub with_stamp : (key : CellKey) (s : ℕ) → column_text key ++ stamp_text s ≡ text (version key.row key.family key.qualifier s)
 with_stamp key s =
     append_assoc (ended (escaped key.row)) (ended key.family ++ ended (qualifier_name key.qualifier)) (stamp_text s)
     ∙ ap (λ (t : List ℕ). ended (escaped key.row) ++ t) (append_assoc (ended key.family) (ended (qualifier_name key.qualifier)) (stamp_text s))
 
--- it is all of a key's text but the last eight bytes
+-- it is a key's text without the last eight bytes
 pub before_stamp : (bytes : List ℕ) (key : CellKey) (n : ℕ) → n ≡ length bytes → bytes ≡ text key → take (n - 8) bytes ≡ column_text key
 before_stamp bytes key n whole is =
     let e : bytes ≡ column_text key ++ stamp_text key.stamp = is ∙ sym (with_stamp key key.stamp) in

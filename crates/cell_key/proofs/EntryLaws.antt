@@ -1,4 +1,4 @@
--- What a merged list has at a text, and the cells of a list.
+-- The entry of a merged list at a text, and the cells of a list.
 use Rattle.std.proofs.Common.{◌≡◌, ◌<◌, ◌-◌, ◌^◌, ◌==◌, ℕ, zero, suc, Bool, true, false, cond, List, [], ◌∷◌, ◌++◌, flat_map, Option, Some, None, refl, sym, ap, subst, ◌∙◌, arith}
 use Rattle.std.specs.List.{AllByRecursion}
 use Rattle.std.specs.Int.{w64, from_be_bytes}
@@ -83,7 +83,7 @@ key_of_text-text key s =
 pub stored_key : (key : CellKey) → IsStored key → IsKey key
 stored_key key s = record { row = s.row; family = s.family; stamp = let to = s.to in omega arith }
 
--- texts tie where their keys do
+-- texts are equal exactly if their keys are
 same_tie : (q : CellKey) (e : Entry) → IsStored q → IsEntry e → eq_by_cmp key_cmp q (key_of_text e.0) ≡ eq_by_cmp byte_cmp (text q) e.0
 same_tie q e s is =
     ap (λ (name : List ℕ). eq_by_cmp key_cmp q (key_of_text name)) is.named
@@ -113,7 +113,7 @@ tied Less e = cc
 tied Equal e = refl
 tied Greater e = cc
 
--- a key outside the limits ties with none of a list
+-- a key outside the limits equals no key of a list
 apart : (q : CellKey) (e : Entry) → ¬ (IsStored q) → IsEntry e → (b : Bool) → eq_by_cmp key_cmp q (key_of_text e.0) ≡ b → b ≡ false
 apart q e not is false t = refl
 apart q e not is true t =

@@ -1,4 +1,4 @@
--- Entry lists without some of their entries, and several in one.
+-- Entry lists without some of their entries, and merges of several.
 use Rattle.std.proofs.Common.{◌≡◌, ℕ, Bool, true, false, cond, T, List, [], ◌∷◌, ◌++◌, length, refl, sym, ap, subst, ◌∙◌, ◌&&◌, arith}
 use Rattle.std.specs.Prelude.{Option, filter, flat_map}
 use Rattle.std.specs.List.{AllByRecursion}
@@ -48,7 +48,7 @@ pub filter-list : (test : Entry → Bool) (es : List Entry) → IsEntryList es
 filter-list test es h =
     record { rising = rising-filter test es h.rising; each = each-filter test es h.each }
 
--- a first entry, and those of the others that are kept
+-- a first entry, and some of the others
 pub front-list : (test : Entry → Bool) (e : Entry) (es : List Entry) → IsEntryList (e ∷ es)
     → IsEntryList (e ∷ filter test es)
 front-list test e es h = record { rising = both _ _ (below-filter test e.0 es (first _ _ h.rising)) (rising-filter test es (second _ _ h.rising)); each = (h.each.0, each-filter test es h.each.1) }
@@ -118,7 +118,7 @@ each-flat : (lists : List (List Entry)) → AllByRecursion IsEntryList lists
 each-flat [] h = tt
 each-flat (es ∷ lists) h = each-++ es _ h.0.each (each-flat lists h.1)
 
--- entry lists merged are one
+-- a merge of entry lists is an entry list
 pub merged_list : (lists : List (List Entry)) → AllByRecursion IsEntryList lists
     → IsEntryList (merged lists)
 merged_list lists h =
@@ -127,7 +127,7 @@ merged_list lists h =
       each = each-entries (flat_map (λ es. es) lists) (each-flat lists h);
     }
 
--- lists of no entries mean none
+-- a merge of lists without entries has none
 pub merged_none : (lists : List (List Entry)) → AllByRecursion (λ es. es ≡ []) lists
     → merged lists ≡ []
 merged_none lists h = ap (λ es. entries (from_entries {R = byte_cmp} es)) (flat lists h) ∙ entries-empty

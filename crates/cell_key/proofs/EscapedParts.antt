@@ -1,4 +1,4 @@
--- What the number of escaped bytes shows of them.
+-- Escaped bytes and their number.
 use Rattle.std.proofs.Common.{◌≡◌, ◌+◌, ◌*◌, ◌≤◌, ◌==◌, ◌||◌, cond, ℕ, zero, suc, Bool, true, false, List, [], ◌∷◌, ◌++◌, length, take, refl, ap, ◌∙◌, arith}
 use Rattle.std.proofs.lemmas.Bool.Decides.{nat_tests}
 use Rattle.std.specs.List.{AllByRecursion, list_any}
@@ -18,7 +18,7 @@ escaped-plain (b ∷ bytes) e =
     let none = or_none (b == 0) (list_any (λ b. b == 0) bytes) e in
     ap (λ (xs : List ℕ). xs ++ escaped bytes) (plain_byte b none.0) ∙ ap (λ (xs : List ℕ). b ∷ xs) (escaped-plain bytes none.1)
 
--- so are those of which none is 0
+-- bytes without a 0 are unchanged
 pub escaped-all_plain : (bytes : List ℕ) → AllByRecursion IsPlain bytes → escaped bytes ≡ bytes
 escaped-all_plain [] all = refl
 escaped-all_plain (zero ∷ bytes) all = absurd (all.0 refl)

@@ -1,4 +1,4 @@
--- Keys that compare alike, or have the same parts, are one.
+-- Keys that compare as equal, or have equal parts, are equal.
 use Rattle.std.proofs.Common.{◌≡◌, refl, sym}
 use Rattle.std.specs.declared.cmp.Ordering.{Ordering}
 use Rattle.std.specs.declared.cmp.Ordering.TheVariants.{Less, Equal, Greater}
@@ -14,7 +14,7 @@ both_Equal Less s e = cc
 both_Equal Equal s e = (refl, e)
 both_Equal Greater s e = cc
 
--- qualifiers of one name are one
+-- qualifiers with the same name are equal
 pub exact_qualifiers : (q w : Qualifier) → byte_cmp (qualifier_name q) (qualifier_name w) ≡ Equal
     → q ≡ w
 exact_qualifiers Data Data e = refl
@@ -27,7 +27,7 @@ exact_qualifiers Write Data e = cc
 exact_qualifiers Write Lock e = cc
 exact_qualifiers Write Write e = refl
 
--- keys that compare alike are one
+-- keys that compare as equal are equal
 pub exact_keys : IsAntisymmetric key_cmp
 exact_keys a b e =
     let rest = both_Equal (byte_cmp a.row b.row) _ e in
@@ -40,7 +40,7 @@ exact_keys a b e =
     let stamp = sym (nat_cmp-IsAntisymmetric b.stamp a.stamp last.1) in
     λ i. record { row = row i; family = family i; qualifier = qualifier i; stamp = stamp i }
 
--- keys of the same parts are one, as a clone and its source are
+-- keys with equal parts are equal, such as a clone and its source
 pub same_key : (a b : CellKey) → (a.row ≡ b.row)
     × ((a.family ≡ b.family) × ((a.qualifier ≡ b.qualifier) × (a.stamp ≡ b.stamp))) → a ≡ b
 same_key a b e =

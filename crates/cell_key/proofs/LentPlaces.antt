@@ -1,4 +1,4 @@
--- Keys that are lent as their texts, and have one place.
+-- Keys that are borrowed as their texts and have the same place.
 use Rattle.std.proofs.Common.{◌≡◌, ◌<◌, ◌^◌, ◌-◌, ℕ, List, ◌++◌, length, take, sym, ap, ◌∙◌, arith}
 use Rattle.std.proofs.Math.Seq.{take-append_seam}
 use Rattle.std.specs.Ordering.{nat_cmp, ordering_then}
@@ -18,24 +18,24 @@ use Rattle.cell_key.proofs.Order.{text_of_place, text_order}
 stored_is_key : (key : CellKey) → IsStored key → IsKey key
 stored_is_key key s = record { row = s.row; family = s.family; stamp = let to = s.to in omega arith }
 
--- a version of the place of a lent key
+-- a version in the place of a borrowed key
 abbrev pub beside : {lent : KeyRef} → IsLentKey lent → Qualifier → ℕ → CellKey
 beside k q s = version k.key.row k.key.family q s
 
--- the front of a lent key's text is its place
+-- the front of a borrowed key's text is its place
 pub front_is_place : (lent : KeyRef) (k : IsLentKey lent) → take lent.place_len lent.text.now ≡ place_text k.key.row k.key.family
 front_is_place lent k =
     ap (λ (n : ℕ). take n lent.text.now) k.place
     ∙ ap (take (length (place_text k.key.row k.key.family))) (k.is ∙ text_of_place k.key)
     ∙ take-append_seam (place_text k.key.row k.key.family) (ended (qualifier_name k.key.qualifier) ++ stamp_text k.key.stamp)
 
--- what follows that place is the rest of a key's text
+-- a place and the rest of a key's text are the text of a version there
 pub text_beside : (lent : KeyRef) (k : IsLentKey lent) (bytes tail : List ℕ) (q : Qualifier) (s : ℕ) → bytes ≡ take lent.place_len lent.text.now ++ tail
     → tail ≡ ended (qualifier_name q) ++ stamp_text s → bytes ≡ text (beside k q s)
 text_beside lent k bytes tail q s e f =
     e ∙ ap (λ (t : List ℕ). t ++ tail) (front_is_place lent k) ∙ ap (λ (t : List ℕ). place_text k.key.row k.key.family ++ t) f ∙ sym (text_of_place (beside k q s))
 
--- a text that has the column of a lent key is that of the same column at its own stamp
+-- a text that begins with a borrowed key's column is the text of a version in that column
 pub text_in_column : (lent : KeyRef) (k : IsLentKey lent) (bytes front falling : List ℕ) (n s : ℕ) → n ≡ length lent.text.now → bytes ≡ front ++ falling
     → front ≡ take (n - 8) lent.text.now → falling ≡ stamp_text s → bytes ≡ text (beside k k.key.qualifier s)
 text_in_column lent k bytes front falling n s whole parts column stamp =

@@ -1,4 +1,4 @@
--- What the value of a lock holds: a place, and the kind of a write.
+-- The content of a lock's value: a place, and the kind of a write.
 use Rattle.std.proofs.Common.{◌≡◌, ℕ, List, [], ◌∷◌, ◌++◌, length, inl, inr, sym, ap, ◌∙◌, arith, length-append}
 use Rattle.std.specs.Prelude.{slice_get}
 use Rattle.std.proofs.lemmas.List.{append_assoc, append_cancel_right}
@@ -9,7 +9,7 @@ use Rattle.cell_key.specs.declared.columns.WriteKind.{WriteKind}
 use Rattle.cell_key.specs.declared.columns.WriteKind.TheVariants as write
 use Rattle.cell_key.proofs.RecordTexts.{at_end, same_kind}
 
--- lists with a last element are equal only where what stands before it is, and it
+-- lists with a last element are equal only if the elements before it and the last ones are
 same_ends : (xs ys : List ℕ) (a b : ℕ) → xs ++ (a ∷ []) ≡ ys ++ (b ∷ []) → (xs ≡ ys) × (a ≡ b)
 same_ends xs ys a b e = (append_cancel_right xs ys (a ∷ []) (e ∙ ap (λ (c : ℕ). ys ++ (c ∷ [])) (sym last)), last)
   where
@@ -28,7 +28,7 @@ place_ends row family =
     ap (λ (l : List ℕ). ended (escaped row) ++ l) (sym (append_assoc family (0 ∷ []) (0 ∷ [])))
     ∙ sym (append_assoc (ended (escaped row)) (family ++ (0 ∷ [])) (0 ∷ []))
 
--- which is the byte of no kind
+-- and 0 is no kind's byte
 no_kind : (kind : WriteKind) → 0 ≡ kind_byte kind → ⊥
 no_kind write.Set e = omega (arith, e)
 no_kind write.Delete e = omega (arith, e)
@@ -50,7 +50,7 @@ one_first row family row' family' k l text (inl e) (inr (set, f)) = absurd (no_k
 one_first row family row' family' k l text (inr (set, e)) (inl f) = absurd (no_kind l (sym (same_ends (place_text row' family') (place_front row family) (kind_byte l) 0 (sym f ∙ (e ∙ place_ends row family))).1))
 one_first row family row' family' k l text (inr (set, e)) (inr (too, f)) = sym e ∙ f
 
--- a value whose place is that of a row and a family is the value of a lock that names them
+-- a value with the place of a row and a family is the value of their lock
 pub whole_text : (row family : List ℕ) (kind : WriteKind) (text place : List ℕ) → place ≡ place_text row family → IsParted text place kind → IsLockText row family kind text
 whole_text row family kind text place named (inl e) = inl (e ∙ ap (λ (l : List ℕ). l ++ (kind_byte kind ∷ [])) named)
 whole_text row family kind text place named (inr (whole, set, none)) = inr (set, whole ∙ named)

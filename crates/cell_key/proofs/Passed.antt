@@ -1,4 +1,4 @@
--- An error that is passed on, in a call that makes others.
+-- An error that is passed on by a call that makes others.
 use Rattle.std.proofs.Common.{◌≡◌, ℕ, refl, sym, subst, ap, ◌∙◌}
 use Rattle.std.specs.Result.{IfErr, IfOk, IsErrAnd, IsErrOf, OnErr}
 use Rattle.std.specs.declared.result.Result.{Result}
@@ -8,7 +8,7 @@ use Rattle.cell_key.specs.declared.refusals.Refusal.TheVariants.{Device}
 use Rattle.cell_key.specs.Faults.{HasReason}
 use Rattle.cell_key.proofs.Reasons.{not_refused}
 
--- the `?` hands on the error of its call
+-- the `?` passes on the error of its call
 pub as_err : {T E : Type 0} (r : Result T E) (e : E) → IsErrAnd r (λ f. f ≡ e) → r ≡ Err e
 as_err (Ok x) e by = absurd by
 as_err (Err f) e by = ap Err by
@@ -27,7 +27,7 @@ passed_back : {A B : Type 0} (r : Result B Refusal) (s : Result A Refusal) (e n 
 passed_back (Ok x) s e n by was is = absurd by
 passed_back (Err f) s e n by was is = let same : e ≡ n = cc in ap (λ x. Err x) (by ∙ same)
 
--- what is told of an error that is passed on, and what isn't
+-- properties of a result whose error is passed on
 pub passed_err : {B : Type 0} (r : Result B Refusal) (e : Refusal) (P : Refusal → Type 0) → IsErrAnd r (λ f. f ≡ e) → P e → IfErr r P
 passed_err (Ok x) e P by h = tt
 passed_err (Err f) e P by h = subst P (sym by) h
@@ -40,11 +40,11 @@ pub passed_kept : {B : Type 0} (r : Result B Refusal) (P : Type 0) → P → OnE
 passed_kept (Ok x) P h = tt
 passed_kept (Err f) P h = h
 
--- it is of the kind that it was
+-- it is the same kind of error
 pub passed_kind : {B : Type 0} (r : Result B Refusal) (e n : Refusal) (P : Refusal → Type 0) → IsErrAnd r (λ f. f ≡ e) → P e → IsErrOf r n → P n
 passed_kind r e n P by h is = subst P (same_refusal r e n by is) h
 
--- and has the reason that it had
+-- and has the same reason
 pub passed_reason : {A B : Type 0} (r : Result B Refusal) (s : Result A Refusal) (e : Refusal) (before now : ℕ) → IsErrAnd r (λ f. f ≡ e) → s ≡ Err e → HasReason before now s → HasReason before now r
 passed_reason r s e before now by was h = record {
   later = h.later;

@@ -1,4 +1,4 @@
--- What the values of write records hold: a start, and the kind of a write.
+-- The content of write records' values: a start, and the kind of a write.
 use Rattle.std.proofs.Common.{◌≡◌, ℕ, ◌<◌, ◌^◌, List, [], ◌∷◌, ◌++◌, length, Some, ◌⊎◌, inl, inr, refl, sym, ap, ◌∙◌, subst, arith, length-append}
 use Rattle.std.specs.Prelude.{slice_get}
 use Rattle.std.proofs.lemmas.List.{append-nil}
@@ -12,7 +12,7 @@ use Rattle.cell_key.specs.declared.columns.WriteKind.TheVariants as write
 pub start_back : (t : ℕ) → t < 2 ^ 64 → big_number 8 (start_text t) ≡ t
 start_back t h = ap (λ xs. big_from 0 8 xs) (sym (append-nil (start_text t))) ∙ big_number-reads_back 8 t [] h
 
--- a byte is that of one kind
+-- each byte belongs to one kind at most
 pub same_kind : (k l : WriteKind) → kind_byte k ≡ kind_byte l → k ≡ l
 same_kind write.Set write.Set e = refl
 same_kind write.Set write.Delete e = absurd (omega (arith, e))
@@ -29,7 +29,7 @@ byte_at t kind = subst (λ (n : ℕ). slice_get (record_text t kind) n ≡ Some 
 text_length : (t : ℕ) (kind : WriteKind) → length (record_text t kind) ≡ 9
 text_length t kind = omega (arith, length-append (start_text t) (kind_byte kind ∷ []), length-bytes_high_first 8 t)
 
--- the kind that a text tells
+-- the kind in a value
 abbrev TellsKind : List ℕ → WriteKind → Type 0
 TellsKind text kind = ((length text ≡ 8) × (kind ≡ write.Set)) ⊎ ((length text ≡ 9) × (slice_get text 8 ≡ Some (kind_byte kind)))
 
@@ -43,7 +43,7 @@ one_told text k l (inl (e, a)) (inr (f, b)) = absurd (omega arith)
 one_told text k l (inr (e, a)) (inl (f, b)) = absurd (omega arith)
 one_told text k l (inr (e, a)) (inr (f, b)) = same_kind k l (same_Some (kind_byte k) (kind_byte l) (sym a ∙ b))
 
--- what a record holds is read as it is
+-- a record's value is decoded to its content
 pub names_of : (t : ℕ) (kind : WriteKind) (text : List ℕ) → t < 2 ^ 64 → IsRecordText t kind text → NamesWrite text t kind
 names_of t kind text low is = record { start = by is; kind_is = told t kind text is }
   where

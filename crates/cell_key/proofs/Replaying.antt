@@ -1,4 +1,4 @@
--- What a replay of edits makes of cells.
+-- The effect of a replay of edits on cells.
 use Rattle.std.proofs.Common.{◌≡◌, ◌≢◌, Bool, true, false, cond, List, [], ◌∷◌, ◌++◌, Some, None, ◌⊎◌, inl, inr, refl, sym, ap, ◌∙◌}
 use Rattle.std.specs.declared.cmp.Ordering.{Ordering}
 use Rattle.std.specs.declared.cmp.Ordering.TheVariants.{Less, Equal, Greater}
@@ -37,7 +37,7 @@ untrue false h = refl
 apart : (q k : CellKey) → q ≢ k → eq_by_cmp key_cmp q k ≡ false
 apart q k ne = untrue (eq_by_cmp key_cmp q k) (λ e. ne (exact_keys q k (tied (key_cmp q k) e)))
 
--- what stands at an edit's key after it, whatever stood there before
+-- the cell at an edit's key after the edit doesn't depend on the cells before it
 at_edited : (a b : Cells) (edit : Edit) → get (after_edit a edit) (edited_key edit) ≡ get (after_edit b edit) (edited_key edit)
 at_edited a b (Put key value) = put_at a ∙ sym (put_at b)
   where
@@ -66,7 +66,7 @@ keeps a b (edit ∷ edits) q same = keeps (after_edit a edit) (after_edit b edit
   | inr ne ↦ off_edited a edit q ne ∙ (same ∙ sym (off_edited b edit q ne))
 ])
 
--- and comes about where an edit touches the key
+-- and arises if an edit has the key
 agree_at : (a b : Cells) (edits : List Edit) (q : CellKey) → (IsUntouched q edits → get a q ≡ get b q) → get (after_edits a edits) q ≡ get (after_edits b edits) q
 agree_at a b [] q same = same tt
 agree_at a b (edit ∷ edits) q same = elim (cases_key q (edited_key edit)) [
@@ -77,7 +77,7 @@ agree_at a b (edit ∷ edits) q same = elim (cases_key q (edited_key edit)) [
 beside : (a b : Cells) (edits : List Edit) → AgreeBeside edits a b → after_edits a edits ≡ after_edits b edits
 beside a b edits agree = same_map key_cmp_total exact_keys (after_edits a edits) (after_edits b edits) (λ q. agree_at a b edits q (agree q))
 
--- edits leave what none of them touches
+-- edits leave the cells at all other keys unchanged
 untouched : (cells : Cells) (edits : List Edit) (q : CellKey) → IsUntouched q edits → get (after_edits cells edits) q ≡ get cells q
 untouched cells [] q none = refl
 untouched cells (edit ∷ edits) q none = untouched (after_edit cells edit) edits q none.1 ∙ off_edited cells edit q (λ e. none.0 (sym e))

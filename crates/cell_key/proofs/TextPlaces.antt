@@ -1,4 +1,4 @@
--- Where a text stands in a rising list of entries.
+-- The place of a text in a list of entries in ascending order.
 use Rattle.std.proofs.Common.{◌≡◌, ◌≢◌, ◌<◌, ◌≤◌, ℕ, zero, suc, Bool, true, false, cond, T, List, [], ◌∷◌, length, map, get_or, drop, Some, None, refl, sym, ap, subst, ◌∙◌, arith, ◌&&◌}
 use Rattle.std.specs.declared.cmp.Ordering.{Ordering}
 use Rattle.std.specs.declared.cmp.Ordering.TheVariants.{Less, Equal, Greater}
@@ -38,7 +38,7 @@ less_or o p q = cc
 pub clash : (b : Bool) → b ≡ true → b ≡ false → ⊥
 clash b e f = cc
 
--- texts that are equal in the order are one
+-- texts that compare as equal are equal
 pub one_text : (x y : List ℕ) → byte_cmp x y ≡ Equal → x ≡ y
 one_text = slice_cmp-IsAntisymmetric nat_cmp-IsAntisymmetric
 
@@ -53,7 +53,7 @@ pub find_below : (q : List ℕ) (es : List Entry) → T (below_all byte_cmp q es
 find_below q [] h = refl
 find_below q (e ∷ es) h = ap (λ (o : Ordering). cond (is_eq o) (Some e.1) (find byte_cmp q es)) (less _ (first _ _ h)) ∙ find_below q es (second _ _ h)
 
--- nor is one below the first of a rising list
+-- nor is a text below the first of a list in ascending order
 pub find_lower : (q : List ℕ) (e : Entry) (es : List Entry) → IsRising (e ∷ es) → byte_cmp q e.0 ≡ Less → entry_of_key (e ∷ es) q ≡ None
 find_lower q e es r p = ap (λ (o : Ordering). cond (is_eq o) (Some e.1) (find byte_cmp q es)) p ∙ find_below q es (below_less q e.0 es p (first _ _ r))
 
@@ -72,7 +72,7 @@ module _ {X : Type 0} (f : X → Entry) (name : List ℕ) where
       let lower : byte_cmp (f x).0 name ≡ Less = nat_list_cmp_total.trans (f x).0 (f y).0 name p up in
       ap is_gt (nat_list_cmp_total.antisymm name (f x).0 ∙ ap ordering_reverse lower)
 
-  -- no entry whose text is below comes after one whose text isn't
+  -- no entry below the text comes after one that isn't
   pub parted : (xs : List X) → IsRising (map f xs) → (i j : ℕ) (d : X) → i ≤ j → j < length xs → is_below (get_or xs j d) ≡ true → is_below (get_or xs i d) ≡ true
   parted [] r i j d le lt t = absurd (omega arith)
   parted (x ∷ xs) r zero zero d le lt t = t
@@ -89,7 +89,7 @@ module _ {X : Type 0} (f : X → Entry) (name : List ℕ) where
     at_point xs i (omega arith) (λ k d a b. p (suc k) d (omega (arith, a)) (omega (arith, b))) (λ k d a b. q (suc k) d (omega (arith, a)) (omega (arith, b))),
   )
 
-  -- what stands at the place is what is found
+  -- the entry at the place is the one found
   pub found_at : (xs : List X) (i : ℕ) (x : X) → IsPlace name (map f xs) i → i < length xs → x ≡ get_or xs i x → is_eq (byte_cmp name (f x).0) ≡ true → entry_of_key (map f xs) name ≡ Some (f x).1
   found_at [] i x p lt g e = absurd (omega arith)
   found_at (y ∷ xs) zero x p lt g e =
@@ -97,7 +97,7 @@ module _ {X : Type 0} (f : X → Entry) (name : List ℕ) where
       (ap (λ (b : Bool). cond b (Some (f x).1) (find byte_cmp name (map f xs))) e)
   found_at (y ∷ xs) (suc i) x p lt g e = ap (λ (o : Ordering). cond (is_eq o) (Some (f y).1) (find byte_cmp name (map f xs))) p.0 ∙ found_at xs i x p.1 (omega arith) g e
 
-  -- if another text stands there, nothing is
+  -- if the entry at the place has another text, there is none with the text
   pub missed_at : (xs : List X) (i : ℕ) (x : X) → IsRising (map f xs) → IsPlace name (map f xs) i → i < length xs → x ≡ get_or xs i x → is_eq (byte_cmp name (f x).0) ≡ false → entry_of_key (map f xs) name ≡ None
   missed_at [] i x r p lt g n = absurd (omega arith)
   missed_at (y ∷ xs) zero x r p lt g n = go (byte_cmp name (f y).0) refl
@@ -108,14 +108,14 @@ module _ {X : Type 0} (f : X → Entry) (name : List ℕ) where
       go Greater e = absurd (p e)
   missed_at (y ∷ xs) (suc i) x r p lt g n = ap (λ (o : Ordering). cond (is_eq o) (Some (f y).1) (find byte_cmp name (map f xs))) p.0 ∙ missed_at xs i x (second _ _ r) p.1 (omega arith) g n
 
-  -- nor where all texts are below
+  -- nor is it if all texts are below it
   pub missed_end : (xs : List X) (i : ℕ) → IsPlace name (map f xs) i → length xs ≤ i → entry_of_key (map f xs) name ≡ None
   missed_end [] i p le = refl
   missed_end (y ∷ xs) zero p le = absurd (omega arith)
   missed_end (y ∷ xs) (suc i) p le = ap (λ (o : Ordering). cond (is_eq o) (Some (f y).1) (find byte_cmp name (map f xs))) p.0 ∙ missed_end xs i p.1 (omega arith)
 
 module _ (name : List ℕ) where
-  -- what is left from the place on
+  -- the entries from the place on
   none_below : (e : Entry) (es : List Entry) → byte_cmp name e.0 ≢ Greater → T (below_all byte_cmp e.0 es) → entries_from name es ≡ es
   none_below e [] n b = refl
   none_below e (y ∷ es) n b = go (none_below e es n (second _ _ b)) (byte_cmp name y.0) refl

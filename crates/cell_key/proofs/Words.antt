@@ -28,7 +28,7 @@ digits_order w a b r s small_r small_s = high (nat_cmp a b) (ranks a b)
 abbrev pub AreBytes : List ℕ → Type 0
 AreBytes xs = (i : ℕ) → get_or xs i 0 < 256
 
--- what is spelled behind the first byte
+-- the bytes behind the first one
 later_from : (i n x : ℕ) (xs : List ℕ) → big_from (suc i) n (x ∷ xs) ≡ big_from i n xs
 later_from i zero x xs = refl
 later_from i (suc n) x xs = ap (λ (k : ℕ). slice_index xs i * 256 ^ n + k) (later_from (suc i) n x xs)
@@ -44,7 +44,7 @@ small_from (suc n) (x ∷ xs) le bytes =
     let power : 256 ^ suc n ≡ 256 * 256 ^ n = pow-succ' 256 n in
     omega (arith, rest, same, most, power)
 
--- the first n bytes of two lists compare as the numbers that they spell, and then what follows decides
+-- the first n bytes of two lists compare as the numbers that they spell, and then the rest decides
 pub fronts : (n : ℕ) (xs ys : List ℕ) → n ≤ length xs → n ≤ length ys → AreBytes xs → AreBytes ys
     → byte_cmp xs ys ≡ ordering_then (nat_cmp (big_number n xs) (big_number n ys)) (byte_cmp (drop n xs) (drop n ys))
 fronts zero xs ys p q a b = refl
@@ -60,7 +60,7 @@ fronts (suc n) (x ∷ xs) (y ∷ ys) p q a b =
     ∙ ap (λ (k : ℕ). nat_cmp (x * 256 ^ n + big_from 0 n xs) (y * 256 ^ n + k)) (later_from 0 n y ys)
     ∙ digits_order (256 ^ n) x y (big_from 0 n xs) (big_from 0 n ys) left right))
 
--- bytes that spell one number are the same
+-- bytes that spell the same number are equal
 pub same_fronts : (n : ℕ) (xs ys : List ℕ) → n ≤ length xs → n ≤ length ys → AreBytes xs → AreBytes ys → big_number n xs ≡ big_number n ys → take n xs ≡ take n ys
 same_fronts zero xs ys p q a b e = refl
 same_fronts (suc n) [] ys p q a b e = absurd (omega arith)
@@ -77,7 +77,7 @@ same_fronts (suc n) (x ∷ xs) (y ∷ ys) p q a b e =
     let tail = same_fronts n xs ys (omega arith) (omega arith) (λ i. a (suc i)) (λ i. b (suc i)) (nat_cmp-IsAntisymmetric r s both.1) in
     λ i. head i ∷ tail i
 
--- bytes that two texts begin with decide nothing
+-- a common front of two texts decides nothing
 pub cmp_behind : (both xs ys : List ℕ) → byte_cmp (both ++ xs) (both ++ ys) ≡ byte_cmp xs ys
 cmp_behind [] xs ys = refl
 cmp_behind (b ∷ both) xs ys = ap (λ (o : Ordering). ordering_then o (byte_cmp (both ++ xs) (both ++ ys))) (cmp_same b b refl) ∙ cmp_behind both xs ys

@@ -1,4 +1,4 @@
--- What the lock column and the write column hold, byte for byte.
+-- The values of the lock and write columns, byte for byte.
 use Rattle.std.specs.Prelude.{◌≡◌, ◌⊎◌, ℕ, List, [], ◌∷◌, ◌++◌, length, slice_get, Some}
 use Rattle.byteorder.specs.Endian.{big_bytes, big_number}
 use Rattle.cell_key.specs.Texts.{place_text}
@@ -10,7 +10,7 @@ abbrev pub kind_byte : WriteKind → ℕ
 kind_byte write.Set = 0x53
 kind_byte write.Delete = 0x44
 
--- A text ends with the byte of a kind. In an older form it ends before it, which means a set.
+-- A text ends with the byte of a kind. In an older form it has no such byte and means a set.
 abbrev pub HasKind : List ℕ → WriteKind → List ℕ → Type 0
 HasKind before kind text =
     (text ≡ before ++ (kind_byte kind ∷ [])) ⊎ ((kind ≡ write.Set) × (text ≡ before))
@@ -22,8 +22,8 @@ lock_text row family kind = place_text row family ++ (kind_byte kind ∷ [])
 abbrev pub IsLockText : List ℕ → List ℕ → WriteKind → List ℕ → Type 0
 IsLockText row family kind text = HasKind (place_text row family) kind text
 
--- A lock's value, the place in it, and the kind of its write: the byte of the kind stands last. A value
--- that ends with the byte of no kind is all place, and a set's.
+-- A lock's value, split into its place and the kind of its write, whose byte comes last. A value that ends with no
+-- kind's byte is all place and means a set.
 abbrev pub IsParted : List ℕ → List ℕ → WriteKind → Type 0
 IsParted text place kind =
     (text ≡ place ++ (kind_byte kind ∷ []))
@@ -40,7 +40,7 @@ record_text t kind = start_text t ++ (kind_byte kind ∷ [])
 abbrev pub IsRecordText : ℕ → WriteKind → List ℕ → Type 0
 IsRecordText t kind text = HasKind (start_text t) kind text
 
--- such a value, as it is read, names t and a kind
+-- a write record's value, as it is decoded, has the start t and a kind
 pub record NamesWrite (text : List ℕ) (t : ℕ) (kind : WriteKind) : Type 0 where
   pub start : big_number 8 text ≡ t
   pub kind_is : ((length text ≡ 8) × (kind ≡ write.Set))

@@ -1,4 +1,4 @@
--- Lists of entries, what several of them mean together, and the cells that one stands for.
+-- Lists of entries, merges of several lists, and the cells of a list.
 use Rattle.std.specs.Prelude.{◌≡◌, ◌≢◌, ◌≤◌, ◌-◌, ◌^◌, ⊤, ℕ, zero, suc, if◌then◌else◌, List, [], ◌∷◌, ◌++◌, length, flat_map, filter, codes, Option, Some, None, IfSome, T, nat_eq}
 use Rattle.std.specs.Option.{option_copied}
 use Rattle.std.specs.Int.{w32, w64, to_be_bytes, from_be_bytes}
@@ -19,11 +19,11 @@ use Rattle.cell_key.specs.declared.entries.EntryRef.{EntryRef}
 abbrev pub Entry : Type 0
 Entry = List ℕ × Option (List ℕ)
 
--- a lent entry
+-- a borrowed entry
 abbrev pub lent_entry : EntryRef → Entry
 lent_entry lent = (lent.key.now, option_copied lent.value)
 
--- the texts strictly rise in byte order
+-- the texts are in strictly ascending byte order
 abbrev pub IsRising : List Entry → Type 0
 IsRising es = T (is_sorted byte_cmp es)
 
@@ -38,48 +38,47 @@ pub record IsEntryList (es : List Entry) : Type 0 where
   pub rising : IsRising es
   pub each : AllByRecursion IsEntry es
 
--- the entries whose texts aren't below this one
+-- the entries at or above this text
 abbrev pub entries_from : List ℕ → List Entry → List Entry
 entries_from name es = filter (λ entry. is_le (byte_cmp name entry.0)) es
 
--- the entries before the place have texts below this one, and that at the place hasn't
+-- the index of the first entry at or above this text (the lower bound)
 abbrev pub IsPlace : List ℕ → List Entry → ℕ → Type 0
 IsPlace name [] zero = ⊤
 IsPlace name [] (suc i) = ⊥
 IsPlace name (e ∷ es) zero = byte_cmp name e.0 ≢ Greater
 IsPlace name (e ∷ es) (suc i) = (byte_cmp name e.0 ≡ Greater) × IsPlace name es i
 
--- the entry that is lent was the first of the old list, and the new list has the others;
--- or nothing was left
+-- the entry taken was the first of the old list, and the new list has the others; or both lists are empty
 abbrev pub Takes : Option Entry → List Entry → List Entry → Type 0
 Takes None old new = (old ≡ []) × (new ≡ [])
 Takes (Some entry) old new = old ≡ entry ∷ new
 
 -- ---- several lists
 
--- What lists mean together, the newest first: a key has the entry of the first list that names it.
+-- The meaning of lists, newest first: each key has the entry of the first list with an entry of it.
 abbrev pub meaning : List (List Entry) → FinMap byte_cmp (Option (List ℕ))
 meaning lists = from_entries (flat_map (λ es. es) lists)
 
--- the one list of that meaning
+-- the lists merged into one with this meaning
 abbrev pub merged : List (List Entry) → List Entry
 merged lists = entries (meaning lists)
 
--- what a list has at a text: a value, an erasure, or nothing
+-- a list's entry at a text: a value, an erasure, or none
 abbrev pub entry_of_key : List Entry → List ℕ → Option (Option (List ℕ))
 entry_of_key es name = find byte_cmp name es
 
--- the first of two options that has a value
+-- the first of two options that is present
 abbrev pub or_else : {A : Type 0} → Option A → Option A → Option A
 or_else None other = other
 or_else (Some x) other = Some x
 
--- the entry of the first list that names the text
+-- the entry at the text in the first list with one
 abbrev pub first_naming : List (List Entry) → List ℕ → Option (Option (List ℕ))
 first_naming [] name = None
 first_naming (es ∷ lists) name = or_else (entry_of_key es name) (first_naming lists name)
 
--- a merged list has at each text the entry of the first list that names it, and its texts rise
+-- a merged list has for each text the entry of the first list with one, and its texts are in ascending order
 abbrev pub MergesLists : Type 0
 MergesLists =
     (lists : List (List Entry)) → IsRising (merged lists)
@@ -87,7 +86,7 @@ MergesLists =
 
 -- ---- the cells of a list
 
--- the first part of a text, up to 0 and 0, with each 0 and 255 read as 0; and what follows it
+-- the first part of a text, up to 0 and 0, with each 0 and 255 decoded as 0; and the bytes behind it
 abbrev pub with_byte : ℕ → List ℕ × List ℕ → List ℕ × List ℕ
 with_byte byte cut = (byte ∷ cut.0, cut.1)
 
@@ -103,7 +102,7 @@ qualifier_named name =
     if pointwise nat_eq name (codes "data") then Data
     else if pointwise nat_eq name (codes "lock") then Lock else Write
 
--- the key whose text the bytes are
+-- the key with this text
 abbrev pub key_of_text : List ℕ → CellKey
 key_of_text bytes =
     let row = first_part bytes in
@@ -116,7 +115,7 @@ key_of_text bytes =
       stamp = 2 ^ 64 - 1 - from_be_bytes w64 name.1;
     }
 
--- The cells that a list stands for: the first entry of a key decides, and an erasure is no cell.
+-- The cells of a list: the first entry of a key decides, and an erasure is no cell.
 abbrev pub cells_of : List Entry → Cells
 cells_of [] = empty
 cells_of ((name, None) ∷ es) = remove (cells_of es) (key_of_text name)
@@ -127,7 +126,7 @@ abbrev pub value_of : Option (Option (List ℕ)) → Option (List ℕ)
 value_of None = None
 value_of (Some value) = value
 
--- an entry list stands for the values that it has at the texts of keys within the limits
+-- the cells of an entry list are its values at the texts of keys within the limits, and no others
 abbrev pub HasCells : Type 0
 HasCells =
     (es : List Entry) → AllByRecursion IsEntry es → (key : CellKey)
@@ -136,7 +135,7 @@ HasCells =
 
 -- ---- the bytes of an entry in a file
 
--- a length of four bytes, the highest first, and that many bytes
+-- a length of four bytes, big-endian, and that many bytes
 abbrev pub field : List ℕ → List ℕ
 field bytes = to_be_bytes w32 (length bytes) ++ bytes
 

@@ -1,4 +1,4 @@
--- The edits by which a lock goes: a write record takes its place, or nothing does.
+-- The edits that remove a lock, with or without a write record.
 use Rattle.std.specs.Prelude.{◌≡◌, ℕ, List, [], ◌∷◌}
 use Rattle.cell_key.specs.Cells.{version}
 use Rattle.cell_key.specs.Columns.{record_text}
@@ -8,7 +8,7 @@ use Rattle.cell_key.specs.declared.edits.Edit.TheVariants.{Put, Erase}
 use Rattle.cell_key.specs.declared.keys.CellKey.{CellKey}
 use Rattle.cell_key.specs.declared.keys.Qualifier.TheVariants.{Lock, Write}
 
--- what an edit does: it puts bytes at a key, or erases the key
+-- the effect of an edit: it puts bytes at a key, or erases the key
 abbrev pub IsPut : Edit → CellKey → List ℕ → Type 0
 IsPut (Put at value) key bytes = (at ≡ key) × (value.items ≡ bytes)
 IsPut (Erase at) key bytes = ⊥
@@ -17,14 +17,14 @@ abbrev pub IsErase : Edit → CellKey → Type 0
 IsErase (Erase at) key = at ≡ key
 IsErase (Put at value) key = ⊥
 
--- the two edits that put the write record of t at c in the place of the lock of a row and a family
+-- the two edits that replace the lock of t of a row and a family by the write record of t at c
 abbrev pub IsRecording : List ℕ → List ℕ → ℕ → ℕ → WriteKind → List Edit → Type 0
 IsRecording row family t c kind (written ∷ lock ∷ []) =
     IsPut written (version row family Write c) (record_text t kind)
     × IsErase lock (version row family Lock t)
 IsRecording row family t c kind edits = ⊥
 
--- the edit that erases such a lock, and puts nothing in its place
+-- the edit that erases such a lock without a write record
 abbrev pub IsErasing : List ℕ → List ℕ → ℕ → List Edit → Type 0
 IsErasing row family t (lock ∷ []) = IsErase lock (version row family Lock t)
 IsErasing row family t edits = ⊥

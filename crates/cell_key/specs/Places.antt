@@ -15,11 +15,11 @@ use Rattle.cell_key.specs.declared.keys.CellKey.{CellKey}
 abbrev pub Place : Type 0
 Place = List ℕ × List ℕ
 
--- the place that a row and a family name
+-- the place of a row and a family
 abbrev pub place_named : Bor (List ℕ) × Bor (List ℕ) → Place
 place_named names = (names.0.now, names.1.now)
 
--- where a key's cell is
+-- the place of a key's cell
 abbrev pub place_of : CellKey → Place
 place_of key = (key.row, key.family)
 
@@ -31,7 +31,7 @@ pub record IsPlaceText (bytes : List ℕ) : Type 0 where
   pub is_family : IsFamily family
   pub is : bytes ≡ place_text row family
 
--- the texts of two places are equal only if the places are
+-- different places have different texts
 abbrev pub OnePlaceAText : Type 0
 OnePlaceAText =
     (row family row' family' : List ℕ) → IsFamily family → IsFamily family'
@@ -43,32 +43,31 @@ abbrev pub place_cmp : Place → Place → Ordering
 place_cmp =
     then_cmp (on (λ (place : Place). place.0) byte_cmp) (on (λ (place : Place). place.1) byte_cmp)
 
--- a place comes after another one, or after the start
+-- a place comes after another one; all places come after None
 abbrev pub IsAfter : Option Place → Place → Type 0
 IsAfter None place = ⊤
 IsAfter (Some before) place = place_cmp before place ≡ Less
 
--- a cell map has a key at a place
+-- a cell map has a key in a place
 pub record HasCell (cells : Cells) (place : Place) : Type 0 where
   pub key : CellKey
   pub at : place_of key ≡ place
   pub some : IsSome (get cells key)
 
--- found is the first place after the given one at which a cell map has any key
+-- found is the first place after the given one in which a cell map has a key, or None if there is none
 abbrev pub IsNextCell : Cells → Option Place → Option Place → Type 0
 IsNextCell cells after None = (place : Place) → IsAfter after place → ¬ (HasCell cells place)
 IsNextCell cells after (Some found) =
     IsAfter after found × HasCell cells found × ((place : Place) → IsAfter after place
     → place_cmp place found ≡ Less → ¬ (HasCell cells place))
 
--- Places come one after the other, each next after the one before it: as many as most says, or fewer if
--- then none is next.
+-- Each place is the next after the one before it. There are `most` of them, or fewer if there is no next one.
 abbrev pub AreNext : (Option Place → Option Place → Type 0) → Option Place → ℕ → List Place → Type 0
 AreNext IsNext after most [] = 1 ≤ most → IsNext after None
 AreNext IsNext after most (found ∷ rest) =
     (1 ≤ most) × IsNext after (Some found) × AreNext IsNext (Some found) (most - 1) rest
 
--- found are the next cells after the given place: as many as most says, or all, if they are fewer
+-- found are the next `most` cells after the given place, or all of them if there are fewer
 abbrev pub AreNextCells : Cells → Option Place → ℕ → List Place → Type 0
 AreNextCells cells = AreNext (IsNextCell cells)
 

@@ -21,7 +21,7 @@ pub record IsVersionIn (lo hi : ℕ) (version : ℕ × List ℕ) : Type 0 where
   pub high : version.0 ≤ hi
   pub limits : IsVersion version.0 version.1
 
--- what a cell map has is within the limits
+-- the versions in a cell map are within the limits
 abbrev pub HasLimits : Cells → Type 0
 HasLimits cells =
     (key : CellKey) (value : List ℕ) → get cells key ≡ Some value → IsVersion key.stamp value

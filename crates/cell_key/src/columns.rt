@@ -1,4 +1,4 @@
-//! What the lock column and the write column hold, and its bytes, both ways.
+//! The values of the lock and write columns: encoding and decoding.
 
 ghost use Rattle.std.specs.Prelude.{◌≡◌, ◌≢◌, ◌≤◌, ℕ, List, length, IfErr, IfNone, IfOk, IfSome};
 ghost use Rattle.cell_key.specs.Columns.{IsLockText, IsParted, NamesWrite, kind_byte, lock_text, record_text};
@@ -13,7 +13,7 @@ use crate::refusals::Refusal;
 use byteorder::{BigEndian, ByteOrder};
 use std::alloc::Global;
 
-/// What kind of write it is: one that gives its cell a value, or one that deletes it.
+/// The kind of a write: it gives its cell a value, or it deletes the cell.
 #[derive(Clone, Copy, Debug, PartialEq, Eq)]
 pub enum WriteKind {
     /// It gives the cell a value.
@@ -23,7 +23,7 @@ pub enum WriteKind {
 }
 
 impl WriteKind {
-    /// The byte with which the values of its lock and its write record end.
+    /// The last byte of the values of its lock and its write record.
     pub fn byte(self) -> u8
         ensures { result ≡ kind_byte self }
     {
@@ -33,7 +33,7 @@ impl WriteKind {
         }
     }
 
-    /// The kind of a byte; `None` if it is that of no kind.
+    /// The kind with this byte; `None` if no kind has it.
     pub fn of_byte(byte: u8) -> Option<WriteKind>
         ensures some { IfSome result (λ kind. kind_byte kind ≡ byte) }
         ensures none { IfNone result ((kind : Kind) → kind_byte kind ≢ byte) }
@@ -46,7 +46,7 @@ impl WriteKind {
     }
 }
 
-/// What a lock holds: the row and the family of its session's first cell, and the kind of its write.
+/// The content of a lock: the row and the family of its session's first cell, and the kind of its write.
 #[derive(Debug, PartialEq, Eq, Drop)]
 pub struct Lock {
     pub row: Row,
@@ -54,8 +54,8 @@ pub struct Lock {
     pub kind: WriteKind,
 }
 
-/// The place in a lock's value, and the kind of its write, whose byte stands behind the place. A value
-/// that ends with the byte of no kind is of an older form: all of it is the place, and it is a set's.
+/// Splits a lock's value into the place and the kind of its write, whose byte comes last. A value that ends with no
+/// kind's byte is of an older form: all of it is the place, and the kind is a set.
 fn parted(text: &[u8]) -> (&[u8], WriteKind)
     ensures { IsParted text.now result.0.now result.1 }
 {
@@ -68,7 +68,7 @@ fn parted(text: &[u8]) -> (&[u8], WriteKind)
 }
 
 impl Lock {
-    /// The value of a lock that names this row and family, for a write of this kind.
+    /// The value of a lock with this row, family and kind of write.
     pub fn encode(
         alloc: Global,
         row: &Row,
@@ -92,9 +92,8 @@ impl Lock {
         Ok(text)
     }
 
-    /// What a lock with this value holds; `None` if it names no row and family within their limits.
-    /// A value without a kind is of an older form, and a set's. Answers `NoMemory` if there is no
-    /// room for the names.
+    /// The content of a lock with this value; `None` if it has no row and family within their limits. A value without a
+    /// kind is of an older form and means a set. Answers `NoMemory` if there is no memory for the names.
     pub fn decode(alloc: Global, text: &[u8]) -> Result<Option<Lock>, Refusal>
         ensures found { IfOk result (λ found. IfSome found (λ lock.
             IsLockText lock.row lock.family lock.kind text.now)) }
@@ -109,7 +108,7 @@ impl Lock {
         Ok(Some(Lock { row, family, kind }))
     }
 
-    /// The kind of the write of a lock with this value, whatever place it names. Takes no memory.
+    /// The kind of write of a lock with this value, whatever its place is. Allocates nothing.
     pub fn kind_of(text: &[u8]) -> WriteKind
         ensures { (place : List ℕ) × IsParted text.now place result }
     {
@@ -117,7 +116,7 @@ impl Lock {
     }
 }
 
-/// What a write record holds: the start of its session, and the kind of its write.
+/// The content of a write record: the start of its session, and the kind of its write.
 #[derive(Clone, Copy, Debug, PartialEq, Eq)]
 pub struct Record {
     pub start: Stamp,
@@ -138,8 +137,8 @@ impl Record {
         Ok(text)
     }
 
-    /// What a write record with this value holds; `None` if that is no record's. A value of eight
-    /// bytes, which has no kind, is of an older form, and a set's. Takes no memory.
+    /// The content of a write record with this value; `None` if it is no write record's. A value of eight bytes,
+    /// without a kind, is of an older form and means a set. Allocates nothing.
     pub fn decode(text: &[u8]) -> Option<Record>
         ensures named { IfSome result (λ named. NamesWrite text.now named.start named.kind) }
         ensures none { IfNone result ((t : ℕ) (kind : Kind) → ¬ NamesWrite text.now t kind) }

@@ -1,4 +1,4 @@
-//! Bytes with each 0 escaped, and appending bytes to a buffer that has room.
+//! Escaping each byte 0, and appending bytes to a buffer with room for them.
 
 ghost use Rattle.std.specs.Prelude.{◌≡◌, ◌+◌, ◌*◌, ◌≤◌, ◌<◌, ◌++◌, ◌∷◌, [], length, vec_len, vec_capacity};
 ghost use Rattle.cell_key.specs.Texts.{escaped};
@@ -6,15 +6,15 @@ ghost use Rattle.cell_key.specs.Texts.{escaped};
 /// The most bytes that are escaped at once.
 const MOST_ESCAPED: usize = 4000;
 
-/// How many bytes are looked at together.
+/// How many bytes are tested at once.
 const CHUNK: usize = 32;
 
-/// As many zeros as are looked at together, escaped.
+/// 32 zeros, escaped.
 const ESCAPED_ZEROS: &[u8] = b"\0\xFF\0\xFF\0\xFF\0\xFF\0\xFF\0\xFF\0\xFF\0\xFF\
     \0\xFF\0\xFF\0\xFF\0\xFF\0\xFF\0\xFF\0\xFF\0\xFF\0\xFF\0\xFF\0\xFF\0\xFF\
     \0\xFF\0\xFF\0\xFF\0\xFF\0\xFF\0\xFF\0\xFF\0\xFF\0\xFF\0\xFF\0\xFF\0\xFF";
 
-/// How many of a few bytes are 0. So many bytes more they have when they are escaped.
+/// How many of a few bytes are 0. Escaping adds this many bytes.
 fn zero_count(chunk: &[u8]) -> u8
     requires { length chunk.now ≤ CHUNK }
     ensures length { length (escaped chunk.now) ≡ length chunk.now + result }
@@ -27,7 +27,7 @@ fn zero_count(chunk: &[u8]) -> u8
     count
 }
 
-/// How many bytes the escaped bytes have.
+/// The length of the bytes when they are escaped.
 pub(crate) fn escaped_len(bytes: &[u8]) -> usize
     requires { length bytes.now ≤ MOST_ESCAPED }
     ensures length { result ≡ length (escaped bytes.now) }
@@ -56,7 +56,7 @@ pub(crate) fn push_bytes(out: &mut Vec<u8>, bytes: &[u8])
     out.extend_from_slice(bytes).unwrap();
 }
 
-/// Appends bytes one by one, each 0 as 0 and 255.
+/// Appends bytes one by one, with each 0 escaped as 0 and 255.
 fn push_each(out: &mut Vec<u8>, bytes: &[u8])
     requires { vec_len out.old + length (escaped bytes.now) ≤ vec_capacity out.old }
     ensures items { out.new.items ≡ out.old.items ++ escaped bytes.now }
@@ -71,7 +71,7 @@ fn push_each(out: &mut Vec<u8>, bytes: &[u8])
     }
 }
 
-/// Appends a few bytes, each 0 as 0 and 255. Those without a 0, and zeros alone, are copied at once.
+/// Appends a few bytes, with each 0 escaped as 0 and 255. Bytes without a 0, and zeros alone, are copied at once.
 fn push_chunk(out: &mut Vec<u8>, chunk: &[u8])
     requires few { length chunk.now ≤ CHUNK }
     requires room { vec_len out.old + length (escaped chunk.now) ≤ vec_capacity out.old }
@@ -89,7 +89,7 @@ fn push_chunk(out: &mut Vec<u8>, chunk: &[u8])
     }
 }
 
-/// Appends bytes, each 0 as 0 and 255. So many they are then.
+/// Appends bytes, with each 0 escaped as 0 and 255; `len` is the escaped length.
 pub(crate) fn push_escaped(out: &mut Vec<u8>, bytes: &[u8], len: usize)
     requires len { len ≡ length (escaped bytes.now) }
     requires room { vec_len out.old + length (escaped bytes.now) ≤ vec_capacity out.old }

@@ -1,4 +1,4 @@
-//! Keys that are lent as their texts, read one after the other.
+//! Keys borrowed as their texts, read one after another.
 
 ghost use Rattle.std.specs.Prelude.{◌≡◌, ◌≢◌, ◌≤◌, ◌<◌, ◌^◌, ◌++◌, ◌↔◌, List, ℕ, length, take, drop, IsTrue, IfSome, IfNone};
 ghost use Rattle.std.specs.Ordering.{nat_cmp, ordering_then};
@@ -12,21 +12,21 @@ use crate::decoding::{split_place, stored_stamp_of};
 use crate::keys::{Qualifier, Stamp};
 use crate::text_order::{are_same, compare_texts};
 
-/// How many bytes of a key's text its stamp has.
+/// The length in bytes of the stamp in a key's text.
 const STAMP: usize = 8;
 
-/// A key that is lent as its text, with what the text says behind the row and the family.
+/// A key borrowed as its text, with the decoded parts behind the row and the family.
 #[derive(Clone, Copy, Debug)]
 pub struct KeyRef<'a> {
     /// The text of the key.
     pub text: &'a [u8],
-    /// How many bytes of the text name the row and the family.
+    /// The length in bytes of the text's row and family.
     pub place_len: usize,
     pub qualifier: Qualifier,
     pub stamp: Stamp,
 }
 
-/// The qualifier whose name is at the front, and what follows the name's end.
+/// The qualifier whose name is at the front, and the bytes behind the name's end.
 fn split_name(bytes: &[u8]) -> Option<(Qualifier, &[u8])>
     ensures found { IfSome result (λ p. bytes.now ≡ ended (qualifier_name p.0) ++ p.1.now) }
     ensures none { IfNone result ((qualifier : Names) (rest : List ℕ)
@@ -42,7 +42,7 @@ fn split_name(bytes: &[u8]) -> Option<(Qualifier, &[u8])>
     Some((Qualifier::Write, rest))
 }
 
-/// The qualifier and the stamp that follow the place in a key's text.
+/// The qualifier and the stamp behind the place in a key's text.
 #[inline(always)]
 fn split_version(bytes: &[u8]) -> Option<(Qualifier, Stamp)>
     ensures found { IfSome result (λ p.
@@ -57,7 +57,7 @@ fn split_version(bytes: &[u8]) -> Option<(Qualifier, Stamp)>
     Some((qualifier, stamp))
 }
 
-/// The key whose text the bytes are.
+/// The key with this text.
 fn lend_key(bytes: &[u8]) -> Option<KeyRef<'_>>
     ensures found { IfSome result IsLentKey }
     ensures text { IfSome result (λ key. key.text.now ≡ bytes.now) }
@@ -73,7 +73,7 @@ fn lend_key(bytes: &[u8]) -> Option<KeyRef<'_>>
     })
 }
 
-/// Whether in one place a version of the first qualifier and stamp comes before one of the second.
+/// Whether, within one place, a version of the first qualifier and stamp comes before a version of the second.
 fn is_before(first: (Qualifier, Stamp), second: (Qualifier, Stamp)) -> bool
     ensures { IsTrue result ↔ (ordering_then
         (byte_cmp (qualifier_name first.0) (qualifier_name second.0))
@@ -88,7 +88,7 @@ fn is_before(first: (Qualifier, Stamp), second: (Qualifier, Stamp)) -> bool
     }
 }
 
-/// The key whose text the bytes are, if it is an older version of the last one's column, which comes after it.
+/// The key with this text, if it is an older version in the last key's column, so that it comes after the last key.
 #[inline(always)]
 fn in_column<'a>(last: KeyRef<'_>, bytes: &'a [u8]) -> Option<KeyRef<'a>>
     requires { IsLentKey last }
@@ -116,7 +116,7 @@ fn in_column<'a>(last: KeyRef<'_>, bytes: &'a [u8]) -> Option<KeyRef<'a>>
     })
 }
 
-/// The key behind a place that stands in the text of another key too, if it comes after that one.
+/// The key of this text, whose place is the last key's and whose rest is `tail`, if it comes after the last key.
 #[inline(always)]
 fn in_place<'a>(last: KeyRef<'_>, bytes: &'a [u8], tail: &[u8]) -> Option<KeyRef<'a>>
     requires last { IsLentKey last }
@@ -139,9 +139,9 @@ fn in_place<'a>(last: KeyRef<'_>, bytes: &'a [u8], tail: &[u8]) -> Option<KeyRef
     })
 }
 
-/// The key whose text the bytes are, if it is within all limits and comes after the last one; `None` if they are no
-/// such text. If the bytes begin as the text of the last one does, up to the end of the place, only what follows the
-/// place is looked at, and only the stamp if they begin as it does up to that. Takes no memory.
+/// The key with this text, if it is within all limits and comes after the last one; else `None`. If the text begins
+/// with the last key's place, only the rest is decoded, and if it begins with the last key's column, only the stamp.
+/// Allocates nothing.
 #[inline(always)]
 pub fn next_key<'a>(last: Option<KeyRef<'_>>, bytes: &'a [u8]) -> Option<KeyRef<'a>>
     requires { IfSome last IsLentKey }

@@ -1,4 +1,4 @@
-//! The edits by which a lock goes: a write record takes its place, or nothing does.
+//! The edits that remove a lock, with or without a write record.
 
 ghost use Rattle.std.specs.Prelude.{◌≡◌, IfErr, IfOk};
 ghost use Rattle.std.specs.List.{AllByRecursion};
@@ -13,8 +13,8 @@ use crate::names::{Family, Row};
 use crate::refusals::Refusal;
 use std::alloc::Global;
 
-/// The two edits that put the write record of a start at its commit stamp, with the kind of its write,
-/// in the place of its lock. Answers `NoMemory` if there is no room for them.
+/// The two edits that replace the lock of a start by a write record of this kind at the commit stamp. Answers
+/// `NoMemory` if there is no memory for them.
 pub fn record_lock(
     alloc: Global,
     row: &Row,
@@ -39,8 +39,7 @@ pub fn record_lock(
     Ok(edits)
 }
 
-/// The edit that erases the lock of a start, and puts nothing in its place. Answers `NoMemory` if
-/// there is no room for it.
+/// The edit that erases the lock of a start without a write record. Answers `NoMemory` if there is no memory for it.
 pub fn erase_lock(
     alloc: Global,
     row: &Row,

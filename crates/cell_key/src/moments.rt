@@ -35,7 +35,7 @@ impl Moment {
         Moment { stamp }
     }
 
-    /// The moment that follows a stamp. `Exhausted` if that is the greatest.
+    /// The moment after a stamp. `Exhausted` if the stamp is the greatest.
     pub fn after(stamp: Stamp) -> Result<Moment, Refusal>
         requires { stamp < 2 ^ 63 }
         ensures next { IfOk result (λ moment. moment ≡ stamp + 1) }

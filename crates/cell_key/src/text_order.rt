@@ -1,4 +1,4 @@
-//! Texts compared by eight bytes at once: whether they are the same, and their byte order.
+//! Comparing texts eight bytes at a time: equality and byte order.
 
 ghost use Rattle.std.specs.Prelude.{◌≡◌, ◌↔◌, ◌≤◌, ◌<◌, ◌++◌, ℕ, List, take, drop, length, IsTrue};
 ghost use Rattle.std.specs.Ordering.{ordering_then};
@@ -8,7 +8,7 @@ ghost use Rattle.cell_key.specs.Keys.{byte_cmp};
 use byteorder::{BigEndian, ByteOrder};
 use std::cmp::Ordering;
 
-/// The order of the first eight bytes of two texts.
+/// Compares the first eight bytes of two texts.
 fn compare_fronts(a: &[u8], b: &[u8]) -> Ordering
     requires first { 8 ≤ length a.now }
     requires second { 8 ≤ length b.now }
@@ -21,11 +21,11 @@ fn compare_fronts(a: &[u8], b: &[u8]) -> Ordering
     front.cmp(&other)
 }
 
-/// From how many bytes on two texts are compared as slices, which takes the longer steps.
+/// The length from which texts are compared as slices, which takes longer steps.
 const LONG: usize = 64;
 
-/// The byte order of two texts. Short ones are compared by eight bytes at once while both have as many, and then, if
-/// they are as long as each other, by their last eight. Takes no memory.
+/// Compares two texts in byte order. Short ones are compared eight bytes at a time while both have eight left, and
+/// then, if their lengths are equal, by their last eight bytes. Allocates nothing.
 #[inline(never)]
 pub fn compare_texts(a: &[u8], b: &[u8]) -> Ordering
     ensures { result ≡ byte_cmp a.now b.now }
@@ -50,8 +50,8 @@ pub fn compare_texts(a: &[u8], b: &[u8]) -> Ordering
     left.cmp(&right)
 }
 
-/// Whether two texts of one length are the same, of which fewer than eight bytes are left behind what both have: by their
-/// last eight, or, if they have fewer, by what is left.
+/// Whether two texts of the same length are equal, if they are equal up to their ends `left` and `right` of fewer than
+/// eight bytes: compares their last eight bytes, or, if they are shorter, the ends.
 #[inline(always)]
 fn are_ends_same(first: &[u8], second: &[u8], left: &[u8], right: &[u8]) -> bool
     requires long { length first.now ≡ length second.now }
@@ -68,8 +68,8 @@ fn are_ends_same(first: &[u8], second: &[u8], left: &[u8], right: &[u8]) -> bool
     left == right
 }
 
-/// Whether two texts are the same. Short ones are compared by eight bytes at once while eight are left, and then by
-/// their last eight. Takes no memory.
+/// Whether two texts are equal. Short ones are compared eight bytes at a time while eight are left, and then by their
+/// last eight bytes. Allocates nothing.
 #[inline(always)]
 pub fn are_same(first: &[u8], second: &[u8]) -> bool
     ensures { IsTrue result ↔ (first.now ≡ second.now) }

@@ -1,4 +1,4 @@
--- The steps of one cleaner, where cells and cleaner show the machine's state.
+-- The steps of one cleaner, if cells and cleaner show the machine's state.
 use Rattle.std.proofs.Common.{◌≡◌, ◌≢◌, ℕ, ◌<◌, ◌≤◌, ◌^◌, ◌⊎◌, inl, inr, Bool, true, false, List, ◌∷◌, Option, Some, None, refl, sym, ap, subst, ◌∙◌, arith}
 use Rattle.std.specs.FinMap as finmap
 use Rattle.std.proofs.lemmas.Bool.{cases_lt}
@@ -38,7 +38,7 @@ use Rattle.clean_up.specs.declared.fates.Fate.{Fate}
 use Rattle.clean_up.specs.declared.fates.Fate.TheVariants.{Open, Forward, Back}
 use Rattle.clean_up.proofs.LockTexts.{told_kind}
 
--- the machine takes the step, and goes on so
+-- the machine takes the step, with this next state
 abbrev Takes : State → ℕ → Cells → Cleaner → CleanReply → Type 0
 Takes st i cells' cleaner' reply = (next : State) × Step st (machine.CleanStep i) (clean_reply reply) next × ShowsCells cells' next × Follows st next i cleaner' reply
 
@@ -91,7 +91,7 @@ module _ (cells : Cells) (cleaner : Cleaner) (st : State) (i : ℕ) (reached : I
   abbrev killed : State
   killed = record st { dead = t ∷ st.dead; marks = (without st.marks (first, t)).0; cleaners = finmap.insert st.cleaners i (record { cell = x; start = t; decided = true }) }
 
-  -- the first cell's lock stands: the start is rolled back
+  -- the first cell has the lock: the start is rolled back
   kills_at : cleaner.fate ≡ Open → IsThere cells first column.Lock t → Takes st i (erased_cells cells first t) (with_fate Back) clean.Decided
   kills_at is there = (killed, s, shows_erased cells st killed (goes reached s) store first t less refl (no_commit open_yet.0), record { cleaners = refl; next_cleaner = refl; knows = λ e. record { is_first = mine.knows.is_first; right = λ m. here } })
     where
@@ -112,7 +112,7 @@ module _ (cells : Cells) (cleaner : Cleaner) (st : State) (i : ℕ) (reached : I
       let s = accepts able (machine.learns (kept Open is) fate) in
       (s, shows_beside cells st learned (goes reached s) store (λ y u m. m) (λ y u m. m) refl)
 
-  -- a record that is read as naming t is that of t
+  -- a record whose text names t is t's record
   named_at : (c : ℕ) (b : List ℕ) → at cells first column.Write c ≡ Some b → NamesStart b t → NamesAt cells first c t
   named_at c b there (kind, names) = (b, kind_of_change k.change, there, subst (λ (u : ℕ). IsRecordText u (kind_of_change k.change) b) same k.is_text)
     where
@@ -185,7 +185,7 @@ module _ (cells : Cells) (cleaner : Cleaner) (st : State) (i : ℕ) (reached : I
       s : Step st (machine.CleanStep i) machine.RolledBack cleared
       s = accepts able (machine.rolls_back (kept Back is) (marked there) uncommitted less)
 
-  -- the record of the commit takes its place, with the kind that the lock names
+  -- the record of the commit replaces it, with the kind that the lock names
   forward_at : (c : ℕ) (kind : WriteKind) → cleaner.fate ≡ Forward c → IsThere cells x column.Lock t → TellsKind cells x t kind → Takes st i (recorded_cells cells x t c kind) cleaner (clean.RolledForward c)
   forward_at c kind is there told = (
     cleared,
@@ -219,7 +219,7 @@ module _ (cells : Cells) (cleaner : Cleaner) (st : State) (i : ℕ) (reached : I
       one_start : (b : Commit) → b ∈ st.commits → b.start ≡ t → b ≡ made_of
       one_start b j e = same_commit st.commits (reached_sound reached).starts_differ b made_of j is_in e
 
--- ---- what the rows do
+-- ---- the effect on the rows
 
 module _ {R : Type 0} (seen : View R) (old new : R) (cleaner : Cleaner) (held : seen.holds old) where
   pub decides_so : (f : Fate) → cleaner.fate ≡ Open → Decides seen cleaner.lock f old new → Advances (seen.cells old) cleaner clean.Decided (seen.cells new) (record { cell = cleaner.cell; lock = cleaner.lock; fate = f })

@@ -1,4 +1,4 @@
--- What a step does to the rows, as cleaner and state show it.
+-- The effect of a step on the rows, from its cleaner and from the state.
 use Rattle.std.proofs.Common.{◌≡◌, ◌∙◌, ◌<◌, ◌^◌, ℕ, List, Some, refl, inl, inr, sym, subst, arith}
 use Rattle.std.specs.Ordering.{nat_cmp}
 use Rattle.std.specs.BTreeMap as btree
@@ -32,7 +32,7 @@ use Rattle.clean_up.specs.declared.fates.Fate.TheVariants.{Open, Forward, Back}
 use Rattle.clean_up.proofs.LockTexts.{told_kind}
 use Rattle.clean_up.proofs.Table.{shown_some}
 
--- what is shown has no bad record
+-- shown cells have no bad record
 pub no_bad_record : (cells : Cells) (st : State) → IsReached st → ShowsCells cells st → (x : Cell) → ¬ HasBadRecord cells x
 no_bad_record cells st reached store x (c, b, there, lacks) = lacks k.commit.start (kind_of_change k.change, names_of k.commit.start (kind_of_change k.change) b low k.is_text)
   where
@@ -45,7 +45,7 @@ no_bad_record cells st reached store x (c, b, there, lacks) = lacks k.commit.sta
         let top = (reached_bounds reached).top in
         omega arith
 
--- edits that are of one kind are of another
+-- edits with one property have another
 pub no_room_so : {R : Type 0} (overfills : R → List ℕ → List Edit → Type 0) (rows : R) {P Q : List ℕ → List Edit → Type 0} → ((row : List ℕ) (edits : List Edit) → P row edits → Q row edits) → HasNoRoom overfills rows P → HasNoRoom overfills rows Q
 no_room_so overfills rows so (row, edits, changes, full) = (row, edits, so row edits changes, full)
 
@@ -68,7 +68,7 @@ module _ {R : Type 0} (seen : View R) (old new : R) where
     does_make P clean.RolledBack made = (made.row, made.edits, made.such, made.applied.made (seen.each_readable old held made.row))
     does_make P clean.Gone reads = reads.kept
 
-    -- what joins or goes stands where edits such as these touch it
+    -- edits of this kind touch the keys that are added or erased
     pub does_touch : (P : List ℕ → List Edit → Type 0) (p : CleanReply) (T : Type 0) → ((row : List ℕ) (edits : List Edit) → P row edits → seen.cells new ≡ after_edits (seen.cells old) edits → T) → (seen.cells new ≡ seen.cells old → T) → Does seen P p old new → T
     does_touch P clean.Decided T changed kept (inl made) = changed made.row made.edits made.such (made.applied.made (seen.each_readable old held made.row))
     does_touch P clean.Decided T changed kept (inr reads) = kept reads.kept
@@ -89,10 +89,10 @@ module _ {R : Type 0} (seen : View R) (old new : R) where
   does_take P clean.RolledBack made = made_takes P made
   does_take P clean.Gone reads = reads.room
 
--- ---- where a state is shown
+-- ---- if a state is shown
 
 module _ (Holds : Type 0) (cells : Cells) (i : ℕ) (cleaner : Cleaner) (held : Holds) (st : State) (store : ShowsCells cells st) (mine : ShowsCleaner cleaner i st) where
-  -- if the lock stands on the cleaner's cell, what it has decided is right
+  -- if the cleaner's cell has the lock, the cleaner's decision is right
   marked : IsThere cells cleaner.cell column.Lock cleaner.lock.start → Marked st cleaner.cell cleaner.lock.start
   marked stands = store.locks cleaner.cell cleaner.lock.start stands.0 stands.1
 
@@ -117,7 +117,7 @@ module _ (Holds : Type 0) (cells : Cells) (i : ℕ) (cleaner : Cleaner) (held : 
     (x.row, subst (λ (cs : Cells). Touches cells cs x.row cleaner.lock.start cleaner.lock.start) (sym (after ∙ (make_cells cells x cleaner.lock.start edits).erased at.2)) (touches_erased cells x cleaner.lock.start cleaner.lock.start)),
   )
 
-  -- which row they touch, and at which stamps
+  -- the row that they touch, and at which stamps
   touches_in : (f : Fate) → cleaner.fate ≡ f → (new : Cells) (row : List ℕ) (edits : List Edit) → EditsIn f Holds cells cleaner row edits → new ≡ after_edits cells edits → TouchesFor st i cells new
   touches_in Open is new row edits at after = erasing_touches cleaner.lock.first new row edits at after
   touches_in Back is new row edits at after = erasing_touches cleaner.cell new row edits at after
@@ -132,11 +132,11 @@ module _ (Holds : Type 0) (cells : Cells) (i : ℕ) (cleaner : Cleaner) (held : 
   pub edits_touch : (new : Cells) (row : List ℕ) (edits : List Edit) → EditsOf Holds cells cleaner row edits → new ≡ after_edits cells edits → TouchesFor st i cells new
   edits_touch = touches_in cleaner.fate refl
 
-  -- the edits of the cleaner are those that a shown state changes next
+  -- the cleaner's edits are the edits of its next step in a shown state
   pub changes_next : (row : List ℕ) (edits : List Edit) → EditsOf Holds cells cleaner row edits → ChangesNext st i row edits
   changes_next row edits at = (cleaner_of cleaner, mine.kept, changes_in cleaner.fate refl row edits at)
 
--- where it is kept at its number
+-- if the cleaner is stored at its number
 module _ (Holds : Type 0) (cells : Cells) (cleaners : Cleaners) (i : ℕ) (cleaner : Cleaner) (was : btree.get nat_cmp cleaners.cleaners i ≡ Some cleaner) (held : Holds) (st : State) (store : ShowsCells cells st) (shown : ShowsCleaners cleaners st) where
   pub changes_shown : (row : List ℕ) (edits : List Edit) → EditsOf Holds cells cleaner row edits → ChangesNext st i row edits
   changes_shown = changes_next Holds cells i cleaner held st store (shown_some cleaners i st cleaner shown was)

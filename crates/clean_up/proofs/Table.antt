@@ -50,7 +50,7 @@ use Rattle.clean_up.specs.declared.cleaners.Cleaners.{Cleaners}
 use Rattle.clean_up.specs.declared.fates.Fate.TheVariants.{Open}
 use Rattle.clean_up.specs.declared.locks.Lock.{Lock}
 
--- what a map holds after one key has changed
+-- the entries of a map after one key has changed
 upd_at : (old new : ℕ → Option Cleaner) (k : ℕ) (w : Option Cleaner) → ((q : ℕ) → new q ≡ cond (is_eq (nat_cmp k q)) w (old q)) → new k ≡ w
 upd_at old new k w h = h k ∙ ap (λ (b : Bool). cond b w (old k)) (eq_test k k refl)
 
@@ -61,7 +61,7 @@ pub twice : {X : Type 0} (b : Bool) (a c x : X) → cond b a (cond b c x) ≡ co
 twice true a c x = refl
 twice false a c x = refl
 
--- nothing changes where a key gets what it has
+-- nothing changes if a key gets the value that it has
 pub same_each : (old new : ℕ → Option Cleaner) (k : ℕ) (cleaner w : Cleaner) → old k ≡ Some cleaner → w ≡ cleaner → ((q : ℕ) → new q ≡ cond (is_eq (nat_cmp k q)) (Some w) (old q)) → (q : ℕ) → new q ≡ old q
 same_each old new k cleaner w was same h q = elim (cases_eq q k) [
   | inl e ↦ subst (λ (n : ℕ). new n ≡ old n) (sym e) (upd_at old new k (Some w) h ∙ ap (λ (s : Cleaner). Some s) same ∙ sym was)
@@ -72,14 +72,14 @@ same_each old new k cleaner w was same h q = elim (cases_eq q k) [
 pub entries_each : (old new : Cleaners) → new.cleaners.entries ≡ old.cleaners.entries → (i : ℕ) → btree.get nat_cmp new.cleaners i ≡ btree.get nat_cmp old.cleaners i
 entries_each old new same i = ap (λ es. lookup (btree.is_at (nat_cmp i)) es) same
 
--- the same entries are the same cleaners
+-- equal entries are equal cleaners
 pub same_entries : (old new : Cleaners) → new.next ≡ old.next → new.cleaners.entries ≡ old.cleaners.entries → SameCleaners old new
 same_entries old new next same = record { next = next; each = entries_each old new same; count = ap (λ es. length es) same }
 
 pub same_itself : (cleaners : Cleaners) → SameCleaners cleaners cleaners
 same_itself cleaners = record { next = refl; each = λ i. refl; count = refl }
 
--- cleaners that are the same show the same
+-- equal cleaners show the same states
 pub shows_same : AreShownSame
 shows_same old new st same shown = record {
   next = same.next ∙ shown.next;
@@ -87,12 +87,12 @@ shows_same old new st same shown = record {
   count = shown.count ∙ sym same.count;
 }
 
--- if the machine keeps the cleaner at i, what is shown at i stays shown
+-- if the machine keeps the cleaner at i, the entry at i is still shown
 shows_other : (st next : State) → CleanersKnow st next → (o : Option Cleaner) (i : ℕ) → finmap.get next.cleaners i ≡ finmap.get st.cleaners i → ShowsAt o i st → ShowsAt o i next
 shows_other st next know None i same h = same ∙ h
 shows_other st next know (Some cleaner) i same h = record { kept = same ∙ h.kept; knows = know i (cleaner_of cleaner) cleaner.lock.first (verdict_of cleaner.fate) h.kept h.knows }
 
--- what others do leaves what cleaners show
+-- steps of others leave the state that cleaners show unchanged
 pub shows_on : AreShownOn
 shows_on cleaners st next q r reached step kind shown =
     let same = (leaves_others st next q r step).cleaners kind in
@@ -102,7 +102,7 @@ shows_on cleaners st next q r reached step kind shown =
       count = ap (λ m. finmap.len m) same.cleaners ∙ shown.count;
     }
 
--- one cleaner changes, and the others stay
+-- one cleaner changes, and the others are unchanged
 shows_changed : (st next : State) → CleanersKnow st next → (old new : ℕ → Option Cleaner) (k : ℕ) (w : Option Cleaner) → ((q : ℕ) → new q ≡ cond (is_eq (nat_cmp k q)) w (old q))
     → ((i : ℕ) → i ≢ k → finmap.get next.cleaners i ≡ finmap.get st.cleaners i)
     → ((i : ℕ) → ShowsAt (old i) i st) → ShowsAt w k next → (i : ℕ) → ShowsAt (new i) i next
@@ -111,7 +111,7 @@ shows_changed st next know old new k w h a shown now i = elim (cases_eq i k) [
   | inr ne ↦ subst (λ (o : Option Cleaner). ShowsAt o i next) (sym (upd_off old new k w h i ne)) (shows_other st next know (old i) i (a i ne) (shown i))
 ]
 
--- what is shown of a cleaner that is kept, and of one that isn't
+-- the state of a stored cleaner, and of a cleaner that isn't stored
 pub shown_none : (cleaners : Cleaners) (i : ℕ) (st : State) → ShowsCleaners cleaners st → btree.get nat_cmp cleaners.cleaners i ≡ None → finmap.get st.cleaners i ≡ None
 shown_none cleaners i st shown none = subst (λ (o : Option Cleaner). ShowsAt o i st) none (shown.each i)
 
@@ -181,7 +181,7 @@ advance_storage NoMemory u = tt
 advance_storage Damaged u = tt
 advance_storage _ u = absurd u
 
--- a refused call leaves what it found
+-- a refused call changes nothing
 pub stays : (cells : Cells) (old new : Cleaners) (q : Request) (e : Refusal) → SameCleaners old new
     → ((st : State) → IsReached st → ShowsCells cells st → ShowsCleaners old st → Step st q (Refused e) st) → Steps cells old q (Refused e) cells new
 stays cells old new q e same s st reached store shown = (st, s st reached store shown, store, shows_same old new st same shown)
@@ -203,7 +203,7 @@ name_refused st x _ u = absurd u
 pub name_refused_at : (cells : Cells) (old new : Cleaners) (x : Cell) (e : Refusal) → SameCleaners old new → IsNameRefusal x e → Steps cells old (machine.CleanBegin x) (Refused e) cells new
 name_refused_at cells old new x e same u = stays cells old new (machine.CleanBegin x) e same (λ st reached store shown. name_refused st x e u)
 
--- if no lock stands, no mark does
+-- if there is no lock, there is no mark
 pub unmarked : (cells : Cells) (st : State) → IsReached st → ShowsCells cells st → (x : Cell) → IsClear cells x column.Lock 0 (2 ^ 64 - 1) → (t : ℕ) → ¬ Marked st x t
 unmarked cells st reached store x clear t m =
     let shows = store.marks x t m in
@@ -304,14 +304,14 @@ shows_new cleaners st next none empty = record {
   count = ap (λ m. finmap.len m) none ∙ (finmap.len-empty nat_cmp machine.Cleaner ∙ ap (λ es. length es) (sym empty));
 }
 
--- a cleaner that is as it was, in cleaners that are as they were
+-- an unchanged cleaner, in unchanged cleaners
 pub same_lent : (old new : Cleaners) (i : ℕ) (cleaner w : Cleaner) → btree.get nat_cmp old.cleaners i ≡ Some cleaner → w ≡ cleaner → new.next ≡ old.next
     → ((q : ℕ) → btree.get nat_cmp new.cleaners q ≡ cond (is_eq (nat_cmp i q)) (Some w) (btree.get nat_cmp old.cleaners q)) → btree.btree_map_len new.cleaners ≡ btree.btree_map_len old.cleaners → SameCleaners old new
 same_lent old new i cleaner w was same next at len = record { next = next; each = same_each (btree.get nat_cmp old.cleaners) (btree.get nat_cmp new.cleaners) i cleaner w was same at; count = len }
 
--- ---- what is said of a step and of a beginning
+-- ---- the answers of a step and of a beginning
 
--- what is said of a cleaner is said of the one that was stored
+-- an answer for a cleaner is one for the stored cleaner
 pub told_at : {R : Type 0} (seen : View R) (old new : Cleaners) (i : ℕ) (k k' : Cleaner) (reply : CleanReply) (before now : R) → btree.get nat_cmp old.cleaners i ≡ Some k → (last : Bool) → is_last reply ≡ last
     → ((q : ℕ) → btree.get nat_cmp new.cleaners q ≡ cond (is_eq (nat_cmp i q)) (cond last None (Some k')) (btree.get nat_cmp old.cleaners q)) → IsTold seen k reply k' before now → TellsAt seen i reply old new before now
 told_at seen old new i k k' reply before now was last is at told =
@@ -322,7 +322,7 @@ pub begins_with : (cells : Cells) (old new : Cleaners) (x y : Cell) (lock : Lock
 begins_with cells old new x y lock t same start stands at = subst (λ (z : Cell). BeginsWith cells z new (begin.Cleaner old.next t)) same
     (lock, sym start, stands, upd_at (btree.get nat_cmp old.cleaners) (btree.get nat_cmp new.cleaners) old.next (Some (record { cell = x; lock = lock; fate = Open })) at)
 
--- one cleaner changes alone, or none
+-- only one cleaner changes, or none
 pub one_at : (old new : Cleaners) (i : ℕ) (o : Option Cleaner) → new.next ≡ old.next
     → ((q : ℕ) → btree.get nat_cmp new.cleaners q ≡ cond (is_eq (nat_cmp i q)) o (btree.get nat_cmp old.cleaners q)) → ChangesOne i old new
 one_at old new i o next at = record { next = next; others = upd_off (btree.get nat_cmp old.cleaners) (btree.get nat_cmp new.cleaners) i o at }
@@ -341,7 +341,7 @@ opens_one old new x y lock t same start next at = subst (λ (z : Cell). OpensOne
   others = upd_off (btree.get nat_cmp old.cleaners) (btree.get nat_cmp new.cleaners) old.next (Some (record { cell = x; lock = lock; fate = Open })) at;
 })
 
--- ---- what a read of the lock found
+-- ---- the result of a read of the lock
 
 pub standing_none : (cells : Cells) (x y : Cell) (o : Option Lock) → o ≡ None → x ≡ y → IsStanding cells x o → IsClear cells y column.Lock 0 (2 ^ 64 - 1)
 standing_none cells x y o none same found = subst (λ (z : Cell). IsClear cells z column.Lock 0 (2 ^ 64 - 1)) same (subst (λ (p : Option Lock). IsStanding cells x p) none found)

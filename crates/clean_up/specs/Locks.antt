@@ -1,4 +1,4 @@
--- The lock that stands on a cell, as the cell map has it, and the kind of its write.
+-- The lock of a cell, in terms of the cell map, and the kind of its write.
 use Rattle.std.specs.Prelude.{◌≡◌, ℕ, ◌^◌, ◌-◌, List, Option, Some, None}
 use Rattle.cell_key.specs.Cells.{Cells}
 use Rattle.cell_key.specs.Names.{IsFamily, IsRow}
@@ -10,13 +10,13 @@ use Rattle.si_model.specs.ShowsCells.{at}
 use Rattle.si_model.specs.declared.replies.Cell.{Cell}
 use Rattle.clean_up.specs.declared.locks.Lock.{Lock}
 
--- the lock of t stands on x, and this is the kind of its write
+-- x has the lock of t, and this is the kind of its write
 abbrev pub TellsKind : Cells → Cell → ℕ → WriteKind → Type 0
 TellsKind cells x t kind =
     (text : List ℕ) × (place : List ℕ)
     × (at cells x column.Lock t ≡ Some text) × IsParted text place kind
 
--- the lock stands on x, and names its session's first cell
+-- x has the lock, which names its session's first cell
 pub record Stands (cells : Cells) (x : Cell) (lock : Lock) : Type 0 where
   pub text : List ℕ
   pub kind : WriteKind
@@ -24,7 +24,7 @@ pub record Stands (cells : Cells) (x : Cell) (lock : Lock) : Type 0 where
   pub is_text : IsLockText lock.first.row lock.first.family kind text
   pub family : IsFamily lock.first.family
 
--- the lock stands on x, or none does
+-- x has this lock, or none
 abbrev pub IsStanding : Cells → Cell → Option Lock → Type 0
 IsStanding cells x None = IsClear cells x column.Lock 0 (2 ^ 64 - 1)
 IsStanding cells x (Some lock) = Stands cells x lock

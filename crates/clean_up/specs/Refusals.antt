@@ -1,4 +1,4 @@
--- Which refusals a call answers.
+-- The refusals of each call.
 use Rattle.std.specs.Prelude.{⊤}
 use Rattle.cell_key.specs.declared.refusals.Refusal.{Refusal}
 use Rattle.cell_key.specs.declared.refusals.Refusal.TheVariants.{BadRow, BadColumn, TooManySessions, UnknownCleaner, MemtableFull, Exhausted, Device, NoMemory, Damaged}
@@ -25,7 +25,7 @@ abbrev pub IsStepRefusal : Refusal → Type 0
 IsStepRefusal UnknownCleaner = ⊤
 IsStepRefusal refusal = IsAdvanceRefusal refusal
 
--- A row transaction is refused by the rows: damage is answered only if what it reads isn't in order.
+-- The refusals of a row transaction: Damaged only if the row isn't readable.
 abbrev pub IsRowRefusal : Type 0 → Refusal → Type 0
 IsRowRefusal Readable MemtableFull = ⊤
 IsRowRefusal Readable Device = ⊤

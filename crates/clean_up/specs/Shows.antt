@@ -1,4 +1,4 @@
--- What it means that the cleaners show those of a state of the snapshot machine.
+-- When the cleaners show a state of the snapshot machine.
 use Rattle.std.specs.Prelude.{◌≡◌, ◌≢◌, ℕ, ◌+◌, ◌≤◌, ◌⊎◌, Bool, true, false, cond, Option, Some, None}
 use Rattle.std.specs.Ordering.{nat_cmp}
 use Rattle.std.specs.BTreeMap as btree
@@ -28,13 +28,12 @@ is_decided Open = false
 is_decided (Forward c) = true
 is_decided Back = true
 
--- a cleaner, as the machine keeps it
+-- a cleaner, as the machine stores it
 abbrev pub cleaner_of : Cleaner → machine.Cleaner
 cleaner_of cleaner =
     record { cell = cleaner.cell; start = cleaner.lock.start; decided = is_decided cleaner.fate }
 
--- it knows the first cell of its lock's start,
--- and what it has decided is right as long as the mark stands
+-- it knows the first cell of its lock's start, and its decision is right as long as the mark is there
 abbrev pub KnowsItsLock : State → Cleaner → Type 0
 KnowsItsLock st cleaner =
     Knows st cleaner.cell cleaner.lock.start cleaner.lock.first (verdict_of cleaner.fate)
@@ -44,26 +43,26 @@ pub record ShowsCleaner (cleaner : Cleaner) (i : ℕ) (st : State) : Type 0 wher
   pub kept : finmap.get st.cleaners i ≡ Some (cleaner_of cleaner)
   pub knows : KnowsItsLock st cleaner
 
--- what is stored at a number is the cleaner that has it, if one is open
+-- the entry at a number is the cleaner with this number, if one is open
 abbrev pub ShowsAt : Option Cleaner → ℕ → State → Type 0
 ShowsAt None i st = finmap.get st.cleaners i ≡ None
 ShowsAt (Some cleaner) i st = ShowsCleaner cleaner i st
 
--- the cleaners that are stored are those that are open, and the next number is the machine's
+-- the stored cleaners are the open ones, and the next number is the machine's
 pub record ShowsCleaners (cleaners : Cleaners) (st : State) : Type 0 where
   pub next : cleaners.next ≡ st.next_cleaner
   pub each : (i : ℕ) → ShowsAt (btree.get nat_cmp cleaners.cleaners i) i st
   pub count : finmap.len st.cleaners ≡ btree.btree_map_len cleaners.cleaners
 
--- From each reached state that is shown before, the machine may answer so,
--- and goes to a state that is shown after.
+-- From each reached state that is shown before, the machine may give this reply, and goes to a state that is shown
+-- after.
 abbrev pub Steps : Cells → Cleaners → Request → Reply → Cells → Cleaners → Type 0
 Steps cells cleaners request reply cells' cleaners' =
     (st : State) → IsReached st → ShowsCells cells st → ShowsCleaners cleaners st
     → (next : State)
     × Step st request reply next × ShowsCells cells' next × ShowsCleaners cleaners' next
 
--- so it is in each reached state that cells and cleaners show
+-- it holds in each reached state that cells and cleaners show
 abbrev pub InEachShown : Cells → Cleaners → (State → Type 0) → Type 0
 InEachShown cells cleaners IsSo =
     (st : State) → IsReached st → ShowsCells cells st → ShowsCleaners cleaners st → IsSo st
@@ -74,12 +73,12 @@ pub record SameCleaners (old new : Cleaners) : Type 0 where
   pub each : (i : ℕ) → btree.get nat_cmp new.cleaners i ≡ btree.get nat_cmp old.cleaners i
   pub count : btree.btree_map_len new.cleaners ≡ btree.btree_map_len old.cleaners
 
--- no cleaner but the one with this number changes, and none begins
+-- only the cleaner with this number changes, and none begins
 pub record ChangesOne (i : ℕ) (old new : Cleaners) : Type 0 where
   pub next : new.next ≡ old.next
   pub others : (j : ℕ) → j ≢ i → btree.get nat_cmp new.cleaners j ≡ btree.get nat_cmp old.cleaners j
 
--- a cleaner of x, for a lock of t, begins with the next number, and all others stay
+-- a cleaner of x, for a lock of t, begins with the next number, and all others are unchanged
 pub record OpensOne (x : Cell) (i t : ℕ) (old new : Cleaners) : Type 0 where
   pub number : i ≡ old.next
   pub next : new.next ≡ i + 1
@@ -88,7 +87,7 @@ pub record OpensOne (x : Cell) (i t : ℕ) (old new : Cleaners) : Type 0 where
   pub kept : btree.get nat_cmp new.cleaners i ≡ Some (record { cell = x; lock = lock; fate = Open })
   pub others : (j : ℕ) → j ≢ i → btree.get nat_cmp new.cleaners j ≡ btree.get nat_cmp old.cleaners j
 
--- one cleaner begins so, or all stay
+-- one such cleaner begins, or all are unchanged
 abbrev pub Opens : Cell → CleanStart → Cleaners → Cleaners → Type 0
 Opens x begin.NoLock old new = SameCleaners old new
 Opens x (begin.Cleaner i t) old new = OpensOne x i t old new
@@ -101,27 +100,25 @@ IsUnopened st i = finmap.get st.cleaners i ≡ None
 abbrev pub IsUsedUp : State → Type 0
 IsUsedUp st = end_of_stamps ≤ st.next_cleaner
 
--- the stamp is the start of the cleaner's lock, or that of its commit
+-- the stamp is the start of the cleaner's lock, or the start's commit stamp
 abbrev pub IsStampOf : State → machine.Cleaner → ℕ → Type 0
 IsStampOf st k c = (c ≡ k.start) ⊎ CommittedAt st k.start c
 
--- No key changes, or those of one row: a key that joins has the stamp of
--- the commit whose mark goes.
+-- At most one row's keys change: an added key has the start's stamp or its commit stamp, and an erased key is a lock's.
 abbrev pub TouchesFor : State → ℕ → Cells → Cells → Type 0
 TouchesFor st i cells cells' =
     (cells' ≡ cells)
     ⊎ ((k : machine.Cleaner) × (c : ℕ) × (finmap.get st.cleaners i ≡ Some k)
     × IsStampOf st k c × TouchesOneRow cells cells' k.start c)
 
--- with the second step a cleaner closes
+-- a cleaner closes with its second step
 abbrev pub is_last : CleanReply → Bool
 is_last clean.Decided = false
 is_last (clean.RolledForward c) = true
 is_last clean.RolledBack = true
 is_last clean.Gone = true
 
--- what a step of one cleaner does: the machine takes the step,
--- and goes to a state with this cleaner
+-- the effect of a step of one cleaner: the machine takes the step, and goes to a state with this cleaner
 pub record Follows (st next : State) (i : ℕ) (cleaner : Cleaner) (reply : CleanReply) : Type 0 where
   pub cleaners : next.cleaners ≡ cond (is_last reply)
       (finmap.remove st.cleaners i) (finmap.insert st.cleaners i (cleaner_of cleaner))
@@ -134,14 +131,14 @@ Advances cells cleaner reply cells' cleaner' =
     → (next : State) × Step st (machine.CleanStep i) (clean_reply reply) next
     × ShowsCells cells' next × Follows st next i cleaner' reply
 
--- what others do leaves what cleaners show
+-- steps of others leave the state that cleaners show unchanged
 abbrev pub AreShownOn : Type 0
 AreShownOn =
     (cleaners : Cleaners) (st next : State) (q : Request) (r : Reply) → IsReached st
     → Step st q r next → kind_of q ≢ OfCleaners
     → ShowsCleaners cleaners st → ShowsCleaners cleaners next
 
--- cleaners that are the same show the same
+-- equal cleaners show the same states
 abbrev pub AreShownSame : Type 0
 AreShownSame =
     (old new : Cleaners) (st : State) → SameCleaners old new → ShowsCleaners old st

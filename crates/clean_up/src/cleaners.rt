@@ -1,4 +1,4 @@
-//! The cleaners that are open.
+//! The open cleaners.
 
 ghost use Rattle.std.specs.Prelude.{◌≡◌, ◌+◌, ◌<◌, ◌≤◌, ◌^◌, ◌⊎◌, IfErr, IfOk, IsErrOf, OnErr};
 ghost use Rattle.std.specs.FinMap.{empty};
@@ -33,9 +33,8 @@ const MOST_NUMBER: u64 = 9_223_372_036_854_775_807;
 /// The open cleaners by their numbers, and the number of the next one (Percolator, clean-up of
 /// locks).
 ///
-/// Each call is a step of the snapshot machine: if cells and cleaners show one of its states, the
-/// answer is one that the machine may give there, and they show its next state after. A refusal
-/// leaves all as it was, and the same call may be made again.
+/// Each call is a step of the snapshot machine: if cells and cleaners show one of its states, the machine may give the
+/// same answer there, and they show its next state afterwards. A refusal changes nothing, and the call may be repeated.
 #[derive(Drop)]
 pub struct Cleaners {
     alloc: Global,
@@ -43,7 +42,7 @@ pub struct Cleaners {
     cleaners: BTreeMap<u64, Cleaner>,
 }
 
-/// Whether a step that is answered so was the cleaner's last.
+/// Whether a step with this reply was the cleaner's last.
 fn closes(reply: CleanReply) -> bool
     ensures { result ≡ is_last reply }
 {
@@ -63,15 +62,14 @@ impl Cleaners {
         }
     }
 
-    /// Opens a cleaner for the lock of a cell, whoever holds it: the cleaner's number, from 1 on, and
-    /// the start of the lock's session. `NoLock` if no lock stands.
+    /// Opens a cleaner for the lock of a cell, whoever holds it. Returns the cleaner's number, from 1 on, and the start
+    /// of the lock's session; `NoLock` if the cell has no lock.
     ///
     /// # Errors
     ///
-    /// In this order: `BadRow`, `BadColumn`, and, if a lock stands, `TooManySessions` when 1,024
-    /// cleaners are open; then `Exhausted` after the greatest number, `Device`, `NoMemory`, or
-    /// `Damaged` if bytes that were read are outside their form. There is room for the cleaner
-    /// before its number is drawn.
+    /// In this order: `BadRow`, `BadColumn`, and, if the cell has a lock, `TooManySessions` when 1,024 cleaners are
+    /// open; then `Exhausted` after the greatest number, `Device`, `NoMemory`, or `Damaged` if bytes that were read are
+    /// malformed. The cleaner is allocated before its number is drawn.
     pub fn begin<R: Rows>(
         &mut self,
         rows: &mut R,
@@ -82,14 +80,14 @@ impl Cleaners {
             → Steps (R.seen.cells rows.old) self.old
             (machine.CleanBegin (cell_of row.now family.now))
             (result_reply clean_start_reply result) (R.seen.cells rows.new) self.new }
-        // The cleaner that is stored has the lock that stands on the cell, or none does.
+        // The stored cleaner has the lock of the cell, or the cell has none.
         ensures found { R.seen.holds rows.old → IfOk result (BeginsWith
             (R.seen.cells rows.old) (cell_of row.now family.now) self.new) }
-        // One cleaner opens, or none, and all others stay, whatever the cells hold.
+        // One cleaner opens, or none, and all others are unchanged, whatever the cells hold.
         ensures opens { IfOk result (λ found.
             Opens (cell_of row.now family.now) found self.old self.new) }
         ensures reads { OnlyReads R.seen rows.old rows.new }
-        // What is shown is never answered as damaged.
+        // Cells that show a reached state never give Damaged.
         ensures undamaged { R.seen.readable rows.old row.now
             → InEachShown (R.seen.cells rows.old) self.old (λ st.
             ¬ IsErrOf result Refusal.Damaged) }
@@ -120,37 +118,36 @@ impl Cleaners {
         Ok(CleanStart::Cleaner(number, start))
     }
 
-    /// Takes the next step of a cleaner. The first one goes to the first cell of the lock's session
-    /// and decides there: if its lock stands, that is erased, and the session is rolled back;
-    /// otherwise it was committed if a write record there names it, and else rolled back. The second
-    /// one goes to the cleaner's cell: the lock gives way to the record of the commit, or is erased,
-    /// or is gone already. The cleaner closes with it. Each step changes one row at most.
+    /// Takes the next step of a cleaner. The first step decides at the first cell of the lock's session: if that
+    /// session's lock is still there, it is erased, and the session is rolled back; otherwise the session was committed
+    /// if a write record there names it, and rolled back if none does. The second step goes to the cleaner's cell: the
+    /// lock is replaced by the record of the commit, or erased, or is gone already. Then the cleaner closes. Each step
+    /// changes one row at most.
     ///
     /// # Errors
     ///
-    /// `UnknownCleaner` if none is open with this number; then `MemtableFull` if the step has
-    /// edits to make and the rows have no room for them, `Device`, `NoMemory`, or `Damaged` if
-    /// bytes that were read are outside their form.
+    /// `UnknownCleaner` if none is open with this number; then `MemtableFull` if the step has edits to make and the
+    /// rows have no room for them, `Device`, `NoMemory`, or `Damaged` if bytes that were read are malformed.
     pub fn step<R: Rows>(&mut self, rows: &mut R, number: u64) -> Result<CleanReply, Refusal>
         ensures step { R.seen.holds rows.old
             → Steps (R.seen.cells rows.old) self.old (machine.CleanStep number)
             (result_reply clean_reply result) (R.seen.cells rows.new) self.new }
-        // The edits that the cleaner names are made, or nothing is changed, and what is answered is so.
+        // The edits of the cleaner's step are made, or nothing is changed, and the answer is true.
         ensures accepted { IfOk result (λ reply.
             StepMakes R.seen number reply self.old self.new rows.old rows.new) }
-        // All other cleaners stay, whatever the cells hold.
+        // All other cleaners are unchanged, whatever the cells hold.
         ensures one { ChangesOne number self.old self.new }
         ensures same { OnErr result (OnlyReads R.seen rows.old rows.new) }
         ensures below { KeepsBelow R.seen rows.old rows.new }
-        // One row changes, and what joins stands at the stamp of the commit whose mark goes.
+        // At most one row changes, and an added key has the stamp of the lock's start or of its commit.
         ensures touched { R.seen.holds rows.old
             → InEachShown (R.seen.cells rows.old) self.old (λ st.
             TouchesFor st number (R.seen.cells rows.old) (R.seen.cells rows.new)) }
-        // What changes are the edits of the cleaner's next step, and nothing else.
+        // Only the edits of the cleaner's next step are made.
         ensures made { R.seen.holds rows.old
             → IfOk result (λ reply. InEachShown (R.seen.cells rows.old) self.old (λ st.
             Makes (ChangesNext st number) reply (R.seen.cells rows.old) (R.seen.cells rows.new))) }
-        // What is shown is never answered as damaged.
+        // Cells that show a reached state never give Damaged.
         ensures undamaged { IsNextReadable R.seen rows.old self.old number
             → InEachShown (R.seen.cells rows.old) self.old (λ st.
             ¬ IsErrOf result Refusal.Damaged) }
@@ -161,13 +158,13 @@ impl Cleaners {
         ensures err { OnErr result (SameCleaners self.old self.new) }
         ensures unknown { (st : State) → ShowsCleaners self.old st → IsUnopened st number
             → IsErrOf result Refusal.UnknownCleaner }
-        // A step is refused MemtableFull if the rows have no room for the edits that its cleaner names.
+        // A step is refused MemtableFull only if the rows have no room for the edits of its cleaner's step.
         ensures full { IsErrOf result Refusal.MemtableFull → HasNoRoom R.seen.overfills
             rows.old (EditsOfStep (R.seen.holds rows.old) (R.seen.cells rows.old) self.old number) }
         ensures full_shown { R.seen.holds rows.old → IsErrOf result Refusal.MemtableFull
             → InEachShown (R.seen.cells rows.old) self.old (λ st.
             HasNoRoom R.seen.overfills rows.old (ChangesNext st number)) }
-        // A step that makes edits takes their room, and no other takes any.
+        // A step that makes edits takes their room; no other step takes any.
         ensures room { R.seen.holds rows.old
             → IfOk result (λ reply. InEachShown (R.seen.cells rows.old) self.old (λ st.
             TakesRoom R.seen.overfills (ChangesNext st number) reply rows.old rows.new)) }

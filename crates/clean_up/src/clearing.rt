@@ -1,4 +1,4 @@
-//! A lock taken off a cell, alone or with a write record in its place.
+//! Removal of a lock from a cell, by a write record that replaces it or by an erasure.
 
 ghost use Rattle.std.specs.Prelude.{◌≡◌, IfErr, IfOk, IsErrOf, OnErr};
 ghost use Rattle.std.specs.Bool.{OnFalse, OnTrue};
@@ -16,8 +16,8 @@ use rows::Rows;
 use si_model::Cell;
 use std::alloc::Global;
 
-/// The edits that put the record of a commit, with the kind of its write, in the place of a lock or,
-/// if there is no commit, erase the lock.
+/// The edits that replace a lock by the record of a commit, with the kind of its write, or erase the lock if there is
+/// no commit.
 fn clearing(
     alloc: Global,
     cell: &Cell,
@@ -35,8 +35,8 @@ fn clearing(
     }
 }
 
-/// Takes the lock of a start off a cell, if it stands, and says whether it did. The record of a
-/// commit takes its place, with the kind that the lock has; if there is no commit, nothing does.
+/// Removes the lock of a start from a cell, and returns whether it was there. The record of a commit replaces it, with
+/// the lock's kind; if there is no commit, it is erased.
 pub(crate) fn clear<R: Rows>(
     alloc: Global,
     rows: &mut R,

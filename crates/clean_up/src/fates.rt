@@ -1,4 +1,4 @@
-//! The fate of a start, as its first cell shows it.
+//! The fate of a start, from its first cell.
 
 ghost use Rattle.std.specs.Prelude.{◌≡◌, IfErr, IfOk, IsErrOf, OnErr};
 ghost use Rattle.cell_key.specs.Faults.{HasReason};
@@ -16,10 +16,10 @@ use rows::{Rows, oldest};
 use si_model::Cell;
 use std::alloc::Global;
 
-/// What a cleaner has found of the fate of its lock's start.
+/// The fate of a lock's start, as far as its cleaner knows it.
 #[derive(Clone, Copy, Drop)]
 pub(crate) enum Fate {
-    /// Nothing yet: its first step is to come.
+    /// Unknown: the cleaner's first step is still to come.
     Open,
     /// The start was committed at this stamp.
     Forward(Moment),
@@ -27,8 +27,8 @@ pub(crate) enum Fate {
     Back,
 }
 
-/// What the write records of its first cell show of a start whose lock is gone there: the first one
-/// above a start names it, or none does. `Damaged` if that record names no start.
+/// The fate of a start whose lock is gone from its first cell, from the cell's write records: committed if the first
+/// record above the start names it, otherwise rolled back. `Damaged` if that record names no start.
 fn recorded<R: Rows>(rows: &mut R, first: &Cell, start: Moment) -> Result<Fate, Refusal>
     ensures found { R.seen.readable rows.old first.now.row
         → IfOk result (IsToldBy (R.seen.cells rows.old) first.now start) }
@@ -60,8 +60,8 @@ fn recorded<R: Rows>(rows: &mut R, first: &Cell, start: Moment) -> Result<Fate, 
     }
 }
 
-/// Decides the fate of a lock's start at its first cell. If its lock stands there, that is
-/// erased, and the start is rolled back. Otherwise the cell's records show its fate.
+/// Decides the fate of a lock's start at its first cell. If the start's lock is there, it is erased, and the start is
+/// rolled back. Otherwise the cell's records tell its fate.
 pub(crate) fn decide<R: Rows>(alloc: Global, rows: &mut R, lock: &Lock) -> Result<Fate, Refusal>
     ensures decided { IfOk result (λ fate. Decides R.seen lock.now fate rows.old rows.new) }
     ensures err { OnErr result (OnlyReads R.seen rows.old rows.new) }

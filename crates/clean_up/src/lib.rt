@@ -1,4 +1,4 @@
-//! Cleaners over rows of cells: each clears one lock that was left behind, and each call is a step of the snapshot machine.
+//! Cleaners over rows of cells: each clears one abandoned lock, and each call is a step of the snapshot machine.
 #![tactic(auto)]
 
 mod cleaner;

@@ -1,4 +1,4 @@
-//! The lock that stands on a cell.
+//! The lock of a cell.
 
 ghost use Rattle.std.specs.Prelude.{◌≡◌, IfErr, IfOk};
 ghost use Rattle.cell_key.specs.Faults.{HasReason};
@@ -18,7 +18,7 @@ pub(crate) struct Lock {
     pub(crate) first: Cell,
 }
 
-/// The lock that stands on a cell, if one does. `Damaged` if it names no cell.
+/// The lock of a cell, if it has one. `Damaged` if the lock names no cell.
 pub(crate) fn standing<R: Rows>(
     alloc: Global,
     rows: &mut R,

@@ -1,49 +1,51 @@
-//! What the command line can say: the options, and their limits.
+//! The options of the command line, their limits, and the version.
 
-/// How many entries a memtable has, if the command line says nothing else, before it is compacted.
+/// The version that `--version` prints. The Python client has the same.
+pub const VERSION: &str = "0.7.0";
+
+/// The default for `--flush`: the number of entries at which a memtable is compacted.
 pub const DEFAULT_FLUSH: u32 = 10_000;
 
-/// The greatest number that `--flush` takes. The least is 1.
+/// The greatest value of `--flush`. The least is 1.
 pub const MOST_FLUSH: u32 = 100_000;
 
-/// The least number that `--flush-bytes` takes.
+/// The least value of `--flush-bytes`.
 pub const LEAST_FLUSH_BYTES: u32 = 1_048_576;
 
-/// The greatest number that `--flush-bytes` takes.
+/// The greatest value of `--flush-bytes`.
 pub const MOST_FLUSH_BYTES: u32 = 67_108_864;
 
-/// The greatest number that `--merge` takes. The least is 2.
+/// The greatest value of `--merge`. The least is 2.
 pub const MOST_MERGE: u32 = 64;
 
-/// How many blocks a file caches at most, if the command line says nothing else, and the least number that `--cache`
-/// takes.
+/// The default and least value of `--cache`: the most blocks that each file caches.
 pub const LEAST_CACHE: u32 = 8;
 
-/// The greatest number that `--cache` takes.
+/// The greatest value of `--cache`.
 pub const MOST_CACHE: u32 = 4096;
 
-/// The least number that `--log-bytes` takes.
+/// The least value of `--log-bytes`.
 pub const LEAST_LOG_BYTES: u32 = 4096;
 
-/// At how many bytes of a log a checkpoint is made, if the command line says nothing else, and the greatest number that
-/// `--log-bytes` takes: half of what a log can have.
+/// The default and greatest value of `--log-bytes`: the size of a log in bytes at which a checkpoint is made. It is
+/// half of a log's upper bound.
 pub const MOST_LOG_BYTES: u32 = 33_554_432;
 
-/// What the command line says.
+/// The options given on the command line.
 #[derive(Clone, Copy, Debug, PartialEq, Eq)]
 pub struct Options<'a> {
-    /// The folder that the store is in, or memory.
+    /// The folder of the store. None: in memory.
     pub dir: Option<&'a str>,
-    /// Whether a folder that has no log gets one. One that has a log is opened with it whatever this says.
+    /// Whether a folder without a log gets one. A folder with a log is opened with it in any case.
     pub log: bool,
-    /// How many bytes of edits a log has before a checkpoint empties it: 4,096 to 33,554,432.
+    /// The bytes of edits in a log at which a checkpoint empties it: 4,096 to 33,554,432.
     pub log_bytes: u32,
-    /// How many entries a memtable has before it is compacted: 1 to 100,000.
+    /// The number of entries at which a memtable is compacted: 1 to 100,000.
     pub flush: u32,
-    /// How many bytes its entries have before it is compacted too: 1,048,576 to 67,108,864, or bytes don't count.
+    /// The bytes of entries at which a memtable is compacted too: 1,048,576 to 67,108,864. None: bytes aren't limited.
     pub flush_bytes: Option<u32>,
-    /// How many files a tablet has before newest ones are merged: 2 to 64, or never.
+    /// The number of files at which a tablet's newest files are merged: 2 to 64. None: never.
     pub merge: Option<u32>,
-    /// How many blocks of each file are cached at most: 8 to 4,096.
+    /// The most blocks cached of each file: 8 to 4,096.
     pub cache: u32,
 }

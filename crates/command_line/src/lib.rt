@@ -1,4 +1,4 @@
-//! The command line of `tabletd`: what it can say, and its reading.
+//! The command line of `tabletd`: its options, and its parser.
 #![tactic(auto)]
 
 mod command_options;
@@ -9,11 +9,11 @@ use clap::builder::ValueParser;
 use clap::{Arg, ArgAction, Command, Error};
 pub use command_options::{
     DEFAULT_FLUSH, LEAST_CACHE, LEAST_FLUSH_BYTES, LEAST_LOG_BYTES, MOST_CACHE, MOST_FLUSH,
-    MOST_FLUSH_BYTES, MOST_LOG_BYTES, MOST_MERGE, Options,
+    MOST_FLUSH_BYTES, MOST_LOG_BYTES, MOST_MERGE, Options, VERSION,
 };
 use std::alloc::{AllocError, Global};
 
-/// What the program is, where it reads and writes, and how long its data last.
+/// The help text: the program, its input and output, and how durable its data are.
 const ABOUT: &str =
     "A wide-column tablet store with snapshot-isolated transactions over many rows. It reads framed \
     requests from the standard input and writes a framed reply to each to the standard output, until the input ends. \
@@ -95,6 +95,7 @@ fn command<'a>(alloc: Global) -> Result<Command<'a>, AllocError> {
     let cache = number(alloc, "cache", "C", CACHE_HELP, LEAST_CACHE, MOST_CACHE);
     Command::new(alloc, "tabletd")
         .about(ABOUT)
+        .version(VERSION)
         .arg(dir)?
         .arg(log)?
         .arg(log_bytes)?
@@ -104,9 +105,10 @@ fn command<'a>(alloc: Global) -> Result<Command<'a>, AllocError> {
         .arg(cache)
 }
 
-/// Reads the words of the command line, the program's name first: `tabletd [--dir DIR [--log]] [--log-bytes L] [--flush N]
-/// [--flush-bytes B] [--merge M] [--cache C]`, where L is 4,096 to 33,554,432, N is 1 to 100,000, B is 1,048,576 to
-/// 67,108,864, M is 2 to 64 and C is 8 to 4,096. An error has the parser's text, that of a request for help too.
+/// Parses the words of the command line, the program's name first: `tabletd [--dir DIR [--log]] [--log-bytes L]
+/// [--flush N] [--flush-bytes B] [--merge M] [--cache C]`, where L is 4,096 to 33,554,432, N is 1 to 100,000, B is
+/// 1,048,576 to 67,108,864, M is 2 to 64 and C is 8 to 4,096. An error has the parser's text, which for a request for
+/// help or the version is that.
 pub fn options<'a>(alloc: Global, words: &'a [&'a str]) -> Result<Options<'a>, Error>
     ensures log { IfOk result (λ options. options.log ≡ true → is_some options.dir ≡ true) }
     ensures log_bytes { IfOk result (λ options.
@@ -137,7 +139,7 @@ pub fn options<'a>(alloc: Global, words: &'a [&'a str]) -> Result<Options<'a>, E
     })
 }
 
-/// The number that was given, if one was. The parser has refused a number outside the limits.
+/// The number that was given, if any. The parser has refused a number outside the limits.
 fn within(given: Option<u32>, least: u32, most: u32) -> Option<u32>
     ensures { IfSome result (λ number. (least ≤ number) × (number ≤ most)) }
 {
@@ -147,7 +149,7 @@ fn within(given: Option<u32>, least: u32, most: u32) -> Option<u32>
     }
 }
 
-/// The number of a log's bytes that was given, or the default.
+/// The size of the log that was given, or the default.
 fn log_bytes_of(given: Option<u32>) -> u32
     ensures least { LEAST_LOG_BYTES ≤ result }
     ensures most { result ≤ MOST_LOG_BYTES }

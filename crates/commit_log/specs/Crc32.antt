@@ -1,4 +1,4 @@
--- The checksum CRC-32, that of zlib and Ethernet: the lowest bit of a byte is taken first.
+-- The checksum CRC-32 of zlib and Ethernet: the lowest bit of a byte comes first.
 use Rattle.std.specs.Prelude.{ℕ, ◌-◌, ◌*◌, ◌/◌, ◌%◌, ◌^◌, List, fold, bit_xor}
 use Rattle.std.specs.Fn.{iterate}
 use Rattle.std.specs.Int.{bit_not, w32}

@@ -1,4 +1,4 @@
--- Edits of cells as the bytes of records: the entry of each edit, one behind the other.
+-- Edits of cells as the bytes of records: the edits' entries, one after another.
 use Rattle.std.specs.Prelude.{◌≡◌, ◌<◌, ◌^◌, ℕ, List, [], ◌∷◌, ◌++◌, length, IfSome, Some, None, flat_map, map}
 use Rattle.std.specs.List.{AllByRecursion}
 use Rattle.cell_key.specs.Cells.{Cells, IsEditOf, after_edits, edited_key}
@@ -10,7 +10,7 @@ use Rattle.cell_key.specs.declared.edits.Edit.TheVariants.{Put, Erase}
 use Rattle.commit_log.specs.Records.{any_root, edit_bytes, root_record, spelled_record}
 use Rattle.commit_log.specs.declared.records.RecordKind.TheVariants as kind
 
--- an edit as an entry: the text of its key, and its value or an erasure
+-- an edit's entry: the text of its key, and its value, or none for an erasure
 abbrev pub edit_entry : Edit → Entry
 edit_entry (Put key value) = (text key, Some value.items)
 edit_entry (Erase key) = (text key, None)
@@ -37,7 +37,7 @@ pub record IsStoredEdit (edit : Edit) : Type 0 where
 abbrev pub edits_record : ℕ → List Edit → List ℕ
 edits_record stamp edits = spelled_record kind.Edits stamp (spelled_edits edits)
 
--- What a record says: edits that were made, or which root the log is over.
+-- The contents of a record: edits that were made, or the root that the log is over.
 pub data Part : Type 0 where
   makes : (stamp : ℕ) (edits : List Edit) → Part
   names : (top sum : ℕ) → Part
@@ -53,7 +53,7 @@ made_in (makes stamp edits) = edits
 made_in (names top sum) = []
 made_in names_any = []
 
--- Records hold edits, in their order.
+-- Records hold these edits, in order.
 pub record HoldEdits (records : List (List ℕ)) (edits : List Edit) : Type 0 where
   pub parts : List Part
   pub each : records ≡ map spelled_part parts
@@ -63,7 +63,7 @@ pub record LogsEdits : Type 0 where
   -- the bytes of edits after edits
   pub after : (first then : List Edit)
       → spelled_edits (first ++ then) ≡ spelled_edits first ++ spelled_edits then
-  -- no records hold no edits; a record more holds its edits behind the others, and that of a root none
+  -- no records hold no edits; a further record adds its edits behind the others, a record of a root adds none
   pub none : HoldEdits [] []
   pub more : (records : List (List ℕ)) (edits then : List Edit) (stamp : ℕ)
       → HoldEdits records edits
@@ -72,10 +72,10 @@ pub record LogsEdits : Type 0 where
       → HoldEdits records edits → HoldEdits (records ++ root_record top sum ∷ []) edits
   pub any : (records : List (List ℕ)) (edits : List Edit)
       → HoldEdits records edits → HoldEdits (records ++ any_root ∷ []) edits
-  -- the bytes of edits in records are the spelling of the edits that they hold
+  -- the bytes of edits in records encode the edits that they hold
   pub whole : (records : List (List ℕ)) (edits : List Edit) → HoldEdits records edits
       → flat_map edit_bytes records ≡ spelled_edits edits
-  -- edits of one spelling make the same of cells
+  -- edits with the same encoding change cells in the same way
   pub one : (a b : List Edit) → AllByRecursion IsStoredEdit a → AllByRecursion IsStoredEdit b
       → spelled_edits a ≡ spelled_edits b
       → (cells : Cells) → after_edits cells a ≡ after_edits cells b

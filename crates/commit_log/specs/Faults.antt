@@ -4,7 +4,7 @@ pub use Rattle.cell_key.specs.Faults.{HasRisen}
 use Rattle.commit_log.specs.declared.faults.LogFault.{LogFault}
 use Rattle.commit_log.specs.declared.faults.LogFault.TheVariants.{Device, Memory, Damaged, Refused}
 
--- A count never falls. A device's fault is answered exactly if it has risen.
+-- The count of a device's faults never falls. It has risen if `Device` was answered, and is unchanged otherwise.
 pub record HasFaultCause {T : Type 0} (before now : ℕ) (result : Result T LogFault) : Type 0 where
   pub later : before ≤ now
   pub device : IsErrOf result Device → HasRisen before now

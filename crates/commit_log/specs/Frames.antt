@@ -1,11 +1,11 @@
--- Frames, and the bytes of a log of format 1: a head, the frame of each record, and a tail at whose front no whole frame stands.
+-- Frames, and the bytes of a log of format 1: a header, a frame for each record, and a tail that doesn't begin with one.
 use Rattle.std.specs.Prelude.{◌≡◌, ◌≢◌, ℕ, ◌+◌, ◌≤◌, List, ◌++◌, codes, length, map}
 use Rattle.std.specs.Global.{Vec}
 use Rattle.std.specs.List.{AllByRecursion, flat_map}
 use Rattle.std.specs.Int.{to_be_bytes, w32}
 use Rattle.commit_log.specs.Crc32.{crc32}
 
--- the most bytes of a record
+-- the upper bound of a record's length, in bytes
 abbrev pub longest : ℕ
 longest = 134217728
 
@@ -35,7 +35,7 @@ head = codes "TABLOG01"
 abbrev pub log_of : List (List ℕ) → List ℕ
 log_of records = head ++ flat_map frame records
 
--- no whole frame stands at the front of the bytes, whatever comes behind it
+-- the bytes don't begin with a whole frame
 abbrev pub IsTail : List ℕ → Type 0
 IsTail bytes = (payload behind : List ℕ) → IsRecord payload → bytes ≢ frame payload ++ behind
 

@@ -1,8 +1,8 @@
--- What a log holds, and what its calls may do with it.
+-- The records that a log holds, and the effects of its calls on them.
 use Rattle.std.specs.Prelude.{◌≡◌, ◌+◌, ℕ, ◌⊎◌, List, [], ◌∷◌, ◌++◌, Option, Some, length}
 use Rattle.commit_log.specs.Numbered.{IsStoreLog}
 
--- Whatever records were held: they are held still, with one more at their end, or one is held alone.
+-- Any records that were held are unchanged, or have one more at the end, or were replaced by one.
 module _ (old new : List (List ℕ) → Type 0) where
   abbrev pub Keeps : Type 0
   Keeps = (records : List (List ℕ)) → old records → new records
@@ -21,7 +21,7 @@ module _ (old new : List (List ℕ) → Type 0) where
   MayRenew payload =
       (records : List (List ℕ)) → old records → new records ⊎ new (payload ∷ [])
 
--- A file says that its bytes are the log of a store, of these records. This is what a kill leaves.
+-- A file's bytes are known, and are a store's log of these records, maybe with a tail. This holds after a kill.
 pub record IsKept (told : Option (List ℕ)) (records : List (List ℕ)) : Type 0 where
   pub bytes : List ℕ
   pub are_told : told ≡ Some bytes
@@ -30,14 +30,14 @@ pub record IsKept (told : Option (List ℕ)) (records : List (List ℕ)) : Type 
   pub tail : List ℕ
   pub is_log : IsStoreLog store first bytes records tail
 
--- The same of this store's log. Behind the records stands nothing and the next has this number, or the file takes no more.
+-- The same for this store's log. The records have no tail and the next record has this number, or the file is stopped.
 pub record IsHeld (told : Option (List ℕ)) (stopped : Type 0) (store next : ℕ)
     (records : List (List ℕ)) : Type 0 where
   pub kept : IsKept told records
   pub same : kept.store ≡ store
   pub ready : ((kept.tail ≡ []) × (next ≡ kept.first + length records)) ⊎ stopped
 
--- A log that was opened holds the records that a kill left.
+-- An opened log holds the records that the file had before, for example after a kill.
 abbrev pub Opens : (old new : Option (List ℕ)) (stopped : Type 0) (store next : ℕ) → Type 0
 Opens old new stopped store next =
     (records : List (List ℕ)) → IsKept old records → IsHeld new stopped store next records

@@ -1,4 +1,4 @@
--- The records of a log: each has its kind, the greatest stamp that was answered by then, and a body.
+-- The records of a log: each has a kind, the greatest stamp that had been answered when it was written, and a body.
 use Rattle.std.specs.Prelude.{◌≡◌, ◌≤◌, ◌<◌, ◌^◌, ◌⊎◌, ℕ, zero, List, [], ◌∷◌, ◌++◌, drop}
 use Rattle.std.specs.List.{AllByRecursion}
 use Rattle.std.specs.Int.{to_be_bytes, w32, w64}
@@ -17,23 +17,23 @@ kind_byte AnyRoot = 2
 abbrev pub spelled_record : RecordKind → ℕ → List ℕ → List ℕ
 spelled_record kind stamp body = kind_byte kind ∷ (spelled_number stamp ++ body)
 
--- the name of a root: its greatest stamp, and the checksum of what it says
+-- the record that names a root by its greatest stamp and its checksum
 abbrev pub root_record : ℕ → ℕ → List ℕ
 root_record top sum = spelled_record Root top (to_be_bytes w32 sum)
 
--- the log is over whichever root is there
+-- the record that says that the log is over any root
 abbrev pub any_root : List ℕ
 any_root = spelled_record AnyRoot 0 []
 
 abbrev pub HasRecord : List (List ℕ) → List ℕ → Type 0
 HasRecord records one = (first then : List (List ℕ)) × (records ≡ first ++ one ∷ then)
 
--- A log of these records is over a root of this greatest stamp and checksum.
+-- A log of these records is over the root with this greatest stamp and checksum.
 abbrev pub NamesRoot : List (List ℕ) → ℕ → ℕ → Type 0
 NamesRoot records top sum =
     HasRecord records (root_record top sum) ⊎ HasRecord records any_root
 
--- a record has no greater stamp
+-- a record's stamp is at most the mark
 abbrev pub IsUpTo : ℕ → List ℕ → Type 0
 IsUpTo mark one =
     (kind : RecordKind) (stamp : ℕ) (body : List ℕ) → stamp < 2 ^ 64
@@ -48,7 +48,7 @@ edit_bytes [] = []
 edit_bytes (zero ∷ more) = drop 8 more
 edit_bytes (other ∷ more) = []
 
--- What more records do to what a log names, and to its stamps.
+-- The effect of further records on the root that a log names, and on its stamps.
 pub record NamesRoots : Type 0 where
   pub stays : (records : List (List ℕ)) (one : List ℕ) (top sum : ℕ)
       → NamesRoot records top sum → NamesRoot (records ++ one ∷ []) top sum

@@ -3,7 +3,7 @@
 ghost use Rattle.std.specs.Prelude.{◌≡◌, ◌++◌, fold};
 ghost use Rattle.commit_log.specs.Crc32.{crc32, next_byte};
 
-/// The sum that each byte alone is shifted to.
+/// The CRC of each byte alone, without the initial and final inversion.
 const TABLE: [u32; 256] = [
     0x0000_0000,
     0x7707_3096,
@@ -263,7 +263,7 @@ const TABLE: [u32; 256] = [
     0x2D02_EF8D,
 ];
 
-/// The sum that a byte alone is shifted to.
+/// The table's CRC of a byte.
 fn shifted(byte: u8) -> u32
     ensures { result ≡ next_byte 0 byte }
 {
@@ -288,7 +288,7 @@ fn next_bytes(sum: u32, bytes: &[u8]) -> u32
     next
 }
 
-/// The CRC-32 of bytes that stand in two places.
+/// The CRC-32 of two runs of bytes, joined.
 pub fn crc32(front: &[u8], behind: &[u8]) -> u32
     ensures { result ≡ crc32 (front.now ++ behind.now) }
 {

@@ -1,4 +1,4 @@
-//! Edits of cells in the records of a log: how they are spelled as bytes, and read again.
+//! Edits of cells in the records of a log: encoded as bytes, and decoded.
 
 ghost use Rattle.std.specs.Prelude.{◌≡◌, ◌≢◌, ◌⊎◌, ◌<◌, ◌^◌, ◌++◌, ◌↔◌, ℕ, List, length, take, IfErr, IfNone, IfOk, IfSome, IsErrOf, IsTrue, OnErr, OnOk};
 ghost use Rattle.std.specs.List.{AllByRecursion};
@@ -14,10 +14,10 @@ use crate::records::{RecordKind, split_record};
 use cell_key::{CellKey, Edit, EntryRef, Refusal, Row, Stamp};
 use std::alloc::Global;
 
-/// The most bytes of a value.
+/// The upper bound of a value's length, in bytes.
 const MOST_VALUE: usize = 65_536;
 
-/// The key of the cell's version that an edit changes.
+/// The key of the cell version that an edit changes.
 pub fn edited_key(edit: &Edit) -> &CellKey
     ensures { result.now ≡ edited_key edit.now }
 {
@@ -27,7 +27,7 @@ pub fn edited_key(edit: &Edit) -> &CellKey
     }
 }
 
-/// Appends a length and that many bytes. After an `Err` a part of them may stand there.
+/// Appends the length of the bytes, then the bytes. After an `Err` a part may have been appended.
 fn push_field(out: &mut Vec<u8>, bytes: &[u8]) -> Result<(), Refusal>
     requires { length bytes.now < 2 ^ 32 }
     ensures ok { OnOk result (out.new.items ≡ out.old.items ++ field bytes.now) }
@@ -40,7 +40,7 @@ fn push_field(out: &mut Vec<u8>, bytes: &[u8]) -> Result<(), Refusal>
     Ok(())
 }
 
-/// Appends the bytes of an edit of a row. After an `Err` a part of them may stand there.
+/// Appends an edit of a row, encoded. After an `Err` a part may have been appended.
 fn push_edit(out: &mut Vec<u8>, row: &Row, edit: &Edit) -> Result<(), Refusal>
     requires { IsEditOf row.now edit.now }
     ensures ok { OnOk result (out.new.items ≡ out.old.items ++ spelled_edit edit.now) }
@@ -67,7 +67,7 @@ fn push_edit(out: &mut Vec<u8>, row: &Row, edit: &Edit) -> Result<(), Refusal>
     }
 }
 
-/// Appends the bytes of edits of a row. After an `Err` a part of them may stand there.
+/// Appends edits of a row, encoded. After an `Err` a part may have been appended.
 fn push_each(out: &mut Vec<u8>, row: &Row, edits: &[Edit]) -> Result<(), Refusal>
     requires { AllByRecursion (IsEditOf row.now) edits.now }
     ensures ok { OnOk result (out.new.items ≡ out.old.items ++ spelled_edits edits.now) }
@@ -81,11 +81,11 @@ fn push_each(out: &mut Vec<u8>, row: &Row, edits: &[Edit]) -> Result<(), Refusal
     Ok(())
 }
 
-/// Appends the bytes of edits of a row, one behind the other.
+/// Appends edits of a row, encoded one after another.
 ///
 /// # Errors
 ///
-/// `NoMemory`. Nothing is appended then.
+/// `NoMemory`: nothing is appended.
 pub fn push_edits(out: &mut Vec<u8>, row: &Row, edits: &[Edit]) -> Result<(), Refusal>
     requires { AllByRecursion (IsEditOf row.now) edits.now }
     ensures ok { OnOk result (out.new.items ≡ out.old.items ++ spelled_edits edits.now) }
@@ -101,7 +101,7 @@ pub fn push_edits(out: &mut Vec<u8>, row: &Row, edits: &[Edit]) -> Result<(), Re
     pushed
 }
 
-/// The length and as many bytes at the front, and what follows.
+/// Splits the field at the front, a length and its bytes, from the rest. Answers the field's bytes and the rest.
 fn split_field(bytes: &[u8]) -> Option<(&[u8], &[u8])>
     ensures found { IfSome result (λ p. bytes.now ≡ field p.0.now ++ p.1.now) }
     ensures short { IfSome result (λ p. length p.0.now < 2 ^ 32) }
@@ -116,7 +116,7 @@ fn split_field(bytes: &[u8]) -> Option<(&[u8], &[u8])>
     Some(rest.split_at(length))
 }
 
-/// The entry at the front, and what follows.
+/// The entry at the front, and the bytes after it.
 fn split_entry(bytes: &[u8]) -> Option<(EntryRef<'_>, &[u8])>
     ensures found { IfSome result (λ p. bytes.now ≡ spelled (lent_entry p.0) ++ p.1.now) }
     ensures short { IfSome result (λ p. HasShortParts (lent_entry p.0)) }
@@ -136,7 +136,7 @@ fn split_entry(bytes: &[u8]) -> Option<(EntryRef<'_>, &[u8])>
     Some((EntryRef { key, value }, rest))
 }
 
-/// The edit that an entry is; none if it is outside the limits.
+/// The edit of an entry; `None` if it is outside the limits.
 fn edit_of(alloc: Global, entry: EntryRef<'_>) -> Result<Option<Edit>, Refusal>
     ensures found { IfOk result (λ found.
         IfSome found (λ edit. edit_entry edit ≡ lent_entry entry.entry)) }
@@ -157,11 +157,11 @@ fn edit_of(alloc: Global, entry: EntryRef<'_>) -> Result<Option<Edit>, Refusal>
     Ok(Some(Edit::Put(key, Vec::from_slice(alloc, value)?)))
 }
 
-/// The edit at the front of bytes, and what follows.
+/// The edit at the front of bytes, and the bytes after it.
 ///
 /// # Errors
 ///
-/// `Damaged` if no edit within the limits stands there; `NoMemory`.
+/// `Damaged` if the bytes don't begin with an edit within the limits; `NoMemory`.
 fn first_edit(alloc: Global, bytes: &[u8]) -> Result<(Edit, &[u8]), Refusal>
     ensures found { IfOk result (λ p. bytes.now ≡ spelled_edit p.0 ++ p.1.now) }
     ensures shorter { IfOk result (λ p. length p.1.now < length bytes.now) }
@@ -180,11 +180,11 @@ fn first_edit(alloc: Global, bytes: &[u8]) -> Result<(Edit, &[u8]), Refusal>
     }
 }
 
-/// Reads edits behind edits that were read.
+/// Decodes edits and appends them to `edits`.
 ///
 /// # Errors
 ///
-/// `Damaged` if the bytes are the spelling of no edits within the limits; `NoMemory`. Some may have been read then.
+/// `Damaged` if the bytes don't encode edits within the limits; `NoMemory`. Some may have been appended by then.
 fn read_edits(alloc: Global, bytes: &[u8], edits: &mut Vec<Edit>) -> Result<(), Refusal>
     ensures ok { OnOk result ((more : List CellEdit) × (edits.new.items ≡ edits.old.items ++ more)
         × (bytes.now ≡ spelled_edits more) × AllByRecursion IsStoredEdit more) }
@@ -202,7 +202,7 @@ fn read_edits(alloc: Global, bytes: &[u8], edits: &mut Vec<Edit>) -> Result<(), 
     Ok(())
 }
 
-/// Whether a record of this kind, stamp and body is over a root, or over whichever is there.
+/// Whether a record of this kind, stamp and body names a root, or says that the log is over any root.
 fn is_of_root(kind: RecordKind, stamp: Stamp, body: &[u8]) -> bool
     ensures { IsTrue result ↔ ((kind ≡ Root) × (length body.now ≡ 4))
         ⊎ ((kind ≡ AnyRoot) × (stamp ≡ 0) × (length body.now ≡ 0)) }
@@ -214,11 +214,11 @@ fn is_of_root(kind: RecordKind, stamp: Stamp, body: &[u8]) -> bool
     }
 }
 
-/// Reads the edits of a record, if it is one of edits, behind edits that were read.
+/// Appends the edits of a record to `edits`. A record that names a root has none.
 ///
 /// # Errors
 ///
-/// `Damaged` if it is of no kind, or its body isn't that of its kind; `NoMemory`. Some may have been read then.
+/// `Damaged` if its kind is unknown or its body doesn't fit the kind; `NoMemory`. Some may have been appended by then.
 fn read_record(alloc: Global, bytes: &[u8], edits: &mut Vec<Edit>) -> Result<(), Refusal>
     ensures ok { OnOk result ((part : Part) × (edits.new.items ≡ edits.old.items ++ made_in part)
         × (bytes.now ≡ spelled_part part) × AllByRecursion IsStoredEdit (made_in part)) }
@@ -243,7 +243,7 @@ fn read_record(alloc: Global, bytes: &[u8], edits: &mut Vec<Edit>) -> Result<(),
 ///
 /// # Errors
 ///
-/// `Damaged` if they hold no edits within the limits, nor say over which root they are; `NoMemory`.
+/// `Damaged` if a record neither holds edits within the limits nor names a root; `NoMemory`.
 pub fn edits_in(alloc: Global, records: &[Vec<u8>]) -> Result<Vec<Edit>, Refusal>
     ensures held { IfOk result (λ edits. HoldEdits (bytes_of records.now) edits.items) }
     ensures stored { IfOk result (λ edits. AllByRecursion IsStoredEdit edits.items) }

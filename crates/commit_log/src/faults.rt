@@ -1,4 +1,4 @@
-//! Why a call on a log failed.
+//! Faults: the reasons why a call on a log failed.
 
 ghost use Rattle.std.specs.Prelude.{◌≡◌, Some};
 ghost use Rattle.commit_log.specs.Faults.{fault_text};
@@ -13,11 +13,11 @@ use std::fmt;
 pub enum LogFault {
     /// A device failed. The count of faults has risen.
     Device,
-    /// Memory was refused.
+    /// An allocation failed.
     Memory,
-    /// The bytes are no log.
+    /// The bytes are not a log.
     Damaged,
-    /// The record can't stand in the log: a later frame stands in it, or there are no more numbers.
+    /// The log can't take the record: its bytes contain a later frame, or the numbers are used up.
     Refused,
 }
 

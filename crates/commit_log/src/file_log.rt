@@ -4,7 +4,7 @@ ghost use Rattle.std.specs.Prelude.{◌≡◌, ◌≢◌, ◌≤◌, ◌<◌, �
 ghost use Rattle.commit_log.specs.Faults.{HasFaultCause, HasRisen};
 ghost use Rattle.commit_log.specs.Frames.{IsBody, frame};
 ghost use Rattle.commit_log.specs.Held.{HasRecords, IsHeld, IsKept, Keeps, Opens};
-ghost use Rattle.commit_log.specs.Numbered.{Hides, numbered};
+ghost use Rattle.commit_log.specs.Numbered.{Hides, IsRefused, numbered};
 ghost use Rattle.commit_log.specs.Records.{spelled_record};
 
 use crate::faults::LogFault;
@@ -16,7 +16,7 @@ use crate::store_log::{log_of_one, read_store_log};
 use cell_key::Stamp;
 use std::alloc::Global;
 
-/// A log whose records stand as numbered frames in a file.
+/// A log that stores its records as numbered frames in a file.
 #[derive(Drop)]
 pub struct FileLog<F> {
     alloc: Global,
@@ -27,7 +27,7 @@ pub struct FileLog<F> {
     next: u64,
 }
 
-/// Takes away what stands behind the last whole frame of a file. It answers the numbers of the store and of the next record.
+/// Cuts the bytes behind the last whole frame of a file. Answers the store's number and the next record's.
 fn cut_tail<F: LogFile>(alloc: Global, file: &mut F) -> Result<(u64, u64), LogFault>
     ensures held { IfOk result (λ numbers. Opens (F.bytes file.old) (F.bytes file.new)
         (F.is_stopped file.new) numbers.0 numbers.1) }
@@ -48,11 +48,11 @@ fn cut_tail<F: LogFile>(alloc: Global, file: &mut F) -> Result<(u64, u64), LogFa
     Ok(numbers)
 }
 
-/// The frame of a record with this number, in which no later frame stands.
+/// The frame of a record with this number. It contains no later frame.
 ///
 /// # Errors
 ///
-/// `Refused` if one does, or there is no such number; `Memory`.
+/// `Refused` if it would contain one, or the numbers are used up; `Memory`.
 fn frame_to_append(
     alloc: Global,
     number: u64,
@@ -65,8 +65,8 @@ fn frame_to_append(
         bytes.items ≡ frame (numbered number (spelled_record kind stamp body.now))) }
     ensures number { OnOk result (number < 2 ^ 63) }
     ensures plain { OnOk result (¬ Hides number (spelled_record kind stamp body.now)) }
-    ensures refused { IsErrOf result LogFault.Refused → (2 ^ 63 ≤ number)
-        ⊎ Hides number (spelled_record kind stamp body.now) }
+    ensures refused { IsErrOf result LogFault.Refused
+        → IsRefused number (spelled_record kind stamp body.now) }
     ensures fault { IfErr result (λ fault. (fault ≡ LogFault.Refused)
         ⊎ (fault ≡ LogFault.Memory)) }
 {
@@ -81,12 +81,12 @@ fn frame_to_append(
 }
 
 impl<F: LogFile> FileLog<F> {
-    /// The log of a file that a kill may have left. What stands behind its last whole frame is taken away. A refusal gives the
+    /// Opens the log of a file, also after a kill: the bytes behind its last whole frame are cut. An `Err` gives the
     /// file back.
     ///
     /// # Errors
     ///
-    /// `Damaged` if the bytes are no log, or a whole frame stands behind bytes that are none; `Device`; `Memory`.
+    /// `Damaged` if the bytes are not a log, or a later whole frame follows a broken one; `Device`; `Memory`.
     pub fn open(alloc: Global, mut file: F) -> Result<FileLog<F>, (LogFault, F)>
         ensures held { IfOk result (λ log. Opens (F.bytes file) (F.bytes log.file)
             (F.is_stopped log.file) log.store log.next) }
@@ -124,9 +124,12 @@ impl<F: LogFile> FileLog<F> {
 
 impl<F: LogFile> Log for FileLog<F> {
     ghost use Rattle.commit_log.specs.Held.{IsHeld};
+    ghost use Rattle.commit_log.specs.Numbered.{IsRefused};
 
     ghost holds = { λ log records.
         IsHeld (F.bytes log.file) (F.is_stopped log.file) log.store log.next records };
+
+    ghost refuses = { λ log one. IsRefused log.next one };
 
     ghost faults = { λ log. F.faults log.file };
 

@@ -1,4 +1,4 @@
-//! The file under a log: what it promises.
+//! The file under a log: its contract.
 
 ghost use Rattle.std.specs.Prelude.{◌≡◌, ℕ, List, Option, IfErr, IfOk, IfSome, IsErr, IsErrOf, OnErr, OnOk};
 ghost use Rattle.commit_log.specs.Faults.{HasFaultCause};
@@ -7,10 +7,10 @@ ghost use Rattle.commit_log.specs.Files.{GrowsInPart, MayBeAll, with_all, with_m
 use crate::faults::LogFault;
 use std::alloc::Global;
 
-/// A file of bytes that grow at the end, or are put anew. Nobody else writes it. Once that failed it takes no more bytes until
-/// it is opened anew: what the device has of it is not known any more.
+/// A file that is appended to, or replaced as a whole. Nobody else writes it. After a failed write or renewal it takes
+/// no more bytes until it is reopened, since the bytes on the device are unknown.
 pub trait LogFile {
-    /// Its bytes, or none if it does not say, as on a real disk.
+    /// Its bytes; `None` if they are unknown, as on a real disk.
     ghost bytes: { Self → Option (List ℕ) };
 
     /// An earlier write or renewal failed.
@@ -29,7 +29,7 @@ pub trait LogFile {
         ensures taken { ¬ IsErrOf result LogFault.Refused }
         ensures cause { HasFaultCause (faults self.old) (faults self.new) result };
 
-    /// Writes bytes at the end, and forces them to the disk. After an `Err` a beginning of them may stand there.
+    /// Appends bytes, and forces them to the disk. After an `Err` a prefix of them may have been appended.
     fn write(&mut self, more: &[u8]) -> Result<(), LogFault>
         ensures ok { OnOk result (bytes self.new ≡ with_more more.now (bytes self.old)) }
         ensures err { OnErr result (GrowsInPart more.now (bytes self.old) (bytes self.new)) }
@@ -39,8 +39,8 @@ pub trait LogFile {
         ensures fault { IfErr result (λ fault. fault ≡ LogFault.Device) }
         ensures cause { HasFaultCause (faults self.old) (faults self.new) result };
 
-    /// Puts these bytes in the place of all, and forces them to the disk. After an `Err` all may stand there as before, or
-    /// these.
+    /// Replaces all bytes by these, and forces them to the disk. After an `Err` the file has the old bytes or the new
+    /// ones.
     fn renew(&mut self, all: &[u8]) -> Result<(), LogFault>
         ensures ok { OnOk result (bytes self.new ≡ with_all all.now (bytes self.old)) }
         ensures err { OnErr result (MayBeAll all.now (bytes self.old) (bytes self.new)) }

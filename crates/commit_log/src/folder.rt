@@ -1,6 +1,7 @@
-//! A log in a folder: its file, the sign of its store, and what was cut of it.
+//! A log in a folder: its file, the sign of its store, and the bytes that were cut.
 
-ghost use Rattle.std.specs.Prelude.{◌≡◌, ◌≢◌, ◌<◌, ◌^◌, Err, IfErr, IfOk, IfSome, IsErr, IsErrOf, IsOk, None, Ok, OnErr, OnOk, Some, true};
+ghost use Rattle.std.specs.Prelude.{◌≡◌, ◌≢◌, ◌<◌, ◌^◌, ◌↔◌, Err, IfErr, IfOk, IfSome, IsErr, IsErrOf, IsOk, None, Ok, OnErr, OnOk, Some, true};
+ghost use Rattle.std.specs.Fs.{IsFile, file_type};
 ghost use Rattle.std.specs.Io.KnownBytes.{Appends};
 ghost use Rattle.std.specs.IoError.{error_kind};
 ghost use Rattle.commit_log.specs.Faults.{HasFaultCause};
@@ -14,35 +15,35 @@ use crate::frames::{HEAD, read_log};
 use crate::numbers::number_bytes;
 use crate::store_log::{new_log, read_store_log, upgrade_log};
 use std::alloc::{AllocError, Global};
-use std::fs::{File, OpenFile, OpenOptions};
+use std::fs::{File, Metadata, OpenFile, OpenOptions};
 use std::io::{ErrorKind, Read, Seek, SeekFrom, Write};
 use std::os::unix::fs::OpenOptionsExt;
 use std::rt::Files as Folders;
 use std::{fs, io};
 
-/// The name of a log.
+/// The name of the log's file.
 const LOG: &str = "commit.log";
 
-/// The name of the sign that a folder has a log, and of which store.
+/// The name of the sign's file: it says that the folder has a log, and of which store.
 const SIGN: &str = "commit.id";
 
-/// The name of what was cut of a log.
+/// The name of the file with the bytes that were cut from the log.
 const CUT: &str = "commit.cut";
 
-/// The name under which each of them is written first.
+/// The temporary name under which each of them is written before the rename.
 const BESIDE: &str = "commit.new";
 
 /// The bytes with which the sign of a store begins.
 const SIGN_HEAD: [u8; 8] = *b"TABSTORE";
 
-/// Who may read and write these files: their owner alone.
+/// The mode of these files: only the owner may read and write them.
 const OWNER_ALONE: u32 = 0o600;
 
-/// A log in the file `commit.log` of a folder. Nothing is known of its bytes.
+/// A log in the file `commit.log` of a folder. Its contract doesn't know the bytes.
 pub type DirLog<R> = FileLog<DirFile<R>>;
 
-/// The file of a folder's log. What is written is forced to the disk before the call answers.
-/// After a write or a renewal that failed it takes no more: the system may have dropped bytes that it could not write.
+/// The file of a folder's log. Written bytes are forced to the disk before the call returns.
+/// After a failed write or renewal it takes no more bytes: the system may have dropped bytes that it could not write.
 #[derive(Drop)]
 pub struct DirFile<R> {
     rt: R,
@@ -57,8 +58,8 @@ pub struct DirFile<R> {
 pub struct OpenLog<R> {
     /// The log.
     pub log: DirLog<R>,
-    /// How many bytes stood behind its last whole frame. They were cut, and stand in the folder's file `commit.cut` if there
-    /// were any.
+    /// The number of bytes behind its last whole frame. They were cut; if there were any, the folder's file
+    /// `commit.cut` has them.
     pub cut: usize,
 }
 
@@ -67,15 +68,53 @@ fn path_of(alloc: Global, folder: &str, name: &str) -> io::Result<String> {
     Ok(format!(in alloc; "{folder}/{name}")?)
 }
 
-/// Opens the file of a folder's log, to read it and to write at its end.
+/// The metadata of a path if it is a regular file. A failure is passed on.
+fn regular(found: io::Result<Metadata>) -> io::Result<Metadata>
+    ensures regular { IfOk found (λ metadata. IsOk result ↔ IsFile (file_type metadata)) }
+    ensures same { IfOk result (λ metadata. found ≡ Ok metadata) }
+    ensures failed { IfErr found (λ error. result ≡ Err error) }
+{
+    let metadata = found?;
+    if !metadata.is_file() {
+        return Err(io::Error::from(ErrorKind::InvalidInput));
+    }
+    Ok(metadata)
+}
+
+/// Looks whether a path is a regular file. Fails for anything else, also for a symbolic link.
+fn look_at<R: Folders>(rt: &R, path: &str) -> io::Result<Metadata> {
+    regular(fs::symlink_metadata(rt, path))
+}
+
+/// Opens a regular file to read it.
+fn open_regular<R: Folders>(rt: &R, path: &str) -> io::Result<R::File> {
+    look_at(rt, path)?;
+    File::open(rt, path)
+}
+
+/// Makes a temporary file. If something has its name, that is removed first.
+fn create_beside<R: Folders>(rt: &R, beside: &str) -> io::Result<R::File> {
+    let mut how = OpenOptions::new();
+    how.write(true).create_new(true).mode(OWNER_ALONE);
+    match how.open(rt, beside) {
+        Err(error) if error.kind() == ErrorKind::AlreadyExists => {
+            fs::remove_file(rt, beside)?;
+            how.open(rt, beside)
+        }
+        opened => opened,
+    }
+}
+
+/// Opens the file of a folder's log, to read it and to append to it.
 fn open_file<R: Folders<File = File> + AllocGlobal>(rt: &R, folder: &str) -> io::Result<File> {
     let path = path_of(rt.alloc(), folder, LOG)?;
+    look_at(rt, path.as_str())?;
     let mut how = OpenOptions::new();
     how.read(true).append(true);
     how.open(rt, path.as_str())
 }
 
-/// Writes bytes behind those of a file, and forces them to the disk.
+/// Writes bytes to a file, and forces them to the disk.
 fn write_synced<W: Write + OpenFile>(file: &mut W, bytes: &[u8]) -> io::Result<()>
     ensures { OnOk result (Appends (W.contents file.old) (W.contents file.new) bytes.now) }
 {
@@ -91,7 +130,7 @@ fn read_all<S: Read + Seek>(alloc: Global, file: &mut S) -> io::Result<Vec<u8>> 
     Ok(bytes)
 }
 
-/// The bytes of a file that was opened, if it was there. Any other failure is passed on.
+/// The bytes of an opened file; `None` if it was not found. Any other error is passed on.
 fn read_opened<S: Read + Seek + Drop>(
     alloc: Global,
     opened: io::Result<S>,
@@ -109,24 +148,24 @@ fn read_opened<S: Read + Seek + Drop>(
     Ok(Some(read_all(alloc, &mut file)?))
 }
 
-/// The bytes of a file of a folder, if it is there.
+/// The bytes of a file of a folder; `None` if it doesn't exist.
 fn read_file<R: Folders + AllocGlobal>(
     rt: &R,
     folder: &str,
     name: &str,
 ) -> Result<Option<Vec<u8>>, LogFault> {
     let path = path_of(rt.alloc(), folder, name).map_err(fault_of)?;
-    read_opened(rt.alloc(), File::open(rt, path.as_str())).map_err(fault_of)
+    read_opened(rt.alloc(), open_regular(rt, path.as_str())).map_err(fault_of)
 }
 
-/// Forces a folder to the disk: which names it has.
+/// Forces a folder's entries to the disk.
 fn sync_folder<R: Folders>(rt: &R, folder: &str) -> io::Result<()> {
     let folder = File::open(rt, folder)?;
     folder.sync_all()
 }
 
-/// Makes or replaces a file of a folder: it is written beside its place, forced to the disk and put there, and the folder is
-/// forced to the disk too.
+/// Creates or replaces a file of a folder: the bytes are written under a temporary name, forced to the disk and
+/// renamed, and the folder is forced to the disk too.
 fn place_file<R: Folders + AllocGlobal>(
     rt: &R,
     folder: &str,
@@ -135,18 +174,13 @@ fn place_file<R: Folders + AllocGlobal>(
 ) -> io::Result<()> {
     let path = path_of(rt.alloc(), folder, name)?;
     let beside = path_of(rt.alloc(), folder, BESIDE)?;
-    let mut how = OpenOptions::new();
-    how.write(true)
-        .create(true)
-        .truncate(true)
-        .mode(OWNER_ALONE);
-    let mut file = how.open(rt, beside.as_str())?;
+    let mut file = create_beside(rt, beside.as_str())?;
     write_synced(&mut file, bytes)?;
     fs::rename(rt, beside.as_str(), path.as_str())?;
     sync_folder(rt, folder)
 }
 
-/// The fault that a failure of the system is.
+/// The fault for an error of the system.
 fn fault_of(error: io::Error) -> LogFault
     ensures memory { error_kind error ≡ ErrorKind.OutOfMemory → result ≡ LogFault.Memory }
     ensures device { error_kind error ≢ ErrorKind.OutOfMemory → result ≡ LogFault.Device }
@@ -158,7 +192,7 @@ fn fault_of(error: io::Error) -> LogFault
     }
 }
 
-/// A number for a store, and one for the first record of its log, which nobody can guess.
+/// Random numbers for a store and for the first record of its log, from `/dev/urandom`.
 fn draw_numbers<R: Folders>(rt: &R) -> io::Result<(u64, u64)>
     ensures { IfOk result (λ drawn. drawn.1 < 2 ^ 62) }
 {
@@ -181,11 +215,11 @@ fn sign_of(alloc: Global, store: u64) -> Result<Vec<u8>, AllocError>
     Ok(bytes)
 }
 
-/// Compares the sign of a folder, if it has one, with that of its log's store. If it has none, it gets it.
+/// Compares a folder's sign with the sign of its log's store. A folder without a sign gets this one.
 ///
 /// # Errors
 ///
-/// `Damaged` if the sign is another; `Device`; `Memory`.
+/// `Damaged` if the signs differ; `Device`; `Memory`.
 fn keep_sign<R: Folders + AllocGlobal>(
     rt: &R,
     folder: &str,
@@ -200,7 +234,7 @@ fn keep_sign<R: Folders + AllocGlobal>(
     }
 }
 
-/// Keeps what is to be cut of a log, if that is anything.
+/// Saves the bytes that are to be cut from a log, if there are any.
 fn keep_cut<R: Folders + AllocGlobal>(rt: &R, folder: &str, cut: &[u8]) -> Result<(), LogFault> {
     if cut.is_empty() {
         return Ok(());
@@ -208,7 +242,7 @@ fn keep_cut<R: Folders + AllocGlobal>(rt: &R, folder: &str, cut: &[u8]) -> Resul
     place_file(rt, folder, CUT, cut).map_err(fault_of)
 }
 
-/// Puts a log in the place of one of format 1, with its records. It answers how many bytes were cut.
+/// Replaces a log of format 1 by one of format 2 with the same records. Answers how many bytes were cut.
 fn upgrade_file<R: Folders + AllocGlobal>(
     rt: &R,
     folder: &str,
@@ -223,8 +257,9 @@ fn upgrade_file<R: Folders + AllocGlobal>(
     Ok(cut.len())
 }
 
-/// Writes the records of a log anew: what a program that was killed, or whose write failed, left in the system's memory is on
-/// the disk then. The first record came there with the file. It answers how many bytes were cut.
+/// Rewrites the records of a log. A program that was killed, or whose write failed, may have left records only in the
+/// system's page cache; afterwards they are on the disk. The first record was forced to the disk with the file. Answers
+/// how many bytes were cut.
 fn force_records<R: Folders + AllocGlobal>(
     rt: &R,
     folder: &str,
@@ -243,13 +278,13 @@ fn force_records<R: Folders + AllocGlobal>(
     Ok(cut.len())
 }
 
-/// The log of a folder, if there is one, with all its records on the disk. A log of format 1 comes to be one of format 2. The
-/// folder is this program's alone.
+/// Opens the log of a folder, if there is one, with all its records on the disk. A log of format 1 is upgraded to
+/// format 2. No other program may use the folder.
 ///
 /// # Errors
 ///
-/// `Damaged` if its file is no log, a whole frame stands behind bytes that are none, or the folder's sign is of another log;
-/// `Refused` if a record of format 1 is too long; `Device`; `Memory`.
+/// `Damaged` if its file is not a log, a later whole frame follows a broken one, the folder's sign is not this log's,
+/// or the folder has a sign but no log; `Refused` if a record of format 1 is too long; `Device`; `Memory`.
 pub fn open_log<R: Folders<File = File> + AllocGlobal + Drop>(
     rt: R,
     folder: &str,
@@ -276,7 +311,7 @@ pub fn open_log<R: Folders<File = File> + AllocGlobal + Drop>(
     }
 }
 
-/// Makes a log over whichever root is there in a folder that has none, and then the folder's sign.
+/// Creates a log over any root in a folder that has none, then the folder's sign.
 ///
 /// # Errors
 ///
@@ -289,7 +324,7 @@ pub fn make_log<R: Folders + AllocGlobal>(rt: &R, folder: &str) -> Result<(), Lo
 }
 
 impl<R: Folders<File = File> + AllocGlobal + Drop> DirFile<R> {
-    /// The file of a folder's log, which is there.
+    /// Opens the file of a folder's log, which must exist.
     fn open(rt: R, folder: &str) -> io::Result<DirFile<R>>
         ensures { IfOk result (λ file. file.faults ≡ 0) }
     {
@@ -304,7 +339,7 @@ impl<R: Folders<File = File> + AllocGlobal + Drop> DirFile<R> {
         })
     }
 
-    /// Puts a file of these bytes in the place of this one, and goes on with it.
+    /// Replaces this file by one of these bytes, and opens that.
     fn replace(&mut self, bytes: &[u8]) -> io::Result<()>
         ensures stopped { self.new.is_stopped ≡ self.old.is_stopped }
         ensures faults { self.new.faults ≡ self.old.faults }
@@ -314,7 +349,7 @@ impl<R: Folders<File = File> + AllocGlobal + Drop> DirFile<R> {
         Ok(())
     }
 
-    /// What a read answered, or its fault, which is counted if it is a device's.
+    /// The value of a read, or its fault. A fault of the device is counted.
     fn count_fault<T: Drop>(&mut self, called: io::Result<T>) -> Result<T, LogFault>
         ensures cause { HasFaultCause self.old.faults self.new.faults result }
         ensures stays { self.new.is_stopped ≡ self.old.is_stopped }
@@ -336,7 +371,7 @@ impl<R: Folders<File = File> + AllocGlobal + Drop> DirFile<R> {
         Err(fault)
     }
 
-    /// What a write or a renewal answered. After a failed one the file is stopped.
+    /// The result of a write or a renewal. If it failed, the fault is counted and the file is stopped.
     fn stop_if_failed(&mut self, called: io::Result<()>) -> Result<(), LogFault>
         ensures cause { HasFaultCause self.old.faults self.new.faults result }
         ensures stops { OnErr result (self.new.is_stopped ≡ true) }

@@ -1,4 +1,4 @@
-//! Frames: how the records of a log are spelled as bytes, and read again; and the log of format 1.
+//! Frames: the records of a log encoded as bytes, and decoded; and the log of format 1.
 
 ghost use Rattle.std.specs.Prelude.{◌≡◌, ◌≢◌, ◌+◌, ◌≤◌, ◌++◌, ◌↔◌, take, drop, length, IfOk, IfSome, IfNone, IsErrOf, IsTrue};
 ghost use Rattle.std.specs.Int.{from_be_bytes, to_be_bytes, w32};
@@ -8,13 +8,13 @@ use crate::checksums::crc32;
 use crate::faults::LogFault;
 use std::alloc::{AllocError, Global};
 
-/// The most bytes of a record.
+/// The upper bound of a record's length, in bytes.
 pub const LONGEST_RECORD: usize = 134_217_728;
 
 /// The bytes with which a log of format 1 begins.
 pub const HEAD: [u8; 8] = *b"TABLOG01";
 
-/// How many bytes of a frame stand before its record: a length and a checksum.
+/// The bytes of a frame before its record: a length and a checksum.
 pub(crate) const PREFIX: usize = 8;
 
 /// The frame of a record.
@@ -30,7 +30,7 @@ pub fn frame_of(alloc: Global, payload: &[u8]) -> Result<Vec<u8>, AllocError>
     Ok(bytes)
 }
 
-/// The checksum of a record. Its length is counted in.
+/// The checksum of a record's length and bytes.
 fn checksum_of(payload: &[u8]) -> [u8; 4]
     requires { IsRecord payload.now }
     ensures { result ≡ checksum payload.now }
@@ -47,7 +47,7 @@ fn is_checksum(payload: &[u8], found: [u8; 4]) -> bool
     checksum_of(payload) == found
 }
 
-/// The length that four bytes give.
+/// The length encoded in four bytes, the highest first.
 pub(crate) fn length_in(bytes: [u8; 4]) -> u32
     ensures value { result ≡ from_be_bytes w32 bytes }
     ensures spells { to_be_bytes w32 result ≡ bytes }
@@ -55,7 +55,7 @@ pub(crate) fn length_in(bytes: [u8; 4]) -> u32
     u32::from_be_bytes(bytes)
 }
 
-/// The record whose whole frame stands at the front of bytes, if one does.
+/// The record of the whole frame at the front of bytes, if there is one.
 pub fn first_record(bytes: &[u8]) -> Option<&[u8]>
     ensures found { IfSome result (λ payload. IsRecord payload.now) }
     ensures front { IfSome result (λ payload. bytes.now
@@ -83,20 +83,20 @@ pub fn first_record(bytes: &[u8]) -> Option<&[u8]>
     Some(payload)
 }
 
-/// What stands in the bytes of a log.
+/// The contents of a log's bytes.
 #[derive(Drop)]
 pub struct Reading {
     /// The records of the whole frames at the front.
     pub records: Vec<Vec<u8>>,
-    /// Where they end.
+    /// The offset of their end.
     pub end: usize,
 }
 
-/// Reads a log of format 1. What stands behind its last whole frame is left out.
+/// Reads a log of format 1. The bytes behind its last whole frame are ignored.
 ///
 /// # Errors
 ///
-/// `Damaged` if the bytes don't begin as a log does; `Memory`.
+/// `Damaged` if the bytes don't begin with the header of format 1; `Memory`.
 pub fn read_log(alloc: Global, bytes: &[u8]) -> Result<Reading, LogFault>
     ensures ok { IfOk result (λ found.
         IsLog bytes.now (bytes_of found.records.items) (drop found.end bytes.now)) }

@@ -1,4 +1,4 @@
-//! What holds of the bytes of all logs.
+//! Laws of the bytes of all logs.
 
 ghost use Rattle.std.specs.Prelude.{◌≡◌, ◌≢◌, ◌+◌, ◌<◌, ◌≤◌, ◌⊎◌, ◌++◌, ◌∷◌, [], ℕ, List, codes, length, replicate, take};
 ghost use Rattle.std.specs.List.{AllByRecursion};
@@ -11,7 +11,7 @@ ghost use Rattle.commit_log.specs.Numbered.{Hides, IsBroken, IsNumberedLog, IsSh
 
 use cell_key::one_key_a_text;
 
-/// The checksum has the check value of CRC-32, which tells it from others.
+/// The checksum has the check value of CRC-32, by which it differs from other CRCs.
 pub fn check_value()
     ensures { crc32 (codes "123456789") ≡ 0xCBF43926 }
 {}
@@ -21,57 +21,57 @@ pub fn zeros_are_a_tail()
     ensures { (n : ℕ) → IsTail (replicate n 0) }
 {}
 
-/// The bytes of a log of format 1 are read in one way.
+/// The bytes of a log of format 1 can be read in only one way.
 pub fn one_reading()
     ensures { (bytes : List ℕ) (first second : List (List ℕ)) (left other : List ℕ)
         → IsLog bytes first left → IsLog bytes second other → (first ≡ second) × (left ≡ other) }
 {}
 
-/// What was written is read: all records, and no tail.
+/// A log reads back as it was written: all records, and no tail.
 pub fn whole_log()
     ensures { (records : List (List ℕ)) → AllByRecursion IsRecord records
         → IsLog (log_of records) records [] }
 {}
 
-/// A beginning of a log, from its head on, is a log of the first of its records.
+/// A prefix of a log that has the whole header is a log of a prefix of its records.
 pub fn torn_log()
     ensures { (records : List (List ℕ)) (n : ℕ) → AllByRecursion IsRecord records → 8 ≤ n
         → (k : ℕ) × (tail : List ℕ) × IsLog (take n (log_of records)) (take k records) tail }
 {}
 
-/// How records hold edits, and that edits of one spelling make the same of cells.
+/// How records hold edits, and that edits with the same encoding change cells in the same way.
 pub fn logs_edits()
     ensures { LogsEdits }
 {
     one_key_a_text();
 }
 
-/// What more records do to which root a log is over, and to its stamps.
+/// The effect of further records on the root that a log is over, and on its stamps.
 pub fn names_roots()
     ensures { NamesRoots }
 {}
 
-/// Edits of one spelling are as many.
+/// Edits with the same encoding are equal in number.
 pub fn as_many_edits()
     ensures { (a b : List Edit) → AllByRecursion IsStoredEdit a → AllByRecursion IsStoredEdit b
         → spelled_edits a ≡ spelled_edits b → length a ≡ length b }
 {}
 
-/// Numbered frames are read in one way.
+/// Numbered frames can be read in only one way.
 pub fn one_numbered_reading()
     ensures { (first : ℕ) (bytes : List ℕ) (some other : List (List ℕ)) (left rest : List ℕ)
         → IsNumberedLog first bytes some left → IsNumberedLog first bytes other rest
         → (some ≡ other) × (left ≡ rest) }
 {}
 
-/// What is a log isn't broken.
+/// A log is not broken.
 pub fn log_or_broken()
     ensures { (first : ℕ) (bytes : List ℕ) (records : List (List ℕ)) (tail : List ℕ)
         → IsNumberedLog first bytes records tail → ¬ IsBroken first bytes }
 {}
 
-/// What a kill leaves of an append is a log of the same records, or of one more: it is never broken. The payload hides no
-/// frame of this log: it has no whole frame in it with one of the next numbers.
+/// A kill during an append leaves a log of the same records, or of one more: it is never broken. The payload must
+/// contain no whole frame with one of the next numbers.
 pub fn torn_numbered_append()
     ensures { (first n : ℕ) (records : List (List ℕ)) (payload : List ℕ)
         → AllByRecursion IsShort records → IsShort payload
@@ -84,7 +84,7 @@ pub fn torn_numbered_append()
         (records ++ payload ∷ []) [] }
 {}
 
-/// Bytes that aren't the next frame, whatever they are, with a later frame behind them, are damage.
+/// Any bytes that aren't the next frame, followed by a later frame, are found to be damage.
 pub fn damage_is_told()
     ensures { (first : ℕ) (records : List (List ℕ)) (junk payload behind : List ℕ) (m : ℕ)
         → AllByRecursion IsShort records → IsShort payload

@@ -1,4 +1,4 @@
-//! A log of records that outlast a kill: frames of bytes, a log in memory, and one in a file of a folder.
+//! A log of records that survive a kill: frames of bytes, a log in memory, and a log in a file of a folder.
 #![tactic(auto)]
 
 mod checksums;

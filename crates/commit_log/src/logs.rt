@@ -1,4 +1,4 @@
-//! Logs: what they promise.
+//! Logs: their contract.
 
 ghost use Rattle.std.specs.Prelude.{◌≡◌, ◌⊎◌, ℕ, List, IfOk, IsErrOf, OnErr, OnOk};
 ghost use Rattle.commit_log.specs.Faults.{HasFaultCause};
@@ -10,28 +10,33 @@ use crate::faults::LogFault;
 use crate::records::RecordKind;
 use cell_key::Stamp;
 
-/// Records of bytes, in the order in which they were appended, which outlast a kill.
+/// Records of bytes, in the order in which they were appended. They survive a kill.
 pub trait Log {
-    /// It holds these records. Of a log that does not say what it holds, as on a real disk, nothing holds this.
+    /// It holds these records. Never true of a log whose records are unknown, as on a real disk.
     ghost holds: { Self → List (List ℕ) → Type 0 };
+
+    /// No record of these bytes can be appended: the numbers are used up, or its frame would contain a later frame.
+    ghost refuses: { Self → List ℕ → Type 0 };
 
     /// How often a device has failed, up to the greatest number.
     ghost faults: { Self → ℕ };
 
-    /// Puts a record at the end, and forces it to the disk. After an `Err` the log holds what it held, or that and this
-    /// record: a part of it is never held. If memory or the record was refused, it holds what it held.
+    /// Appends a record, and forces it to the disk. After an `Err` the log is unchanged or has the whole record, never
+    /// a part of it. After `Memory` or `Refused` it is unchanged.
     fn append(&mut self, kind: RecordKind, stamp: Stamp, body: &[u8]) -> Result<(), LogFault>
         requires { IsBody body.now }
         ensures ok { OnOk result (Gains (holds self.old) (holds self.new)
             (spelled_record kind stamp body.now)) }
         ensures err { OnErr result (MayGain (holds self.old) (holds self.new)
             (spelled_record kind stamp body.now)) }
-        ensures refused { IsErrOf result LogFault.Memory ⊎ IsErrOf result LogFault.Refused
+        ensures unchanged { IsErrOf result LogFault.Memory ⊎ IsErrOf result LogFault.Refused
             → Keeps (holds self.old) (holds self.new) }
+        ensures refused { IsErrOf result LogFault.Refused
+            → refuses self.old (spelled_record kind stamp body.now) }
         ensures intact { ¬ IsErrOf result LogFault.Damaged }
         ensures cause { HasFaultCause (faults self.old) (faults self.new) result };
 
-    /// The records. `Damaged` is answered only by a log that holds none of them.
+    /// The records. `Damaged` only if the log doesn't hold any list of records.
     fn records(&mut self) -> Result<Vec<Vec<u8>>, LogFault>
         ensures ok { IfOk result (λ found. (records : List (List ℕ))
             → holds self.old records → bytes_of found.items ≡ records) }
@@ -41,13 +46,18 @@ pub trait Log {
         ensures taken { ¬ IsErrOf result LogFault.Refused }
         ensures cause { HasFaultCause (faults self.old) (faults self.new) result };
 
-    /// Puts this record in the place of all. After an `Err` the log holds what it held, or this record alone.
+    /// Replaces all records by this one. After an `Err` the log is unchanged or has this record alone. After `Memory`
+    /// or `Refused` it is unchanged.
     fn renew(&mut self, kind: RecordKind, stamp: Stamp, body: &[u8]) -> Result<(), LogFault>
         requires { IsBody body.now }
         ensures ok { OnOk result (Renews (holds self.old) (holds self.new)
             (spelled_record kind stamp body.now)) }
         ensures err { OnErr result (MayRenew (holds self.old) (holds self.new)
             (spelled_record kind stamp body.now)) }
+        ensures unchanged { IsErrOf result LogFault.Memory ⊎ IsErrOf result LogFault.Refused
+            → Keeps (holds self.old) (holds self.new) }
+        ensures refused { IsErrOf result LogFault.Refused
+            → refuses self.old (spelled_record kind stamp body.now) }
         ensures intact { ¬ IsErrOf result LogFault.Damaged }
         ensures cause { HasFaultCause (faults self.old) (faults self.new) result };
 

@@ -7,7 +7,8 @@ use crate::faults::LogFault;
 use crate::files::LogFile;
 use std::alloc::Global;
 
-/// A file in memory. Its bytes are known. It fails if memory is refused, and takes no more bytes then.
+/// A file in memory. Its bytes are known. A write or renewal fails if its allocation does; then the file takes no more
+/// bytes.
 #[derive(Drop)]
 pub struct MemFile {
     bytes: Vec<u8>,
@@ -29,7 +30,7 @@ impl MemFile {
         }
     }
 
-    /// A fault. Nothing is taken any more.
+    /// Stops the file and counts a fault of the device.
     fn fail(&mut self) -> LogFault
         ensures fault { result ≡ LogFault.Device }
         ensures same { self.new.bytes ≡ self.old.bytes }

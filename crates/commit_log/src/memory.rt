@@ -11,7 +11,7 @@ use crate::records::{RecordKind, record_of};
 use cell_key::Stamp;
 use std::alloc::{AllocError, Global};
 
-/// A log in memory. Its records are known, and no device of it fails.
+/// A log in memory. Its records are known, and it has no device that could fail.
 #[derive(Drop)]
 pub struct MemLog {
     alloc: Global,
@@ -19,7 +19,7 @@ pub struct MemLog {
 }
 
 impl MemLog {
-    /// A log over whichever root is there.
+    /// A log over any root.
     pub fn new(alloc: Global) -> Result<MemLog, AllocError>
         ensures { IfOk result (λ log. recorded log ≡ any_root ∷ []) }
     {
@@ -28,7 +28,7 @@ impl MemLog {
     }
 }
 
-/// A record, alone.
+/// A list of this record alone.
 fn alone(
     alloc: Global,
     kind: RecordKind,
@@ -48,6 +48,8 @@ impl Log for MemLog {
     ghost use Rattle.commit_log.specs.Memory.{recorded};
 
     ghost holds = { λ log records. recorded log ≡ records };
+
+    ghost refuses = { λ _ _. ⊥ };
 
     ghost faults = { λ _. 0 };
 

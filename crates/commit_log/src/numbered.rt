@@ -1,4 +1,4 @@
-//! Format 2 of a log's frames: each record has a number, and behind a frame that isn't whole no whole one may stand.
+//! Format 2 of a log's frames: each record has a number, and no whole later frame may follow a broken one.
 
 ghost use Rattle.std.specs.Prelude.{◌≡◌, ◌≢◌, ◌+◌, ◌*◌, ◌≤◌, ◌<◌, ◌^◌, ◌⊎◌, ◌++◌, ◌↔◌, ℕ, List, drop, length, take, IfErr, IfNone, IfOk, IfSome, IsErrOf, IsTrue, OnOk};
 ghost use Rattle.commit_log.specs.Frames.{IsBody, IsRecord, bytes_of, frame};
@@ -12,13 +12,13 @@ use crate::records::{RecordKind, push_record};
 use cell_key::Stamp;
 use std::alloc::{AllocError, Global};
 
-/// How many bytes of a frame stand before its payload: a length, a checksum and a number.
+/// The bytes of a frame before its payload: a length, a checksum and a number.
 const BEFORE: usize = PREFIX + NUMBER;
 
-/// How many numbers from the next one on are taken for this log's. A log has fewer records.
+/// The numbers that count as this log's next ones. A log has fewer records.
 const WINDOW: u64 = 131_072;
 
-/// The number from which on a frame has none.
+/// The upper bound of the numbers: those of frames are below it.
 pub(crate) const NO_NUMBER: u64 = 9_223_372_036_854_775_808;
 
 /// The frame of a record with its number.
@@ -39,7 +39,7 @@ pub(crate) fn numbered_frame(
     frame_of(alloc, &bytes)
 }
 
-/// The number and the payload whose whole frame stands at the front of bytes, if one does.
+/// The number and the payload of the whole frame at the front of bytes, if there is one.
 pub(crate) fn first_numbered(bytes: &[u8]) -> Option<(u64, &[u8])>
     ensures found { IfSome result (λ p. IsShort p.1.now) }
     ensures front { IfSome result (λ p. bytes.now
@@ -54,7 +54,7 @@ pub(crate) fn first_numbered(bytes: &[u8]) -> Option<(u64, &[u8])>
     split_number(record)
 }
 
-/// The number that a frame at the front has. What stands there may be none.
+/// The number of a frame at the front, if the bytes are long enough. They may not be a frame.
 fn number_at(bytes: &[u8]) -> Option<u64>
     ensures found { IfSome result (λ number. spelled_number number ≡ take 8 (drop 8 bytes.now)) }
     ensures none { IfNone result (length bytes.now < 16) }
@@ -64,14 +64,14 @@ fn number_at(bytes: &[u8]) -> Option<u64>
     Some(number_in(*number))
 }
 
-/// Whether a number is one of the next.
+/// Whether a number is in the window that begins at the next one.
 fn is_next(number: u64, next: u64) -> bool
     ensures { IsTrue result ↔ IsNumbered next number }
 {
     number >= next && number - next < WINDOW
 }
 
-/// Whether a whole frame with one of the next numbers stands at the front. The number is looked at first.
+/// Whether a whole frame with one of the next numbers stands at the front. The number is compared before the checksum.
 fn stands_from(bytes: &[u8], next: u64) -> bool
     requires { next + 131072 ≤ 2 ^ 64 }
     ensures { IsTrue result ↔ StandsFrom next bytes.now }
@@ -103,7 +103,7 @@ fn has_later(bytes: &[u8], next: u64) -> bool
     false
 }
 
-/// The payload whose whole frame with this number stands at the front, if it does.
+/// The payload of the whole frame with this number at the front, if there is one.
 fn next_payload(bytes: &[u8], next: u64) -> Option<&[u8]>
     ensures found { IfSome result (λ payload. IsShort payload.now) }
     ensures front { IfSome result (λ payload. bytes.now
@@ -121,7 +121,7 @@ fn next_payload(bytes: &[u8], next: u64) -> Option<&[u8]>
     Some(payload)
 }
 
-/// The bytes behind the first ones.
+/// The bytes behind the first `len`.
 fn behind(bytes: &[u8], len: usize) -> &[u8]
     requires { len ≤ length bytes.now }
     ensures { result.now ≡ drop len bytes.now }
@@ -129,8 +129,8 @@ fn behind(bytes: &[u8], len: usize) -> &[u8]
     &bytes[len..]
 }
 
-/// Whether a whole frame with one of the next numbers stands in the frame of a payload with this number, behind its first
-/// byte.
+/// Whether this frame contains, behind its first byte, a whole frame with one of the next numbers, from the frame's own
+/// on.
 pub(crate) fn hides(bytes: &[u8], number: u64) -> bool
     requires { number < 2 ^ 63 }
     ensures { (payload : List ℕ) → bytes.now ≡ frame (numbered number payload)
@@ -142,11 +142,11 @@ pub(crate) fn hides(bytes: &[u8], number: u64) -> bool
     }
 }
 
-/// Reads what stands behind the head of a log whose first record has this number.
+/// Reads the bytes behind the header of a log whose first record has this number.
 ///
 /// # Errors
 ///
-/// `Damaged` if a whole frame stands behind bytes that are none; `Memory`.
+/// `Damaged` if a later whole frame follows a broken one; `Memory`.
 pub(crate) fn read_numbered(alloc: Global, bytes: &[u8], first: u64) -> Result<Reading, LogFault>
     requires { first < 2 ^ 63 }
     ensures ok { IfOk result (λ found. IsNumberedLog first bytes.now

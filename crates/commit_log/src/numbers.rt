@@ -3,10 +3,10 @@
 ghost use Rattle.std.specs.Prelude.{◌≡◌, ◌<◌, ◌++◌, length, IfNone, IfSome};
 ghost use Rattle.commit_log.specs.Records.{spelled_number};
 
-/// How many bytes a number has.
+/// The bytes of a number.
 pub(crate) const NUMBER: usize = 8;
 
-/// The number that eight bytes give.
+/// The number encoded in eight bytes.
 pub(crate) fn number_in(bytes: [u8; 8]) -> u64
     ensures { spelled_number result ≡ bytes }
 {
@@ -20,7 +20,7 @@ pub(crate) fn number_bytes(number: u64) -> [u8; 8]
     number.to_be_bytes()
 }
 
-/// A number at the front of bytes, and what follows.
+/// The number at the front of bytes, and the bytes after it.
 pub(crate) fn split_number(bytes: &[u8]) -> Option<(u64, &[u8])>
     ensures found { IfSome result (λ p. bytes.now ≡ spelled_number p.0 ++ p.1.now) }
     ensures none { IfNone result (length bytes.now < 8) }

@@ -1,4 +1,4 @@
-//! The records of a log: what each says, and which root a log of records is over.
+//! The records of a log: their kinds, and the root that a log of records is over.
 
 ghost use Rattle.std.specs.Prelude.{◌≡◌, ◌≢◌, ◌⊎◌, ◌<◌, ◌^◌, ◌↔◌, ◌++◌, ℕ, List, IfNone, IfOk, IfSome, IsTrue, OnOk};
 ghost use Rattle.std.specs.Int.{to_be_bytes, w32};
@@ -10,14 +10,15 @@ use crate::numbers::{number_bytes, split_number};
 use cell_key::Stamp;
 use std::alloc::{AllocError, Global};
 
-/// What a record says.
+/// The kind of a record.
 #[derive(Clone, Copy, Debug, PartialEq, Eq)]
 pub enum RecordKind {
-    /// Its body are edits that were made.
+    /// The body is the edits that were made.
     Edits,
-    /// The log is over a root, or one is to be put: its greatest stamp stands in the record, and its body is a checksum.
+    /// The log is over this root, or the root is about to be put: the stamp is the root's greatest, the body its
+    /// checksum.
     Root,
-    /// The log is over whichever root is there. There is no body.
+    /// The log is over any root. The body is empty.
     AnyRoot,
 }
 
@@ -32,7 +33,7 @@ fn kind_byte(kind: RecordKind) -> u8
     }
 }
 
-/// The kind that a byte is, if it is one.
+/// The kind of a byte, if it encodes one.
 fn kind_of(byte: u8) -> Option<RecordKind>
     ensures found { IfSome result (λ kind. byte ≡ kind_byte kind) }
     ensures none { IfNone result ((kind : Kind) → byte ≢ kind_byte kind) }
@@ -45,7 +46,7 @@ fn kind_of(byte: u8) -> Option<RecordKind>
     }
 }
 
-/// Appends the bytes of a record. After an `Err` a part of them may stand there.
+/// Appends the bytes of a record. After an `Err` a part may have been appended.
 pub(crate) fn push_record(
     out: &mut Vec<u8>,
     kind: RecordKind,
@@ -94,7 +95,7 @@ pub fn root_sum_bytes(sum: u32) -> [u8; 4]
     sum.to_be_bytes()
 }
 
-/// Whether a record says that the log is over whichever root is there.
+/// Whether a record says that the log is over any root.
 fn is_any_root(bytes: &[u8]) -> bool
     ensures { IsTrue result ↔ (bytes.now ≡ any_root) }
 {
@@ -107,7 +108,7 @@ fn is_any_root(bytes: &[u8]) -> bool
     }
 }
 
-/// Whether a log of these records is over whichever root is there.
+/// Whether a log of these records is over any root.
 pub fn is_over_any(records: &[Vec<u8>]) -> bool
     ensures { IsTrue result ↔ HasRecord (bytes_of records.now) any_root }
 {
@@ -119,7 +120,7 @@ pub fn is_over_any(records: &[Vec<u8>]) -> bool
     false
 }
 
-/// Whether a record says that the log is over this root, or over whichever is there.
+/// Whether a record says that the log is over this root, or over any root.
 fn is_over(bytes: &[u8], top: Stamp, sum: u32) -> bool
     ensures { IsTrue result
         ↔ (bytes.now ≡ root_record top sum) ⊎ (bytes.now ≡ any_root) }
@@ -134,7 +135,7 @@ fn is_over(bytes: &[u8], top: Stamp, sum: u32) -> bool
     }
 }
 
-/// Whether a log of these records is over a root of this greatest stamp and checksum.
+/// Whether a log of these records is over the root with this greatest stamp and checksum.
 pub fn names_root(records: &[Vec<u8>], top: Stamp, sum: u32) -> bool
     ensures { IsTrue result ↔ NamesRoot (bytes_of records.now) top sum }
 {
@@ -146,7 +147,7 @@ pub fn names_root(records: &[Vec<u8>], top: Stamp, sum: u32) -> bool
     false
 }
 
-/// Whether a record has no greater stamp.
+/// Whether a record's stamp is at most the mark.
 fn is_up_to(bytes: &[u8], mark: Stamp) -> bool
     ensures { IsTrue result ↔ IsUpTo mark bytes.now }
 {
@@ -159,7 +160,7 @@ fn is_up_to(bytes: &[u8], mark: Stamp) -> bool
     true
 }
 
-/// Whether no record has a greater stamp.
+/// Whether each record's stamp is at most the mark.
 pub fn are_up_to(records: &[Vec<u8>], mark: Stamp) -> bool
     ensures { IsTrue result ↔ AreUpTo mark (bytes_of records.now) }
 {

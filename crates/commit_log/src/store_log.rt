@@ -1,4 +1,4 @@
-//! The log of a store as bytes, in format 2: made, read, and made of one of format 1.
+//! The log of a store as bytes, in format 2: created, read, and upgraded from format 1.
 
 ghost use Rattle.std.specs.Prelude.{◌≡◌, ◌≢◌, ◌+◌, ◌*◌, ◌≤◌, ◌<◌, ◌^◌, ◌⊎◌, ◌++◌, ◌∷◌, ◌↔◌, [], ℕ, List, drop, length, take, IfErr, IfNone, IfOk, IfSome, IsErrOf, OnOk};
 ghost use Rattle.std.specs.List.{AllByRecursion};
@@ -18,13 +18,13 @@ use std::alloc::{AllocError, Global};
 /// The bytes with which a log of format 2 begins.
 const STORE_HEAD: [u8; 8] = *b"TABLOG02";
 
-/// How many bytes stand before the frames of a log: those and the store's number.
+/// The bytes of a log's header: the above and the store's number.
 const HEAD_BYTES: usize = 8 + NUMBER;
 
-/// The most bytes of a record's body: a number, a kind and a stamp stand before it.
+/// The upper bound of a body's length, in bytes: a number, a kind and a stamp come before it in the record.
 const LONGEST_BODY: usize = LONGEST_RECORD - 17;
 
-/// What stands in the log of a store.
+/// The contents of a store's log.
 #[derive(Drop)]
 pub(crate) struct StoreReading {
     /// The number of the store.
@@ -33,11 +33,11 @@ pub(crate) struct StoreReading {
     pub first: u64,
     /// The records of the whole frames.
     pub records: Vec<Vec<u8>>,
-    /// Where they end.
+    /// The offset of their end.
     pub end: usize,
 }
 
-/// The number of the store in the head of a log, and what follows.
+/// The store's number in the header of a log, and the bytes after the header.
 fn split_head(bytes: &[u8]) -> Option<(u64, &[u8])>
     ensures found { IfSome result (λ p. bytes.now ≡ store_head p.0 ++ p.1.now) }
     ensures none { IfNone result ((store : ℕ) (frames : List ℕ)
@@ -49,7 +49,7 @@ fn split_head(bytes: &[u8]) -> Option<(u64, &[u8])>
     split_number(rest)
 }
 
-/// The number of the whole frame at the front of bytes, if a log may begin with it.
+/// The number of the whole frame at the front of bytes, if there is one and a log may begin with that number.
 fn first_number(bytes: &[u8]) -> Option<u64>
     ensures found { IfSome result (λ number. (payload behind : List ℕ) × IsShort payload
         × (bytes.now ≡ frame (numbered number payload) ++ behind)) }
@@ -66,11 +66,11 @@ fn first_number(bytes: &[u8]) -> Option<u64>
     Some(number)
 }
 
-/// Reads the log of a store. What stands behind its last whole frame is left out.
+/// Reads the log of a store. The bytes behind its last whole frame are ignored.
 ///
 /// # Errors
 ///
-/// `Damaged` if the bytes are none; `Memory`.
+/// `Damaged` if the bytes are not a store's log; `Memory`.
 pub(crate) fn read_store_log(alloc: Global, bytes: &[u8]) -> Result<StoreReading, LogFault>
     ensures ok { IfOk result (λ found. IsStoreLog found.store found.first bytes.now
         (bytes_of found.records.items) (drop found.end bytes.now)) }
@@ -97,7 +97,7 @@ pub(crate) fn read_store_log(alloc: Global, bytes: &[u8]) -> Result<StoreReading
     })
 }
 
-/// The bytes of a store's log of one record, which has this number.
+/// The bytes of a store's log of one record, with this number.
 pub(crate) fn log_of_one(
     alloc: Global,
     store: u64,
@@ -116,7 +116,7 @@ pub(crate) fn log_of_one(
     Ok(bytes)
 }
 
-/// The bytes of a new log of a store. It is over whichever root is there, and the record that says so has this number.
+/// The bytes of a new log of a store. Its only record, with this number, says that it is over any root.
 pub fn new_log(alloc: Global, store: u64, first: u64) -> Result<Vec<u8>, AllocError>
     requires { first < 2 ^ 63 }
     ensures spelled { IfOk result (λ bytes. bytes.items ≡ store_log store first (any_root ∷ [])) }
@@ -126,7 +126,7 @@ pub fn new_log(alloc: Global, store: u64, first: u64) -> Result<Vec<u8>, AllocEr
     log_of_one(alloc, store, first, RecordKind::AnyRoot, 0, &[])
 }
 
-/// The frame of edits that were a record of format 1.
+/// The frame of the edits in a record of format 1.
 ///
 /// # Errors
 ///
@@ -145,12 +145,12 @@ fn upgraded_frame(alloc: Global, number: u64, edits: &[u8]) -> Result<Vec<u8>, L
     Ok(numbered_frame(alloc, number, RecordKind::Edits, 0, edits)?)
 }
 
-/// The bytes of a store's log of the records of a log of format 1: each is one of edits, of stamp 0. The record before them has
-/// this number.
+/// Upgrades a log of format 1 to the bytes of a store's log. Each record becomes one of edits, of stamp 0. The record
+/// before them has this number.
 ///
 /// # Errors
 ///
-/// `Damaged` if the bytes don't begin as a log of format 1 does; `Refused` if a record is too long; `Memory`.
+/// `Damaged` if the bytes don't begin with the header of format 1; `Refused` if a record is too long; `Memory`.
 pub fn upgrade_log(alloc: Global, bytes: &[u8], store: u64, first: u64) -> Result<Vec<u8>, LogFault>
     requires { first < 2 ^ 63 }
     ensures ok { IfOk result (λ made. (records : List (List ℕ)) (tail : List ℕ)

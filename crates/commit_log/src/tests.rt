@@ -28,7 +28,7 @@ const TWO: [u8; 27] = *b"TABLOG01\
 \x00\x00\x00\x01\xE5\x8C\x97\x92a\
 \x00\x00\x00\x02\x6D\x1C\x2F\x5Fab";
 
-/// Where the head, the first frame and the second end.
+/// The offsets where the header, the first frame and the second end.
 const TWO_ENDS: [usize; 3] = [8, 17, 27];
 
 /// That log in format 2.
@@ -48,7 +48,7 @@ const LOG: [u8; 96] = *b"TABLOG02\x01\x02\x03\x04\x05\x06\x07\x08\
 \x00\x00\x00\x12\xE2\x8E\x0D\x2A\x11\x12\x13\x14\x15\x16\x17\x19\x00\0\0\0\0\0\0\0\x07a\
 \x00\x00\x00\x15\x1A\xC9\x02\x64\x11\x12\x13\x14\x15\x16\x17\x1A\x01\0\0\0\0\0\0\0\x09\x01\x02\x03\x04";
 
-/// Where its head and its frames end.
+/// The offsets where its header and its frames end.
 const ENDS: [usize; 4] = [16, 41, 67, 96];
 
 /// Its records.
@@ -101,7 +101,8 @@ fn logs_of_format_1(rt: HostRuntime) -> Result<(), Fail> {
     Ok(())
 }
 
-/// Bytes in memory, of which a call fails once no more are left: a write leaves a part then, and a renewal nothing.
+/// A file in memory that fails after `left` calls. The failing write appends a part of the bytes; a failing renewal
+/// changes nothing.
 #[derive(Drop)]
 struct FakeFile {
     bytes: Vec<u8>,
@@ -112,7 +113,7 @@ struct FakeFile {
 }
 
 impl FakeFile {
-    /// Whether a call may be made. It is counted.
+    /// Whether one more call may succeed. It is counted.
     fn goes(&mut self) -> bool
         ensures stopped { self.new.is_stopped ≡ self.old.is_stopped }
         ensures faults { self.new.faults ≡ self.old.faults }
@@ -124,7 +125,7 @@ impl FakeFile {
         true
     }
 
-    /// A fault. Nothing is taken any more.
+    /// Stops the file and counts a fault of the device.
     fn fail(&mut self) -> LogFault
         ensures fault { result ≡ LogFault.Device }
         ensures stopped { self.new.is_stopped ≡ true }
@@ -183,7 +184,7 @@ impl LogFile for FakeFile {
     }
 }
 
-/// A file of these bytes that has this many calls left.
+/// A file of these bytes that fails after this many calls.
 fn fake(alloc: Global, bytes: &[u8], left: u64, part: usize) -> Result<FakeFile, LogFault> {
     Ok(FakeFile {
         bytes: Vec::from_slice(alloc, bytes)?,
@@ -194,7 +195,7 @@ fn fake(alloc: Global, bytes: &[u8], left: u64, part: usize) -> Result<FakeFile,
     })
 }
 
-/// The log of these bytes, over a file that has this many calls left.
+/// The log of these bytes, over a file that fails after this many calls.
 fn opened(
     alloc: Global,
     bytes: &[u8],
@@ -241,7 +242,7 @@ fn damaged_logs(rt: HostRuntime) -> Result<(), Fail> {
     Ok(())
 }
 
-/// How many records went in behind the first before the file failed, and what it has then.
+/// Appends the records behind the first. Answers how many succeeded, and the file.
 fn append_both(alloc: Global, left: u64, part: usize) -> Result<(usize, FakeFile), LogFault> {
     let mut log = opened(alloc, &LOG[..ENDS[1]], left, part)?;
     let mut count: usize = 0;
@@ -341,7 +342,7 @@ fn new_folder(rt: &HostRuntime) -> io::Result<String> {
     Ok(folder)
 }
 
-/// Puts a log into a folder, and its sign or none.
+/// Puts a log into a folder, and its sign unless that is empty.
 fn put_files(rt: &HostRuntime, folder: &str, log: &[u8], sign: &[u8]) -> Result<(), Fail> {
     let path = format!(in rt.alloc(); "{folder}/commit.log")?;
     fs::write(rt, path.as_str(), log)?;
@@ -356,7 +357,7 @@ fn put_files(rt: &HostRuntime, folder: &str, log: &[u8], sign: &[u8]) -> Result<
 /// The sign of the store of `LOG`.
 const SIGN: [u8; 20] = *b"TABSTORE\x01\x02\x03\x04\x05\x06\x07\x08\x9E\x85\xCC\x0B";
 
-/// Logs and signs, and how many records are read and bytes cut of them; no records if they are damaged.
+/// Logs and signs, with the numbers of records read and of bytes cut; no records if they are damaged.
 const FOUND: [(&[u8], &[u8], usize, usize); 8] = [
     (&LOG, &SIGN, 3, 0),
     (&LOG, b"", 3, 0),

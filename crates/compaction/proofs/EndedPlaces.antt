@@ -1,4 +1,4 @@
--- Places that are left out, as their sources are at no entry.
+-- Places that are removed because their sources have no current entry.
 use Rattle.std.proofs.Common.{◌≡◌, ◌≤◌, ◌<◌, ◌-◌, ◌⊎◌, ℕ, zero, suc, T, List, [], ◌∷◌, length, take, drop, get_or, refl, sym, ap, subst, arith, inl, inr, false}
 use Rattle.std.specs.Prelude.{Option, Some, None, IsSome, Contains, is_some, option_map}
 use Rattle.std.specs.List.{AllByRecursion}
@@ -9,7 +9,7 @@ use Rattle.compaction.specs.Order.{AreSorted, InOrder, IsOrdered, lent_cmp, plac
 use Rattle.compaction.specs.OrderLaw.{at_index, not_both}
 use Rattle.compaction.proofs.Tied.{distinct_take}
 
--- one place more at the end
+-- one more place at the end
 one_dropped : (P : ℕ → Type 0) (order : List ℕ) (k d : ℕ) → k < length order → P (get_or order k d) → AllByRecursion P (drop (suc k) order) → AllByRecursion P (drop k order)
 one_dropped P [] k d within here all = absurd (omega (arith, within))
 one_dropped P (p ∷ order) zero d within here all = (here, all)
@@ -26,7 +26,7 @@ module _ (lents : List (Option Entry)) where
   before_some None (Some f) p q h some = absurd h
   before_some (Some e) b p q h some = refl
 
-  -- before a place that is at an entry all are
+  -- all places before one at an entry are at entries
   each_taken : (order : List ℕ) (n : ℕ) → InOrder lents order → n ≤ length order → ((k d : ℕ) → n ≡ suc k → IsSome (entry_at lents (get_or order k d))) → AllByRecursion (λ place. IsSome (entry_at lents place)) (take n order)
   each_taken [] zero r l last = tt
   each_taken [] (suc n) r l last = absurd (omega (arith, l))
@@ -57,7 +57,7 @@ module _ (lents : List (Option Entry)) where
       later (inl (j, l, e)) = inl (suc j, omega (arith, l), e)
       later (inr w) = inr w
 
-  -- what is left is ordered
+  -- the places left are ordered
   pub left_ordered : (order : List ℕ) (n : ℕ) → AreSorted lents order → n ≤ length order → AllByRecursion (λ place. entry_at lents place ≡ None) (drop n order) → ((d : ℕ) → 0 < n → IsSome (entry_at lents (get_or order (n - 1) d))) → IsOrdered lents (take n order)
   left_ordered order n h l ended last = record {
     sorted = record {

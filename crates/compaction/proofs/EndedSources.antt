@@ -17,7 +17,7 @@ less_or_not Less e = refl
 less_or_not Equal e = cc
 less_or_not Greater e = cc
 
--- what is above a text that isn't below the end isn't below it either
+-- a text above one at or above the end is at or above the end
 above_end : (end : Option (List ℕ)) (x y : List ℕ) → byte_cmp x y ≡ Less → is_below end x ≡ false → (b : Bool) → is_below end y ≡ b → b ≡ false
 above_end None x y p n b e = cc
 above_end (Some end) x y p n false e = refl

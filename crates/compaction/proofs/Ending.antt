@@ -1,4 +1,4 @@
--- A merge that comes to its end has sources that do.
+-- If a merge comes to its end, its sources do.
 use Rattle.std.proofs.Common.{◌≡◌, ℕ, inl, inr, true, false, List, [], ◌∷◌, map, refl, sym, ap, subst, ◌∙◌}
 use Rattle.std.specs.Prelude.{Option, Some, None, Bool, IfSome, IsSome, IsSomeAnd, is_some}
 use Rattle.std.specs.List.{AllByRecursion, AllZip}
@@ -13,7 +13,7 @@ use Rattle.compaction.specs.Writing.{is_written, is_written_lent, StepsOn, steps
 some_is : (o : Option Entry) (e : Entry) → o ≡ Some e → IsSome o
 some_is o e is = subst (λ (o : Option Entry). IsSome o) (sym is) refl
 
--- whether an entry that a source is at is written
+-- whether a source's current entry is written
 pub written_if : (now keep : Bool) (o : Option Entry) → now ≡ keep → true ≡ is_written_lent now o → IfSome o (λ e. is_written keep e ≡ true)
 written_if now keep None k h = tt
 written_if now keep (Some e) k h = ap (λ (b : Bool). is_written b e) (sym k) ∙ sym h
@@ -27,7 +27,7 @@ ended_if None P h = tt
 ended_if (Some e) P h = cc
 
 module _ {S : Type 0} (steps : S → S → Type 0) (lent : S → Option Entry) where
-  -- a source comes to its end, or it has come to it if the merge is at an entry and the source at none
+  -- a source comes to its end, or it has ended already if the merge has a current entry and the source has none
   abbrev Ends : Option Entry → S → Type 0
   Ends None s = ComesToEnd steps lent s
   Ends (Some e) s = IsSome (lent s) → ComesToEnd steps lent s
@@ -60,7 +60,7 @@ module _ {S : Type 0} (steps : S → S → Type 0) (lent : S → Option Entry) w
   at_entry None ys some h = absurd (not_both None some refl)
   at_entry (Some e) ys some h = h
 
-  -- what a merge M has: its sources, and the order of their places
+  -- the sources of a merge M, and the order of their places
   module _ {M : Type 0} (sources : M → List S) (order : M → List ℕ) where
     abbrev pub OrderedSteps : M → M → Type 0
     OrderedSteps a b = IsReady (map lent (sources a)) (order a) → MergeSteps steps lent (sources a) (order a) (sources b) (order b)
@@ -73,7 +73,7 @@ module _ {S : Type 0} (steps : S → S → Type 0) (lent : S → Option Entry) w
         let s = step ready in
         next_all (first_lent lent (sources m) (order m)) (sources m) (sources b) s.past (at_entry (first_lent lent (sources b) (order b)) (sources b) some (all_end b h (inr s.ordered)))
 
-    -- a merge that nothing is in order of
+    -- if a merge with an empty order comes to its end, so do its sources
     pub merge_ends : (m : M) → order m ≡ [] → ComesToEnd OrderedSteps (λ a. first_lent lent (sources a) (order a)) m → AllByRecursion (ComesToEnd steps lent) (sources m)
     merge_ends m none h = subst (λ (order : List ℕ). AllByRecursion (Ends (first_lent lent (sources m) order)) (sources m)) none (all_end m h (inl none))
 
@@ -90,7 +90,7 @@ module _ {S : Type 0} (steps : S → S → Type 0) (lent : S → Option Entry) w
   past_on keep s t (steps_once step written) some h = goes_on step some h
   past_on keep s t (steps_past step out more) some h = goes_on step (some_and (lent _) _ out) (past_on keep _ t more some h)
 
-  -- what goes on from one source goes on from the other
+  -- steps on from the one source are steps on from the other
   abbrev pub GoesOnFrom : Bool → S → S → Type 0
   GoesOnFrom keep now start = (s : S) → StepsOn keep steps lent now s → StepsOn keep steps lent start s
 
@@ -98,7 +98,7 @@ module _ {S : Type 0} (steps : S → S → Type 0) (lent : S → Option Entry) w
   values_end source keeps v (ends {t = w} step none) = past_end (keeps v) (source v) (source w) step.1 none
   values_end source keeps v (goes_on {t = w} step some h) = past_on (keeps v) (source v) (source w) step.1 some (values_end source keeps w h)
 
-  -- what a merge's sources do, by the entry that it is at
+  -- the steps of a merge's sources, by its current entry
   pub past_none : (o : Option Entry) (xs ys : List S) → false ≡ is_some o → AllZip steps xs ys → AllZip (MovesPast steps lent o) xs ys
   past_none None xs ys e h = h
   past_none (Some e) xs ys p h = cc

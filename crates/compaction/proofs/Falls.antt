@@ -1,4 +1,4 @@
--- What the number of a merge says of the entry that it is at.
+-- The number of a merge falls, by its current entry.
 use Rattle.std.proofs.Common.{◌≡◌, ℕ, zero, suc, ◌+◌, ◌≤◌, false, cond, List, [], ◌∷◌, length, refl, sym, ap, subst, arith, take, drop, ◌++◌}
 use Rattle.std.specs.Prelude.{Option, Some, None, IsSome, is_some, sum_by, Result, Ok, Err, OnOk}
 use Rattle.std.specs.List.{AllByRecursion, AllZip}
@@ -8,7 +8,7 @@ use Rattle.cell_key.specs.Entries.{Entry}
 use Rattle.compaction.specs.Merging.{first_lent, lent_at, one, HaveStarted, MergeHolds, StepsTo}
 
 module _ {S : Type 0} (lent : S → Option Entry) where
-  -- if a source is at an entry, one is counted
+  -- if a source has a current entry, the number isn't 0
   pub one_lent : (xs : List S) (k : ℕ) → IsSome (lent_at lent xs k) → 1 ≤ sum_by (λ s. one (lent s)) xs
   one_lent [] k h = cc
   one_lent (x ∷ xs) zero h =
@@ -25,7 +25,7 @@ module _ {S : Type 0} (lent : S → Option Entry) (remaining : S → List Entry)
   with_none [] h n = tt
   with_none (x ∷ xs) h n = ((h.0, n.0), with_none xs h.1 n.1)
 
-  -- if a merge is at no entry, each source goes on from there
+  -- if a merge has no current entry, each source makes a step
   pub all_none : (olds news : List S) (order : List ℕ) → false ≡ is_some (first_lent lent olds order) → MergeHolds lent remaining holds olds order → (AllByRecursion (λ s. holds s × (lent s ≡ None)) olds → AllZip (StepsTo lent remaining holds None) olds news) → AllZip (StepsTo lent remaining holds (first_lent lent olds order)) olds news
   all_none olds news order n h steps =
       let none : first_lent lent olds order ≡ None = is_none _ (sym n) in
@@ -42,6 +42,6 @@ pub on_both : {A E : Type 0} (r : Result A E) (P Q R : Type 0) → OnOk r P → 
 on_both (Ok a) P Q R p q f = f p q
 on_both (Err e) P Q R p q f = tt
 
--- a sum that falls by one where a source is at an entry
+-- a sum that falls by one if a source is at an entry
 pub falls_at : {S : Type 0} (lent : S → Option Entry) (news : List S) (new old : ℕ) → new + sum_by (λ s. one (lent s)) news ≤ old → (k : ℕ) → IsSome (lent_at lent news k) → new + 1 ≤ old
 falls_at lent news new old h k some = omega (arith, one_lent lent news k some)

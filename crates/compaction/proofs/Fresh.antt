@@ -1,4 +1,4 @@
--- A merge of sources that are at no entry.
+-- A merge of sources without current entries.
 use Rattle.std.proofs.Common.{◌≡◌, inl, List, [], ◌∷◌, map, refl, ap, ◌∙◌}
 use Rattle.std.specs.Prelude.{Option, None}
 use Rattle.std.specs.List.{AllByRecursion}

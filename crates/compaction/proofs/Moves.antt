@@ -13,7 +13,7 @@ use Rattle.compaction.specs.Order.{IsDistinct}
 use Rattle.compaction.specs.Merging.{BreaksAt, HasMoved, first_lent, lent_at}
 use Rattle.compaction.proofs.Tied.{at_front, lent_get, none_moved, not_yet, past_all}
 
--- at an index each source at a place before it moved
+-- at an index, the source at each earlier place has moved
 pub record Moving {S : Type 0} (price : S → ℕ) (lent : S → Option Entry) (moves : S → S → Type 0) (places : List ℕ) (xs ys : List S) (i : ℕ) : Type 0 where
   pub size : length ys ≡ length xs
   pub start : i ≡ 0 → ys ≡ xs
@@ -99,7 +99,7 @@ moving_lower (p ∷ places) m long some = m.lower (omega (arith, long)) some
 pub moving_all : {S : Type 0} {price : S → ℕ} {lent : S → Option Entry} {moves : S → S → Type 0} {xs ys : List S} {i : ℕ} → (places : List ℕ) → Moving price lent moves places xs ys i → length places ≤ i → IsDistinct places → HasMoved moves places xs ys
 moving_all {moves = moves} {xs = xs} {ys = ys} {i = i} places m long distinct = subst (λ l. HasMoved moves l xs ys) (take_all i places long) (m.moved distinct)
 
--- or where a source isn't what it stands for
+-- or where a source doesn't stand for its list
 module _ {S : Type 0} {price : S → ℕ} {lent : S → Option Entry} {moves : S → S → Type 0} {places : List ℕ} {xs ys : List S} {i : ℕ} (m : Moving price lent moves places xs ys i) (within : i < length places) (distinct : IsDistinct places) (here : get_or places i 0 < length ys) where
   unmoved : (d : S) → get_or ys (get_or places i 0) d ≡ get_or xs (get_or places i 0) d
   unmoved d = (m.moved distinct).stayed (get_or places i 0) d (not_yet places i 0 distinct within)

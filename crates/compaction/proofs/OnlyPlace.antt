@@ -1,4 +1,4 @@
--- The source at one place goes on, and the others stay.
+-- The source at one place makes a step, and the others are unchanged.
 use Rattle.std.proofs.Common.{◌≡◌, ◌≤◌, ◌<◌, ◌+◌, ℕ, zero, suc, true, false, List, [], ◌∷◌, map, length, take, get_or, set, refl, sym, ap, subst, ◌∙◌, arith, inl, inr}
 use Rattle.std.proofs.lemmas.List.{get_or-set_same}
 use Rattle.std.proofs.lemmas.List.Elements.{All-from_recursion}
@@ -15,7 +15,7 @@ use Rattle.compaction.proofs.Tied.{at_front, lent_get, none_moved, past_all, sti
 nowhere : (place : ℕ) → Contains {X = ℕ} [] place → ⊥
 nowhere place w = omega (arith, w.1)
 
--- ---- the source at a place went on
+-- ---- the source at a place made a step
 
 module _ {S : Type 0} (xs : List S) (place : ℕ) (s t : S) (within : place < length xs) (is : s ≡ get_or xs place s) where
   pub moved_at : (moves : S → S → Type 0) → moves s t → HasMoved moves (place ∷ []) xs (set xs place t)

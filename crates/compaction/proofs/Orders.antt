@@ -1,4 +1,4 @@
--- Places in order: where one of them belongs, and what stands at the front.
+-- Places in order: where a place belongs, and the places at the front.
 use Rattle.std.proofs.Common.{◌≡◌, ◌≤◌, ◌<◌, ◌+◌, ◌-◌, ◌==◌, ◌⊎◌, inl, inr, ℕ, zero, suc, Bool, true, false, T, List, [], ◌∷◌, ◌++◌, length, take, drop, get_or, refl, sym, ap, subst, ◌∙◌, arith, add-one, append_assoc, length-drop}
 use Rattle.std.proofs.lemmas.Grind.{common_steps}
 use Rattle.std.proofs.lemmas.List.{drop-drop}
@@ -81,7 +81,7 @@ le_lt r Greater h l = cc
 pub place_le : (lents : List (Option Entry)) (x y z : ℕ) → T (is_le (place_cmp lents x y)) → T (is_le (place_cmp lents y z)) → T (is_le (place_cmp lents x z))
 place_le lents x y z p q = not_gt_le _ (upto (place_total lents) x y z (le_not_gt _ p) (le_not_gt _ q))
 
--- what doesn't come before a place comes after it
+-- if a place doesn't come before another, it comes after it
 pub not_before : (lents : List (Option Entry)) (x y : ℕ) → is_lt (place_cmp lents x y) ≡ false → T (is_le (place_cmp lents y x))
 not_before lents x y h = subst (λ r. T (is_le r)) (sym ((place_total lents).antisymm y x)) (back_le _ h)
 
@@ -133,7 +133,7 @@ module _ (lents : List (Option Entry)) (place : ℕ) where
   rest_behind (x ∷ xs) zero q = (not_before lents x place (q 0 x (omega arith) (omega arith)), rest_behind xs zero (λ k d a b. q (suc k) d (omega (arith, a)) (omega (arith, b))))
   rest_behind (x ∷ xs) (suc i) q = rest_behind xs i (λ k d a b. q (suc k) d (omega (arith, a)) (omega (arith, b)))
 
-  -- all that follow a place that this one doesn't come after
+  -- all places of an order, if this place doesn't come after the first of them
   pub all_behind : (xs : List ℕ) → InOrder lents xs → (0 < length xs → T (is_le (place_cmp lents place (get_or xs 0 0)))) → AllByRecursion (λ other. T (is_le (place_cmp lents place other))) xs
   all_behind [] r h = tt
   all_behind (x ∷ xs) r h = (h (omega arith), more xs r.0)
@@ -155,7 +155,7 @@ take_drop xs zero = refl
 take_drop [] (suc n) = refl
 take_drop (x ∷ xs) (suc n) = ap (λ l. x ∷ l) (take_drop xs n)
 
--- the first place of a list went behind as many as this
+-- the first place of a list moved behind the next n places
 pub put_first_in : (lents : List (Option Entry)) (place : ℕ) (later new : List ℕ) (n : ℕ) → InOrder lents later
     → AllByRecursion (λ other. T (is_le (place_cmp lents other place))) (take n later) → AllByRecursion (λ other. T (is_le (place_cmp lents place other))) (drop n later)
     → new ≡ take n later ++ place ∷ drop n later → InOrder lents new
@@ -169,7 +169,7 @@ all_taken : (xs : List ℕ) → take (length xs) xs ≡ xs
 all_taken [] = refl
 all_taken (x ∷ xs) = ap (λ l. x ∷ l) (all_taken xs)
 
--- the first place went behind those that come before it
+-- the first place moved behind those that come before it
 pub put_first_whole : (lents : List (Option Entry)) (order later part : List ℕ) (place n : ℕ) → later ≡ take (length order - 1) (drop 1 order) → 0 < length order → place ≡ get_or order 0 0
     → (InOrder lents later → AllByRecursion (λ other. T (is_le (place_cmp lents other place))) (take n later)) → (InOrder lents later → AllByRecursion (λ other. T (is_le (place_cmp lents place other))) (drop n later))
     → part ≡ drop 1 (take (n + 1) order) ++ take 1 (take (n + 1) order) → InOrder lents (drop 1 order) → InOrder lents (part ++ drop (n + 1) order)
@@ -223,7 +223,7 @@ apart l h i j d li lj n e = by (either_side i j n)
     by (inl below) = h i j d below lj e
     by (inr above) = h j i d above li (sym e)
 
--- where an element stood before two changed places
+-- the place of an element before two were exchanged
 data Came (a b m from : ℕ) : Type 0 where
   from_b : m ≡ a → from ≡ b → Came a b m from
   from_a : (m ≡ a → ⊥) → m ≡ b → from ≡ a → Came a b m from

@@ -1,4 +1,4 @@
--- What a merge without erasures passes over, its sources pass over.
+-- The sources of a merge without erasures pass the entries that it passes.
 use Rattle.std.proofs.Common.{◌≡◌, ◌⊎◌, ℕ, inl, inr, Bool, true, false, cond, List, [], ◌∷◌, ◌++◌, map, refl, sym, ap, subst, ◌∙◌}
 use Rattle.std.proofs.lemmas.List.Elements.{filter-append}
 use Rattle.std.specs.Prelude.{Option, Some, None, IfSome, IsSomeAnd}
@@ -20,7 +20,7 @@ either (inr b) f g = inr (g b)
 -- ---- without erasures
 
 module _ {M : Type 0} (keep : Bool) (steps : M → M → Type 0) (lent : M → Option Entry) where
-  -- entries that aren't written are passed over
+  -- a merge passes entries that aren't written
   record LeavesOut (s t : M) : Type 0 where
     skipped : List Entry
     passes : PassesOver steps lent s skipped t
@@ -65,7 +65,7 @@ module _ {M : Type 0} (keep : Bool) (steps : M → M → Type 0) (lent : M → O
   passes_both passes_none more = more
   passes_both (passes_one step is rest) more = passes_one step is (passes_both rest more)
 
-  -- what was passed over of which this is written
+  -- the entries passed, of which these are written
   record Passed (s : M) (es : List Entry) (t : M) : Type 0 where
     all : List Entry
     passes : PassesOver steps lent s all t

@@ -1,4 +1,4 @@
--- Parts of lists that texts decide, and what the parts mean together.
+-- Parts of lists, selected by texts, and the merge of the parts.
 use Rattle.std.proofs.Common.{◌≡◌, ℕ, Bool, true, false, cond, List, [], ◌∷◌, map, refl, sym, ap, ◌∙◌}
 use Rattle.std.specs.Prelude.{Option, Some, None, filter}
 use Rattle.std.specs.Ordering.{is_le, eq_by_cmp}

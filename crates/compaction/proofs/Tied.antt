@@ -1,4 +1,4 @@
--- The sources at the least key go on, and the others stay.
+-- The sources at the least key make a step, and the others are unchanged.
 use Rattle.std.proofs.Common.{◌≡◌, ◌≤◌, ◌<◌, ◌+◌, ◌⊎◌, ℕ, zero, suc, Bool, true, false, T, List, [], ◌∷◌, ◌++◌, map, length, take, drop, get_or, set, refl, sym, ap, subst, ◌∙◌, arith, inl, inr}
 use Rattle.std.proofs.lemmas.Grind.{common_steps}
 use Rattle.std.proofs.lemmas.List.Elements.{Contains-append_left, Contains-get_or, Contains-push, Contains-push_cases}
@@ -40,7 +40,7 @@ module _ (lents : List (Option Entry)) where
 
 -- ---- which places are tied
 
--- if a key comes first and isn't tied, no later one is
+-- a key that isn't tied to the first is above it, and so are all later ones
 untied_less : (e : Entry) (o : Option Entry) (r : Ordering) → T (is_le (ordering_then (lent_cmp (Some e) o) r)) → ties (Some e) o ≡ false → lent_cmp (Some e) o ≡ Less
 untied_less e None r h t = refl
 untied_less e (Some f) r h t = by (byte_cmp e.0 f.0) h t
@@ -65,7 +65,7 @@ less_more e (Some f) (Some g) r p q = by (byte_cmp f.0 g.0) refl q
     by Greater is q = absurd q
 
 module _ (lents : List (Option Entry)) (e : Entry) where
-  -- behind a place that isn't tied none is
+  -- behind a place that isn't tied, none is
   behind_all : (order : List ℕ) (k d : ℕ) (p : ℕ) → lent_cmp (Some e) (entry_at lents p) ≡ Less → AllByRecursion (λ later. T (is_le (place_cmp lents p later))) order → k < length order → ties (Some e) (entry_at lents (get_or order k d)) ≡ false
   behind_all order k d p less a l =
       less_untied e (entry_at lents (get_or order k d))
@@ -78,7 +78,7 @@ module _ (lents : List (Option Entry)) (e : Entry) where
   from_there (p ∷ order) (suc n) zero d r ln less le l = absurd (omega (arith, le))
   from_there (p ∷ order) (suc n) (suc k) d r ln less le l = from_there order n k d r.1 (omega (arith, ln)) less (omega (arith, le)) (omega (arith, l))
 
--- what is tied stands among the first
+-- tied places are among the first n
 pub tied_front : (lents : List (Option Entry)) (order : List ℕ) (n : ℕ) → IsSome (first_entry lents order) → InOrder lents order → 1 ≤ n
     → ((d : ℕ) → n < length order → ties (first_entry lents order) (entry_at lents (get_or order n d)) ≡ false)
     → (place : ℕ) → Contains order place → ties (first_entry lents order) (entry_at lents place) ≡ true → Contains (take n order) place
@@ -114,7 +114,7 @@ tied_front lents (p ∷ order) n some r one last place (k, within, is) t = by_si
         clash : false ≡ true → ⊥
         clash q = cc
 
--- and only what is tied does
+-- and only tied ones are
 pub front_tied : (P : ℕ → Type 0) (places : List ℕ) (place : ℕ) → AllByRecursion P places → Contains places place → P place
 front_tied P places place a (k, within, is) = subst P is (at_index P places k place a within)
 
@@ -157,7 +157,7 @@ past_all {S} {moves} {places} {xs} {ys} p h long = record {
     by place d l (inl in') = h.moved place d in' l
     by place d l (inr e) = absurd (omega (arith, e, l, long))
 
--- the next of distinct places isn't among those before
+-- the next of distinct places isn't among the earlier ones
 pub not_yet : (places : List ℕ) (i d : ℕ) → IsDistinct places → i < length places → ¬ Contains (take i places) (get_or places i d)
 not_yet places i d h l w =
     let lk : w.0 < i = grind (arith, common_steps, w.1) in
@@ -178,7 +178,7 @@ pub length_lents : {S : Type 0} (lent : S → Option Entry) (xs : List S) → le
 length_lents lent [] = refl
 length_lents lent (x ∷ xs) = ap suc (length_lents lent xs)
 
--- each source at the first key moved, and the others stayed
+-- each source at the first key moved, and the others are unchanged
 pub tied_moved : {S : Type 0} (moves : S → S → Type 0) (lent : S → Option Entry) (xs ys : List S) (order : List ℕ) (n : ℕ) → length ys ≡ length xs → IsSome (first_lent lent xs order) → IsOrdered (map lent xs) order → 1 ≤ n
     → AllByRecursion (λ place. ties (first_lent lent xs order) (lent_at lent xs place) ≡ true) (take n order)
     → ((d : ℕ) → n < length order → ties (first_lent lent xs order) (lent_at lent xs (get_or order n d)) ≡ false)
@@ -197,7 +197,7 @@ tied_moved {S} moves lent xs ys order n same some o one tied last h = zip_from (
     each : (i : ℕ) (d : S) → i < length xs → GoesPast moves lent (first_lent lent xs order) (get_or xs i d) (get_or ys i d)
     each i d l = by i d l (ties (first_lent lent xs order) (lent_at lent xs i)) refl
 
--- what breaks off at a tied place is to go on
+-- a source that breaks off at a tied place is one to be advanced
 pub tied_breaks : {S : Type 0} (breaks : S → Type 0) (lent : S → Option Entry) (xs : List S) (o : Option Entry) (places : List ℕ) → AllByRecursion (λ place. ties o (lent_at lent xs place) ≡ true) places → BreaksAt breaks places xs → BreaksAmong breaks (IsMoved lent o) xs
 tied_breaks {S} breaks lent xs o places tied b = by xs (lent_at lent xs b.place) refl b.within
   where
@@ -220,7 +220,7 @@ tied_breaks {S} breaks lent xs o places tied b = by xs (lent_at lent xs b.place)
           here = b.here d;
         }
 
--- ---- what the merge's step says of them
+-- ---- the sources after the merge's step
 
 module _ {S : Type 0} (steps : S → S → Type 0) (lent : S → Option Entry) (remaining : S → List Entry) (holds : S → Type 0) (at : Option Entry) where
   pub past_all_tied : (xs ys : List S) → AllZip (GoesPast (Advances steps lent remaining holds) lent at) xs ys → AllZip (GoesPast steps lent at) xs ys
@@ -264,7 +264,7 @@ all_from : (P : ℕ → Type 0) (places : List ℕ) → ((k : ℕ) → k < lengt
 all_from P [] h = tt
 all_from P (p ∷ places) h = (h 0 (omega arith), all_from P places (λ k l. h (suc k) (omega (arith, l))))
 
--- what stands behind the places that moved is at the same entries
+-- the places behind those that moved have the same current entries
 behind_same : {S : Type 0} (moves : S → S → Type 0) (lent : S → Option Entry) (xs ys : List S) (order : List ℕ) (n : ℕ) → length ys ≡ length xs → IsDistinct order → HasMoved moves (take n order) xs ys → AllByRecursion (λ place. lent_at lent ys place ≡ lent_at lent xs place) (drop n order)
 behind_same moves lent xs ys order n size distinct h = all_from (λ place. lent_at lent ys place ≡ lent_at lent xs place) (drop n order) each
   where
@@ -293,7 +293,7 @@ rises_drop lents order zero r = r
 rises_drop lents [] (suc n) r = r
 rises_drop lents (p ∷ order) (suc n) r = rises_drop lents order n r.1
 
--- the places behind those that moved are in order still
+-- the places behind those that moved are still in order
 pub rest_rises : {S : Type 0} (moves : S → S → Type 0) (lent : S → Option Entry) (xs ys : List S) (order : List ℕ) (n : ℕ) → length ys ≡ length xs → IsOrdered (map lent xs) order → HasMoved moves (take n order) xs ys → InOrder (map lent ys) (drop n order)
 rest_rises moves lent xs ys order n size o h = rises_same (map lent xs) (map lent ys) (drop n order) (behind_same moves lent xs ys order n size o.sorted.distinct h) (rises_drop (map lent xs) order n o.sorted.rises)
 
@@ -305,7 +305,7 @@ some_within lent (x ∷ xs) (suc place) some = omega (arith, some_within lent xs
 in_whole : (order : List ℕ) (n place : ℕ) → Contains (take n order) place → Contains order place
 in_whole order n place (k, within, is) = (k, grind (arith, common_steps, within), grind (arith, common_steps, within, is))
 
--- a source at an entry had one before, or it didn't move
+-- a source with a current entry had one before, or it didn't move
 pub still_whole : {S : Type 0} (moves : S → S → Type 0) (lent : S → Option Entry) (xs ys : List S) (order : List ℕ) (n : ℕ) → length ys ≡ length xs → IsOrdered (map lent xs) order → HasMoved moves (take n order) xs ys → (place : ℕ) → IsSome (lent_at lent ys place) → Contains order place
 still_whole moves lent xs ys order n size o h place some = by (lent_at lent xs place) refl
   where

@@ -1,4 +1,4 @@
--- A loop that goes once over sources and may change each.
+-- A loop over sources that may change each once.
 use Rattle.std.proofs.Common.{◌≡◌, ℕ, ◌+◌, ◌≤◌, ◌<◌, List, [], ◌∷◌, ◌++◌, length, take, drop, set, get_or, sym, ap, subst, ◌∙◌, arith, add-one}
 use Rattle.std.proofs.lemmas.Grind.{common_steps}
 use Rattle.std.proofs.lemmas.List.Elements.{AllZip-push, All-from_recursion, Contains-get_or}
@@ -13,7 +13,7 @@ use Rattle.cell_key.specs.Entries.{Entry}
 use Rattle.compaction.specs.Merging.{cost, one, BreaksAmong}
 use Rattle.file_store.specs.Store.{Contents}
 
--- At an index a list came from another: what is before it is changed, and the rest is the same.
+-- At an index one list became another: the part before it has changed, and the rest is unchanged.
 pub record Progress {S F : Type 0} (contents : F → Option Contents) (faults : F → ℕ) (price bonus : S → ℕ) (before : S → Type 0) (step move : S → S → Type 0) (start files : F) (xs ys : List S) (i : ℕ) : Type 0 where
   pub same : contents files ≡ contents start
   pub quiet : faults files ≡ faults start
@@ -22,7 +22,7 @@ pub record Progress {S F : Type 0} (contents : F → Option Contents) (faults : 
   pub steps : AllByRecursion before xs → AllZip step (take i xs) (take i ys)
   pub moves : AllZip move (take i xs) (take i ys)
 
--- what an index has is the first of the rest
+-- the element at an index is the first of the rest
 item-rest : {S : Type 0} (xs ys : List S) (i : ℕ) (d : S) → drop i ys ≡ drop i xs → get_or ys i d ≡ get_or xs i d
 item-rest xs ys i d e = grind (arith, common_steps)
 
@@ -66,7 +66,7 @@ cheaper lt ls true false h = omega arith
 cheaper lt ls false true h = omega arith
 cheaper lt ls false false h = omega arith
 
--- what an advance costs
+-- an advance lowers the cost
 pub cost_falls : (lt ls : ℕ) (b : Bool) (t s : Option Entry) → b ≡ is_some t → lt + cond b 1 0 ≤ ls → cost lt t + one t ≤ cost ls s
 cost_falls lt ls b t s e h = cheaper lt ls (is_some t) (is_some s) (subst (λ b. lt + cond b 1 0 ≤ ls) e h)
 
@@ -74,7 +74,7 @@ paid_tied : (lt ls : ℕ) (x : Bool) → lt + cond x 1 0 ≤ ls → (2 * lt + co
 paid_tied lt ls true h = omega arith
 paid_tied lt ls false h = omega arith
 
--- what an advance away from an entry costs
+-- an advance past an entry lowers the cost by one
 pub cost_falls_from : (lt ls : ℕ) (b : Bool) (t s : Option Entry) → b ≡ is_some t → is_some s ≡ true → lt + cond b 1 0 ≤ ls → cost lt t + 1 ≤ cost ls s
 cost_falls_from lt ls b t s e y h = rw y (paid_tied lt ls (is_some t) (subst (λ b. lt + cond b 1 0 ≤ ls) e h))
 

@@ -1,4 +1,4 @@
--- What is written of several lists, at each text.
+-- The entries written of several lists, at each text.
 use Rattle.std.proofs.Common.{◌≡◌, ℕ, Bool, true, false, cond, T, List, [], ◌∷◌, refl, sym, ap, ◌∙◌}
 use Rattle.std.specs.Prelude.{Option, Some, None, is_some, ◌||◌}
 use Rattle.std.specs.Ordering.{eq_by_cmp}
@@ -29,7 +29,7 @@ value_at : (name : List ℕ) (e : Entry) (es : List Entry) (b : Bool) → value_
 value_at name e es true = refl
 value_at name e es false = refl
 
--- an erasure that is left out says of a text what no entry says of it
+-- an erasure that is left out has no value, as a missing entry has none
 erasure_out : (name : List ℕ) (e : Entry) (es : List Entry) → T (below_all byte_cmp e.0 es) → e.1 ≡ None → (b : Bool) → eq_by_cmp byte_cmp name e.0 ≡ b → value_of (entry_of_key es name) ≡ value_of (cond b (Some e.1) (entry_of_key es name))
 erasure_out name e es h n true t = ap (λ k. value_of (entry_of_key es k)) (same_key name e.0 (equal _ t)) ∙ ap value_of (find_below e.0 es h) ∙ sym n
 erasure_out name e es h n false t = refl

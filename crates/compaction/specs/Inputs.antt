@@ -1,4 +1,4 @@
--- What an input stands for, over files.
+-- Inputs: their entries over the contents of files.
 use Rattle.std.specs.Prelude.{ℕ, List, Option, length}
 use Rattle.cell_key.specs.Entries.{Entry, IsEntryList, Takes}
 use Rattle.file_store.specs.Store.{Contents}
@@ -16,17 +16,17 @@ abbrev pub input_remaining : Option Contents → Input → List Entry
 input_remaining disk (Memtable s) = s.1
 input_remaining disk (File s) = cursor_remaining disk s
 
--- its entries are an entry list: those of a memtable whatever the files hold
+-- its entries are an entry list; a memtable's don't depend on the contents of files
 abbrev pub InputHolds : Option Contents → Input → Type 0
 InputHolds disk (Memtable s) = IsEntryList (pending s.0 s.1)
 InputHolds disk (File s) = CursorHolds disk s
 
--- at most how many entries it can come to, by what is said of a file's cursor
+-- an upper bound of the entries that it can still reach, given a file cursor's bound
 abbrev pub input_left : (FileCursor → ℕ) → Input → ℕ
 input_left left (Memtable s) = length s.1
 input_left left (File s) = left s
 
--- a memtable's cursor takes its next entry, and a file's goes on by one step through what the files hold
+-- a memtable's cursor takes its next entry, and a file's makes a step over the present contents
 abbrev pub InputSteps : Option Contents → Input → Input → Type 0
 InputSteps disk (Memtable s) (Memtable t) = Takes t.0 s.1 t.1
 InputSteps disk (File s) (File t) = CursorSteps disk s t

@@ -1,4 +1,4 @@
--- Which of several lent entries is the least.
+-- The least of several current entries.
 use Rattle.std.specs.Prelude.{◌≡◌, ℕ, zero, suc, List, [], ◌∷◌, Option, Some, None, T, IsSomeAnd, slice_index_or}
 use Rattle.std.specs.List.{AllByRecursion}
 use Rattle.std.specs.Ordering.{is_le}
@@ -6,13 +6,13 @@ use Rattle.std.specs.declared.cmp.Ordering.TheVariants.{Less}
 use Rattle.cell_key.specs.Keys.{byte_cmp}
 use Rattle.cell_key.specs.Entries.{Entry}
 
--- the second key is above the first, if there is a second
+-- the second key, if there is one, is above the first
 abbrev pub IsAbove : Option Entry → Option Entry → Type 0
 IsAbove best None = Unit {0}
 IsAbove None (Some f) = ⊥
 IsAbove (Some e) (Some f) = byte_cmp e.0 f.0 ≡ Less
 
--- the second key isn't below the first, if there is a second
+-- the second key, if there is one, isn't below the first
 abbrev pub IsNotBelow : Entry → Option Entry → Type 0
 IsNotBelow e None = Unit {0}
 IsNotBelow e (Some f) = T (is_le (byte_cmp e.0 f.0))

@@ -1,5 +1,5 @@
 -- Proofs that a ghost member cites; nothing is promised here.
--- What the least of the lent entries says of all entries.
+-- Laws of the least current entry and all entries.
 use Rattle.std.proofs.Common.{◌≡◌, ℕ, zero, suc, true, cond, T, List, [], ◌∷◌, ◌++◌, map, refl, sym, ap, subst, ◌∙◌}
 use Rattle.std.specs.Prelude.{Option, Some, None, flat_map}
 use Rattle.std.specs.List.{AllByRecursion}
@@ -54,7 +54,7 @@ module _ {S : Type 0} (lent : S → Option Entry) (remaining : S → List Entry)
       (below_less e.0 f.0 (remaining s) above
       (first _ _ (subst (λ o. IsRising (pending o (remaining s))) is r))))
 
-  -- the first list that names the least key gives the entry that is lent
+  -- the first list with an entry of the least key gives the current entry
   found : (sources : List S) (at : ℕ) (e : Entry) → IsLeast (map lent sources) at
       → lent_at lent sources at ≡ Some e → AllByRecursion (HasStarted lent remaining) sources
       → AllByRecursion (λ s. IsRising (waiting lent remaining s)) sources
@@ -104,7 +104,7 @@ module _ {S : Type 0} (lent : S → Option Entry) (remaining : S → List Entry)
   none_waiting (s ∷ sources) n h =
       (ap (λ o. pending o (remaining s)) n.0 ∙ h.0 n.0, none_waiting sources n.1 h.1)
 
-  -- all that the sources have, when the merge is at an entry
+  -- the entries of all sources, when the merge is at an entry
   pub whole_some : (sources : List S) (at : ℕ) (e : Entry) → IsLeast (map lent sources) at
       → lent_at lent sources at ≡ Some e → AllByRecursion (HasStarted lent remaining) sources
       → AllByRecursion (λ s. IsRising (waiting lent remaining s)) sources

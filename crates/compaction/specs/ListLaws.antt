@@ -1,5 +1,5 @@
 -- Proofs that a ghost member cites; nothing is promised here.
--- What an input, a source without its erasures and a source up to an end have is an entry list.
+-- The entries of an input, of a source without its erasures and of a bounded source are entry lists.
 use Rattle.std.proofs.Common.{◌≡◌, Bool, true, false, cond, refl, subst}
 use Rattle.std.specs.Prelude.{ℕ, List, ◌∷◌, Option, Some, None}
 use Rattle.cell_key.specs.Entries.{Entry, IsEntryList}

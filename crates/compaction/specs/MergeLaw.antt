@@ -24,7 +24,7 @@ module _ {S : Type 0} (lent : S → Option Entry) (remaining : S → List Entry)
   ended None s t q k = λ _. k.1
   ended (Some e) s t q k = λ n. cc
 
-  -- a source that was at no entry was advanced
+  -- a source without a current entry was advanced
   pub step_none : (s t : S) → lent s ≡ None → holds t → Takes (lent t) (remaining s) (remaining t)
       → StepsTo lent remaining holds None s t
   step_none s t p h k = record {
@@ -39,7 +39,7 @@ module _ {S : Type 0} (lent : S → Option Entry) (remaining : S → List Entry)
   tied_past (Some e) None es t = cc
   tied_past (Some e) (Some f) es t = ap (λ b. cond b es (f ∷ es)) t
 
-  -- a source that was at the entry was advanced
+  -- a source at the entry was advanced
   pub step_tie : (at : Option Entry) (s t : S) → ties at (lent s) ≡ true
       → holds t → Takes (lent t) (remaining s) (remaining t) → StepsTo lent remaining holds at s t
   step_tie at s t p h k = record {
@@ -54,7 +54,7 @@ module _ {S : Type 0} (lent : S → Option Entry) (remaining : S → List Entry)
   untied_past (Some e) None es t n = ap (past e.0) (n refl) ∙ sym (n refl)
   untied_past (Some e) (Some f) es t n = ap (λ b. cond b es (f ∷ es)) t
 
-  -- a source that was not at the entry stayed
+  -- a source not at the entry was left alone
   pub step_same : (at : Option Entry) (s : S) → ties at (lent s) ≡ false
       → holds s → HasStarted lent remaining s → StepsTo lent remaining holds at s s
   step_same at s p h n = record {
@@ -99,7 +99,7 @@ module _ {S : Type 0} (lent : S → Option Entry) (remaining : S → List Entry)
   unmapped [] n = tt
   unmapped (s ∷ sources) n = (n.0, unmapped sources n.1)
 
-  -- if a merge whose places are in order is at no entry, no source is
+  -- if a merge whose places are in order has no current entry, no source has one
   pub none_at : (sources : List S) (order : List ℕ) → IsOrdered (map lent sources) order
       → first_lent lent sources order ≡ None → AllByRecursion (λ s. lent s ≡ None) sources
   none_at sources order l is = unmapped sources (ordered_none (map lent sources) order l is)
@@ -124,7 +124,7 @@ module _ {S : Type 0} (lent : S → Option Entry) (remaining : S → List Entry)
       let first = ordered_least (map lent sources) order e l is in
       whole_some lent remaining sources first.place e first.least first.is h r
 
-  -- The sources went past the entry, and the merge went to the least that they are at.
+  -- The sources were advanced past the entry, and the merge is at the least of their current entries.
   pub merge_takes : ((s : S) → holds s → IsRising (waiting lent remaining s))
       → (olds news : List S) (old new : List ℕ)
       → AllZip (StepsTo lent remaining holds (first_lent lent olds old)) olds news
@@ -165,7 +165,7 @@ module _ {S : Type 0} (lent : S → Option Entry) (remaining : S → List Entry)
       subst IsEntryList (whole_some lent remaining sources first.place e first.least first.is h r)
       list
 
-  -- what a merge has is an entry list
+  -- the entries of a merge are an entry list
   pub merge_list : ((s : S) → holds s → IsEntryList (waiting lent remaining s))
       → (sources : List S) (order : List ℕ) → MergeHolds lent remaining holds sources order
       → IsEntryList

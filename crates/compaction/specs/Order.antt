@@ -1,4 +1,4 @@
--- The order of the places of sources, by the entries that the sources are at.
+-- The order of the places of sources, by their current entries.
 use Rattle.std.specs.Prelude.{◌≡◌, ◌≢◌, ◌<◌, ◌⊎◌, ℕ, List, [], ◌∷◌, Option, Some, None, IsSome, T, Contains, length, slice_index_or}
 use Rattle.std.specs.List.{AllByRecursion}
 use Rattle.std.specs.Ordering.{is_le, nat_cmp, on, then_cmp}
@@ -8,14 +8,14 @@ use Rattle.cell_key.specs.Keys.{byte_cmp}
 use Rattle.cell_key.specs.Entries.{Entry}
 use Rattle.compaction.specs.Least.{entry_at}
 
--- the order of lent entries, by their keys: a place without one comes last
+-- the order of current entries by their keys: no entry comes last
 abbrev pub lent_cmp : Option Entry → Option Entry → Ordering
 lent_cmp (Some e) (Some f) = byte_cmp e.0 f.0
 lent_cmp (Some e) None = Less
 lent_cmp None (Some f) = Greater
 lent_cmp None None = Equal
 
--- the order of places, by what is lent there, and of one key the newer source first
+-- the order of places by the current entries, and for equal keys the newer source first
 abbrev pub place_cmp : List (Option Entry) → ℕ → ℕ → Ordering
 place_cmp lents = then_cmp (on (entry_at lents) lent_cmp) nat_cmp
 
@@ -25,7 +25,7 @@ InOrder lents [] = Unit {0}
 InOrder lents (place ∷ order) =
     AllByRecursion (λ later. T (is_le (place_cmp lents place later))) order × InOrder lents order
 
--- no place is named twice
+-- no place occurs twice
 abbrev pub IsDistinct : List ℕ → Type 0
 IsDistinct places =
     (i j d : ℕ) → i < j → j < length places → slice_index_or places i d ≢ slice_index_or places j d
@@ -36,16 +36,16 @@ pub record AreSorted (lents : List (Option Entry)) (order : List ℕ) : Type 0 w
   pub distinct : IsDistinct order
   pub rises : InOrder lents order
 
--- just the places of the sources that are at entries, each once, in order
+-- exactly the places of the sources that are at entries, each once, in order
 pub record IsOrdered (lents : List (Option Entry)) (order : List ℕ) : Type 0 where
   pub sorted : AreSorted lents order
   pub each : AllByRecursion (λ place. IsSome (entry_at lents place)) order
 
--- before the first advance nothing is in order
+-- the order is empty before the first advance
 abbrev pub IsReady : List (Option Entry) → List ℕ → Type 0
 IsReady lents order = (order ≡ []) ⊎ IsOrdered lents order
 
--- what is lent at the first place
+-- the current entry at the first place
 abbrev pub first_entry : List (Option Entry) → List ℕ → Option Entry
 first_entry lents [] = None
 first_entry lents (place ∷ order) = entry_at lents place

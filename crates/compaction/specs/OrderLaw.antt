@@ -1,5 +1,5 @@
 -- Proofs that a ghost member cites; nothing is promised here.
--- The first place of an order is that of the least entry.
+-- The first place of an order has the least entry.
 use Rattle.std.proofs.Common.{◌≡◌, ◌≢◌, ◌<◌, inl, inr, ℕ, zero, suc, T, List, [], ◌∷◌, length, get_or, refl, sym, ap, subst, ◌∙◌, arith}
 use Rattle.std.specs.Prelude.{Option, Some, None, IsSome, IsSomeAnd, Contains}
 use Rattle.std.specs.List.{AllByRecursion}
@@ -12,13 +12,13 @@ use Rattle.cell_key.specs.Entries.{Entry}
 use Rattle.compaction.specs.Least.{IsAbove, IsNotBelow, IsLeast, entry_at}
 use Rattle.compaction.specs.Order.{IsOrdered, IsReady, first_entry, lent_cmp, place_cmp}
 
--- what holds at each place holds of all
+-- a property at each place holds for all
 each_of : (os : List (Option Entry)) (P : Option Entry → Type 0)
     → ((i : ℕ) → i < length os → P (entry_at os i)) → AllByRecursion P os
 each_of [] P h = tt
 each_of (o ∷ os) P h = (h 0 (omega arith), each_of os P (λ i l. h (suc i) (omega (arith, l))))
 
--- a place is that of the least entry if those before it are above it, and none behind is below it
+-- a place has the least entry if the entries before it are above it, and none behind is below it
 least_at : (os : List (Option Entry)) (at : ℕ) (e : Entry) → entry_at os at ≡ Some e
     → ((i : ℕ) → i < at → IsAbove (Some e) (entry_at os i))
     → ((i : ℕ) → at < i → i < length os → IsNotBelow e (entry_at os i)) → IsLeast os at
@@ -32,7 +32,7 @@ least_at (o ∷ os) (suc at) e is before after = (
       (λ i l m. after (suc i) (omega (arith, l)) (omega (arith, m))),
 )
 
--- of all elements, that at an index
+-- a property of all elements holds at each index
 pub at_index : (P : ℕ → Type 0) (xs : List ℕ) (k d : ℕ) → AllByRecursion P xs → k < length xs
     → P (get_or xs k d)
 at_index P [] k d h l = absurd (omega (arith, l))
@@ -130,7 +130,7 @@ pub not_both : (o : Option Entry) → IsSome o → o ≡ None → ⊥
 not_both None some none = cc
 not_both (Some e) some none = cc
 
--- if none is lent at the first place, none is lent
+-- if there is no current entry at the first place, there is none at all
 pub ordered_none : (lents : List (Option Entry)) (order : List ℕ) → IsOrdered lents order
     → first_entry lents order ≡ None → AllByRecursion (λ o. o ≡ None) lents
 ordered_none lents [] h is =

@@ -1,4 +1,4 @@
--- What a merge passes over, whatever its sources stand for.
+-- The entries that a merge passes, whatever its sources stand for.
 use Rattle.std.specs.Prelude.{◌≡◌, ℕ, List, [], ◌∷◌, Bool, Option, Some, None, Contains, map}
 use Rattle.std.specs.List.{AllByRecursion, AllZip}
 use Rattle.cell_key.specs.Entries.{Entry, IsEntryList}
@@ -9,9 +9,9 @@ use Rattle.compaction.specs.Merging.{lent_at, IsMoved, MovesPast}
 use Rattle.compaction.specs.Writing.{only_written}
 
 module _ {S : Type 0} (steps : S → S → Type 0) (lent : S → Option Entry) where
-  -- From an entry on, or from none, a merge of sources passes over these entries, and is at the last of
-  -- them: again and again each source that is at its entry goes on, and it comes to the least entry that
-  -- they are at then, that of the first source if several are at it.
+  -- From an entry, or from none, a merge of sources passes these entries, and stops at the last of them: each time all
+  -- sources at its current entry make a step, and its next entry is then the least of theirs, from the first source if
+  -- several have its key.
   pub data IsMergeOf : Option Entry → List S → List Entry → Option Entry → List S → Type 0 where
     merges_none : {at : Option Entry} {sources : List S} → IsMergeOf at sources [] at sources
     merges_one : {at end : Option Entry} {sources later last : List S} {e : Entry}
@@ -20,7 +20,7 @@ module _ {S : Type 0} (steps : S → S → Type 0) (lent : S → Option Entry) w
         → IsMergeOf (Some e) later es end last → IsMergeOf at sources (e ∷ es) end last
 
   module _ (keep_erasures : Bool) where
-    -- what is written of entries that a merge of sources passes over has no file within a limit
+    -- the entries to be written, of those that a merge of sources passes, have no file within the limit
     pub record MergesTooMuch (limit : ℕ) (sources : List S) : Type 0 where
       pub entries : List Entry
       pub at : Option Entry
@@ -28,7 +28,7 @@ module _ {S : Type 0} (steps : S → S → Type 0) (lent : S → Option Entry) w
       pub merge : IsMergeOf None sources entries at last
       pub large : ¬ FitsIn limit (only_written keep_erasures entries)
 
-    -- what is written of entries that a merge of sources passes over is no entry list: a source isn't in order
+    -- the entries to be written, of those that a merge of sources passes, are no entry list: a source isn't in order
     pub record MergesNoList (sources : List S) : Type 0 where
       pub entries : List Entry
       pub at : Option Entry
@@ -36,7 +36,7 @@ module _ {S : Type 0} (steps : S → S → Type 0) (lent : S → Option Entry) w
       pub merge : IsMergeOf None sources entries at last
       pub none : ¬ IsEntryList (only_written keep_erasures entries)
 
-    -- the bytes are the file of what is written of all that a merge of sources passes over
+    -- the bytes are the file of the entries to be written, of all that a merge of sources passes
     pub record IsFileOfMerge (sources : List S) (image : List ℕ) : Type 0 where
       pub entries : List Entry
       pub at : Option Entry
@@ -47,7 +47,7 @@ module _ {S : Type 0} (steps : S → S → Type 0) (lent : S → Option Entry) w
       pub none : AllByRecursion (λ s. lent s ≡ None) ended
       pub form : IsFile Two (only_written keep_erasures entries) image
 
-  -- a merge of sources passes over entries, perhaps none, and one that is to go on then breaks off
+  -- a merge of sources passes entries, perhaps none, and a source that is to be advanced then breaks off
   pub record MergeBreaks (breaks : S → Type 0) (sources : List S) : Type 0 where
     pub entries : List Entry
     pub at : Option Entry

@@ -1,5 +1,5 @@
 -- Proofs that a ghost member cites; nothing is promised here.
--- Entry lists past the least of their first entries.
+-- Entry lists without the least of their first entries.
 use Rattle.std.proofs.Common.{◌≡◌, ℕ, true, false, cond, T, List, [], ◌∷◌, map, refl, sym, ap, subst, ◌∙◌}
 use Rattle.std.specs.Prelude.{Some, flat_map}
 use Rattle.std.specs.List.{AllByRecursion}
@@ -14,7 +14,7 @@ use Rattle.cell_key.proofs.EntryLists.{below-++, below-entries, both, find-merge
 use Rattle.cell_key.proofs.TextPlaces.{below_less, equal, first, one_text}
 use Rattle.compaction.specs.Merging.{past}
 
--- another key finds the same past a first entry
+-- without a first entry of k, another key has the same entry
 find-past : (k q : List ℕ) (es : List Entry) → eq_by_cmp byte_cmp q k ≡ false
     → find byte_cmp q (past k es) ≡ find byte_cmp q es
 find-past k q [] n = refl
@@ -62,7 +62,7 @@ below-all_past k [] r h = tt
 below-all_past k (es ∷ lists) r h =
     below-++ k (past k es) _ (below-past k es r.0 h.0) (below-all_past k lists r.1 h.1)
 
--- The least entry comes first, and then what all lists mean without its key.
+-- The least entry comes first, and then the merge of the lists without its key.
 pub least_first : (lists : List (List Entry)) (e : Entry) → AllByRecursion IsRising lists
     → AllByRecursion (HeadFrom e.0) lists → find byte_cmp e.0 (flat_map (λ es. es) lists) ≡ Some e.1
     → merged lists ≡ e ∷ merged (map (past e.0) lists)

@@ -1,4 +1,4 @@
--- What is written of several lists.
+-- The entries that are written of several lists.
 use Rattle.std.proofs.Common.{◌≡◌, Bool, true, false}
 use Rattle.std.specs.Prelude.{ℕ, List, [], ◌∷◌, filter, Option, Some, None, IfSome, IsSomeAnd, is_some, ◌||◌}
 use Rattle.std.specs.List.{AllByRecursion}
@@ -16,22 +16,22 @@ abbrev pub is_written_lent : Bool → Option Entry → Bool
 is_written_lent keep_erasures None = false
 is_written_lent keep_erasures (Some entry) = is_written keep_erasures entry
 
--- what is written of lists, the newest first
+-- the written entries of lists, newest first
 abbrev pub written : Bool → List (List Entry) → List Entry
 written keep_erasures lists = only_written keep_erasures (merged lists)
 
--- what is written of entry lists is an entry list
+-- the written entries of entry lists are an entry list
 abbrev pub WritesEntryLists : Type 0
 WritesEntryLists =
     (keep_erasures : Bool) (lists : List (List Entry)) → AllByRecursion IsEntryList lists
     → IsEntryList (written keep_erasures lists)
 
--- one entry list is written as it is, if erasures are kept
+-- a single entry list is written unchanged, if erasures are kept
 abbrev pub KeepsOneList : Type 0
 KeepsOneList = (es : List Entry) → IsEntryList es → written true (es ∷ []) ≡ es
 
--- At each text there is the value of the first list that names it,
--- and its erasure too if they are kept.
+-- For each text the first list with an entry of it decides: its value is written, and its erasure too if erasures are
+-- kept.
 abbrev pub NamesFirst : Type 0
 NamesFirst =
     (lists : List (List Entry)) (name : List ℕ)
@@ -39,7 +39,7 @@ NamesFirst =
     × ((keep_erasures : Bool) → value_of (entry_of_key (written keep_erasures lists) name)
     ≡ value_of (first_naming lists name))
 
--- a source goes on by one step after the other, each but the last to an entry that isn't written
+-- a source makes steps, each but the last to an entry that isn't written
 pub data StepsOn {S : Type 0} (keep_erasures : Bool) (steps : S → S → Type 0)
     (lent : S → Option Entry) : S → S → Type 0 where
   steps_once : {s t : S} → steps s t → IfSome (lent t) (λ e. is_written keep_erasures e ≡ true)

@@ -1,4 +1,4 @@
-//! A source up to a text.
+//! A source that ends before a text.
 
 ghost use Rattle.std.specs.Prelude.{◌≡◌};
 ghost use Rattle.std.specs.Option.{option_copied};
@@ -8,15 +8,15 @@ use cell_key::{EntryRef, Refusal};
 use file_store::Files;
 use sorted_file::Source;
 
-/// The entries of a source up to an end: those whose texts are below it, and all if there is none. The
-/// source isn't advanced past the first of the others. It takes no memory of its own.
+/// The entries of a source whose texts are below an end, or all of them if there is no end. The source isn't advanced
+/// past its first entry at or above the end. Allocates nothing itself.
 #[derive(Drop)]
 pub struct Bounded<'a, S> {
     source: S,
     end: Option<&'a [u8]>,
 }
 
-/// Whether a text is below an end, if there is one.
+/// Whether a text is below an end; true if there is no end.
 fn is_below(end: Option<&[u8]>, text: &[u8]) -> bool
     ensures { result ≡ is_below (option_copied end.entry) text.now }
 {
@@ -27,7 +27,7 @@ fn is_below(end: Option<&[u8]>, text: &[u8]) -> bool
 }
 
 impl<'a, S> Bounded<'a, S> {
-    /// The entries of a source whose texts are below `end`, any bytes, or all if there is no end.
+    /// The entries of a source whose texts are below `end`, which may be any bytes, or all of them if there is no end.
     pub fn new(source: S, end: Option<&'a [u8]>) -> Bounded<'a, S>
         ensures source { source_of result ≡ source }
         ensures end { end_of result ≡ option_copied end.entry }
@@ -35,7 +35,7 @@ impl<'a, S> Bounded<'a, S> {
         Bounded { source, end }
     }
 
-    /// Whether the source is at an entry at the end or after it.
+    /// Whether the source's current entry is at or above the end.
     fn is_at_end<F: Files>(&self) -> bool
     where
         S: Source<F>,

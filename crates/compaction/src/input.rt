@@ -7,9 +7,9 @@ use sorted_file::{FileCursor, Source};
 /// The entries of a memtable or of a file, as a source.
 #[derive(Drop)]
 pub enum Input<'a> {
-    /// Those of a memtable.
+    /// A memtable's entries.
     Memtable(memtable::Cursor<'a>),
-    /// Those of an open file.
+    /// An open file's entries.
     File(FileCursor<'a>),
 }
 

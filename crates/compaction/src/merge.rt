@@ -1,6 +1,6 @@
-//! Several sources as one.
+//! Several sources merged into one.
 
-ghost use Rattle.std.specs.Prelude.{ℕ, ◌≡◌, ◌≤◌, ◌<◌, ◌+◌, ◌-◌, ◌⊎◌, T, None, Some, [], ◌∷◌, length, map, is_some, option_map, sum_by, take, drop, slice_index_or, Contains, IsSome, IfOk, OnOk, IfErr, IsErrOf, Option, true, false, if◌then◌else◌};
+ghost use Rattle.std.specs.Prelude.{ℕ, ◌≡◌, ◌≤◌, ◌<◌, ◌+◌, ◌-◌, T, None, Some, [], ◌∷◌, length, map, is_some, option_map, sum_by, take, drop, slice_index_or, Contains, IsSome, IfOk, OnOk, IsErrOf, Option, true, false, if◌then◌else◌, IsOkUnless};
 ghost use Rattle.std.specs.List.{AllByRecursion, AllZip};
 ghost use Rattle.std.specs.List.Sorted.{IsPermutation};
 ghost use Rattle.std.specs.Ordering.{is_le};
@@ -16,26 +16,26 @@ use file_store::Files;
 use sorted_file::Source;
 use std::cmp::Ordering;
 
-/// Sources, the newest first, as one (Bigtable, tablet serving: the merged view): a key has the entry of the
-/// first source that names it. Entries are lent as the sources lend them. Besides the sources there is room for
-/// the number of each, and no advance takes more.
+/// Sources, newest first, merged into one (Bigtable, tablet serving: the merged view): each key has the entry of the
+/// first source with an entry of it. Entries are lent as the sources lend them. Beyond the sources it keeps a list of
+/// their places, which no advance grows.
 #[derive(Drop)]
 pub struct Merge<S> {
     sources: Vec<S>,
-    /// The places of the sources that are at entries, by these entries, and of one key the newer source first: none
-    /// before the first advance.
+    /// The places of the sources that are at entries, in the order of these entries, and for equal keys the newer
+    /// source first. Empty before the first advance.
     order: Vec<usize>,
 }
 
-/// The entry that the source at a place is at.
+/// The current entry of the source at a place.
 fn entry_of<F: Files, S: Source<F>>(sources: &[S], place: usize) -> Option<EntryRef<'_>>
     ensures { option_map lent_entry result ≡ lent_at S.lent sources.now place }
 {
     sources.get(place)?.current()
 }
 
-/// The order of two places, by the entries that their sources are at, and of one key the newer source first. A source
-/// at no entry comes last.
+/// Compares two places by their sources' current entries, and for equal keys puts the newer source first. A source
+/// without a current entry comes last.
 fn compare_places<F: Files, S: Source<F>>(sources: &[S], a: usize, b: usize) -> Ordering
     ensures { result ≡ place_cmp (map S.lent sources.now) a b }
 {
@@ -47,7 +47,7 @@ fn compare_places<F: Files, S: Source<F>>(sources: &[S], a: usize, b: usize) -> 
     }
 }
 
-/// Whether the source at a place is at an entry of the key of this one.
+/// Whether the source at a place is at an entry with the same key as this one.
 fn is_tied<F: Files, S: Source<F>>(entry: EntryRef<'_>, sources: &[S], place: usize) -> bool
     ensures { result ≡ ties (Some (lent_entry entry.entry)) (lent_at S.lent sources.now place) }
 {
@@ -73,7 +73,7 @@ fn count_before<F: Files, S: Source<F>>(sources: &[S], place: usize, later: &[us
     later.partition_point(|other| compare_places::<F, S>(sources, *other, place).is_lt())
 }
 
-/// Puts the first place where it belongs among the others, which are in order.
+/// Moves the first place to where it belongs among the others, which are in order.
 fn put_first<F: Files, S: Source<F>>(sources: &[S], order: &mut [usize])
     ensures same { IsPermutation order.old order.new }
     ensures rises { InOrder (map S.lent sources.now) (drop 1 order.old)
@@ -86,7 +86,7 @@ fn put_first<F: Files, S: Source<F>>(sources: &[S], order: &mut [usize])
     order[..passed + 1].rotate_left(1);
 }
 
-/// Puts as many places at the front as this where they belong among the others, which are in order.
+/// Moves the first `moved` places to where they belong among the others, which are in order.
 fn put_in_order<F: Files, S: Source<F>>(sources: &[S], order: &mut [usize], moved: usize)
     requires { moved ≤ length order.old }
     ensures same { IsPermutation order.old order.new }
@@ -98,7 +98,7 @@ fn put_in_order<F: Files, S: Source<F>>(sources: &[S], order: &mut [usize], move
     }
 }
 
-/// How many places at the front are at entries of the key of the first.
+/// How many places at the front are at entries with the same key as the first one.
 fn count_tied<F: Files, S: Source<F>>(sources: &[S], order: &[usize]) -> usize
     requires { IsSome (first_lent S.lent sources.now order.now) }
     ensures bound { result ≤ length order.now }
@@ -120,7 +120,7 @@ fn count_tied<F: Files, S: Source<F>>(sources: &[S], order: &[usize]) -> usize
     order.len()
 }
 
-/// Advances each of the sources at these places, once if no place is named twice.
+/// Advances the source at each of these places, once for each place.
 fn advance_each<F: Files, S: Source<F>>(
     sources: &mut [S],
     places: &[usize],
@@ -148,7 +148,7 @@ fn advance_each<F: Files, S: Source<F>>(
     Ok(())
 }
 
-/// How many of these places are left without those at the end whose sources are at no entry.
+/// How many of these places are left without those at the end whose sources have no current entry.
 fn count_at_entries<F: Files, S: Source<F>>(sources: &[S], order: &[usize]) -> usize
     ensures bound { result ≤ length order.now }
     ensures ended { AllByRecursion (λ place. lent_at S.lent sources.now place ≡ None)
@@ -164,7 +164,7 @@ fn count_at_entries<F: Files, S: Source<F>>(sources: &[S], order: &[usize]) -> u
     0
 }
 
-/// Leaves out the places at the end whose sources are at no entry.
+/// Removes the places at the end whose sources have no current entry.
 fn leave_out_ended<F: Files, S: Source<F>>(sources: &[S], order: &mut Vec<usize>)
     ensures { AreSorted (map S.lent sources.now) order.old.items
         → IsOrdered (map S.lent sources.now) order.new.items }
@@ -173,7 +173,7 @@ fn leave_out_ended<F: Files, S: Source<F>>(sources: &[S], order: &mut Vec<usize>
     order.truncate(count);
 }
 
-/// Advances the source at a place, and says whether it came to an entry.
+/// Advances the source at a place, and answers whether it has a current entry then.
 fn advance_at<F: Files, S: Source<F>>(
     sources: &mut [S],
     place: usize,
@@ -198,7 +198,8 @@ fn advance_at<F: Files, S: Source<F>>(
     Ok(false)
 }
 
-/// Advances the only source that is at an entry, and leaves its place out if it has no other. Whether it has one.
+/// Advances the only source that is at an entry, and removes its place if the source has ended. Answers whether it is
+/// at an entry then.
 fn step_only<F: Files, S: Source<F>>(
     sources: &mut [S],
     order: &mut Vec<usize>,
@@ -231,7 +232,7 @@ fn step_only<F: Files, S: Source<F>>(
     Ok(more)
 }
 
-/// Advances each source that is at an entry of the key of the first, and puts the places in order again.
+/// Advances each source whose current entry has the key of the first one, and puts the places in order again.
 fn step_tied<F: Files, S: Source<F>>(
     sources: &mut [S],
     order: &mut [usize],
@@ -283,13 +284,13 @@ fn step_all<F: Files, S: Source<F>>(sources: &mut [S], files: &mut F) -> Result<
     Ok(())
 }
 
-/// Makes this the list of as many places. Answers `NoMemory` if there is no memory.
+/// Makes this the list of the places below `count`. Answers `NoMemory` if there is no memory.
 fn list_places(order: &mut Vec<usize>, count: usize) -> Result<(), Refusal>
     ensures length { OnOk result (length order.new.items ≡ count) }
     ensures whole { OnOk result
         ((place : ℕ) → place < count → Contains order.new.items place) }
     ensures distinct { OnOk result (IsDistinct order.new.items) }
-    ensures refusal { IfErr result (λ refusal. refusal ≡ Refusal.NoMemory) }
+    ensures refusal { IsOkUnless result Refusal.NoMemory }
 {
     order.clear();
     for place in 0..count {
@@ -298,7 +299,7 @@ fn list_places(order: &mut Vec<usize>, count: usize) -> Result<(), Refusal>
     Ok(())
 }
 
-/// Advances each source, none of which is at an entry, and puts their places in order.
+/// Advances each source, none of which is at an entry, and lists their places in order.
 fn step_first<F: Files, S: Source<F>>(
     sources: &mut [S],
     order: &mut Vec<usize>,
@@ -335,7 +336,8 @@ fn is_at_entry<F: Files, S: Source<F>>(sources: &[S], order: &[usize]) -> bool
     }
 }
 
-/// Takes each source past the entry of the one at the first place, or to its first entry.
+/// Advances each source past the current entry of the one at the first place, or to its first entry if there is no
+/// current entry.
 fn step_several<F: Files, S: Source<F>>(
     sources: &mut [S],
     order: &mut Vec<usize>,
@@ -372,7 +374,8 @@ fn step_several<F: Files, S: Source<F>>(
     }
 }
 
-/// Takes each source past the entry of the one at the first place, or to its first entry. Whether one is at an entry.
+/// Advances each source past the current entry of the one at the first place, or to its first entry if there is no
+/// current entry. Answers whether a source is at an entry then.
 fn step<F: Files, S: Source<F>>(
     sources: &mut [S],
     order: &mut Vec<usize>,
@@ -411,7 +414,7 @@ fn step<F: Files, S: Source<F>>(
 }
 
 impl<S> Merge<S> {
-    /// The merge of sources, the newest first, none of which has come to an entry yet.
+    /// The merge of sources, newest first, none of which has been advanced.
     ///
     /// # Errors
     ///
@@ -432,7 +435,7 @@ impl<S> Merge<S> {
             → AllByRecursion (ComesToEnd (S.steps disk) S.lent) sources.items) }
         ensures sources { IfOk result (λ merge. merge.sources ≡ sources) }
         ensures order { IfOk result (λ merge. merge.order.items ≡ []) }
-        ensures refusal { IfErr result (λ refusal. refusal ≡ Refusal.NoMemory) }
+        ensures refusal { IsOkUnless result Refusal.NoMemory }
     {
         let order = Vec::with_capacity(*sources.allocator(), sources.len())?;
         Ok(Merge { sources, order })

@@ -25,7 +25,7 @@ impl<S> Values<S> {
         }
     }
 
-    /// Whether the entry that the source is at is written.
+    /// Whether the source's current entry is to be written.
     fn is_at_written<F: Files>(&self) -> bool
     where
         S: Source<F>,

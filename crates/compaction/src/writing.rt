@@ -1,4 +1,4 @@
-//! Writing several sources as one file.
+//! Merging several sources into one file.
 
 ghost use Rattle.std.specs.Prelude.{◌≡◌, ◌≤◌, ◌⊎◌, ℕ, List, length, map, IfErr, IfOk, IfSome, OnOk, OnErr, IsErrOf};
 ghost use Rattle.std.specs.List.{AllByRecursion};
@@ -6,7 +6,7 @@ ghost use Rattle.file_store.specs.Store.{KeepsOthers, with_file};
 ghost use Rattle.sorted_file.specs.File.{IsOpen, name_of};
 ghost use Rattle.sorted_file.specs.Grammar.{IsFile, FitsIn};
 ghost use Rattle.sorted_file.specs.Limits.{IsFileLimit};
-ghost use Rattle.sorted_file.specs.Source.{ComesToEnd, IsWriteRefusal};
+ghost use Rattle.sorted_file.specs.Source.{ComesToEnd, IsWriteRefusal, StaysIfUnfit};
 ghost use Rattle.sorted_file.specs.declared.format.Format.TheVariants.{Two};
 ghost use Rattle.cell_key.specs.Faults.{HasReason};
 ghost use Rattle.compaction.specs.Merging.{AreAtStart};
@@ -20,17 +20,17 @@ use file_store::Files;
 use sorted_file::{LockIndex, SortedFile, Source, write_file};
 use std::alloc::Global;
 
-/// Writes what sources, the newest first, mean together as a file, which replaces a file of this name
-/// (Bigtable, tablet serving: minor and merging compactions keep erasures, and a major compaction, which
-/// rewrites everything there is, need not), and returns it open, as `write_file` does: nothing of it is read. None of
-/// the sources has come to an entry yet. Without `keep_erasures` values alone are written. No sources give the file of
-/// no entries. The file is newer than those whose locks the index has.
+/// Writes the merge of sources, newest first, as a file, which replaces a file of this name (Bigtable, tablet serving:
+/// minor and merging compactions keep erasures; a major compaction rewrites all files and need not), and returns it
+/// open without reading any of it, as `write_file` does. None of the sources has been advanced. Without `keep_erasures`
+/// only values are written. No sources give a file without entries. `over` is the index of the older files' locks.
 ///
 /// # Errors
 ///
-/// `FileTooLarge` if the file would have more than `file_limit` bytes, `Damaged` if a source is damaged or what would be
-/// written is no entry list, and `Device` and `NoMemory`. Until the whole file is in memory no file is changed. After an `Err` of
-/// the write itself the bytes under this name are open. All other files stay as they are.
+/// `FileTooLarge` if the file would have more than `file_limit` bytes, `Damaged` if a source is damaged or the entries
+/// to be written are no entry list, `Device` if a device fails, and `NoMemory` if there is no memory. No file changes
+/// until the whole file is in memory. After an `Err` of the write itself any bytes may be under this name. No other
+/// file changes.
 pub fn merge_into<F: Files, S: Source<F> + Drop>(
     alloc: Global,
     sources: Vec<S>,
@@ -65,10 +65,7 @@ pub fn merge_into<F: Files, S: Source<F> + Drop>(
     ensures broken { IsErrOf result Refusal.Damaged → MergeBreaks (S.steps (F.contents files.old))
         S.lent (S.breaks (F.contents files.old)) sources.items
         ⊎ MergesNoList (S.steps (F.contents files.old)) S.lent keep_erasures sources.items }
-    ensures large_same { IsErrOf result Refusal.FileTooLarge
-        → F.contents files.new ≡ F.contents files.old }
-    ensures damaged_same { IsErrOf result Refusal.Damaged
-        → F.contents files.new ≡ F.contents files.old }
+    ensures unfit { StaysIfUnfit (F.contents files.old) (F.contents files.new) result }
     ensures others { OnErr result (KeepsOthers name (F.contents files.old) (F.contents files.new)) }
     ensures refusal { IfErr result IsWriteRefusal }
     ensures reason { HasReason (F.faults files.old) (F.faults files.new) result }

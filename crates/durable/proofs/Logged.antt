@@ -7,7 +7,8 @@ use Rattle.std.proofs.lemmas.List.Concat.{flat_map-append}
 use Rattle.cell_key.specs.Cells.{Cells}
 use Rattle.cell_key.specs.declared.edits.Edit.{Edit}
 use Rattle.commit_log.specs.Edits.{HoldEdits, IsStoredEdit, LogsEdits, spelled_edits}
-use Rattle.commit_log.specs.Records.{AreUpTo, NamesRoots, any_root, edit_bytes, spelled_record}
+use Rattle.commit_log.specs.Held.{Keeps}
+use Rattle.commit_log.specs.Records.{AreUpTo, HasRecord, NamesRoots, any_root, edit_bytes, spelled_record}
 use Rattle.commit_log.specs.declared.records.RecordKind.TheVariants as kind
 use Rattle.metadata_table.specs.Roots.{RootView}
 use Rattle.row_atomic.specs.Roots.{root_sum}
@@ -16,7 +17,7 @@ use Rattle.si_model.specs.Machine.{Place, State, reopened}
 use Rattle.si_model.specs.ShowsCells.{ShowsCells}
 use Rattle.durable.specs.Lasting.{Settles}
 use Rattle.durable.specs.Devices.{CoversEach, IsOver}
-use Rattle.durable.specs.Lasts.{Follows, HasNewRoot, HoldsLogged, LastsIn, HoldsRoot, Logs, StaysRooted, StaysStored, named, shown_by}
+use Rattle.durable.specs.Lasts.{Follows, HasNewRoot, HoldsLogged, LastsIn, Logs, StaysRooted, StaysStored, named, shown_by}
 use Rattle.durable.specs.declared.lasting.LastingServer.{LastingServer}
 
 all-join : {A : Type 0} (P : A → Type 0) (xs ys : List A) → AllByRecursion P xs → AllByRecursion P ys → AllByRecursion P (xs ++ ys)
@@ -57,6 +58,17 @@ ok_through (Err e) f p = tt
 pub err_through : {T E P Q : Type 0} (r : Result T E) → (P → Q) → OnErr r P → OnErr r Q
 err_through (Ok x) f p = tt
 err_through (Err e) f p = f p
+
+-- what holds after whatever a call did
+pub on_any : {T E P : Type 0} (r : Result T E) → P → OnOk r P
+on_any (Ok x) p = p
+on_any (Err e) p = tt
+
+-- a log of the name of a root alone has no record that it may be over any root
+pub names_it : (root : RootView) → ¬ HasRecord (named root ∷ []) any_root
+names_it root ([], then, is) = cc
+names_it root (x ∷ [], then, is) = cc
+names_it root (x ∷ y ∷ ys, then, is) = cc
 
 -- nothing waits
 pub none_waits : (records : List (List ℕ)) (logged waiting : List ℕ) → waiting ≡ [] → flat_map edit_bytes records ≡ logged → flat_map edit_bytes records ≡ logged ++ waiting
@@ -170,8 +182,8 @@ module _ {S L : Type 0} (stores : S → RootView → Cells → List Place → Ty
       }
 
   -- a state that a new root has lasts where the log holds the one record that says which root
-  pub emptied_lasts : (old : S) (new : LastingServer S L) (root : RootView) (st : State) → (put : HasNewRoot stores is_rooted last root old st) → StaysStored stores last old new.server → root.top ≤ last new.server → HoldsRoot (holds new.log) root → (new.is_stopped ≡ true) ⊎ ([] ≡ logged new.server) → Lasting new st
-  emptied_lasts old new root st put stays low (inl is) bytes = record {
+  pub emptied_lasts : (old : S) (new : LastingServer S L) (root : RootView) (st : State) → (put : HasNewRoot stores is_rooted last root old st) → StaysStored stores last old new.server → root.top ≤ last new.server → holds new.log (named root ∷ []) → (new.is_stopped ≡ true) ⊎ ([] ≡ logged new.server) → Lasting new st
+  emptied_lasts old new root st put stays low is bytes = record {
     kept = record {
       root = root;
       base = put.base;
@@ -189,45 +201,16 @@ module _ {S L : Type 0} (stores : S → RootView → Cells → List Place → Ty
       top = let top = put.top in let later = stays.later in omega arith;
     };
   }
-  emptied_lasts old new root st put stays low (inr is) bytes = record {
-    kept = record {
-      root = root;
-      base = put.base;
-      kept = stays.kept root put.base st.places put.kept;
-      records = any_root ∷ [];
-      in_log = (is, bytes);
-      over = names.any [] root.top (root_sum root);
-      stamps = (last new.server, omega arith, names.up_to [] kind.AnyRoot 0 (last new.server) [] tt (omega arith));
-      edits = [];
-      held = laws.any [] [] laws.none;
-      stored = tt;
-      room = record { edits = omega arith; bytes = omega arith };
-      shows = put.shows;
-      next = put.next;
-      top = let top = put.top in let later = stays.later in omega arith;
-    };
-  }
 
   -- such a log holds what a server takes it to have of which nothing is logged
-  pub holds_root : (new : LastingServer S L) (root : RootView) → root.top ≤ last new.server → HoldsRoot (holds new.log) root → logged new.server ≡ [] → HoldsLogged stores logged last holds new root
-  holds_root new root low (inl one) none = record {
+  pub holds_root : (new : LastingServer S L) (root : RootView) → root.top ≤ last new.server → holds new.log (named root ∷ []) → logged new.server ≡ [] → HoldsLogged stores logged last holds new root
+  holds_root new root low one none = record {
     records = named root ∷ [];
     in_log = one;
     over = names.more [] root.top (root_sum root);
     stamps = names.up_to [] kind.Root root.top (last new.server) _ tt low;
     edits = [];
     held = laws.named [] [] root.top (root_sum root) laws.none;
-    stored = tt;
-    room = record { edits = omega arith; bytes = omega arith };
-    bytes = sym none;
-  }
-  holds_root new root low (inr any) none = record {
-    records = any_root ∷ [];
-    in_log = any;
-    over = names.any [] root.top (root_sum root);
-    stamps = names.up_to [] kind.AnyRoot 0 (last new.server) [] tt (omega arith);
-    edits = [];
-    held = laws.any [] [] laws.none;
     stored = tt;
     room = record { edits = omega arith; bytes = omega arith };
     bytes = sym none;
@@ -263,6 +246,16 @@ module _ {S L : Type 0} (stores : S → RootView → Cells → List Place → Ty
   pub logs_on : (old : LastingServer S L) (next : S) → StaysRooted stores is_rooted last old.server next → logged next ≡ logged old.server → Logs stores logged last holds is_rooted old → Logs stores logged last holds is_rooted (record old { server = next })
   logs_on old next stays same (inl stopped) = inl stopped
   logs_on old next stays same (inr h) = inr (h.0, stays.rooted h.0 h.1, holds_on old next h.0 stays.stored.later h.2 same)
+
+  -- a log that holds the same, of the same server
+  pub held_still : (old : LastingServer S L) (log : L) (root : RootView) → Keeps (holds old.log) (holds log) → HoldsLogged stores logged last holds old root → HoldsLogged stores logged last holds (record old { log = log }) root
+  held_still old log root keeps h = record { records = h.records; in_log = keeps h.records h.in_log; over = h.over; stamps = h.stamps; edits = h.edits; held = h.held; stored = h.stored; room = h.room; bytes = h.bytes }
+
+  pub lasts_still : (old : LastingServer S L) (log : L) (st : State) → Keeps (holds old.log) (holds log) → Logs stores logged last holds is_rooted old → Lasting old st → Lasting (record old { log = log }) st × Logs stores logged last holds is_rooted (record old { log = log })
+  lasts_still old log st keeps logs lasts = (
+    lasts_on old (record old { log = log }) st (stays_stored stores last old.server) lasts (keeps lasts.kept.records lasts.kept.in_log.0) lasts.kept.in_log.1,
+    elim logs [ inl stopped ↦ inl stopped | inr h ↦ inr (h.0, h.1, held_still old log h.0 keeps h.2) ],
+  )
 
   -- the same server, which counts otherwise, over a log that holds the same
   pub recounted : (old new : LastingServer S L) → new.server ≡ old.server → ((records : List (List ℕ)) → holds old.log records → holds new.log records) → new.is_stopped ≡ old.is_stopped → (shows : S → State → Type 0) → Settles (shown_by shows) Lasting (Logs stores logged last holds is_rooted) old new

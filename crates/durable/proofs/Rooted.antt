@@ -1,29 +1,67 @@
 -- What checkpoints and answers leave over a kill, one after the other.
-use Rattle.std.proofs.Common.{inl, inr}
+use Rattle.std.proofs.Common.{◌≡◌, ◌⊎◌, inl, inr, sym, subst, ap}
+use Rattle.std.specs.Prelude.{Result, Ok, Err, IfErr, IsErrOf}
+use Rattle.cell_key.specs.declared.refusals.Refusal.{Refusal}
+use Rattle.cell_key.specs.declared.refusals.Refusal.TheVariants.{Device, NoMemory}
+use Rattle.request_codec.specs.Replies.{replied}
 use Rattle.request_codec.specs.declared.replies.Reply.{Reply}
+use Rattle.request_codec.specs.declared.replies.Reply.TheVariants as codec
 use Rattle.request_codec.specs.declared.requests.Request.{Request}
 use Rattle.request_codec.specs.declared.requests.Request.TheVariants.{Split, Move, Sweep, Checkpoint}
-use Rattle.si_model.specs.Machine.{State}
+use Rattle.server_loop.specs.Commands.{checkpointed}
+use Rattle.server_loop.specs.Runs.{StepsAs}
+use Rattle.si_model.specs.Machine.{IsStorageRefusal, State, Checkpoint as CheckpointAsked, refuses}
+use Rattle.si_model.specs.Refusing.{gives_up}
 use Rattle.durable.specs.Lasting.{Settles}
-use Rattle.durable.specs.Lasts.{AnswersLasting, AnswersRooted, MovesTablets, NeedsRoot, PutsRoot}
+use Rattle.durable.specs.Lasts.{AnswersLasting, AnswersRooted, Checkpoints, MovesTablets, NeedsRoot, PutsRoot}
+use Rattle.durable.specs.Lasts.PutsRoot.{answered, unnamed, failed}
 
-module _ {S : Type 0} (same : S → S → Type 0) (checkpoints : S → Reply → S → Type 0) (says : S → Request → Reply → S → Type 0) (sweeps : S → Reply → S → Type 0) where
-  pub moves_rooted : (old new : S) (request : Request) (reply : Reply) → MovesTablets request → AnswersRooted same checkpoints (λ a r b. says a request r b) old reply new → AnswersLasting same checkpoints says sweeps old request reply new
+module _ {S : Type 0} (same : S → S → Type 0) (checkpoints : S → Reply → S → Type 0) (says : S → Request → Reply → S → Type 0) (sweeps : S → Reply → S → Type 0) (stopped : Type 0) where
+  pub moves_rooted : (old new : S) (request : Request) (reply : Reply) → MovesTablets request → AnswersRooted same checkpoints (λ a r b. says a request r b) stopped old reply new → AnswersLasting same checkpoints says sweeps stopped old request reply new
   moves_rooted old new (Split row) reply of p = p
   moves_rooted old new (Move tablet server) reply of p = p
   moves_rooted old new request reply of p = absurd of
 
-  pub plain_lasting : (old new : S) (request : Request) (reply : Reply) → ¬ NeedsRoot request → says old request reply new → AnswersLasting same checkpoints says sweeps old request reply new
+  pub plain_lasting : (old new : S) (request : Request) (reply : Reply) → ¬ NeedsRoot request → says old request reply new → AnswersLasting same checkpoints says sweeps stopped old request reply new
   plain_lasting old new (Split row) reply other p = absurd (other tt)
   plain_lasting old new (Move tablet server) reply other p = absurd (other tt)
   plain_lasting old new Sweep reply other p = absurd (other tt)
   plain_lasting old new Checkpoint reply other p = absurd (other tt)
   plain_lasting old new request reply other p = p
 
-module _ {S : Type 0} (same : S → S → Type 0) (checkpoints : S → Reply → S → Type 0) (then : (a b c : S) → same a b → same b c → same a c) where
-  pub puts_more : (a b c : S) (reply : Reply) → PutsRoot same checkpoints a reply b → same b c → PutsRoot same checkpoints a reply c
-  puts_more a b c reply (inl p) s = inl (p.0, then a b c p.1 s)
-  puts_more a b c reply (inr p) s = inr (p.0, p.1, p.2, p.3, then p.1 b c p.4 s)
+module _ {S : Type 0} (same : S → S → Type 0) (checkpoints : S → Reply → S → Type 0) (then : (a b c : S) → same a b → same b c → same a c) {stopped stopped' : Type 0} (still : stopped → stopped') where
+  both_then : (a b c : S) (reply : Reply) → Checkpoints same checkpoints a reply b → same b c → Checkpoints same checkpoints a reply c
+  both_then a b c reply p s = (p.0, p.1, p.2, p.3, then p.1 b c p.4 s)
+
+  pub puts_more : (a b c : S) (reply : Reply) → PutsRoot same checkpoints stopped a reply b → same b c → PutsRoot same checkpoints stopped' a reply c
+  puts_more a b c reply (answered p) s = answered (both_then a b c reply p s)
+  puts_more a b c reply (unnamed is p) s = unnamed is (both_then a b c _ p s)
+  puts_more a b c reply (failed is stops (inl p)) s = failed is (still stops) (inl (then a b c p s))
+  puts_more a b c reply (failed is stops (inr p)) s = failed is (still stops) (inr (both_then a b c _ p s))
+
+-- a refusal of a log that was to be renewed
+abbrev pub IsLogRefusal : Refusal → Type 0
+IsLogRefusal refusal = (refusal ≡ Device) ⊎ (refusal ≡ NoMemory)
+
+stored_refusal : (refusal : Refusal) → IsLogRefusal refusal → IsStorageRefusal refusal
+stored_refusal refusal (inl is) = subst IsStorageRefusal (sym is) tt
+stored_refusal refusal (inr is) = subst IsStorageRefusal (sym is) tt
+
+pub only_storage : (r : Result (Unit {0}) Refusal) → IfErr r IsLogRefusal → IfErr r IsStorageRefusal
+only_storage (Ok done) c = tt
+only_storage (Err refusal) c = stored_refusal refusal c
+
+-- a checkpoint that was made, and whose root was named or not
+module _ {S : Type 0} (same : S → S → Type 0) (checkpoints : S → Reply → S → Type 0) (stopped : Type 0) where
+  pub named_answer : (old new : S) (r : Result (Unit {0}) Refusal) → IfErr r IsLogRefusal → (IsErrOf r Device → stopped) → Checkpoints same checkpoints old codec.Checkpoint new → PutsRoot same checkpoints stopped old (checkpointed r) new
+  named_answer old new (Ok done) c stops p = answered p
+  named_answer old new (Err refusal) (inl is) stops p = failed (ap codec.Refused is) (stops (ap Err is)) (inr p)
+  named_answer old new (Err refusal) (inr is) stops p = unnamed (ap codec.Refused is) p
+
+module _ {S : Type 0} (shows : S → State → Type 0) where
+  pub steps_named : (old new : S) (r : Result (Unit {0}) Refusal) → IfErr r IsLogRefusal → StepsAs shows old new CheckpointAsked (replied codec.Checkpoint) → ((st : State) → shows old st → shows new st) → StepsAs shows old new CheckpointAsked (replied (checkpointed r))
+  steps_named old new (Ok done) c step same = step
+  steps_named old new (Err refusal) c step same = λ before reached shown. (before, refuses (gives_up (stored_refusal refusal c)), same before shown, λ e. elim c [ inl is ↦ cc | inr is ↦ cc ])
 
 module _ {S : Type 0} (shows lasts : S → State → Type 0) (logs : S → Type 0) where
   pub settles_then : (a b c : S) → Settles shows lasts logs a b → Settles shows lasts logs b c → Settles shows lasts logs a c

@@ -4,9 +4,9 @@ use Rattle.std.specs.List.{AllByRecursion}
 use Rattle.cell_key.specs.Cells.{Cells, after_edits}
 use Rattle.cell_key.specs.declared.edits.Edit.{Edit}
 use Rattle.cell_key.specs.declared.refusals.Refusal.{Refusal}
-use Rattle.cell_key.specs.declared.refusals.Refusal.TheVariants.{Device}
+use Rattle.cell_key.specs.declared.refusals.Refusal.TheVariants.{Device, NoMemory}
 use Rattle.commit_log.specs.Edits.{HoldEdits, IsStoredEdit, spelled_edits}
-use Rattle.commit_log.specs.Records.{AreUpTo, any_root, edit_bytes, root_record}
+use Rattle.commit_log.specs.Records.{AreUpTo, HasRecord, any_root, edit_bytes, root_record}
 use Rattle.metadata_table.specs.Roots.{RootView}
 use Rattle.row_atomic.specs.Journals.{HasRoomFor, empty_journal}
 use Rattle.row_atomic.specs.Roots.{root_sum}
@@ -91,9 +91,11 @@ pub record KeepsRecording {S : Type 0} (recording : S → Bool) (logged waiting 
 abbrev pub named : RootView → List ℕ
 named root = root_record root.top (root_sum root)
 
--- A log holds one record: the name of a root, or that it is over whichever is there.
-abbrev pub HoldsRoot : (List (List ℕ) → Type 0) → RootView → Type 0
-HoldsRoot holds root = holds (named root ∷ []) ⊎ holds (any_root ∷ [])
+-- A log names the root that it is over: none of its records says that this may be any root.
+pub record NamesItsRoot (holds : List (List ℕ) → Type 0) : Type 0 where
+  pub records : List (List ℕ)
+  pub in_log : holds records
+  pub names : ¬ HasRecord records any_root
 
 -- this is the name of a root
 abbrev pub IsNameOf : RootName → RootView → Type 0
@@ -141,47 +143,58 @@ shown_by shows server st = shows server.server st
 -- ---- answers
 
 module _ {S : Type 0} (same : S → S → Type 0) (checkpoints : S → Reply → S → Type 0) where
-  -- A checkpoint was answered, after what waited was put on the log, or that failed.
-  abbrev pub PutsRoot : S → Reply → S → Type 0
-  PutsRoot old reply new =
-      ((reply ≡ codec.Refused Device) × same old new)
-      ⊎ ((mid next : S) × same old mid × checkpoints mid reply next × same next new)
+  -- The files answered a checkpoint, apart from the journal.
+  abbrev pub Checkpoints : S → Reply → S → Type 0
+  Checkpoints old reply new =
+      (mid next : S) × same old mid × checkpoints mid reply next × same next new
+
+  -- A checkpoint was answered as the files answered it. Or it was refused with NoMemory: the root was
+  -- put, and memory to name it in the log was refused. Or with Device: the log failed, before the root
+  -- was put or after that, and no reply leaves the server any more.
+  pub data PutsRoot (stopped : Type 0) (old : S) (reply : Reply) (new : S) : Type 0 where
+    answered : Checkpoints old reply new → PutsRoot stopped old reply new
+    unnamed : reply ≡ codec.Refused NoMemory → Checkpoints old codec.Checkpoint new
+        → PutsRoot stopped old reply new
+    failed : reply ≡ codec.Refused Device → stopped
+        → same old new ⊎ Checkpoints old codec.Checkpoint new → PutsRoot stopped old reply new
 
   -- It was refused as the checkpoint before it was. Or it was answered so after that, and then a
   -- checkpoint may have come.
-  abbrev pub AnswersRooted : (S → Reply → S → Type 0) → S → Reply → S → Type 0
-  AnswersRooted answers old reply new =
-      ((refusal : Refusal) × (reply ≡ codec.Refused refusal) × PutsRoot old reply new)
-      ⊎ ((first next : S) × PutsRoot old codec.Checkpoint first × answers first reply next
-      × (same next new ⊎ ((second : Reply) × PutsRoot next second new)))
+  abbrev pub AnswersRooted : (S → Reply → S → Type 0) → Type 0 → S → Reply → S → Type 0
+  AnswersRooted answers stopped old reply new =
+      ((refusal : Refusal) × (reply ≡ codec.Refused refusal) × PutsRoot stopped old reply new)
+      ⊎ ((first next : S) × Checkpoints old codec.Checkpoint first × answers first reply next
+      × (same next new ⊎ ((second : Reply) × PutsRoot stopped next second new)))
 
   -- What is said of an answer of a server with a log: what is said of one without, but that
   -- checkpoints come with splits, moves and sweeps.
-  abbrev pub AnswersLasting : (S → Request → Reply → S → Type 0) → (S → Reply → S → Type 0) → S
-      → Request → Reply → S → Type 0
-  AnswersLasting says sweeps old (Split row) reply new =
-      AnswersRooted (λ a r b. says a (Split row) r b) old reply new
-  AnswersLasting says sweeps old (Move tablet server) reply new =
-      AnswersRooted (λ a r b. says a (Move tablet server) r b) old reply new
-  AnswersLasting says sweeps old Sweep reply new = AnswersRooted sweeps old reply new
-  AnswersLasting says sweeps old Checkpoint reply new = PutsRoot old reply new
-  AnswersLasting says sweeps old request reply new = says old request reply new
+  abbrev pub AnswersLasting : (S → Request → Reply → S → Type 0) → (S → Reply → S → Type 0)
+      → Type 0 → S → Request → Reply → S → Type 0
+  AnswersLasting says sweeps stopped old (Split row) reply new =
+      AnswersRooted (λ a r b. says a (Split row) r b) stopped old reply new
+  AnswersLasting says sweeps stopped old (Move tablet server) reply new =
+      AnswersRooted (λ a r b. says a (Move tablet server) r b) stopped old reply new
+  AnswersLasting says sweeps stopped old Sweep reply new =
+      AnswersRooted sweeps stopped old reply new
+  AnswersLasting says sweeps stopped old Checkpoint reply new = PutsRoot stopped old reply new
+  AnswersLasting says sweeps stopped old request reply new = says old request reply new
 
 -- What is said of an answer, and that what is kept over a kill goes on.
 pub record IsLastingAnswer {S L : Type 0} (shows : S → State → Type 0)
     (lasts : LastingServer S L → State → Type 0) (logs : LastingServer S L → Type 0)
-    (answers : S → Request → Reply → S → Type 0)
+    (answers : Type 0 → S → Request → Reply → S → Type 0)
     (old : LastingServer S L) (request : Request) (reply : Reply) (new : LastingServer S L)
     : Type 0 where
-  pub answered : answers old.server request reply new.server
+  pub answered : answers (new.is_stopped ≡ true) old.server request reply new.server
   pub goes_on : GoesOn (shown_by shows) lasts logs (asked request) (replied reply) old new
 
 -- What comes between one answer and the next: what comes without a log, and perhaps a checkpoint.
 pub record IsLastingTended {S L : Type 0} (shows : S → State → Type 0)
     (lasts : LastingServer S L → State → Type 0) (logs : LastingServer S L → Type 0)
-    (between same : S → S → Type 0) (roots : S → Reply → S → Type 0)
+    (between same : S → S → Type 0) (roots : Type 0 → S → Reply → S → Type 0)
     (old new : LastingServer S L) : Type 0 where
   pub mid : S
   pub tended : between old.server mid
-  pub rooted : same mid new.server ⊎ ((reply : Reply) × roots mid reply new.server)
+  pub rooted : same mid new.server
+      ⊎ ((reply : Reply) × roots (new.is_stopped ≡ true) mid reply new.server)
   pub settles : Settles (shown_by shows) lasts logs old new

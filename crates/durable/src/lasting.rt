@@ -1,15 +1,16 @@
 //! A server whose answers outlast a kill: what it answers is on a log before a reply leaves.
 
-ghost use Rattle.std.specs.Prelude.{◌≡◌, ◌⊎◌, ◌↔◌, [], true, false, IfErr, IsTrue, OnErr, OnOk, ℕ, List};
+ghost use Rattle.std.specs.Prelude.{◌≡◌, ◌⊎◌, ◌↔◌, [], true, false, IfErr, IsErrOf, IsTrue, OnErr, OnOk, ℕ, List};
 ghost use Rattle.cell_key.specs.Cells.{Cells};
 ghost use Rattle.commit_log.specs.Edits.{LogsEdits};
+ghost use Rattle.commit_log.specs.Held.{Keeps, MayRenew, Renews};
 ghost use Rattle.request_codec.specs.Replies.{replied};
 ghost use Rattle.request_codec.specs.declared.replies.Reply.{Reply as CodecReply};
 ghost use Rattle.request_codec.specs.declared.requests.Request.{Request as Lent};
 ghost use Rattle.durable.specs.Due.{IsRootDue};
 ghost use Rattle.durable.specs.Lasting.{GoesOn, IsSettled, Settles};
 ghost use Rattle.server_loop.specs.Commands.{checkpointed};
-ghost use Rattle.durable.specs.Lasts.{AnswersLasting, HasNewRoot, HoldsLogged, HoldsRoot, IsLastingAnswer, LastsIn, Logs, MovesTablets, NeedsRoot, PutsRoot, StaysRooted, shown_by};
+ghost use Rattle.durable.specs.Lasts.{AnswersLasting, Checkpoints, HasNewRoot, HoldsLogged, IsLastingAnswer, LastsIn, Logs, MovesTablets, NamesItsRoot, NeedsRoot, PutsRoot, StaysRooted, named, shown_by};
 ghost use Rattle.metadata_table.specs.Roots.{RootView};
 ghost use Rattle.server_loop.specs.Runs.{KeepsToLimits, StepsAs};
 ghost use Rattle.si_model.specs.Machine.{IsReached, IsStorageRefusal, State, Checkpoint as CheckpointAsked};
@@ -49,17 +50,28 @@ fn tried_after(done: &Result<(), Refusal>, written: usize) -> usize {
     }
 }
 
-/// Puts the name of the root that is there in the place of all that a log has, for the root has it. If memory for it is
-/// refused, the log is over whichever root is there.
-fn renew_log<S: Recording, L: Log>(server: &S, log: &mut L) -> Result<(), LogFault>
-    ensures ok { OnOk result ((records : List (List ℕ)) → L.holds log.old records
-        → HoldsRoot (L.holds log.new) (S.next_root server.now)) }
-    ensures err { OnErr result ((records : List (List ℕ)) → L.holds log.old records
-        → L.holds log.new records ⊎ HoldsRoot (L.holds log.new) (S.next_root server.now)) }
+/// Replaces all records of a log by the name of the root that is there, which has all that they say.
+///
+/// # Errors
+///
+/// `NoMemory` leaves the log as it was. `Device` if the log failed.
+fn renew_log<S: Recording, L: Log>(server: &S, log: &mut L) -> Result<(), Refusal>
+    ensures ok { OnOk result
+        (Renews (L.holds log.old) (L.holds log.new) (named (S.next_root server.now))) }
+    ensures err { OnErr result
+        (MayRenew (L.holds log.old) (L.holds log.new) (named (S.next_root server.now))) }
+    ensures unchanged { IsErrOf result Refusal.NoMemory → Keeps (L.holds log.old) (L.holds log.new) }
+    ensures refusal { IfErr result (λ refusal.
+        (refusal ≡ Refusal.Device) ⊎ (refusal ≡ Refusal.NoMemory)) }
 {
-    match server.root_name() {
-        Ok(name) => log.renew(RecordKind::Root, name.top, &root_sum_bytes(name.sum)),
-        Err(_) => log.renew(RecordKind::AnyRoot, 0, &[]),
+    let name = match server.root_name() {
+        Ok(name) => name,
+        Err(refusal) => return Err(refusal),
+    };
+    match log.renew(RecordKind::Root, name.top, &root_sum_bytes(name.sum)) {
+        Ok(()) => Ok(()),
+        Err(LogFault::Memory) => Err(Refusal::NoMemory),
+        Err(_) => Err(Refusal::Device),
     }
 }
 
@@ -72,6 +84,7 @@ impl<S: Recording, L: Log> LastingServer<S, L> {
         ensures recording { result ≡ true → S.recording self.new.server ≡ true }
         ensures waiting { result ≡ true → S.waiting self.new.server ≡ [] }
         ensures on { result ≡ true → self.new.is_stopped ≡ false }
+        ensures still { self.old.is_stopped ≡ true → self.new.is_stopped ≡ true }
         ensures ok { result ≡ true → (now : State) → S.shows self.old.server now
             → Logs S.stores S.logged S.last L.holds S.is_rooted self.old
             → ((root : RootView) × S.is_rooted self.new.server root
@@ -115,8 +128,12 @@ impl<S: Recording, L: Log> LastingServer<S, L> {
         }
     }
 
-    /// Takes out of the log what a new root has.
-    fn empty_log(&mut self)
+    /// Replaces the log by the name of a new root, which has all that the log says.
+    ///
+    /// # Errors
+    ///
+    /// `NoMemory` leaves log and journal as they were. `Device` if the log failed: no reply leaves any more.
+    fn empty_log(&mut self) -> Result<(), Refusal>
         ensures shown { S.is_clean self.old.server → (st : State) → S.shows self.old.server st
             → S.shows self.new.server st }
         ensures same { S.same self.old.server self.new.server }
@@ -124,8 +141,14 @@ impl<S: Recording, L: Log> LastingServer<S, L> {
         ensures clean { S.is_clean self.old.server → S.is_clean self.new.server }
         ensures recording { S.recording self.new.server ≡ S.recording self.old.server }
         ensures waiting { S.waiting self.old.server ≡ [] → S.waiting self.new.server ≡ [] }
+        ensures named { OnOk result (Renews (L.holds self.old.log) (L.holds self.new.log)
+            (named (S.next_root self.old.server))) }
+        ensures stopped { IsErrOf result Refusal.Device → self.new.is_stopped ≡ true }
+        ensures refusal { IfErr result (λ refusal.
+            (refusal ≡ Refusal.Device) ⊎ (refusal ≡ Refusal.NoMemory)) }
         ensures kept { (st : State) → HasNewRoot S.stores S.is_rooted S.last
             (S.next_root self.old.server) self.old.server st
+            → Logs S.stores S.logged S.last L.holds S.is_rooted self.old
             → LastsIn S.stores S.logged S.last L.holds self.old st
             → LastsIn S.stores S.logged S.last L.holds self.new st
             × Logs S.stores S.logged S.last L.holds S.is_rooted self.new }
@@ -134,8 +157,15 @@ impl<S: Recording, L: Log> LastingServer<S, L> {
         names_roots();
         S::recording_laws();
         match renew_log(&self.server, &mut self.log) {
-            Ok(()) => self.server.emptied(),
-            Err(_) => self.is_stopped = true,
+            Ok(()) => {
+                self.server.emptied();
+                Ok(())
+            }
+            Err(Refusal::NoMemory) => Err(Refusal::NoMemory),
+            Err(_) => {
+                self.is_stopped = true;
+                Err(Refusal::Device)
+            }
         }
     }
 
@@ -144,15 +174,21 @@ impl<S: Recording, L: Log> LastingServer<S, L> {
     ///
     /// # Errors
     ///
-    /// Those of a checkpoint, and `Device` if the log failed.
+    /// Those of a checkpoint; `NoMemory` also if memory to name the new root in the log was refused, which then stays as it
+    /// was; `Device` also if the log failed: no reply leaves any more.
     fn root(&mut self) -> Result<(), Refusal>
         ensures step { StepsAs (shown_by S.shows) self.old self.new CheckpointAsked
             (replied (checkpointed result)) }
         ensures refusal { IfErr result IsStorageRefusal }
         ensures settles { Settles (shown_by S.shows) (LastsIn S.stores S.logged S.last L.holds)
             (Logs S.stores S.logged S.last L.holds S.is_rooted) self.old self.new }
-        ensures answered { PutsRoot S.same S.checkpoints self.old.server (checkpointed result)
-            self.new.server }
+        ensures answered { PutsRoot S.same S.checkpoints (self.new.is_stopped ≡ true)
+            self.old.server (checkpointed result) self.new.server }
+        ensures done { OnOk result
+            (Checkpoints S.same S.checkpoints self.old.server CodecReply.Checkpoint self.new.server) }
+        ensures named { OnOk result ((now : State) → S.shows self.old.server now
+            → Logs S.stores S.logged S.last L.holds S.is_rooted self.old
+            → NamesItsRoot (L.holds self.new.log)) }
         ensures clean { OnOk result ((now : State) → S.shows self.old.server now
             → S.is_clean self.new.server) }
         ensures kept { OnOk result ((now : State) → S.shows self.old.server now
@@ -171,19 +207,18 @@ impl<S: Recording, L: Log> LastingServer<S, L> {
             return Err(Refusal::Device);
         }
         match self.server.checkpoint_now() {
-            Ok(()) => {
-                self.empty_log();
-                Ok(())
-            }
+            Ok(()) => self.empty_log(),
             Err(refusal) => Err(refusal),
         }
     }
 
-    /// Puts a root once tablets were moved, with nothing that waits. If it is refused, no reply leaves any more.
+    /// Puts a root once tablets were moved, with nothing that waits. If it is refused, no reply leaves any more; if only
+    /// memory to name it in the log is refused, the log stays over any root.
     fn root_moved(&mut self)
         ensures shown { (st : State) → S.shows self.old.server st → S.shows self.new.server st }
         ensures answered { (reply : CodecReply)
-            × PutsRoot S.same S.checkpoints self.old.server reply self.new.server }
+            × PutsRoot S.same S.checkpoints (self.new.is_stopped ≡ true) self.old.server reply
+            self.new.server }
         ensures kept { (before after : State) (root : RootView) → S.shows self.old.server after
             → HoldsLogged S.stores S.logged S.last L.holds self.old root
             → S.waiting self.old.server ≡ [] → S.recording self.old.server ≡ true
@@ -200,23 +235,28 @@ impl<S: Recording, L: Log> LastingServer<S, L> {
             return;
         }
         match self.server.checkpoint_now() {
-            Ok(()) => self.empty_log(),
+            Ok(()) => {
+                let _ = self.empty_log();
+            }
             Err(_) => self.is_stopped = true,
         }
     }
 
-    /// Puts a root if the log is over whichever root is there, so that it is over this one alone from then on. If the root is
-    /// refused, the log stays over whichever is there.
+    /// Puts a root if the log may be over any root, so that it names the root that it is over from then on.
     ///
     /// # Errors
     ///
-    /// Those of a checkpoint, and `Device` or `NoMemory` if the log can't be read.
+    /// Those of a checkpoint, and `Device` or `NoMemory` if the log can't be read. The log may then still be over any root.
     pub fn name_root(&mut self) -> Result<(), Refusal>
         ensures settles { Settles (shown_by S.shows) (LastsIn S.stores S.logged S.last L.holds)
             (Logs S.stores S.logged S.last L.holds S.is_rooted) self.old self.new }
         ensures rooted { S.same self.old.server self.new.server
-            ⊎ PutsRoot S.same S.checkpoints self.old.server (checkpointed result)
-            self.new.server }
+            ⊎ PutsRoot S.same S.checkpoints (self.new.is_stopped ≡ true) self.old.server
+            (checkpointed result) self.new.server }
+        ensures named { OnOk result ((now : State) (root : RootView) → S.shows self.old.server now
+            → S.is_rooted self.old.server root
+            → HoldsLogged S.stores S.logged S.last L.holds self.old root
+            → NamesItsRoot (L.holds self.new.log)) }
         ensures refusal { IfErr result IsStorageRefusal }
     {
         logs_edits();

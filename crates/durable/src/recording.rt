@@ -86,7 +86,8 @@ pub(crate) trait Recording: Answering {
 
     /// The name of the root that is there, behind a checkpoint that was done.
     fn root_name(&self) -> Result<RootName, Refusal>
-        ensures { IfOk result (λ name. IsNameOf name (next_root self.now)) };
+        ensures name { IfOk result (λ name. IsNameOf name (next_root self.now)) }
+        ensures refusal { IfErr result (λ refusal. refusal ≡ Refusal.NoMemory) };
 
     /// Puts a root that keeps what is shown.
     fn checkpoint_now(&mut self) -> Result<(), Refusal>

@@ -1,4 +1,4 @@
--- A put keeps all other files, whatever came of it.
+-- A put leaves all other files unchanged, whatever its result.
 use Rattle.std.proofs.Common.{◌≡◌, ◌≢◌, ◌==◌, ◌∙◌, refl, ap, subst, sym, cond, ℕ, Bool, true, false, List, Option, Some, None, Result, Ok, Err, OnErr}
 use Rattle.std.specs.Prelude.{OnOk}
 use Rattle.std.specs.Cmp.{nat_cmp_total, unsigned_tied}

@@ -1,4 +1,4 @@
--- What the contents of files that are kept as vectors answer.
+-- The contents of files that are held as vectors.
 use Rattle.std.proofs.Common.{◌≡◌, ℕ, List, [], ◌∷◌, ◌&&◌, map, refl, sym, ap, ◌∙◌, subst, cond, T, true, false, Bool}
 use Rattle.std.specs.Global.{Vec}
 use Rattle.std.specs.Prelude.{Option, Some, None, option_map}
@@ -17,7 +17,7 @@ use Rattle.std.proofs.lemmas.Grind.{common_steps}
 use Rattle.file_store.specs.Store.{part}
 use Rattle.file_store.specs.View.{seen, contents_of}
 
--- what the vectors have at a name
+-- the vector of a name
 abbrev pub vec_at : List (ℕ × Vec ℕ) → ℕ → Option (Vec ℕ)
 vec_at es q = lookup (is_at (nat_cmp q)) es
 
@@ -32,7 +32,7 @@ find-seen (e ∷ es) q = ap (cond (eq_by_cmp nat_cmp q e.0) (Some e.1.items)) (f
 pub get-contents : (es : List (ℕ × Vec ℕ)) (q : ℕ) → finite.get (contents_of es) q ≡ option_map (λ v. v.items) (vec_at es q)
 get-contents es q = get-from_entries nat_cmp_total (seen es) q ∙ find-seen es q
 
--- vectors that differ at one name are contents that differ there
+-- changing the vector of one name changes the contents at that name
 pub one_put : (es fs : List (ℕ × Vec ℕ)) (name : ℕ) (v : Vec ℕ) → ((q : ℕ) → vec_at fs q ≡ cond (is_at (nat_cmp name) q) (Some v) (vec_at es q)) → contents_of fs ≡ finite.insert (contents_of es) name v.items
 one_put es fs name v h = same_map nat_cmp_total nat_cmp-IsAntisymmetric _ _ (λ q.
     get-contents fs q ∙ ap (option_map (λ v. v.items)) (h q) ∙ sym (moved (is_at (nat_cmp name) q) v (vec_at es q))
@@ -66,7 +66,7 @@ names-seen : (es : List (ℕ × Vec ℕ)) → map (λ e. e.0) (seen es) ≡ map 
 names-seen [] = refl
 names-seen (e ∷ es) = ap (λ ks. e.0 ∷ ks) (names-seen es)
 
--- vectors under rising names are the map's entries in order
+-- vectors with names in ascending order are the map's entries in order
 pub keys-contents : (es : List (ℕ × Vec ℕ)) → IsStrictlySortedBy nat_cmp (map (λ e. e.0) es) → keys (contents_of es) ≡ map (λ e. e.0) es
 keys-contents es h =
     let s : T (is_sorted nat_cmp (seen es)) = is_sorted-seen es h in
@@ -74,10 +74,10 @@ keys-contents es h =
     get-from_entries nat_cmp_total (seen es) q ∙ sym (get-from_sorted nat_cmp (seen es) q s)) in
     ap keys same ∙ ap (map (λ e. e.0)) (entries-from_sorted nat_cmp (seen es) s) ∙ names-seen es
 
--- what a look-up among the vectors found
+-- a look-up among the vectors is a look-up in the contents
 pub found : (es : List (ℕ × Vec ℕ)) (m : finite.FinMap nat_cmp (List ℕ)) (name : ℕ) (o : Option (Vec ℕ)) → contents_of es ≡ m → o ≡ vec_at es name → finite.get m name ≡ option_map (λ v. v.items) o
 found es m name o view is = ap (λ m. finite.get m name) (sym view) ∙ get-contents es name ∙ ap (option_map (λ v. v.items)) (sym is)
 
--- nothing is read of no bytes
+-- nothing is read from empty bytes
 pub part-nil : (offset n : ℕ) → part [] offset n ≡ []
 part-nil offset n = grind (arith, common_steps)

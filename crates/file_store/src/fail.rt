@@ -1,4 +1,4 @@
-//! Files of which one call fails, for tests.
+//! Files with one failing call, for tests.
 
 ghost use Rattle.std.specs.Prelude.{◌≡◌, ◌≤◌, ◌++◌, IfOk, IfSome, IsErrOf, None, OnErr, OnOk, length, option_map};
 ghost use Rattle.std.specs.FinMap as map;
@@ -7,18 +7,18 @@ ghost use Rattle.file_store.specs.Store.{HasFaultCause, KeepsOthers, MayLack, Re
 
 use crate::files::{FileFault, Files};
 
-/// What a call has done when it fails.
+/// How far the failing call gets.
 #[derive(Clone, Copy, Debug, PartialEq, Eq)]
 pub enum Fail {
-    /// Nothing.
+    /// It does nothing.
     Before,
-    /// A put has written the first half of its bytes, rounded down, and any other call has done nothing.
+    /// A put writes the first half of its bytes, rounded down; any other call does nothing.
     Half,
-    /// All that it was to do.
+    /// It does everything.
     After,
 }
 
-/// How many calls there were, which of them fails, and how many have failed.
+/// The number of the call that fails and how it fails, and the counts of calls and of failures.
 #[derive(Clone, Copy, Debug)]
 struct Counter {
     at: u64,
@@ -28,7 +28,7 @@ struct Counter {
 }
 
 impl Counter {
-    /// Counts a call, and answers how it fails, if it is the one that does.
+    /// Counts a call, and answers how it fails, if it is the failing one.
     fn count(&mut self) -> Option<Fail>
         ensures fail { result ≡ next_fail self.old }
         ensures counted { self.new ≡ counted self.old }
@@ -43,7 +43,8 @@ impl Counter {
     }
 }
 
-/// Files of which one call answers a device's fault, whatever the files inside answer to it. All other calls are theirs.
+/// Files with one call that answers a device's fault, whatever the inner files answer. All other calls go to the inner
+/// files.
 #[derive(Drop)]
 pub struct FailAt<F> {
     inner: F,
@@ -52,7 +53,7 @@ pub struct FailAt<F> {
 }
 
 impl<F: Files> FailAt<F> {
-    /// Files of which the call with this number fails, counted from 1. At 0 none does.
+    /// Files whose call number `at` fails, counted from 1. With 0 no call fails.
     pub fn new(inner: F, at: u64, how: Fail) -> FailAt<F>
         ensures inner { result.inner ≡ inner }
         ensures counter { result.counter ≡ record { at = at; how = how; calls = 0; faults = 0 } }
@@ -71,21 +72,22 @@ impl<F: Files> FailAt<F> {
         }
     }
 
-    /// How many calls of `put`, `put_owned`, `size`, `read_at`, `list` and `remove` there were, up to the greatest number.
+    /// How many calls of `put`, `put_owned`, `size`, `read_at`, `list` and `remove` there were; it stops at the
+    /// greatest number.
     pub fn calls(&self) -> u64
         ensures { result ≡ self.now.counter.calls }
     {
         self.counter.calls
     }
 
-    /// The fault that the files inside answered to the call that failed, if they failed there too.
+    /// The fault that the inner files answered to the failing call, if it failed there too.
     pub fn inner_fault(&self) -> Option<FileFault>
         ensures { result ≡ self.now.inner_fault }
     {
         self.inner_fault
     }
 
-    /// The files inside.
+    /// The inner files.
     pub fn into_inner(self) -> F
         ensures { result ≡ self.inner }
     {

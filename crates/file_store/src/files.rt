@@ -1,4 +1,4 @@
-//! Stores of files under numbers: what they promise, and why a call on them fails.
+//! Stores of files under numbers: their contracts, and the faults of their calls.
 
 ghost use Rattle.std.specs.Prelude.{◌≡◌, ◌≤◌, ℕ, ◌++◌, length, Option, Some, option_map, OnOk, OnErr, IfOk, IfSome, IsErrOf};
 ghost use Rattle.std.specs.FinMap as map;
@@ -13,9 +13,9 @@ use std::fmt;
 /// Why a call on files failed.
 #[derive(Clone, Copy, Debug, PartialEq, Eq)]
 pub enum FileFault {
-    /// A device failed. The count of faults has risen.
+    /// A device failed. The count of faults has increased.
     Device,
-    /// Memory was refused.
+    /// There was no memory.
     Memory,
 }
 
@@ -48,19 +48,19 @@ impl<T: Drop> From<AllocFailed<T>> for FileFault {
     }
 }
 
-/// Files under numbers, which are their names. Nobody else writes them.
+/// Files under numbers, which are their names. Nobody else writes to them.
 pub trait Files {
-    /// The bytes of each file, or none if the files do not say, as on a real disk.
+    /// The bytes of each file, or `None` if they are unknown, as on a real disk.
     ghost contents: { Self → Option Contents };
 
-    /// How often a device has failed, up to the greatest number.
+    /// How often a device has failed; it stops at the greatest number.
     ghost faults: { Self → ℕ };
 
-    /// Whether a put that fails leaves the old file or the new one, and nothing between.
+    /// Whether a put that fails leaves the old file or the new one, and nothing in between.
     ghost replaces: { Type 0 };
 
-    /// Makes or replaces a file. After a device's fault the bytes under this name are open, and all other
-    /// files are as before. If memory was refused, all files are as before.
+    /// Makes or replaces a file. After `Device` any bytes may be under this name, and all other files are unchanged.
+    /// After `Memory` all files are unchanged.
     fn put(&mut self, name: u64, bytes: &[u8]) -> Result<(), FileFault>
         ensures ok { OnOk result (contents self.new
             ≡ with_file name bytes.now (contents self.old)) }
@@ -70,7 +70,7 @@ pub trait Files {
         ensures memory { IsErrOf result Memory → contents self.new ≡ contents self.old }
         ensures cause { HasFaultCause (faults self.old) (faults self.new) result };
 
-    /// Makes or replaces a file as `put` does. Files in memory keep these bytes, and no copy of them.
+    /// Makes or replaces a file as `put` does. Files in memory keep these bytes without copying them.
     fn put_owned(&mut self, name: u64, bytes: Vec<u8>) -> Result<(), FileFault>
         ensures ok { OnOk result (contents self.new
             ≡ with_file name bytes.items (contents self.old)) }
@@ -83,16 +83,15 @@ pub trait Files {
         self.put(name, &bytes)
     }
 
-    /// How many bytes a file has, if it is there.
+    /// The size of a file in bytes, if it exists.
     fn size(&mut self, name: u64) -> Result<Option<u64>, FileFault>
         ensures ok { IfOk result (λ size.
             IfSome (contents self.old) (λ m. size ≡ option_map length (map.get m name))) }
         ensures same { contents self.new ≡ contents self.old }
         ensures cause { HasFaultCause (faults self.old) (faults self.new) result };
 
-    /// Reads from an offset to the front of a buffer, and answers how many bytes it read: fewer
-    /// than the buffer has only at the file's end, and 0 of a missing file. After an `Err` the
-    /// bytes of the buffer are open.
+    /// Reads from an offset into a buffer, and answers how many bytes were read: fewer than the buffer's length only at
+    /// the file's end, and 0 for a missing file. After an `Err` the buffer may have any bytes.
     fn read_at(&mut self, name: u64, offset: u64, out: &mut [u8]) -> Result<usize, FileFault>
         ensures within { IfOk result (λ n. n ≤ length out.old) }
         ensures ok { IfOk result (λ n.
@@ -100,7 +99,7 @@ pub trait Files {
         ensures same { contents self.new ≡ contents self.old }
         ensures cause { HasFaultCause (faults self.old) (faults self.new) result };
 
-    /// Appends the names of all files, rising. An `Err` leaves the list as it was.
+    /// Appends the names of all files in ascending order. After an `Err` the list is unchanged.
     fn list(&mut self, names: &mut Vec<u64>) -> Result<(), FileFault>
         ensures ok { OnOk result (IfSome (contents self.old) (λ m.
             names.new.items ≡ names.old.items ++ map.keys m)) }
@@ -108,13 +107,13 @@ pub trait Files {
         ensures same { contents self.new ≡ contents self.old }
         ensures cause { HasFaultCause (faults self.old) (faults self.new) result };
 
-    /// Removes a file, if it is there. After an `Err` it may be there still or not.
+    /// Removes a file, if it exists. After an `Err` it may be removed or not.
     fn remove(&mut self, name: u64) -> Result<(), FileFault>
         ensures ok { OnOk result (contents self.new ≡ without_file name (contents self.old)) }
         ensures err { OnErr result (MayLack name (contents self.old) (contents self.new)) }
         ensures cause { HasFaultCause (faults self.old) (faults self.new) result };
 
-    /// How often a device has failed, up to the greatest number.
+    /// How often a device has failed; it stops at the greatest number.
     fn faults(&self) -> u64
         ensures { result ≡ faults self.now };
 }

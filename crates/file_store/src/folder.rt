@@ -1,6 +1,7 @@
 //! Files in a folder.
 
-ghost use Rattle.std.specs.Prelude.{⊤, ◌≡◌, ◌≢◌, ◌≤◌, ◌<◌, ℕ, Err, IfOk, IfErr, IsOk, None, Ok, OnOk, Some, length};
+ghost use Rattle.std.specs.Prelude.{⊤, ◌≡◌, ◌≢◌, ◌≤◌, ◌<◌, ◌↔◌, ℕ, Err, IfOk, IfErr, IsOk, None, Ok, OnOk, Some, length};
+ghost use Rattle.std.specs.Fs.{IsFile, file_type};
 ghost use Rattle.std.specs.Io.KnownBytes.{Appends, IsAtEnd};
 ghost use Rattle.std.specs.IoError.{error_kind};
 ghost use Rattle.file_store.specs.Store.{HasFaultCause};
@@ -8,22 +9,28 @@ ghost use Rattle.file_store.specs.Store.{HasFaultCause};
 use crate::files::{FileFault, Files};
 use crate::open_files::OpenFiles;
 use std::alloc::{Allocator, Global};
-use std::fs::{DirEntry, File, Metadata, OpenFile};
+use std::fs::{DirEntry, File, Metadata, OpenFile, OpenOptions};
 use std::io::{ErrorKind, Read, Seek, SeekFrom, Write};
+use std::os::unix::fs::OpenOptionsExt;
 use std::rt::Files as Folders;
 use std::{fs, io};
 
-/// How many hexadecimal digits a name has.
+/// The number of hexadecimal digits in a file's name.
 const DIGITS: usize = 16;
 
-/// Files in one folder: `t`, 16 lower-case hexadecimal digits of the name, and `.tab`. Other names in the folder aren't
-/// listed. Nothing is known of the bytes. The folder's file `lock` is locked as long as the folder is open, so that one
-/// program has it at a time; the system unlocks it when the program ends, however it does. The 128 files that were read
-/// last are kept open.
+/// Who may read and write a file that is made: its owner alone.
+const OWNER_ALONE: u32 = 0o600;
+
+/// Files in a folder, named `t`, 16 lower-case hexadecimal digits and `.tab`. Other names in the folder aren't listed.
+/// Contracts know nothing of the bytes. The folder's file `lock` is locked while the folder is open, so that only one
+/// program uses it; the system unlocks it when the program ends, in whatever way. The 128 files that were read last are
+/// kept open.
 ///
-/// A file is written beside its place, under the same digits and `.new`, forced to the disk, and then put in its place,
-/// and the folder is forced to the disk too: if the machine stops between, the old bytes stand or the new ones. If the
-/// write fails, what stands beside the place is removed.
+/// A file is written under a temporary name (the same digits and `.new`), forced to the disk and renamed, and then the
+/// folder is forced to the disk: after a crash in between there are the old bytes or the new ones. If the write fails,
+/// the temporary file is removed.
+///
+/// Only the owner may read and write the files. What has a file's name and is no regular file isn't opened.
 #[derive(Drop)]
 pub struct DirFiles<R> {
     rt: R,
@@ -39,7 +46,7 @@ fn path_of(alloc: Global, folder: &str, name: u64, ending: &str) -> io::Result<S
     Ok(format!(in alloc; "{folder}/t{name:016x}.{ending}")?)
 }
 
-/// The name that a file of a folder has, with this ending, if it has one.
+/// The number in a file's name with this ending, if the name is of this form.
 fn name_of(file: &str, ending: &str) -> Option<u64> {
     let digits = file
         .strip_prefix('t')?
@@ -57,15 +64,55 @@ fn name_of(file: &str, ending: &str) -> Option<u64> {
     u64::from_str_radix(digits, 16).ok()
 }
 
-/// Locks a folder's file `lock`, which is made if there is none. It fails if another has locked it.
+/// The metadata of a path if it is a regular file. A failure is passed on.
+fn regular(found: io::Result<Metadata>) -> io::Result<Metadata>
+    ensures regular { IfOk found (λ metadata. IsOk result ↔ IsFile (file_type metadata)) }
+    ensures same { IfOk result (λ metadata. found ≡ Ok metadata) }
+    ensures failed { IfErr found (λ error. result ≡ Err error) }
+{
+    let metadata = found?;
+    if !metadata.is_file() {
+        return Err(io::Error::from(ErrorKind::InvalidInput));
+    }
+    Ok(metadata)
+}
+
+/// The metadata of a regular file. Fails for anything else, also for a symbolic link.
+fn look_at<R: Folders>(rt: &R, path: &str) -> io::Result<Metadata> {
+    regular(fs::symlink_metadata(rt, path))
+}
+
+/// Opens a regular file to read it.
+fn open_regular<R: Folders>(rt: &R, path: &str) -> io::Result<R::File> {
+    look_at(rt, path)?;
+    File::open(rt, path)
+}
+
+/// Makes a temporary file. If something has its name, that is removed first.
+fn create_beside<R: Folders>(rt: &R, beside: &str) -> io::Result<R::File> {
+    let mut how = OpenOptions::new();
+    how.write(true).create_new(true).mode(OWNER_ALONE);
+    match how.open(rt, beside) {
+        Err(error) if error.kind() == ErrorKind::AlreadyExists => {
+            fs::remove_file(rt, beside)?;
+            how.open(rt, beside)
+        }
+        opened => opened,
+    }
+}
+
+/// Locks a folder's file `lock`, and makes it if it is missing. Fails if it is already locked.
 fn lock_folder<R: Folders<File = File>>(rt: &R, alloc: Global, folder: &str) -> io::Result<File> {
     let path = format!(in alloc; "{folder}/lock")?;
-    let file = File::create(rt, path.as_str())?;
+    let is_new = if_there(look_at(rt, path.as_str()))?.is_none();
+    let mut how = OpenOptions::new();
+    how.write(true).create_new(is_new).mode(OWNER_ALONE);
+    let file = how.open(rt, path.as_str())?;
     file.try_lock()?;
     Ok(file)
 }
 
-/// Forces a folder that was opened to the disk. A failure to open it is passed on.
+/// Forces an opened folder to the disk. A failure to open it is passed on.
 fn sync_opened<F: OpenFile + Drop>(opened: io::Result<F>) -> io::Result<()>
     ensures failed { IfErr opened (λ error. result ≡ Err error) }
 {
@@ -73,12 +120,12 @@ fn sync_opened<F: OpenFile + Drop>(opened: io::Result<F>) -> io::Result<()>
     folder.sync_all()
 }
 
-/// Forces a folder to the disk: which names it has.
+/// Forces a folder's list of names to the disk.
 fn sync_folder<R: Folders>(rt: &R, folder: &str) -> io::Result<()> {
     sync_opened(File::open(rt, folder))
 }
 
-/// Writes bytes behind those of a file, and forces it to the disk.
+/// Appends bytes to a file, and forces it to the disk.
 fn write_synced<W: Write + OpenFile>(file: &mut W, bytes: &[u8]) -> io::Result<()>
     ensures { OnOk result (Appends (W.contents file.old) (W.contents file.new) bytes.now) }
 {
@@ -86,7 +133,7 @@ fn write_synced<W: Write + OpenFile>(file: &mut W, bytes: &[u8]) -> io::Result<(
     file.sync_all()
 }
 
-/// Puts what was written beside a place there. A failure to write it is passed on.
+/// Renames a written temporary file to its path. A failure to write it is passed on.
 fn put_there<R: Folders>(
     rt: &R,
     beside: &str,
@@ -99,15 +146,15 @@ fn put_there<R: Folders>(
     fs::rename(rt, beside, path)
 }
 
-/// Writes a file beside its place, and puts it there.
+/// Writes a temporary file, and renames it to its path.
 fn place_file<R: Folders>(rt: &R, beside: &str, path: &str, bytes: &[u8]) -> io::Result<()> {
-    let mut file = File::create(rt, beside)?;
+    let mut file = create_beside(rt, beside)?;
     let written = write_synced(&mut file, bytes);
     put_there(rt, beside, path, written)
 }
 
-/// Forces a folder to the disk once a file was put in its place. If that failed, what was written beside the place is
-/// removed, and the failure is passed on.
+/// Forces a folder to the disk after a file was put in its place. If that failed, the temporary file is removed and the
+/// failure passed on.
 fn finish<R: Folders>(rt: &R, folder: &str, beside: &str, placed: io::Result<()>) -> io::Result<()>
     ensures failed { IfErr placed (λ error. result ≡ Err error) }
 {
@@ -118,7 +165,7 @@ fn finish<R: Folders>(rt: &R, folder: &str, beside: &str, placed: io::Result<()>
     sync_folder(rt, folder)
 }
 
-/// Makes or replaces a file in a folder. If that fails, what was written beside its place is removed.
+/// Makes or replaces a file in a folder. If that fails, the temporary file is removed.
 fn write_file<R: Folders>(
     rt: &R,
     alloc: Global,
@@ -132,7 +179,7 @@ fn write_file<R: Folders>(
     finish(rt, folder, beside.as_str(), placed)
 }
 
-/// What a call answers on a file that may be missing: nothing if it is. Any other failure is passed on.
+/// The result of a call on a file that may be missing: `None` if it is missing. Any other failure is passed on.
 fn if_there<T: Drop>(called: io::Result<T>) -> io::Result<Option<T>>
     ensures there { IfOk called (λ value. result ≡ Ok (Some value)) }
     ensures missing { IfErr called (λ error.
@@ -147,7 +194,7 @@ fn if_there<T: Drop>(called: io::Result<T>) -> io::Result<Option<T>>
     }
 }
 
-/// Reads to the front of a buffer, and answers how many bytes it read: fewer than the buffer has only at the end.
+/// Reads into a buffer, and answers how many bytes were read: fewer than its length only at the file's end.
 fn read_full<S: Read>(file: &mut S, out: &mut [u8]) -> io::Result<usize>
     ensures within { IfOk result (λ n. n ≤ length out.old) }
     ensures end { IfOk result (λ n. n < length out.old → IsAtEnd (S.remaining file.new)) }
@@ -163,7 +210,7 @@ fn read_full<S: Read>(file: &mut S, out: &mut [u8]) -> io::Result<usize>
     Ok(at)
 }
 
-/// Reads from an offset of an open file to the front of a buffer, and answers how many bytes it read.
+/// Reads from an offset of an open file into a buffer, and answers how many bytes were read.
 fn read_part<S: Read + Seek>(file: &mut S, offset: u64, out: &mut [u8]) -> io::Result<usize>
     ensures { IfOk result (λ n. n ≤ length out.old) }
 {
@@ -174,7 +221,7 @@ fn read_part<S: Read + Seek>(file: &mut S, offset: u64, out: &mut [u8]) -> io::R
     read_full(file, out)
 }
 
-/// Reads so of a file that was opened, and answers the file too, if there is one.
+/// Reads in the same way from a file that was opened, and answers the file too, if it exists.
 fn read_opened<S: Read + Seek + Drop>(
     opened: io::Result<S>,
     offset: u64,
@@ -191,7 +238,7 @@ fn read_opened<S: Read + Seek + Drop>(
     Ok((count, Some(file)))
 }
 
-/// Reads so of a file by its name: nothing if there is no such file. The file is kept open.
+/// Reads in the same way from a file by its name; nothing if it is missing. The file is kept open.
 fn read_from<R: Folders<File = File>>(
     rt: &R,
     alloc: Global,
@@ -207,14 +254,14 @@ fn read_from<R: Folders<File = File>>(
         return read_part(file, offset, out);
     }
     let path = path_of(alloc, folder, name, "tab")?;
-    let (count, file) = read_opened(File::open(rt, path.as_str()), offset, out)?;
+    let (count, file) = read_opened(open_regular(rt, path.as_str()), offset, out)?;
     if let Some(file) = file {
         open_files.keep(name, file);
     }
     Ok(count)
 }
 
-/// How many bytes a file has by what is known of it. It may be missing; any other failure is passed on.
+/// The size in a file's metadata; `None` if the file is missing. Any other failure is passed on.
 fn size_in(found: io::Result<Metadata>) -> io::Result<Option<u64>>
     ensures missing { IfErr found (λ error.
         error_kind error ≡ ErrorKind.NotFound → result ≡ Ok None) }
@@ -225,13 +272,14 @@ fn size_in(found: io::Result<Metadata>) -> io::Result<Option<u64>>
     Ok(metadata.map(|metadata| metadata.len()))
 }
 
-/// How many bytes a file has, if it is there.
+/// The size of a file in bytes, if it exists.
 fn size_of<R: Folders>(rt: &R, alloc: Global, folder: &str, name: u64) -> io::Result<Option<u64>> {
     let path = path_of(alloc, folder, name, "tab")?;
-    size_in(fs::metadata(rt, path.as_str()))
+    size_in(look_at(rt, path.as_str()))
 }
 
-/// Forces a folder to the disk once a file was removed, if it was there. Any other failure is passed on.
+/// Forces a folder to the disk after a file was removed; does nothing if the file was missing. Any other failure is
+/// passed on.
 fn sync_removed<R: Folders>(rt: &R, folder: &str, removed: io::Result<()>) -> io::Result<()>
     ensures missing { IfErr removed (λ error.
         error_kind error ≡ ErrorKind.NotFound → IsOk result) }
@@ -244,13 +292,14 @@ fn sync_removed<R: Folders>(rt: &R, folder: &str, removed: io::Result<()>) -> io
     }
 }
 
-/// Removes a file, if it is there.
+/// Removes a file, if it exists.
 fn remove_file<R: Folders>(rt: &R, alloc: Global, folder: &str, name: u64) -> io::Result<()> {
     let path = path_of(alloc, folder, name, "tab")?;
     sync_removed(rt, folder, fs::remove_file(rt, path.as_str()))
 }
 
-/// The name that a file of a listing has, with this ending, if it has one. A name that is no text is none.
+/// The number in the name of a listed file with this ending, if its name is of this form. `None` for a name that isn't
+/// valid text.
 fn name_listed<R: Folders + Drop, A: Allocator + Drop>(
     entry: io::Result<DirEntry<R, A>>,
     ending: &str,
@@ -265,7 +314,7 @@ fn name_listed<R: Folders + Drop, A: Allocator + Drop>(
     }
 }
 
-/// The names of the files of a folder that have this ending, rising.
+/// The numbers of a folder's files with this ending, in ascending order.
 fn names_in<R: Folders + AllocGlobal + Clone + Drop>(
     rt: &R,
     folder: &str,
@@ -281,7 +330,7 @@ fn names_in<R: Folders + AllocGlobal + Clone + Drop>(
     Ok(names)
 }
 
-/// Removes what was written beside its place and never put there.
+/// Removes all temporary files, which a stopped program left.
 fn remove_unplaced<R: Folders + AllocGlobal + Clone + Drop>(
     rt: &R,
     folder: &str,
@@ -293,7 +342,7 @@ fn remove_unplaced<R: Folders + AllocGlobal + Clone + Drop>(
     Ok(())
 }
 
-/// The fault that a failure of the system is.
+/// The fault for a failure of the system.
 fn fault_of(error: io::Error) -> FileFault
     ensures memory { error_kind error ≡ ErrorKind.OutOfMemory → result ≡ FileFault.Memory }
     ensures device { error_kind error ≢ ErrorKind.OutOfMemory → result ≡ FileFault.Device }
@@ -306,12 +355,13 @@ fn fault_of(error: io::Error) -> FileFault
 }
 
 impl<R: Folders<File = File> + AllocGlobal + Clone + Drop> DirFiles<R> {
-    /// The files of a folder, which no other program may open until these are dropped. What a stopped program left
-    /// beside its place there is removed.
+    /// Opens the files of a folder, which no other program can open until these are dropped. Temporary files that a
+    /// stopped program left are removed.
     ///
     /// # Errors
     ///
-    /// `Device` if there is no such folder, another program has it, or it can't be read; `Memory`.
+    /// `Device` if there is no such folder, another program has it open, or it can't be read; `Memory` if there is no
+    /// memory.
     pub fn open(rt: R, folder: &str) -> Result<DirFiles<R>, FileFault>
         ensures { IfOk result (λ files. files.faults ≡ 0) }
     {
@@ -320,7 +370,7 @@ impl<R: Folders<File = File> + AllocGlobal + Clone + Drop> DirFiles<R> {
 }
 
 impl<R: Folders<File = File> + AllocGlobal + Clone + Drop> DirFiles<R> {
-    /// What a call answered, or its fault, which is counted if it is a device's.
+    /// The result of a call, or its fault, which is counted if it is a device's.
     fn count_fault<T: Drop>(&mut self, called: io::Result<T>) -> Result<T, FileFault>
         ensures cause { HasFaultCause self.old.faults self.new.faults result }
         ensures same { IfOk result (λ value. called ≡ Ok value) }
@@ -340,7 +390,7 @@ impl<R: Folders<File = File> + AllocGlobal + Clone + Drop> DirFiles<R> {
     }
 }
 
-/// The files of a folder, once it is locked and what was left unplaced is removed.
+/// The files of a folder, after it is locked and its temporary files are removed.
 fn open_folder<R: Folders<File = File> + AllocGlobal + Clone + Drop>(
     rt: R,
     folder: &str,

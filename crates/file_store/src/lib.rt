@@ -1,4 +1,4 @@
-//! Files as numbers with bytes, and files in memory.
+//! Files named by numbers, with files in memory and in a folder.
 #![tactic(auto)]
 
 mod fail;

@@ -9,7 +9,7 @@ use std::alloc::Global;
 use std::collections::BTreeMap;
 use std::marker::Model;
 
-/// Files in memory. Their bytes are known, and no device of theirs fails.
+/// Files in memory. Contracts know their bytes, and they have no device that could fail.
 #[derive(Drop)]
 pub struct MemFiles {
     alloc: Global,
@@ -112,7 +112,7 @@ impl Files for MemFiles {
     }
 }
 
-/// Copies what stands at an offset to the front of a buffer, and answers how much it is.
+/// Copies a file's bytes from an offset on into a buffer, and answers how many were copied.
 fn read_into(file: &[u8], offset: u64, out: &mut [u8]) -> usize
     ensures count { result ≡ length (part file.now offset (length out.old)) }
     ensures read { out.new ≡ with_front (part file.now offset (length out.old)) out.old }

@@ -1,11 +1,11 @@
-//! Files of a folder that are kept open, so that a further read of one needn't open it again.
+//! Files of a folder that are kept open, so that reading one again need not open it again.
 
 use lru::LruCache;
 use std::alloc::{AllocError, Global};
 use std::fs::File;
 use std::num::NonZeroUsize;
 
-/// How many files are kept open at most.
+/// The most files that are kept open.
 const MOST_FILES: usize = 128;
 
 /// The files that were read last, by their names: at most 128.
@@ -15,7 +15,7 @@ pub(crate) struct OpenFiles {
 }
 
 impl OpenFiles {
-    /// No file yet.
+    /// No files yet.
     pub(crate) fn new(alloc: Global) -> Result<OpenFiles, AllocError> {
         let most = NonZeroUsize::new(MOST_FILES).unwrap();
         let files = LruCache::sparse(alloc, most)?;
@@ -27,7 +27,8 @@ impl OpenFiles {
         self.files.get_mut(&name)
     }
 
-    /// Keeps a file open, in the place of the one whose last read is longest ago. Without memory for it, it is closed.
+    /// Keeps a file open, and closes the least recently read one if there are 128 already. Without memory for it, it is
+    /// closed.
     pub(crate) fn keep(&mut self, name: u64, file: File) {
         let _kept: Result<_, _> = self.files.put(name, file);
     }

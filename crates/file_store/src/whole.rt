@@ -7,7 +7,7 @@ ghost use Rattle.file_store.specs.Store.{HasFaultCause};
 use crate::files::{FileFault, Files};
 use std::alloc::Global;
 
-/// The bytes of a file, if it is there. It takes as much memory as the size that the files answer.
+/// The bytes of a file, if it exists. Allocates as many bytes as the files answer for its size.
 pub fn read_whole<F: Files>(
     alloc: Global,
     files: &mut F,

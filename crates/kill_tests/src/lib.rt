@@ -1,4 +1,4 @@
-//! Tests of a server with a log: its bytes, and kills at each call of its devices.
+//! Tests of a server with a log: the log's bytes, and kills at each call of the devices.
 #![tactic(auto)]
 
 #[cfg(test)]

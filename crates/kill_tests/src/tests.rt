@@ -1,4 +1,4 @@
-//! Tests of a server with a log: its bytes, and kills at each call of its devices.
+//! Tests of a server with a log: the log's bytes, and kills at each call of the devices.
 
 mod kills;
 mod lasting;
@@ -8,7 +8,7 @@ mod stopping;
 
 use server_loop::FlushLimits;
 
-/// How full a memtable is when it is compacted.
+/// The limits at which memtables are compacted.
 const FLUSH: FlushLimits = FlushLimits {
     entries: 10_000,
     bytes: None,

@@ -1,4 +1,4 @@
-//! Tests of the limits of a server, and of what it does in each order of steps, as the audit judges it.
+//! Tests of a server's limits, and of its replies in each order of steps, judged by the audit.
 #![tactic(auto)]
 
 #[cfg(test)]

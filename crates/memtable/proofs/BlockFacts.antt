@@ -21,7 +21,7 @@ pub blocks_some : (blocks : List Block) → AllByRecursion IsEntryBlock blocks �
 blocks_some [] all = tt
 blocks_some (block ∷ blocks) all = (block_some block all.0, blocks_some blocks all.1)
 
--- the place of a text in a block is its place among all where the block before ends below the text
+-- the place of a text in a block is its place in all blocks if the block before ends below the text
 module _ (name : List ℕ) (xs : List Block) (rising : IsRising (block_entries xs)) (all : AllByRecursion IsEntryBlock xs) (i j : ℕ) (lt : i < length xs) (place : (d : Block) → IsPlace name (list_of (get_or xs i d)) j) where
   one_at : (d : Block) → get_or xs i d ≡ get_or xs i (get_or xs i d)
   one_at d = get_or_default xs i d (get_or xs i d) lt
@@ -32,7 +32,7 @@ module _ (name : List ℕ) (xs : List Block) (rising : IsRising (block_entries x
   rising_one : (d : Block) → IsRising (list_of (get_or xs i d))
   rising_one d = rising_at list_of xs i (get_or xs i d) rising lt (one_at d)
 
-  -- one with its place behind all entries of the last block is behind all
+  -- a place behind all entries of the last block is behind all blocks
   pub place_behind : i + 1 ≡ length xs → ((d : Block) → j ≡ length (list_of (get_or xs i d))) → IsPlaceAmong name xs (record { block = i + 1; slot = 0 })
   place_behind last end = record {
     block = subst (IsBlockIndex name (lists_of xs)) (sym last)
@@ -56,7 +56,7 @@ module _ (name : List ℕ) (xs : List Block) (rising : IsRising (block_entries x
       slot = λ d within. place d;
     }
 
--- where an entry is put whose place this is
+-- where an entry is put, given its place
 module _ (xs : List Block) (place at : Place) (some : 1 ≤ length xs) (inside : place.block < length xs → at ≡ place) (end : length xs ≤ place.block → IsEndOf xs at) where
   is_inside : (place.block < length xs) ⊎ (length xs ≤ place.block)
   is_inside = go (nat_lt place.block (length xs)) refl
@@ -92,7 +92,7 @@ module _ (xs : List Block) (place at : Place) (some : 1 ≤ length xs) (inside :
           let slot = (end le).slot d in
           subst (IsPlace name (list_of block)) (omega (arith, len, items, slot)) (place_at_end name (list_of block) risen (each_passed list_of name xs place.block at.block d is.block le at_within))
 
--- a list ends below a text where its last entry is below
+-- a list ends below a text if its last entry is below it
 pub by_last : {X : Type 0} (f : X → Entry) (name : List ℕ) (xs : List X) (i : ℕ) (x : X) → i + 1 ≡ length xs → x ≡ get_or xs i x → is_gt (byte_cmp name (f x).0) ≡ ends_below name (map f xs)
 by_last f name [] i x e g = absurd (omega (arith, e))
 by_last f name (y ∷ []) zero x e g = ap (λ (z : _). is_gt (byte_cmp name (f z).0)) g
@@ -126,7 +126,7 @@ full_at blocks i block lt full counted all =
       others = λ other is. subst (AllByRecursion IsEntryBlock) (sym (set_again blocks i block other)) (all_set IsEntryBlock blocks i other all is);
     }
 
--- an entry put into the block at its place, or into the last one where that is behind all
+-- an entry put into the block at its place, or into the last block if its place is behind all blocks
 pub put_chosen : (name : List ℕ) (v : Option (List ℕ)) (old new : Block) → list_of new ≡ put byte_cmp name v (list_of old) → (blocks : List Block) (place at : ℕ) → IsRising (block_entries blocks) → AllByRecursion IsEntryBlock blocks → IsBlockIndex name (lists_of blocks) place → at < length blocks → (at ≢ place → (at + 1 ≡ length blocks) × (length blocks ≤ place)) → old ≡ get_or blocks at old → block_entries (set blocks at new) ≡ put byte_cmp name v (block_entries blocks)
 put_chosen name v old new made blocks place at r all p lt last g = go (nat_eq at place) refl
   where
@@ -138,7 +138,7 @@ put_chosen name v old new made blocks place at r all p lt last g = go (nat_eq at
         let other = last (λ same. grind (arith, nat_tests)) in
         put_last list_of name v old new made blocks at place r p other.1 other.0 g
 
--- what stands at the text in the chosen block stands there in all
+-- the entry at the text in the chosen block is the entry in all blocks
 pub found_chosen : (name : List ℕ) (old : Block) (blocks : List Block) (place at : ℕ) → IsRising (block_entries blocks) → AllByRecursion IsEntryBlock blocks → IsBlockIndex name (lists_of blocks) place → at < length blocks → (at ≢ place → (at + 1 ≡ length blocks) × (length blocks ≤ place)) → old ≡ get_or blocks at old → entry_of_key (block_entries blocks) name ≡ entry_of_key (list_of old) name
 found_chosen name old blocks place at r all p lt last g = go (nat_eq at place) refl
   where

@@ -1,4 +1,4 @@
--- Lists of entries that stand one after the other.
+-- Lists of entries one after another.
 use Rattle.std.proofs.Common.{◌≡◌, ◌<◌, ◌≤◌, ◌+◌, ◌&&◌, ℕ, zero, suc, Bool, true, false, cond, T, List, [], ◌∷◌, ◌++◌, length, map, get_or, set, drop, Option, Some, None, refl, sym, ap, subst, ◌∙◌, arith, append-nil, append_assoc}
 use Rattle.std.specs.List.{AllByRecursion, flat_map, insert}
 use Rattle.std.specs.declared.cmp.Ordering.{Ordering}
@@ -39,7 +39,7 @@ rising_back [] b r = r
 rising_back (e ∷ a) b r = rising_back a b (second _ _ r)
 
 module _ (name : List ℕ) where
-  -- what is below a list that ends below a text is below the text
+  -- texts below a list that ends below a text are below the text
   below_end : (low : List ℕ) (es : List Entry) → T (below_all byte_cmp low es) → ends_below name es ≡ true → byte_cmp name low ≡ Greater
   below_end low [] h t = cc
   below_end low (e ∷ []) h t =
@@ -63,7 +63,7 @@ module _ (name : List ℕ) where
   place_at_end (e ∷ []) r t = (head_below e [] r t, tt)
   place_at_end (e ∷ f ∷ es) r t = (head_below e (f ∷ es) r t, place_at_end (f ∷ es) (second _ _ r) t)
 
-  -- so does one with its place there
+  -- a list with the text's place behind all its entries ends below the text
   pub ends_at_place : (es : List Entry) (i : ℕ) → 1 ≤ length es → IsPlace name es i → i ≡ length es → ends_below name es ≡ true
   ends_at_place [] i some p e = absurd (omega arith)
   ends_at_place (e ∷ []) zero some p end = absurd (omega (arith, end))
@@ -78,7 +78,7 @@ module _ (name : List ℕ) where
   one_place (e ∷ es) zero (suc j) p q lt = p q.0
   one_place (e ∷ es) (suc i) (suc j) p q lt = one_place es i j p.1 q.1 (omega (arith, lt))
 
-  -- and one with its place before the end doesn't end below
+  -- a list with the text's place before its end doesn't end below the text
   pub stays_at_place : (es : List Entry) (i : ℕ) → IsRising es → IsPlace name es i → i < length es → ends_below name es ≡ false
   stays_at_place es i r p lt = go (ends_below name es) refl
     where
@@ -86,7 +86,7 @@ module _ (name : List ℕ) where
       go false e = e
       go true e = absurd (one_place es i (length es) p (place_at_end es r e) lt)
 
-  -- the text is above all that is below an entry before its place
+  -- if an entry is before the text's place, the text is above all that is below the list
   above_first : (es : List Entry) (i : ℕ) → 0 < i → IsPlace name es i → (low : List ℕ) → T (below_all byte_cmp low es) → byte_cmp name low ≡ Greater
   above_first es zero some p low h = absurd (omega (arith, some))
   above_first [] (suc i) some p low h = absurd p
@@ -95,7 +95,7 @@ module _ (name : List ℕ) where
       let lower : byte_cmp low name ≡ Less = nat_list_cmp_total.trans low e.0 name (less _ (first _ _ h)) up in
       nat_list_cmp_total.antisymm name low ∙ ap ordering_reverse lower
 
-  -- a list that ends below the text is passed by
+  -- putting an entry skips a list that ends below its text
   put_past : (v : Option (List ℕ)) (a b : List Entry) → IsRising a → ends_below name a ≡ true → put byte_cmp name v (a ++ b) ≡ a ++ put byte_cmp name v b
   put_past v [] b r t = cc
   put_past v (e ∷ []) b r t = rw (head_below e [] r t) refl
@@ -113,7 +113,7 @@ module _ (name : List ℕ) where
   from_past (e ∷ []) b r t = rw (head_below e [] r t) refl
   from_past (e ∷ f ∷ es) b r t = rw (head_below e (f ∷ es) r t) (from_past (f ∷ es) b (second _ _ r) t)
 
-  -- and behind one that doesn't nothing is looked at
+  -- putting an entry in a list that doesn't end below its text leaves the later lists alone
   put_within : (v : Option (List ℕ)) (a b : List Entry) → 1 ≤ length a → ends_below name a ≡ false → put byte_cmp name v (a ++ b) ≡ put byte_cmp name v a ++ b
   put_within v [] b some n = absurd (omega arith)
   put_within v (e ∷ []) b some n = go (byte_cmp name e.0) refl
@@ -185,7 +185,7 @@ all_drop P [] (suc i) all = tt
 all_drop P (x ∷ xs) zero all = all
 all_drop P (x ∷ xs) (suc i) all = all_drop P xs i all.1
 
--- what is left of a list begins with what stands there
+-- the rest of a list begins with the element at the index
 pub first_of_drop : {X : Type 0} (xs : List X) (i : ℕ) (x : X) (later : List X) → drop i xs ≡ x ∷ later → (i < length xs) × (x ≡ get_or xs i x)
 first_of_drop [] zero x later e = cc
 first_of_drop [] (suc i) x later e = cc
@@ -215,7 +215,7 @@ module _ {X : Type 0} (f : X → List Entry) where
   pub rising_first : (xs : List X) (i : ℕ) (x : X) (later : List X) → IsRising (flat_map f xs) → drop i xs ≡ x ∷ later → IsRising (f x)
   rising_first xs i x later r e = rising_front (f x) (flat_map f later) (subst (λ (zs : List X). IsRising (flat_map f zs)) e (rising_drop xs i r))
 
-  -- a block in two parts
+  -- a block cut in two
   pub cut_in_two : (xs : List X) (i : ℕ) (x lower upper : X) → i < length xs → x ≡ get_or xs i x → f x ≡ f lower ++ f upper → flat_map f (insert (set xs i lower) (suc i) upper) ≡ flat_map f xs
   cut_in_two [] i x lower upper lt g e = absurd (omega arith)
   cut_in_two (y ∷ xs) zero x lower upper lt g e =
@@ -227,7 +227,7 @@ module _ {X : Type 0} (f : X → List Entry) where
     abbrev pub is_passed : X → Bool
     is_passed x = ends_below name (f x)
 
-    -- no block that ends below comes after one that doesn't
+    -- no list that ends below the text comes after one that doesn't
     pub parted_blocks : (xs : List X) → IsRising (flat_map f xs) → AreSome xs → (i j : ℕ) (d : X) → i ≤ j → j < length xs → is_passed (get_or xs j d) ≡ true → is_passed (get_or xs i d) ≡ true
     parted_blocks [] r some i j d le lt t = absurd (omega arith)
     parted_blocks (x ∷ xs) r some zero zero d le lt t = t
@@ -245,7 +245,7 @@ module _ {X : Type 0} (f : X → List Entry) where
       block_point xs i (omega arith) (λ k d a b. p (suc k) d (omega (arith, a)) (omega (arith, b))) (λ k d a b. q (suc k) d (omega (arith, a)) (omega (arith, b))),
     )
 
-    -- so the first that doesn't is known by the one before it
+    -- so the first list that doesn't is known by the list before it
     pub first_point : (xs : List X) (i : ℕ) → IsRising (flat_map f xs) → AreSome xs → i < length xs → ((d : X) → is_passed (get_or xs i d) ≡ false) → ((j : ℕ) (d : X) → suc j ≡ i → is_passed (get_or xs j d) ≡ true) → IsBlockIndex name (map f xs) i
     first_point xs i r some lt stays ends = block_point xs i (omega arith) (λ k d a b. front i refl k d b) (λ k d a b. back k d a b (is_passed (get_or xs k d)) refl)
       where
@@ -257,7 +257,7 @@ module _ {X : Type 0} (f : X → List Entry) where
         back k d a b true e = absurd (clash _ (parted_blocks xs r some i k d a b e) (stays d))
         back k d a b false e = e
 
-    -- and it is one whose entries are before and behind the text
+    -- and a list with entries below and at or above the text is the first
     pub inner_point : (xs : List X) (i j : ℕ) → IsRising (flat_map f xs) → AreSome xs → i < length xs → ((d : X) → IsPlace name (f (get_or xs i d)) j) → 0 < j → ((d : X) → is_passed (get_or xs i d) ≡ false) → IsBlockIndex name (map f xs) i
     inner_point xs i j r some lt place inner stays = first_point xs i r some lt stays (λ k d e. before xs i k d r some lt e place)
       where
@@ -272,12 +272,12 @@ module _ {X : Type 0} (f : X → List Entry) where
         before (x ∷ y ∷ xs) (suc (suc i)) (suc k) d r some lt e place =
             before (y ∷ xs) (suc i) k d (rising_back (f x) (flat_map f (y ∷ xs)) r) some.1 (omega (arith, lt)) (omega (arith, e)) place
 
-    -- and if the last one ends below, none is left
+    -- and if the last list ends below the text, the place is behind all lists
     pub end_point : (xs : List X) (i : ℕ) → IsRising (flat_map f xs) → AreSome xs → suc i ≡ length xs → ((d : X) → is_passed (get_or xs i d) ≡ true) → IsBlockIndex name (map f xs) (length xs)
     end_point xs i r some e ends =
         block_point xs (length xs) (omega arith) (λ k d a b. parted_blocks xs r some k i d (omega (arith, e, b)) (omega (arith, e)) (ends d)) (λ k d a b. absurd (omega (arith, a, b)))
 
-    -- what the block at the place has, all have
+    -- an entry found in the list at the place is the entry in all lists
     pub found_in : (xs : List X) (i : ℕ) (x : X) → IsRising (flat_map f xs) → AreSome xs → IsBlockIndex name (map f xs) i → i < length xs → x ≡ get_or xs i x → entry_of_key (flat_map f xs) name ≡ entry_of_key (f x) name
     found_in [] i x r some p lt g = absurd (omega arith)
     found_in (y ∷ xs) zero x r some p lt g = find_within name (f y) (flat_map f xs) r some.0 p ∙ ap (λ (z : X). entry_of_key (f z) name) (sym g)
@@ -292,7 +292,7 @@ module _ {X : Type 0} (f : X → List Entry) where
         find_past name (f y) (flat_map f xs) (rising_front (f y) (flat_map f xs) r) p.0
         ∙ found_nowhere xs i (rising_back (f y) (flat_map f xs) r) p.1 (omega arith)
 
-    -- if the last block is behind none, what it has all have
+    -- if all lists end below the text, an entry found in the last one is the entry in all lists
     pub found_last : (xs : List X) (i j : ℕ) (x : X) → IsRising (flat_map f xs) → IsBlockIndex name (map f xs) j → length xs ≤ j → i + 1 ≡ length xs → x ≡ get_or xs i x → entry_of_key (flat_map f xs) name ≡ entry_of_key (f x) name
     found_last [] i j x r p le last g = absurd (omega (arith, last))
     found_last (z ∷ xs) i zero x r p le last g = absurd (omega arith)
@@ -303,7 +303,7 @@ module _ {X : Type 0} (f : X → List Entry) where
         find_past name (f z) (flat_map f (w ∷ xs)) (rising_front (f z) (flat_map f (w ∷ xs)) r) p.0
         ∙ found_last (w ∷ xs) i j x (rising_back (f z) (flat_map f (w ∷ xs)) r) p.1 (omega arith) (omega (arith, last)) g
 
-    -- if no block is left, each ends below
+    -- if the place is behind all lists, each ends below the text
     pub each_passed : (xs : List X) (i k : ℕ) (d : X) → IsBlockIndex name (map f xs) i → length xs ≤ i → k < length xs → is_passed (get_or xs k d) ≡ true
     each_passed [] i k d p le lt = absurd (omega (arith, lt))
     each_passed (x ∷ xs) zero k d p le lt = absurd (omega (arith, le))
@@ -314,7 +314,7 @@ module _ {X : Type 0} (f : X → List Entry) where
     from_first [] = []
     from_first (x ∷ xs) = entries_from name (f x) ++ flat_map f xs
 
-    -- what is left from a text on: a part of the block at the place, and the later blocks
+    -- the entries at or above a text: a part of the list at the place, and the later lists
     pub from_block : (xs : List X) (i : ℕ) → IsRising (flat_map f xs) → AreSome xs → IsBlockIndex name (map f xs) i → entries_from name (flat_map f xs) ≡ from_first (drop i xs)
     from_block [] zero r some p = refl
     from_block [] (suc i) r some p = absurd p

@@ -47,7 +47,7 @@ pub over-push : (es : List Entry) (e : Entry) (base : List Entry) → over (es +
 over-push [] e base = refl
 over-push (x ∷ es) e base = ap (put byte_cmp x.0 x.1) (over-push es e base)
 
--- the bytes of what stood at a text
+-- the length of the entry at a text
 abbrev pub stood_len : List ℕ → Option (Option (List ℕ)) → ℕ
 stood_len name None = 0
 stood_len name (Some v) = entry_len (name, v)
@@ -97,7 +97,7 @@ bytes-put name v es r =
 pub stood_within : (name : List ℕ) (es : List Entry) → stood_len name (entry_of_key es name) ≤ bytes_of es
 stood_within name es = rw (bytes-total es, stood-len name (entry_of_key es name)) (stood_below entry_len name es)
 
--- how many values of locks stood at a text
+-- how many values of locks there were at a text
 abbrev pub stood_locks : List ℕ → Option (Option (List ℕ)) → ℕ
 stood_locks name None = 0
 stood_locks name (Some v) = one_lock (name, v)
@@ -117,7 +117,7 @@ locks-put name v es r =
 pub stood_locks_within : (name : List ℕ) (es : List Entry) → stood_locks name (entry_of_key es name) ≤ lock_count es
 stood_locks_within name es = rw (locks-total es, stood-locks name (entry_of_key es name)) (stood_below one_lock name es)
 
--- how many values stood at a text
+-- how many values there were at a text
 abbrev pub stood_value : Option (Option (List ℕ)) → ℕ
 stood_value None = 0
 stood_value (Some v) = one_value v
@@ -162,6 +162,6 @@ drop_one f [] i x lt g = absurd (omega arith)
 drop_one f (y ∷ xs) zero x lt g = ap (λ (z : _). f z ∷ map f xs) (sym g)
 drop_one f (y ∷ xs) (suc i) x lt g = drop_one f xs i x (omega arith) g
 
--- what the entries behind one are put over has its text where the table does
+-- putting the later entries leaves the first one's text as it is in the table
 pub stands_alone : (e : Entry) (es base : List Entry) → IsRising (e ∷ es) → entry_of_key (over es base) e.0 ≡ entry_of_key base e.0
 stands_alone e es base r = find-over e.0 es base ∙ ap (λ (o : Option (Option (List ℕ))). or_else o (entry_of_key base e.0)) (find_below e.0 es (first _ _ r))

@@ -10,7 +10,7 @@ use Rattle.cell_key.proofs.Words.{fronts}
 use Rattle.std.specs.FinMap.{nat_cmp-IsAntisymmetric}
 use Rattle.memtable.specs.Order.{IsFront}
 
--- a text compares by its front, and then by what follows
+-- texts compare by their first eight bytes, and then by the rest
 pub by_fronts : (front other : ℕ) (xs ys : List ℕ) → IsFront front xs → IsFront other ys
     → byte_cmp xs ys ≡ ordering_then (nat_cmp front other) (byte_cmp (drop 8 xs) (drop 8 ys))
 by_fronts front other xs ys first second =
@@ -30,7 +30,7 @@ front_decides front other xs ys first second apart = go (nat_cmp front other) re
     go Equal p = absurd (apart (nat_cmp-IsAntisymmetric front other p))
     go Greater p = p ∙ ap (λ (o : Ordering). ordering_then o rest) (sym p) ∙ sym (by_fronts front other xs ys first second)
 
--- if they are equal, what follows decides
+-- if the fronts are equal, the rest decides
 pub front_ties : (front other : ℕ) (xs ys : List ℕ) → IsFront front xs → IsFront other ys → front ≡ other
     → byte_cmp (drop 8 xs) (drop 8 ys) ≡ byte_cmp xs ys
 front_ties front other xs ys first second same =

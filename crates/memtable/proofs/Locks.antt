@@ -21,7 +21,7 @@ use Rattle.memtable.proofs.Versions.{before_stamp, column_text, key_in_parts}
 abbrev lock_end : List ℕ
 lock_end = ended (qualifier_name Lock)
 
--- a text ends with its end
+-- a list ends with its last part
 ends : (front : List ℕ) → ends_with nat_eq (front ++ lock_end) lock_end ≡ true
 ends front =
     let len = length-append front lock_end in
@@ -30,7 +30,7 @@ ends front =
     ap (λ (n : ℕ). pointwise nat_eq lock_end (drop n (front ++ lock_end))) at
     ∙ ap (pointwise nat_eq lock_end) (drop-append_seam front lock_end)
 
--- the text of a lock's key shows that it is one
+-- the text of a lock's key is recognized as one
 lock_text : (row family : List ℕ) (s : ℕ) → is_lock_text (text (version row family Lock s)) ≡ true
 lock_text row family s =
     let key = version row family Lock s in

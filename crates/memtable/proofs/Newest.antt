@@ -26,7 +26,7 @@ use Rattle.memtable.specs.Slots.{first_value}
 -- ---- the first value from a text on
 
 module _ (from : List ℕ) where
-  -- an entry with a value is at its text, and no text from there up to it has one
+  -- the first value from a text on: its text has this value, and no text between has one
   pub record IsFirst (es : List Entry) (name value : List ℕ) : Type 0 where
     pub above : is_le (byte_cmp from name) ≡ true
     pub there : entry_of_key es name ≡ Some (Some value)
@@ -75,7 +75,7 @@ module _ (from : List ℕ) where
         least = λ k le less. ap value_of (find_lower k (n, Some v) es r less);
       }
 
--- what stands in an entry list is an entry
+-- each element of an entry list is an entry
 pub entry_at : (es : List Entry) → AllByRecursion IsEntry es → (name : List ℕ) (o : Option (List ℕ)) → entry_of_key es name ≡ Some o → IsEntry (name, o)
 entry_at [] all name o e = let no : None ≡ Some o = e in cc
 entry_at ((n, v) ∷ es) all name o e = go (entry_at es all.1 name o) (eq_by_cmp byte_cmp name n) refl e
@@ -174,7 +174,7 @@ module _ (row family : List ℕ) (q : Qualifier) (is_row : IsRow row) (is_family
       abbrev key : CellKey
       key = entry.key
 
-      -- the first of them is none of the column's
+      -- the first value isn't in the column
       pub newest_other : (lo : ℕ) → ((s : ℕ) → s < 2 ^ 64 → name ≢ text (at s)) → IsNewest (cells_of es) at lo hi None
       newest_other lo other s a b = none_at s (go (byte_cmp (text (at s)) name) refl)
         where

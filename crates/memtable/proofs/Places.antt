@@ -40,7 +40,7 @@ module _ {X : Type 0} (f : X → Entry) (name : List ℕ) where
   named_within (y ∷ xs) zero t = omega arith
   named_within (y ∷ xs) (suc i) t = let h = named_within xs i t in omega arith
 
-  -- an entry put at its place, beside all or in the place of another of its text
+  -- an entry put at its place is inserted, or replaces the entry with its text
   pub put_beside : (x : X) (xs : List X) (i : ℕ) → (f x).0 ≡ name → IsPlace name (map f xs) i → is_named name (map f xs) i ≡ false → map f (insert xs i x) ≡ put byte_cmp name (f x).1 (map f xs)
   put_beside x [] zero s p n = λ j. (s j, (f x).1) ∷ []
   put_beside x [] (suc i) s p n = absurd p
@@ -59,7 +59,7 @@ module _ {X : Type 0} (f : X → Entry) (name : List ℕ) where
       rw tie (λ j. ((s ∙ one_text name (f y).0 tie) j, (f x).1) ∷ map f xs)
   put_over x (y ∷ xs) (suc i) s p t = rw p.0 (ap (λ (es : List Entry). f y ∷ es) (put_over x xs i s p.1 t))
 
-  -- if another text stands, nothing has the text
+  -- if the entry at the place has another text, there is no entry with the text
   pub not_found : (xs : List X) (i : ℕ) → IsRising (map f xs) → IsPlace name (map f xs) i → is_named name (map f xs) i ≡ false → entry_of_key (map f xs) name ≡ None
   not_found [] i r p n = refl
   not_found (y ∷ xs) zero r p n = go (byte_cmp name (f y).0) refl

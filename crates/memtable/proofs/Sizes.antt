@@ -84,11 +84,11 @@ lock_count-within (e ∷ es) = let h = lock_count-within es in let one = one_loc
 pub locks_within : (size : Size) (es : List Entry) → IsSizeOf size es → size.locks ≤ size.entries
 locks_within size es is = let h = lock_count-within es in let a = is.entries in let b = is.locks in omega (arith, h, a, b)
 
--- one entry more keeps them few
+-- one more entry keeps them few
 pub locks_fit : (e : Entry) (size : Size) (es : List Entry) → IsSizeOf size es → size.entries ≤ 2 ^ 65 → size.locks + one_lock e < 2 ^ 128
 locks_fit e size es is few = let h = locks_within size es is in let one = one_lock_most e in omega (arith, h, one, few)
 
--- an entry in the place of one of this size
+-- an entry that replaces one of this size
 module _ (es : List Entry) (name : List ℕ) (replaced : Option EntrySize) (found : replaced ≡ stood_size name (entry_of_key es name)) where
   stood : (or_nothing replaced).bytes ≡ stood_len name (entry_of_key es name)
   stood = ap (λ (o : Option EntrySize). (or_nothing o).bytes) found ∙ stood_as_len name (entry_of_key es name)
@@ -145,7 +145,7 @@ over_bytes (e ∷ es) base r all =
     let small = entry_small e all.0 in
     omega (arith, h, one, small)
 
--- ---- what a memtable keeps
+-- ---- the state of a memtable
 
 -- entries put over an entry list make one
 pub kept_list : (es staged base : List Entry) → es ≡ over staged base → IsEntryList base → AllByRecursion IsEntry staged → IsEntryList es

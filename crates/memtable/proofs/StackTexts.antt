@@ -1,4 +1,4 @@
--- Texts on the stack, and where there is no room for them.
+-- Texts on the stack, in buffers that may be too short.
 use Rattle.std.proofs.Common.{◌≡◌, ◌<◌, ◌≤◌, ◌+◌, ℕ, true, false, Result, Ok, Err, IsOk, OnErr, List, [], ◌++◌, length, length-append, refl, ap, arith}
 use Rattle.std.specs.Prelude.{◌↔◌}
 use Rattle.std.proofs.Math.Nat.{lt_of_not-le}
@@ -12,12 +12,12 @@ use Rattle.memtable.proofs.Sizes.{text_len}
 differ : false ≡ true → ⊥
 differ e = cc
 
--- what has no room fails
+-- without room the result is an error
 pub no_room : {A E : Type 0} (r : Result A E) (most : ℕ) (old other : List ℕ) → (IsOk r ↔ (length old + length other ≤ most)) → OnErr r (most < length (old ++ other))
 no_room (Ok a) most old other iff = tt
 no_room (Err e) most old other iff = let over : most < length old + length other = lt_of_not-le (λ le. differ (iff.1 le)) in omega (arith, over, length-append old other)
 
--- nor has its escaped form where the row has none
+-- if there is no room for a row, there is none for its escaped form
 pub too_long : {A E : Type 0} (r : Result A E) (most left : ℕ) (old row : List ℕ) → left + length old ≡ most → left < length row → OnErr r (most < length (old ++ escaped row))
 too_long (Ok a) most left old row e less = tt
 too_long (Err x) most left old row e less = omega (arith, e, less, length-append old (escaped row), escaped-least row)

@@ -20,7 +20,7 @@ use Rattle.memtable.specs.Edits.{edit_entry, with_edits, HasStoredKey}
 use Rattle.memtable.specs.StampRanges.{HasStamp, IsEditWithin, IsEntryWithin, IsOutside}
 use Rattle.memtable.specs.declared.stamp_range.StampRange.{StampRange}
 
--- ---- what edits keep
+-- ---- edits keep the range
 
 module _ (range : StampRange) where
   put_within : (name : List ℕ) (v : Option (List ℕ)) (es : List Entry) → IsEntryWithin range (name, v) → AllByRecursion (IsEntryWithin range) es → AllByRecursion (IsEntryWithin range) (put byte_cmp name v es)
@@ -56,7 +56,7 @@ pub stamps_after : (old new : StampRange) (edits : List Edit) (base es : List En
 stamps_after old new edits base es made stored below above has all =
     subst (λ (xs : List Entry). AllByRecursion (IsEntryWithin new) xs) (sym made) (edits_within new edits base stored has (wider old new below above base all))
 
--- ---- what is outside the range
+-- ---- stamps outside the range
 
 never : (range : StampRange) (stamp : ℕ) → IsOutside range stamp stamp → HasStamp range stamp → ⊥
 never range stamp (inl low) has = let from = has.0 in omega (arith, low, from)
@@ -69,7 +69,7 @@ module _ (range : StampRange) (key : CellKey) (is : IsKey key) (out : IsOutside 
       let stored = subst (λ (k : CellKey). IsStored k) one entry.stored in
       never range key.stamp out (within key stored (sym same))
 
-  -- a list has nothing at a key outside its range
+  -- a list has no entry of a key outside its range
   pub none_outside : (es : List Entry) → AllByRecursion IsEntry es → AllByRecursion (IsEntryWithin range) es → entry_of_key es (text key) ≡ None
   none_outside [] each all = refl
   none_outside (e ∷ es) each all = go (none_outside es each.1 all.1) (eq_by_cmp byte_cmp (text key) e.0) refl

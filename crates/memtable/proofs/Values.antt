@@ -1,4 +1,4 @@
--- The values of lists that stand one after the other.
+-- The values of lists one after another.
 use Rattle.std.proofs.Common.{◌≡◌, ◌≤◌, ◌+◌, ℕ, List, [], ◌∷◌, ◌++◌, length, Option, Some, None, refl, sym, ap, ◌∙◌, arith}
 use Rattle.cell_key.specs.Entries.{Entry, or_else}
 use Rattle.memtable.specs.Slots.{first_value, one_value, value_count}

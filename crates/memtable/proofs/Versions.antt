@@ -8,7 +8,7 @@ use Rattle.cell_key.specs.declared.keys.CellKey.{CellKey}
 use Rattle.memtable.specs.Order.{at_stamp, key_of}
 use Rattle.memtable.specs.declared.sought.Version.{Version}
 
--- what the text of a key has before its stamp
+-- the text of a key without its stamp
 abbrev pub column_text : CellKey → List ℕ
 column_text key =
     ended (escaped key.row) ++ (ended key.family ++ ended (qualifier_name key.qualifier))

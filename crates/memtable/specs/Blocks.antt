@@ -1,4 +1,4 @@
--- The entries that blocks stand for.
+-- The entries of blocks.
 use Rattle.std.specs.Prelude.{◌≡◌, ◌≤◌, ◌<◌, ◌+◌, ⊤, ℕ, zero, suc, Bool, true, false, List, [], ◌∷◌, map, length, set, get_or, vec_len, vec_capacity}
 use Rattle.std.specs.declared.boxed.Box.{Box}
 use Rattle.std.specs.declared.vec.Vec.{Vec}
@@ -15,13 +15,13 @@ use Rattle.memtable.specs.Edits.{bytes_of, IsWithinLimits}
 use Rattle.memtable.specs.StampRanges.{IsEntryWithin}
 use Rattle.memtable.specs.declared.stamp_range.StampRange.{StampRange}
 
--- whether a list has entries, the last of which is below this text
+-- whether a list is not empty and its last entry is below this text
 abbrev pub ends_below : List ℕ → List Entry → Bool
 ends_below name [] = false
 ends_below name (e ∷ []) = is_gt (byte_cmp name e.0)
 ends_below name (e ∷ f ∷ es) = ends_below name (f ∷ es)
 
--- the lists before the index end below this text, and that at the index doesn't
+-- the lists before the index end below this text, and the list at the index doesn't
 abbrev pub IsBlockIndex : List ℕ → List (List Entry) → ℕ → Type 0
 IsBlockIndex name [] zero = ⊤
 IsBlockIndex name [] (suc i) = ⊥
@@ -40,12 +40,12 @@ lists_of blocks = map list_of blocks
 abbrev pub block_entries : List Block → List Entry
 block_entries blocks = flat_map list_of blocks
 
--- a block knows how many of its entries have a value
+-- a block's count of values is right
 abbrev pub IsCounted : Block → Type 0
 IsCounted block = block.values ≡ value_count (list_of block)
 
--- the place of a text: its block is the first that doesn't end below it, and its entry there the first
--- that isn't below it
+-- the place of the lower bound of a text: the first block that doesn't end below it, and in that block the first entry
+-- at or above it
 pub record IsPlaceAmong (name : List ℕ) (blocks : List Block) (place : Place) : Type 0 where
   pub block : IsBlockIndex name (lists_of blocks) place.block
   pub slot : (d : Block) → place.block < length blocks
@@ -56,19 +56,19 @@ pub record IsEndOf (blocks : List Block) (place : Place) : Type 0 where
   pub block : place.block + 1 ≡ length blocks
   pub slot : (d : Block) → place.slot ≡ vec_len (get_or blocks place.block d).slots
 
--- a block has entries, and room for one more
+-- a block has at least one entry, and room for one more
 pub record IsEntryBlock (block : Block) : Type 0 where
   pub some : 1 ≤ vec_len block.slots
   pub few : vec_len block.slots < 128
   pub room : 128 ≤ vec_capacity block.slots
   pub counted : IsCounted block
 
--- room for the entries of a block to come
+-- the memory of a new block
 pub record IsSpare {A Z : Type 0} (spare : Vec (Box Slot A) Z) : Type 0 where
   pub empty : spare.items ≡ []
   pub room : 128 ≤ vec_capacity spare
 
--- the block at the index is full, and all others have room
+-- the block at the index is full, and all others have room for one more
 pub record IsFullAt (blocks : List Block) (at : ℕ) : Type 0 where
   pub within : at < length blocks
   pub full : (d : Block) → vec_len (get_or blocks at d).slots ≡ 128
@@ -76,17 +76,17 @@ pub record IsFullAt (blocks : List Block) (at : ℕ) : Type 0 where
   pub others : (block : Block) → IsEntryBlock block
       → AllByRecursion IsEntryBlock (set blocks at block)
 
--- blocks with room each, and room for more
+-- blocks that each have room for one more entry, and spare memory for new blocks
 pub record AreEntryBlocks (blocks : Blocks) : Type 0 where
   pub filled : AllByRecursion IsEntryBlock blocks.filled.items
   pub spare : AllByRecursion IsSpare blocks.spare.items
 
--- this many entries more can be put without memory: each of them fills no more than one block
+-- this many more entries can be put without an allocation: each of them fills at most one block
 pub record HasRoom (count : ℕ) (blocks : Blocks) : Type 0 where
   pub filled : vec_len blocks.filled + count ≤ vec_capacity blocks.filled
   pub spare : count ≤ vec_len blocks.spare
 
--- what a memtable keeps
+-- the state of a memtable is right for its entries
 pub record IsKept (table : Blocks) (len total locked : ℕ) (range : StampRange) : Type 0 where
   pub list : IsEntryList (block_entries table.filled.items)
   pub limits : IsWithinLimits (block_entries table.filled.items)

@@ -1,4 +1,4 @@
--- What edits make of an entry list, and the limits of a memtable.
+-- The effect of edits on an entry list, and the limits of a memtable.
 use Rattle.std.specs.Prelude.{◌≤◌, ℕ, List, [], ◌∷◌, ◌+◌, length, Some, None}
 use Rattle.std.specs.FinMap.Entries.{put}
 use Rattle.cell_key.specs.Keys.{byte_cmp, text, IsStored}
@@ -12,11 +12,11 @@ abbrev pub edit_entry : Edit → Entry
 edit_entry (Put key value) = (text key, Some value.items)
 edit_entry (Erase key) = (text key, None)
 
--- an edit puts its entry in the place of its text
+-- an edit sets the entry at its text
 abbrev pub with_edit : List Entry → Edit → List Entry
 with_edit es edit = put byte_cmp (edit_entry edit).0 (edit_entry edit).1 es
 
--- edits in order
+-- the edits applied in order
 abbrev pub with_edits : List Entry → List Edit → List Entry
 with_edits es [] = es
 with_edits es (edit ∷ edits) = with_edits (with_edit es edit) edits
@@ -25,7 +25,7 @@ with_edits es (edit ∷ edits) = with_edits (with_edit es edit) edits
 abbrev pub HasStoredKey : Edit → Type 0
 HasStoredKey edit = IsStored (edited_key edit)
 
--- the bytes of the entries of a list
+-- the length in bytes of the entries of a list
 abbrev pub bytes_of : List Entry → ℕ
 bytes_of [] = 0
 bytes_of (e ∷ es) = entry_len e + bytes_of es

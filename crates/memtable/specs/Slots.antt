@@ -1,6 +1,7 @@
--- The entries that slots stand for.
-use Rattle.std.specs.Prelude.{◌≡◌, ◌<◌, ◌≤◌, ◌+◌, ◌-◌, true, get_or, if◌then◌else◌, length, take, nat_eq, ℕ, zero, suc, Bool, false, List, [], ◌∷◌, map, Option, Some, None, option_map}
+-- The entries of slots.
+use Rattle.std.specs.Prelude.{◌≡◌, ◌<◌, ◌≤◌, ◌+◌, ◌-◌, true, get_or, if◌then◌else◌, length, take, nat_eq, ℕ, zero, suc, Bool, false, List, [], ◌∷◌, map, Option, Some, None, option_map, vec_len, vec_capacity}
 use Rattle.std.specs.declared.boxed.Box.{Box}
+use Rattle.std.specs.declared.vec.Vec.{Vec}
 use Rattle.std.specs.Ordering.{is_eq, is_gt}
 use Rattle.std.specs.FinMap.Entries.{put}
 use Rattle.std.specs.List.{ends_with}
@@ -16,6 +17,11 @@ slot_entry slot = (slot.text, option_map (λ value. value.items) slot.value)
 
 abbrev pub slot_entries : {A : Type 0} → List (Box Slot A) → List Entry
 slot_entries slots = map (λ slot. slot_entry slot.value) slots
+
+-- A list has grown by this many at most, and has the room that it had or more.
+abbrev pub GrowsBy : {X Z : Type 0} → ℕ → Vec X Z → Vec X Z → Type 0
+GrowsBy count old new =
+    (vec_len new ≤ vec_len old + count) × (vec_capacity old ≤ vec_capacity new)
 
 -- the first entry that has a value
 abbrev pub first_value : List Entry → Option Entry
@@ -33,7 +39,7 @@ abbrev pub value_count : List Entry → ℕ
 value_count [] = 0
 value_count (e ∷ es) = one_value e.1 + value_count es
 
--- whether a text is that of a lock's key, by what stands before the eight bytes of its stamp
+-- whether a text is a lock's key, by the bytes before the eight bytes of its stamp
 abbrev pub is_lock_text : List ℕ → Bool
 is_lock_text name =
     ends_with nat_eq (take (length name - 8) name) (ended (qualifier_name Lock))
@@ -59,24 +65,24 @@ AreBelow {A} name slots i =
     (k : ℕ) (d : Box Slot A) → k < i → k < length slots
     → is_gt (byte_cmp name (get_or slots k d).value.text) ≡ true
 
--- the texts of the entry at the index and of all behind it aren't below this one
+-- the entries from the index on aren't below this text
 abbrev pub AreNotBelow : {A : Type 0} → List ℕ → List (Box Slot A) → ℕ → Type 0
 AreNotBelow {A} name slots i =
     (k : ℕ) (d : Box Slot A) → i ≤ k → k < length slots
     → is_gt (byte_cmp name (get_or slots k d).value.text) ≡ false
 
--- before the part from the one index to the other all texts are below this one, and behind it none is
+-- all texts before the range are below this one, and none from its end on is
 pub record IsPartOf {A : Type 0} (name : List ℕ) (slots : List (Box Slot A)) (from to : ℕ) : Type 0 where
   pub order : from ≤ to
   pub within : to ≤ length slots
   pub below : AreBelow name slots from
   pub above : AreNotBelow name slots to
 
--- entries put over others, the last of them first
+-- entries put over others, from the last one to the first
 abbrev pub over : List Entry → List Entry → List Entry
 over [] base = base
 over (e ∷ es) base = put byte_cmp e.0 e.1 (over es base)
 
--- a stamp and the bytes of a value that is lent
+-- a stamp and the bytes of a borrowed value
 abbrev pub lent_version : ℕ × Bor (List ℕ) → ℕ × List ℕ
 lent_version version = (version.0, version.1.now)

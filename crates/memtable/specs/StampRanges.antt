@@ -1,4 +1,4 @@
--- The stamps of keys, within a range and outside.
+-- Ranges of the stamps of keys.
 use Rattle.std.specs.Prelude.{◌≡◌, ◌≤◌, ◌<◌, ◌⊎◌, ℕ}
 use Rattle.cell_key.specs.Cells.{edited_key}
 use Rattle.cell_key.specs.Entries.{Entry}
@@ -11,7 +11,7 @@ use Rattle.memtable.specs.declared.stamp_range.StampRange.{StampRange}
 abbrev pub HasStamp : StampRange → ℕ → Type 0
 HasStamp range stamp = (range.least ≤ stamp) × (stamp ≤ range.greatest)
 
--- no stamp from the one to the other is within a range
+-- no stamp from lo to hi is within a range
 abbrev pub IsOutside : StampRange → ℕ → ℕ → Type 0
 IsOutside range lo hi = (hi < range.least) ⊎ (range.greatest < lo)
 

@@ -1,12 +1,12 @@
-//! Entries in blocks, in the byte order of their texts. To make room, pointers to some entries of one block
-//! are moved, and at times those to the blocks.
+//! Entries in blocks, in the byte order of their texts. Making room moves pointers to some entries of one block, and at
+//! times the block list's elements.
 
 ghost use Rattle.std.specs.Prelude.{◌≡◌, ◌≢◌, ℕ, ◌+◌, ◌≤◌, ◌<◌, ◌^◌, [], ◌∷◌, ◌++◌, IfSome, OnOk, option_map, length, get_or, vec_len, vec_capacity};
 ghost use Rattle.std.specs.List.{AllByRecursion};
 ghost use Rattle.std.specs.FinMap.Entries.{put as put_entry};
 ghost use Rattle.cell_key.specs.Keys.{byte_cmp};
 ghost use Rattle.cell_key.specs.Entries.{IsEntry, IsPlace, IsRising, entries_from, entry_of_key};
-ghost use Rattle.memtable.specs.Slots.{slot_entry, slot_entries, first_value, over};
+ghost use Rattle.memtable.specs.Slots.{slot_entry, slot_entries, first_value, over, GrowsBy};
 ghost use Rattle.memtable.specs.Sizes.{IsSizeOf, stood_size};
 ghost use Rattle.memtable.specs.declared.blocks.Block.{Block as BlockOf};
 ghost use Rattle.memtable.specs.Blocks.{block_entries, lists_of, list_of, ends_below, IsBlockIndex, IsCounted, IsEntryBlock, IsSpare, IsEndOf, IsFullAt, IsPlaceAmong, AreEntryBlocks, HasRoom};
@@ -16,27 +16,27 @@ use crate::size::{EntrySize, Size};
 use crate::sought::Sought;
 use std::alloc::{AllocError, Global};
 
-/// How many entries a block has room for. It has at least one, and fewer than these.
+/// The capacity of a block. It has at least one entry, and fewer than this many.
 const BLOCK_ROOM: usize = 128;
 
 /// A block of entries.
 #[derive(Drop)]
 pub(crate) struct Block {
     pub(crate) slots: Vec<Box<Slot>>,
-    /// How many of the entries have a value. If none has, a search for values passes them all at once.
+    /// How many of the entries have a value. If none has, a search for values skips the block.
     pub(crate) values: usize,
 }
 
-/// Blocks of entries, and room for those to come.
+/// Blocks of entries, and spare memory for more.
 #[derive(Drop)]
 pub(crate) struct Blocks {
     pub(crate) filled: Vec<Block>,
     pub(crate) spare: Vec<Vec<Box<Slot>>>,
-    /// Where entries were found or put last, or any other places. A search looks beside them first.
+    /// Hints where a search looks first: places of entries that were found or put last, or any other places.
     pub(crate) recent: RecentPlaces,
 }
 
-/// A place among the entries of blocks: the index of a block, and that of an entry in it.
+/// A place among the entries of blocks: the index of a block, and the index of an entry in it.
 #[derive(Clone, Copy, Drop)]
 pub(crate) struct Place {
     pub(crate) block: usize,
@@ -44,17 +44,17 @@ pub(crate) struct Place {
 }
 
 impl Place {
-    /// That of the first entry.
+    /// The place of the first entry.
     pub(crate) const START: Place = Place { block: 0, slot: 0 };
 }
 
-/// Two places: requests mostly go on with one row, or alternate between two. Since a place was recorded it may have
-/// become that of another entry, or of none: then a search beside it is in vain, and no answer is wrong.
+/// Two places, as requests mostly stay in one row or alternate between two. They are hints: a place may have become
+/// another entry's, or no entry's, since it was recorded. A search then gains nothing from it, but its answer is right.
 #[derive(Clone, Copy, Drop)]
 pub(crate) struct RecentPlaces {
-    /// The one that was recorded last.
+    /// The place recorded last.
     pub(crate) last: Place,
-    /// The last one in another block than that.
+    /// The last recorded place in another block.
     pub(crate) before: Place,
 }
 
@@ -65,7 +65,7 @@ impl RecentPlaces {
         before: Place::START,
     };
 
-    /// The places once this one is recorded too.
+    /// The places after this one is recorded too.
     fn with(self, place: Place) -> RecentPlaces
         ensures last { result.last ≡ place }
         ensures stays { place.block ≡ self.last.block → result.before ≡ self.before }
@@ -84,7 +84,7 @@ impl RecentPlaces {
     }
 }
 
-/// Whether all texts of a block are below what is sought.
+/// Whether all texts of a block are below the sought text.
 fn ends_below<S: Sought>(block: &Block, sought: S) -> bool
     ensures { result ≡ ends_below (S.name sought) (list_of block.now) }
 {
@@ -94,7 +94,7 @@ fn ends_below<S: Sought>(block: &Block, sought: S) -> bool
     }
 }
 
-/// The index of the first block that doesn't end below what is sought.
+/// The index of the first block that doesn't end below the sought text.
 pub(crate) fn index_of<S: Sought>(blocks: &[Block], sought: S) -> usize
     requires rising { IsRising (block_entries blocks.now) }
     requires blocks { AllByRecursion IsEntryBlock blocks.now }
@@ -104,7 +104,7 @@ pub(crate) fn index_of<S: Sought>(blocks: &[Block], sought: S) -> usize
     blocks.partition_point(|block| ends_below(block, sought))
 }
 
-/// The place of the first entry that isn't below what is sought, by halving.
+/// The place of the first entry at or above the sought text (the lower bound), by binary search.
 fn place_of<S: Sought>(blocks: &[Block], sought: S) -> Place
     requires rising { IsRising (block_entries blocks.now) }
     requires blocks { AllByRecursion IsEntryBlock blocks.now }
@@ -118,8 +118,8 @@ fn place_of<S: Sought>(blocks: &[Block], sought: S) -> Place
     Place { block: at, slot }
 }
 
-/// The start of the block at an index, of which no entry is below what is sought, if that is the place of the first
-/// entry that isn't below.
+/// The start of the block at an index, which has no entry below the sought text, if that is the place of the lower
+/// bound.
 fn place_from<S: Sought>(blocks: &[Block], sought: S, at: usize) -> Option<Place>
     requires rising { IsRising (block_entries blocks.now) }
     requires blocks { AllByRecursion IsEntryBlock blocks.now }
@@ -136,8 +136,8 @@ fn place_from<S: Sought>(blocks: &[Block], sought: S, at: usize) -> Option<Place
     Some(Place { block: at, slot: 0 })
 }
 
-/// The place of the first entry that isn't below what is sought, if it is in the block of `near`, or behind it and this
-/// is the last block. It is looked for beside `near`.
+/// The place of the lower bound, if it is in the block of `near`, or behind that block and the block is the last one.
+/// The search starts at `near`.
 #[inline(always)]
 fn place_beside<S: Sought>(blocks: &[Block], sought: S, near: Place) -> Option<Place>
     requires rising { IsRising (block_entries blocks.now) }
@@ -164,8 +164,7 @@ fn place_beside<S: Sought>(blocks: &[Block], sought: S, near: Place) -> Option<P
     })
 }
 
-/// The place of the first entry that isn't below what is sought. It is looked for beside the recent places, and then
-/// among all blocks.
+/// The place of the lower bound. The search starts at the recent places, and then takes all blocks.
 fn place_near<S: Sought>(blocks: &[Block], sought: S, recent: &RecentPlaces) -> Place
     requires rising { IsRising (block_entries blocks.now) }
     requires blocks { AllByRecursion IsEntryBlock blocks.now }
@@ -180,8 +179,8 @@ fn place_near<S: Sought>(blocks: &[Block], sought: S, recent: &RecentPlaces) -> 
     place_of(blocks, sought)
 }
 
-/// The place of the first entry that isn't below what is sought. It is looked for beside the recent places. If there is
-/// such an entry, its place is recorded.
+/// The place of the lower bound. The search starts at the recent places. If there is an entry at the place, it is
+/// recorded.
 fn record_place<S: Sought>(blocks: &[Block], sought: S, recent: &mut RecentPlaces) -> Place
     requires rising { IsRising (block_entries blocks.now) }
     requires blocks { AllByRecursion IsEntryBlock blocks.now }
@@ -194,7 +193,7 @@ fn record_place<S: Sought>(blocks: &[Block], sought: S, recent: &mut RecentPlace
     place
 }
 
-/// Where an entry is put whose place this is: behind the last one, if no block is left there.
+/// Where to put an entry whose place this is: behind the last entry, if the place is past the last block.
 fn room_at(blocks: &[Block], place: Place) -> Place
     requires some { 1 ≤ length blocks.now }
     ensures inside { place.block < length blocks.now → result ≡ place }
@@ -210,7 +209,7 @@ fn room_at(blocks: &[Block], place: Place) -> Place
     }
 }
 
-/// The entry that is sought. It is looked for beside the recent places.
+/// The entry with the sought text. The search starts at the recent places.
 pub(crate) fn find<'a, S: Sought>(
     blocks: &'a [Block],
     sought: S,
@@ -227,7 +226,7 @@ pub(crate) fn find<'a, S: Sought>(
     entries::find_at(&block.slots, place.slot, sought)
 }
 
-/// The size of the entry of a text, if there is one.
+/// The size of the entry with this text, if there is one.
 pub(crate) fn stood_size(blocks: &[Block], text: &[u8]) -> Option<EntrySize>
     requires rising { IsRising (block_entries blocks.now) }
     requires blocks { AllByRecursion IsEntryBlock blocks.now }
@@ -239,8 +238,8 @@ pub(crate) fn stood_size(blocks: &[Block], text: &[u8]) -> Option<EntrySize>
     }
 }
 
-/// What isn't below what is sought: the rest of one block, and the blocks after that. Where it begins is looked for
-/// beside the recent places, and recorded.
+/// The entries at or above the sought text: the rest of one block, and the blocks after it. The search starts at the
+/// recent places, and its place is recorded.
 pub(crate) fn rest_from<'a, S: Sought>(
     blocks: &'a [Block],
     sought: S,
@@ -286,8 +285,8 @@ fn first_value(blocks: &[Block]) -> Option<&Slot>
     None
 }
 
-/// The first entry that isn't below what is sought and has a value. The first that isn't below is looked for beside the
-/// recent places, and its place is recorded.
+/// The first entry with a value at or above the sought text. The search for the lower bound starts at the recent
+/// places, and its place is recorded.
 pub(crate) fn first_value_from<'a, S: Sought>(
     blocks: &'a [Block],
     sought: S,
@@ -305,7 +304,7 @@ pub(crate) fn first_value_from<'a, S: Sought>(
     }
 }
 
-/// Makes room for this many entries more.
+/// Makes room for this many more entries.
 pub(crate) fn make_room(alloc: Global, blocks: &mut Blocks, count: usize) -> Result<(), AllocError>
     requires { AreEntryBlocks blocks.old }
     ensures same { blocks.new.filled.items ≡ blocks.old.filled.items }
@@ -320,7 +319,7 @@ pub(crate) fn make_room(alloc: Global, blocks: &mut Blocks, count: usize) -> Res
     Ok(())
 }
 
-/// Moves the upper half of some entries to an empty list.
+/// Moves the upper half of the entries to an empty list.
 fn halve(slots: &mut Vec<Box<Slot>>, upper: &mut Vec<Box<Slot>>)
     requires full { vec_len slots.old ≡ 128 }
     requires empty { upper.old.items ≡ [] }
@@ -339,7 +338,7 @@ fn halve(slots: &mut Vec<Box<Slot>>, upper: &mut Vec<Box<Slot>>)
     upper.reverse();
 }
 
-/// Cuts a block that is full in two. The upper one is made of the room that is given.
+/// Cuts a full block in two. The upper one uses the memory of `spare`.
 fn cut(block: &mut Block, spare: Vec<Box<Slot>>) -> Block
     requires full { vec_len block.old.slots ≡ 128 }
     requires counted { IsCounted block.old }
@@ -358,7 +357,7 @@ fn cut(block: &mut Block, spare: Vec<Box<Slot>>) -> Block
     }
 }
 
-/// Cuts the block at an index, which is full, in two.
+/// Cuts the full block at an index in two.
 fn split(blocks: &mut Blocks, at: usize)
     requires room { HasRoom 1 blocks.old }
     requires spare { AllByRecursion IsSpare blocks.old.spare.items }
@@ -372,7 +371,7 @@ fn split(blocks: &mut Blocks, at: usize)
     blocks.filled.insert(at + 1, upper).unwrap();
 }
 
-/// Makes an entry the first block. There is none yet.
+/// Makes an entry the first block, when there is no block yet.
 fn open(blocks: &mut Blocks, slot: Box<Slot>)
     requires empty { blocks.old.filled.items ≡ [] }
     requires blocks { AreEntryBlocks blocks.old }
@@ -387,8 +386,8 @@ fn open(blocks: &mut Blocks, slot: Box<Slot>)
     blocks.filled.push(Block { slots, values }).unwrap();
 }
 
-/// Puts an entry at its place in a block that has room for one more: the one at this index. Returns the size of the
-/// entry of the same text that it replaces, if there is one.
+/// Puts an entry at its place in a block that has room for it, which is `at`. Returns the size of the entry with the
+/// same text that it replaces, if there is one.
 fn put_in(block: &mut Block, at: usize, slot: Box<Slot>) -> Option<EntrySize>
     requires rising { IsRising (list_of block.old) }
     requires bound { at ≤ vec_len block.old.slots }
@@ -402,8 +401,7 @@ fn put_in(block: &mut Block, at: usize, slot: Box<Slot>) -> Option<EntrySize>
     ensures replaced { result ≡ stood_size (slot_entry slot.value).0
         (entry_of_key (list_of block.old) (slot_entry slot.value).0) }
     ensures some { 1 ≤ vec_len block.new.slots }
-    ensures len { vec_len block.new.slots ≤ vec_len block.old.slots + 1 }
-    ensures capacity { vec_capacity block.old.slots ≤ vec_capacity block.new.slots }
+    ensures grows { GrowsBy 1 block.old.slots block.new.slots }
     ensures counted { IsCounted block.new }
 {
     block.values += slot.value_count();
@@ -416,7 +414,7 @@ fn put_in(block: &mut Block, at: usize, slot: Box<Slot>) -> Option<EntrySize>
     }
 }
 
-/// Puts an entry at its place. There is room for one more. Returns the size of the entry of the same text that it
+/// Puts an entry at its place. There must be room for it. Returns the size of the entry with the same text that it
 /// replaces, if there is one.
 pub(crate) fn put(blocks: &mut Blocks, slot: Box<Slot>) -> Option<EntrySize>
     requires rising { IsRising (block_entries blocks.old.filled.items) }
@@ -445,7 +443,7 @@ pub(crate) fn put(blocks: &mut Blocks, slot: Box<Slot>) -> Option<EntrySize>
     replaced
 }
 
-/// Puts an entry at its place. There is room for one more. Returns the size of all.
+/// Puts an entry at its place. There must be room for it. Returns the new size of all entries.
 pub(crate) fn put_counted(blocks: &mut Blocks, slot: Box<Slot>, before: Size) -> Size
     requires rising { IsRising (block_entries blocks.old.filled.items) }
     requires blocks { AreEntryBlocks blocks.old }
@@ -466,7 +464,7 @@ pub(crate) fn put_counted(blocks: &mut Blocks, slot: Box<Slot>, before: Size) ->
     before.with(added, put(blocks, slot))
 }
 
-/// Puts entries over others. There is room for all of them. Returns the size of all.
+/// Puts entries over the others. There must be room for all of them. Returns the new size of all entries.
 pub(crate) fn put_all(blocks: &mut Blocks, mut staged: Vec<Box<Slot>>, before: Size) -> Size
     requires rising { IsRising (block_entries blocks.old.filled.items) }
     requires blocks { AreEntryBlocks blocks.old }

@@ -1,4 +1,4 @@
-//! A place among the entries of a memtable.
+//! A cursor over the entries of a memtable.
 
 ghost use Rattle.std.specs.Prelude.{◌≡◌, ◌↔◌, ◌++◌, ◌∷◌, [], IsTrue, IsSome, IfSome, MatchOption, None, option_map};
 ghost use Rattle.std.specs.List.{AllByRecursion};
@@ -11,8 +11,8 @@ use crate::entries::Slot;
 use cell_key::EntryRef;
 use std::marker::Model;
 
-/// A place among the entries of a memtable. In clauses it is the entry that it lends, if it lends one, and
-/// those that remain. It takes no memory.
+/// A cursor over the entries of a memtable. In contracts it is its current entry, if it has one, and the remaining
+/// ones. Allocates nothing.
 #[derive(Drop)]
 pub struct Cursor<'a> {
     current: Option<&'a Slot>,
@@ -37,7 +37,7 @@ impl<'a> Model for Cursor<'a> {
     ghost invariant = { λ cursor. AllByRecursion IsEntryBlock cursor.later.now };
 }
 
-/// The first of some entries, with those after it in its block and the blocks after that.
+/// The first of the entries that are left, with the rest of its block and the later blocks.
 fn first<'a>(
     rest: &'a [Box<Slot>],
     later: &'a [Block],
@@ -57,7 +57,7 @@ fn first<'a>(
 }
 
 impl<'a> Cursor<'a> {
-    /// A place before entries.
+    /// A cursor before these entries.
     pub(crate) fn new(rest: &'a [Box<Slot>], later: &'a [Block]) -> Cursor<'a>
         requires { AllByRecursion IsEntryBlock later.now }
         ensures { result ≡ (None, slot_entries rest.now ++ block_entries later.now) }
@@ -69,7 +69,7 @@ impl<'a> Cursor<'a> {
         }
     }
 
-    /// Goes to the next entry. Whether there is one.
+    /// Goes to the next entry. Answers whether there is one.
     pub fn advance(&mut self) -> bool
         ensures more { IsTrue result ↔ IsSome self.new.0 }
         ensures takes { Takes self.new.0 self.old.1 self.new.1 }
@@ -84,7 +84,7 @@ impl<'a> Cursor<'a> {
         true
     }
 
-    /// The entry that the cursor is at. `None` before the first and after the last.
+    /// The current entry. `None` before the first and after the last.
     pub fn current(&self) -> Option<EntryRef<'_>>
         ensures { option_map lent_entry result ≡ self.now.0 }
     {

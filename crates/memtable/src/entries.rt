@@ -1,10 +1,10 @@
-//! The entries of a block, in the byte order of their texts. What is moved to make room is a pointer each.
+//! The entries of a block, in the byte order of their texts. Making room moves one pointer for each entry.
 
 ghost use Rattle.std.specs.Prelude.{◌≡◌, ◌+◌, ◌≤◌, ◌<◌, IfSome, option_map, length, vec_len, vec_capacity};
 ghost use Rattle.std.specs.FinMap.Entries.{put as put_entry};
 ghost use Rattle.cell_key.specs.Keys.{byte_cmp};
 ghost use Rattle.cell_key.specs.Entries.{IsPlace, IsRising, entry_of_key, lent_entry, entry_len};
-ghost use Rattle.memtable.specs.Slots.{slot_entry, slot_entries, is_named, first_value, one_lock, one_value, value_count, AreBelow, AreNotBelow, IsPartOf};
+ghost use Rattle.memtable.specs.Slots.{slot_entry, slot_entries, is_named, first_value, one_lock, one_value, value_count, AreBelow, AreNotBelow, GrowsBy, IsPartOf};
 ghost use Rattle.memtable.specs.Sizes.{entry_size};
 
 use crate::key_text::EntryText;
@@ -22,7 +22,7 @@ pub(crate) struct Slot {
 }
 
 impl Slot {
-    /// The entry, lent.
+    /// The entry, borrowed.
     pub(crate) fn lend(&self) -> EntryRef<'_>
         ensures { lent_entry result ≡ slot_entry self.now }
     {
@@ -32,7 +32,7 @@ impl Slot {
         }
     }
 
-    /// How many bytes the entry has in a file.
+    /// The length of the entry in a file, in bytes.
     fn len(&self) -> u128
         ensures { result ≡ entry_len (slot_entry self.now) }
     {
@@ -64,7 +64,7 @@ impl Slot {
         }
     }
 
-    /// What the entry adds to a size.
+    /// The entry's share of a size.
     pub(crate) fn size(&self) -> EntrySize
         ensures { result ≡ entry_size (slot_entry self.now) }
     {
@@ -75,7 +75,7 @@ impl Slot {
     }
 }
 
-/// The index of the first entry whose text isn't below what is sought.
+/// The index of the first entry at or above the sought text (the lower bound).
 pub(crate) fn first_from<S: Sought>(slots: &[Box<Slot>], sought: S) -> usize
     requires { IsRising (slot_entries slots.now) }
     ensures bound { result ≤ length slots.now }
@@ -84,8 +84,8 @@ pub(crate) fn first_from<S: Sought>(slots: &[Box<Slot>], sought: S) -> usize
     slots.partition_point(|slot| sought.compare(&slot.text).is_gt())
 }
 
-/// A part of the entries from an index on, before which all are below what is sought: behind it none is. It is found in
-/// steps that grow.
+/// A range with the lower bound, in which a search goes on: the entries before it are below the sought text, and the
+/// entries from its end on are not. All entries before `from` are below. The steps from there grow.
 fn steps_after<S: Sought>(slots: &[Box<Slot>], sought: S, from: usize) -> (usize, usize)
     requires rising { IsRising (slot_entries slots.now) }
     requires from { from ≤ length slots.now }
@@ -105,9 +105,8 @@ fn steps_after<S: Sought>(slots: &[Box<Slot>], sought: S, from: usize) -> (usize
     (from, from)
 }
 
-/// A part of the entries from an index on, before which all are below what is sought: behind it none is. The entry at
-/// the index is compared first. If it begins otherwise than what is sought, the last one is compared next: what lies
-/// beyond all entries takes no more.
+/// The same. The entry at `from` is compared first. If its first eight bytes differ from the sought text's, the last
+/// entry is compared next, so that a text above all entries takes two comparisons.
 fn part_after<S: Sought>(slots: &[Box<Slot>], sought: S, from: usize) -> (usize, usize)
     requires rising { IsRising (slot_entries slots.now) }
     requires from { from ≤ length slots.now }
@@ -129,8 +128,8 @@ fn part_after<S: Sought>(slots: &[Box<Slot>], sought: S, from: usize) -> (usize,
     steps_after(slots, sought, from + 1)
 }
 
-/// A part of the entries up to an index, from which on none is below what is sought: before it all are. It is found in
-/// steps that grow.
+/// A range with the lower bound: the entries before it are below the sought text, and the entries from its end on are
+/// not. No entry from `to` on is below. The steps down from there grow.
 fn steps_before<S: Sought>(slots: &[Box<Slot>], sought: S, to: usize) -> (usize, usize)
     requires rising { IsRising (slot_entries slots.now) }
     requires to { to ≤ length slots.now }
@@ -150,9 +149,8 @@ fn steps_before<S: Sought>(slots: &[Box<Slot>], sought: S, to: usize) -> (usize,
     (0, 0)
 }
 
-/// A part of the entries up to an index, from which on none is below what is sought: before it all are. The entry
-/// before the index is compared first. If it begins otherwise than what is sought, the first one is compared next: what
-/// lies before all entries takes no more.
+/// The same. The entry before `to` is compared first. If its first eight bytes differ from the sought text's, the first
+/// entry is compared next, so that a text below all entries takes two comparisons.
 fn part_before<S: Sought>(slots: &[Box<Slot>], sought: S, to: usize) -> (usize, usize)
     requires rising { IsRising (slot_entries slots.now) }
     requires to { to ≤ length slots.now }
@@ -173,8 +171,8 @@ fn part_before<S: Sought>(slots: &[Box<Slot>], sought: S, to: usize) -> (usize, 
     steps_before(slots, sought, to - 1)
 }
 
-/// A part of the entries: before it all are below what is sought, and behind it none is. It is found beside the entry at
-/// `near`.
+/// A range with the lower bound: the entries before it are below the sought text, and the entries from its end on are
+/// not. The search starts at the entry at `near`.
 fn part_near<S: Sought>(slots: &[Box<Slot>], sought: S, near: usize) -> (usize, usize)
     requires { IsRising (slot_entries slots.now) }
     ensures { IsPartOf (S.name sought) slots.now result.0 result.1 }
@@ -189,7 +187,7 @@ fn part_near<S: Sought>(slots: &[Box<Slot>], sought: S, near: usize) -> (usize, 
     }
 }
 
-/// The index of the first entry whose text isn't below what is sought. It is looked for beside the entry at `near`.
+/// The index of the first entry at or above the sought text. The search starts at the entry at `near`.
 pub(crate) fn first_near<S: Sought>(slots: &[Box<Slot>], sought: S, near: usize) -> usize
     requires { IsRising (slot_entries slots.now) }
     ensures bound { result ≤ length slots.now }
@@ -207,7 +205,7 @@ pub(crate) fn first_near<S: Sought>(slots: &[Box<Slot>], sought: S, near: usize)
     from
 }
 
-/// Whether the entry at an index has this text.
+/// Whether the entry at an index has the sought text.
 fn is_named<S: Sought>(slots: &[Box<Slot>], at: usize, sought: S) -> bool
     ensures { result ≡ is_named (S.name sought) (slot_entries slots.now) at }
 {
@@ -217,7 +215,7 @@ fn is_named<S: Sought>(slots: &[Box<Slot>], at: usize, sought: S) -> bool
     }
 }
 
-/// The entry that is sought, whose place is the one at this index.
+/// The entry with the sought text, if there is one; `at` is the index of the lower bound.
 pub(crate) fn find_at<S: Sought>(slots: &[Box<Slot>], at: usize, sought: S) -> Option<&Slot>
     requires rising { IsRising (slot_entries slots.now) }
     requires place { IsPlace (S.name sought) (slot_entries slots.now) at }
@@ -262,8 +260,8 @@ pub(crate) fn value_count(slots: &[Box<Slot>]) -> usize
     count
 }
 
-/// Puts an entry at its place, the one at this index. There is room for one more. Returns the entry of the same text
-/// that it replaces, if there is one.
+/// Puts an entry at its place, which is `at`. There must be room for it. Returns the entry with the same text that it
+/// replaces, if there is one.
 pub(crate) fn put_at(slots: &mut Vec<Box<Slot>>, at: usize, slot: Box<Slot>) -> Option<Box<Slot>>
     requires rising { IsRising (slot_entries slots.old.items) }
     requires bound { at ≤ vec_len slots.old }
@@ -276,8 +274,7 @@ pub(crate) fn put_at(slots: &mut Vec<Box<Slot>>, at: usize, slot: Box<Slot>) -> 
         ≡ entry_of_key (slot_entries slots.old.items) slot.value.text }
     ensures named { IfSome result (λ old. old.value.text ≡ slot.value.text) }
     ensures some { 1 ≤ vec_len slots.new }
-    ensures len { vec_len slots.new ≤ vec_len slots.old + 1 }
-    ensures capacity { vec_capacity slots.old ≤ vec_capacity slots.new }
+    ensures grows { GrowsBy 1 slots.old slots.new }
 {
     if is_named(slots, at, &slot.text) {
         return Some(mem::replace(&mut slots[at], slot));
@@ -286,16 +283,15 @@ pub(crate) fn put_at(slots: &mut Vec<Box<Slot>>, at: usize, slot: Box<Slot>) -> 
     None
 }
 
-/// Puts an entry at its place. There is room for one more. Returns the entry of the same text that it
-/// replaces, if there is one.
+/// Puts an entry at its place. There must be room for it. Returns the entry with the same text that it replaces, if
+/// there is one.
 pub(crate) fn put(slots: &mut Vec<Box<Slot>>, slot: Box<Slot>) -> Option<Box<Slot>>
     requires rising { IsRising (slot_entries slots.old.items) }
     requires room { vec_len slots.old < vec_capacity slots.old }
     ensures entries { slot_entries slots.new.items
         ≡ put_entry byte_cmp (slot_entry slot.value).0 (slot_entry slot.value).1
         (slot_entries slots.old.items) }
-    ensures len { vec_len slots.new ≤ vec_len slots.old + 1 }
-    ensures capacity { vec_capacity slots.old ≤ vec_capacity slots.new }
+    ensures grows { GrowsBy 1 slots.old slots.new }
 {
     let at = first_from(slots, &slot.text);
     put_at(slots, at, slot)

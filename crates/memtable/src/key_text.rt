@@ -1,5 +1,5 @@
-//! Texts of keys, in an entry and lent, with the number that their first eight bytes are, which mostly decides how two
-//! of them compare.
+//! Texts of keys, owned by an entry or borrowed, each with its first eight bytes as a number, which mostly decides a
+//! comparison.
 
 ghost use Rattle.std.specs.Prelude.{◌≡◌, ◌≤◌, List, ℕ, length};
 ghost use Rattle.std.specs.Ordering.{is_eq};
@@ -14,7 +14,7 @@ use smallvec::SmallVec;
 use std::cmp::Ordering;
 use std::marker::Model;
 
-/// The number that the first eight bytes are.
+/// The first eight bytes as a number.
 fn front_of(bytes: &[u8]) -> u64
     requires { 8 ≤ length bytes.now }
     ensures { IsFront result bytes.now }
@@ -22,7 +22,7 @@ fn front_of(bytes: &[u8]) -> u64
     BigEndian::read_u64(bytes)
 }
 
-/// The text of an entry's key. One of at most 48 bytes takes no memory beside its own.
+/// The text of an entry's key. One of at most 48 bytes is stored inline, without an allocation.
 pub(crate) struct EntryText {
     front: u64,
     bytes: SmallVec<u8, 48>,
@@ -40,7 +40,7 @@ impl Model for EntryText {
 }
 
 impl Drop for EntryText {
-    /// A call of its own, so that what drops a text doesn't branch by where its bytes stand.
+    /// A function of its own, so that code that drops a text doesn't branch on where its bytes are.
     fn drop(self) {
         let EntryText { front: _, bytes } = self;
         drop(bytes);
@@ -81,7 +81,7 @@ impl EntryText {
         bytes == self.as_slice()
     }
 
-    /// The byte order of some bytes, whose front is given, and this text.
+    /// Compares some bytes, whose front is given, with this text in byte order.
     #[inline(always)]
     fn compare_with(&self, front: u64, bytes: &[u8]) -> Ordering
         requires { IsFront front bytes.now }
@@ -115,7 +115,7 @@ impl Sought for &EntryText {
     }
 }
 
-/// The text of a key, lent.
+/// The text of a key, borrowed.
 #[derive(Drop)]
 pub(crate) struct KeyText<'a> {
     front: u64,

@@ -1,4 +1,4 @@
-//! Searches of blocks for a key and for the newest version of a column. They take no memory.
+//! Searches of blocks for a key, and for the newest version of a column. They allocate nothing.
 
 ghost use Rattle.std.specs.Prelude.{◌≡◌, IfSome, option_map};
 ghost use Rattle.std.specs.List.{AllByRecursion};
@@ -16,7 +16,7 @@ use crate::sought::Version;
 use crate::stack_text::{LongBytes, ShortBytes};
 use cell_key::{EntryRef, Stamp};
 
-/// The entry of a text. It is looked for beside the recent places.
+/// The entry with this text. The search starts at the recent places.
 fn find<'a>(blocks: &'a [Block], recent: &RecentPlaces, name: &KeyText<'_>) -> Option<EntryRef<'a>>
     requires list { IsEntryList (block_entries blocks.now) }
     requires blocks { AllByRecursion IsEntryBlock blocks.now }
@@ -28,7 +28,7 @@ fn find<'a>(blocks: &'a [Block], recent: &RecentPlaces, name: &KeyText<'_>) -> O
     Some(slot.lend())
 }
 
-/// The entry of a version whose text is a long one.
+/// The entry of a version whose text is longer than 96 bytes.
 fn find_long<'a>(
     blocks: &'a [Block],
     recent: &RecentPlaces,
@@ -45,7 +45,7 @@ fn find_long<'a>(
     find(blocks, recent, &KeyText::of(long.as_slice()))
 }
 
-/// The entry of a version. It is looked for beside the recent places.
+/// The entry of a version. The search starts at the recent places.
 pub(crate) fn find_version<'a>(
     blocks: &'a [Block],
     recent: &RecentPlaces,
@@ -64,8 +64,8 @@ pub(crate) fn find_version<'a>(
     find_long(blocks, recent, sought)
 }
 
-/// The version with the greatest stamp from `lo` to that of a version of the same column, whose own text is given. It
-/// is looked for beside the recent places, and its place is recorded.
+/// The version of the sought version's column with the greatest stamp from `lo` to the sought one's, whose text is
+/// `own`. The search starts at the recent places, and its place is recorded.
 fn newest_of<'a>(
     blocks: &'a [Block],
     recent: &mut RecentPlaces,
@@ -94,7 +94,7 @@ fn newest_of<'a>(
     }
 }
 
-/// The same if the text is a long one.
+/// The same if the text is longer than 96 bytes.
 fn newest_of_long<'a>(
     blocks: &'a [Block],
     recent: &mut RecentPlaces,
@@ -112,8 +112,8 @@ fn newest_of_long<'a>(
     newest_of(blocks, recent, sought, &KeyText::of(long.as_slice()), lo)
 }
 
-/// The version with the greatest stamp from `lo` to that of a version of the same column. It is looked for beside
-/// the recent places, and its place is recorded.
+/// The version of the sought version's column with the greatest stamp from `lo` to the sought one's. The search starts
+/// at the recent places, and its place is recorded.
 pub(crate) fn newest<'a>(
     blocks: &'a [Block],
     recent: &mut RecentPlaces,

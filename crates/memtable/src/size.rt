@@ -1,4 +1,4 @@
-//! How many entries there are, how many bytes they have, and how many of them are values of locks.
+//! The size of a memtable: how many entries, bytes, and values of locks it has.
 
 ghost use Rattle.std.specs.Prelude.{◌≡◌, ◌+◌, ◌*◌, ◌≤◌, ◌<◌, ◌^◌, IsTrue, is_some, if◌then◌else◌};
 ghost use Rattle.memtable.specs.Sizes.{or_nothing};
@@ -9,20 +9,19 @@ pub(crate) const MOST_ENTRIES: usize = 100_000;
 /// The most bytes of all entries of a memtable together.
 pub(crate) const MOST_BYTES: usize = 67_108_864;
 
-/// More bytes than an entry has.
+/// An upper bound of an entry's bytes.
 const ENTRY_BYTES: u128 = 262_144;
 
-/// What one entry adds to a size.
+/// The share of one entry in a size.
 #[derive(Clone, Copy)]
 pub(crate) struct EntrySize {
-    /// How many bytes it has in a file.
+    /// The length of the entry in a file.
     pub(crate) bytes: u128,
     /// 1 for a value of a lock, and 0 for any other entry.
     pub(crate) locks: u128,
 }
 
-/// How many entries there are, how many bytes they have, and how many of them are values of locks. Wide enough for any
-/// list of edits.
+/// How many entries, bytes, and values of locks there are. Wide enough for any list of edits.
 #[derive(Clone, Copy)]
 pub(crate) struct Size {
     pub(crate) entries: u128,
@@ -31,7 +30,7 @@ pub(crate) struct Size {
 }
 
 impl Size {
-    /// The size with one entry more, or with an entry in the place of another.
+    /// The size with one entry more, or with an entry replaced by another.
     pub(crate) fn with(self, added: EntrySize, replaced: Option<EntrySize>) -> Size
         requires replaced_bytes { (or_nothing replaced).bytes ≤ self.bytes }
         requires replaced_locks { (or_nothing replaced).locks ≤ self.locks }
@@ -57,7 +56,7 @@ impl Size {
         }
     }
 
-    /// Whether the size with this many entries more is within the limits, whatever they are.
+    /// Whether the size with any `count` more entries is within the limits.
     pub(crate) fn has_room(self, count: usize) -> bool
         requires few { self.entries ≤ 2 ^ 64 }
         requires small { self.bytes ≤ 2 ^ 64 }

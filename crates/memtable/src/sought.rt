@@ -1,4 +1,4 @@
-//! What is sought among the entries of a memtable, and how it compares with their texts. This takes no memory.
+//! The sought text of a search in a memtable, and how it compares with the entries' texts. Allocates nothing.
 
 ghost use Rattle.std.specs.Prelude.{◌≡◌, ◌≢◌, ◌<◌, ◌≤◌, ◌^◌, ℕ, List, ◌++◌, take, drop, length, IfSome, IfNone};
 ghost use Rattle.std.specs.Ordering.{is_eq};
@@ -10,7 +10,7 @@ use crate::key_text::{EntryText, KeyText};
 use cell_key::{CellKey, Family, Qualifier, Row, Stamp, are_same, compare_texts, stamp_of};
 use std::cmp::Ordering;
 
-/// The stamp of a text that differs from another one in its last eight bytes alone.
+/// The stamp of a text that differs from another one at most in its last eight bytes.
 fn stamp_beside(text: &[u8], bytes: &[u8]) -> Option<Stamp>
     ensures some { IfSome result (λ stamp. (front : List ℕ) (other : ℕ)
         → text.now ≡ front ++ stamp_text other → bytes.now ≡ front ++ stamp_text stamp) }
@@ -30,7 +30,7 @@ fn stamp_beside(text: &[u8], bytes: &[u8]) -> Option<Stamp>
     }
 }
 
-/// A version of a cell's column, whose names are lent.
+/// A version of a cell's column, with borrowed names.
 #[derive(Clone, Copy)]
 pub(crate) struct Version<'a> {
     pub(crate) row: &'a Row,
@@ -40,8 +40,8 @@ pub(crate) struct Version<'a> {
 }
 
 impl Version<'_> {
-    /// The stamp of the version of the same column whose text the bytes are, if they are one's. The text is the
-    /// version's own.
+    /// The stamp of the version in the same column that has these bytes as its text, if there is one. `own` is the text
+    /// of this version.
     pub(crate) fn stamp_in(self, own: &KeyText<'_>, bytes: &[u8]) -> Option<Stamp>
         requires { own.now ≡ text (key_of self) }
         ensures some { IfSome result (λ stamp. bytes.now ≡ text (at_stamp self.entry stamp)) }
@@ -53,20 +53,20 @@ impl Version<'_> {
     }
 }
 
-/// What is sought among texts: a text.
+/// A text that is sought among texts.
 pub(crate) trait Sought: Copy {
     /// The text.
     ghost name: { Self → List ℕ };
 
-    /// The byte order of the text that is sought and that of an entry.
+    /// The byte order of the sought text and an entry's text.
     fn compare(&self, text: &EntryText) -> Ordering
         ensures { result ≡ byte_cmp (name self.now) text.now };
 
-    /// Whether the text of an entry is the one that is sought.
+    /// Whether an entry's text is the sought one.
     fn is(&self, text: &EntryText) -> bool
         ensures { result ≡ is_eq (byte_cmp (name self.now) text.now) };
 
-    /// Whether the text of an entry seems to begin with the same eight bytes. It says only where to look next.
+    /// Whether an entry's text seems to begin with the same eight bytes. This is only a hint where to look next.
     fn has_front(&self, text: &EntryText) -> bool;
 }
 
@@ -89,7 +89,7 @@ impl Sought for &[u8] {
     }
 }
 
-/// The version that a key is of.
+/// The version of a key.
 pub(crate) fn version_of(key: &CellKey) -> Version<'_>
     ensures { key_of result ≡ key.now }
 {

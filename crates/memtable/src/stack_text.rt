@@ -1,4 +1,4 @@
-//! Texts of keys on the stack, so that a search takes no memory.
+//! Texts of keys on the stack, so that a search needs no allocation.
 
 ghost use Rattle.std.specs.Prelude.{◌≡◌, ◌<◌, ◌≤◌, ◌++◌, [], length, OnErr, OnOk};
 ghost use Rattle.cell_key.specs.Keys.{qualifier_name, text};
@@ -10,16 +10,16 @@ use arrayvec::{ArrayVec, CapacityError};
 use byteorder::{BigEndian, ByteOrder};
 use cell_key::Qualifier;
 
-/// Room for a short text.
+/// A buffer for a short text.
 pub(crate) type ShortBytes = ArrayVec<u8, 96>;
 
-/// Room for the text of any key: that of the longest has 8,083 bytes.
+/// A buffer for the text of any key: the longest has 8,083 bytes.
 pub(crate) type LongBytes = ArrayVec<u8, 8192>;
 
-/// How many bytes are looked at together.
+/// How many bytes are tested at once.
 const CHUNK: usize = 32;
 
-/// So many zeros.
+/// 32 zeros.
 const ZEROS: &[u8] = b"\0\0\0\0\0\0\0\0\0\0\0\0\0\0\0\0\0\0\0\0\0\0\0\0\0\0\0\0\0\0\0\0";
 
 /// The same zeros, escaped.
@@ -27,7 +27,7 @@ const ESCAPED_ZEROS: &[u8] = b"\0\xFF\0\xFF\0\xFF\0\xFF\0\xFF\0\xFF\0\xFF\0\xFF\
     \0\xFF\0\xFF\0\xFF\0\xFF\0\xFF\0\xFF\0\xFF\0\xFF\0\xFF\0\xFF\0\xFF\0\xFF\
     \0\xFF\0\xFF\0\xFF\0\xFF\0\xFF\0\xFF\0\xFF\0\xFF\0\xFF\0\xFF\0\xFF\0\xFF";
 
-/// Appends bytes one by one, each 0 as 0 and 255. Fails if there is no room.
+/// Appends bytes one by one, with each 0 escaped as 0 and 255. Fails if there is no room.
 fn push_each<const CAP: usize>(
     out: &mut ArrayVec<u8, CAP>,
     bytes: &[u8],
@@ -45,7 +45,7 @@ fn push_each<const CAP: usize>(
     Ok(())
 }
 
-/// Appends some bytes, each 0 as 0 and 255. Those without a 0, and 32 zeros, are copied at once.
+/// Appends some bytes, with each 0 escaped as 0 and 255. Bytes without a 0, and 32 zeros, are copied at once.
 fn push_chunk<const CAP: usize>(
     out: &mut ArrayVec<u8, CAP>,
     chunk: &[u8],
@@ -62,7 +62,7 @@ fn push_chunk<const CAP: usize>(
     push_each(out, chunk)
 }
 
-/// Appends a row, each 0 as 0 and 255. Fails if there is no room.
+/// Appends a row, with each 0 escaped as 0 and 255. Fails if there is no room.
 fn push_escaped<const CAP: usize>(
     out: &mut ArrayVec<u8, CAP>,
     row: &[u8],
@@ -97,7 +97,7 @@ fn push_ended<const CAP: usize>(
     out.try_extend_from_slice(b"\0\0")
 }
 
-/// Appends a qualifier's name and its end, of which the length is known. Fails if there is no room.
+/// Appends a qualifier's name and its end, as an array of known length. Fails if there is no room.
 fn push_name<const CAP: usize>(
     out: &mut ArrayVec<u8, CAP>,
     qualifier: Qualifier,
@@ -133,7 +133,7 @@ impl Version<'_> {
         out.try_extend_from_slice(falling.as_slice())
     }
 
-    /// Appends the text. There is room for any.
+    /// Appends the text. There is always room.
     pub(crate) fn push_long_text(self, out: &mut LongBytes)
         requires { out.old.items ≡ [] }
         ensures { out.new.items ≡ text (key_of self.entry) }

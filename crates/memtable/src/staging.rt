@@ -1,6 +1,6 @@
-//! Edits as entries, before any of them is made.
+//! Edits as entries, before any of them is applied.
 
-ghost use Rattle.std.specs.Prelude.{◌≡◌, ◌≤◌, ◌^◌, List, length, IsOk, IfOk, OnOk, IfErr};
+ghost use Rattle.std.specs.Prelude.{◌≡◌, ◌≤◌, ◌^◌, List, length, IsOk, IfOk, OnOk, IsOkUnless};
 ghost use Rattle.std.specs.List.{All, AllByRecursion};
 ghost use Rattle.cell_key.specs.Keys.{text};
 ghost use Rattle.cell_key.specs.Names.{IsRow, IsFamily};
@@ -28,7 +28,7 @@ fn text_of(alloc: Global, key: &CellKey) -> Result<EntryText, Refusal>
     ensures short { length (text key.now) ≤ 48 → IsOk result }
     ensures row { IsRow key.now.row }
     ensures family { IsFamily key.now.family }
-    ensures refusal { IfErr result (λ refusal. refusal ≡ Refusal.NoMemory) }
+    ensures refusal { IsOkUnless result Refusal.NoMemory }
 {
     // These calls show that row and family are within their limits.
     let _row = key.row.as_bytes();
@@ -49,7 +49,7 @@ pub(crate) fn slot_of(alloc: Global, row: &Row, edit: Edit) -> Result<Box<Slot>,
     ensures entry { IfOk result (λ slot. slot_entry slot.value ≡ edit_entry edit) }
     ensures limits { IfOk result (λ slot. IsEntry (slot_entry slot.value)) }
     ensures key { OnOk result (HasStoredKey edit) }
-    ensures refusal { IfErr result (λ refusal. refusal ≡ Refusal.NoMemory) }
+    ensures refusal { IsOkUnless result Refusal.NoMemory }
 {
     let slot = match edit {
         Edit::Put(key, value) => Slot {
@@ -64,7 +64,7 @@ pub(crate) fn slot_of(alloc: Global, row: &Row, edit: Edit) -> Result<Box<Slot>,
     Ok(Box::new(alloc, slot)?)
 }
 
-/// Edits as entries, the last of each text.
+/// Edits as entries, only the last edit of each text.
 pub(crate) fn stage(alloc: Global, row: &Row, edits: Vec<Edit>) -> Result<Vec<Box<Slot>>, Refusal>
     requires { AllByRecursion (IsEditOf row.now) edits.items }
     ensures rising { IfOk result (λ staged. IsRising (slot_entries staged.items)) }
@@ -72,7 +72,7 @@ pub(crate) fn stage(alloc: Global, row: &Row, edits: Vec<Edit>) -> Result<Vec<Bo
         → over (slot_entries staged.items) table ≡ with_edits table edits.items) }
     ensures limits { IfOk result (λ staged. AllByRecursion IsEntry (slot_entries staged.items)) }
     ensures keys { OnOk result (AllByRecursion HasStoredKey edits.items) }
-    ensures refusal { IfErr result (λ refusal. refusal ≡ Refusal.NoMemory) }
+    ensures refusal { IsOkUnless result Refusal.NoMemory }
 {
     let mut staged = Vec::with_capacity(alloc, edits.len())?;
     for edit in edits {
@@ -82,7 +82,7 @@ pub(crate) fn stage(alloc: Global, row: &Row, edits: Vec<Edit>) -> Result<Vec<Bo
     Ok(staged)
 }
 
-/// The size of a table once entries are put over it.
+/// The size of a table after entries are put over it.
 pub(crate) fn size_with(table: &[Block], before: Size, staged: &[Box<Slot>]) -> Size
     requires rising { IsRising (block_entries table.now) }
     requires blocks { AllByRecursion IsEntryBlock table.now }

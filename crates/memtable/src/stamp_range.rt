@@ -1,4 +1,4 @@
-//! The range of the stamps of keys, outside which nothing has to be searched.
+//! The range of the stamps of keys: a search outside of it finds nothing.
 
 ghost use Rattle.std.specs.Prelude.{◌≡◌, ◌≤◌, ◌<◌, ◌⊎◌, ◌↔◌, All, IsTrue};
 ghost use Rattle.cell_key.specs.Cells.{edited_key};
@@ -6,7 +6,7 @@ ghost use Rattle.memtable.specs.StampRanges.{IsEditWithin, IsOutside};
 
 use cell_key::{Edit, Stamp};
 
-/// A range of stamps. It is empty if the least is above the greatest.
+/// A range of stamps, empty if the least is above the greatest.
 #[derive(Clone, Copy, Drop)]
 pub(crate) struct StampRange {
     pub(crate) least: Stamp,
@@ -37,7 +37,7 @@ impl StampRange {
         hi < self.least || self.greatest < lo
     }
 
-    /// The least range around this one and the stamps of edits.
+    /// The smallest range with this one and the stamps of edits.
     pub(crate) fn with_edits(self, edits: &[Edit]) -> StampRange
         ensures least { result.least ≤ self.least }
         ensures greatest { self.greatest ≤ result.greatest }

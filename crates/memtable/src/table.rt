@@ -1,6 +1,6 @@
-//! The memtable: recent writes, in the order of their keys.
+//! The memtable: recent writes in key order.
 
-ghost use Rattle.std.specs.Prelude.{◌≡◌, ◌↔◌, ◌+◌, ◌≤◌, ◌^◌, [], length, vec_len, IsTrue, OnOk, OnErr, IfErr, IfSome, IsErrOf, option_map, None, ◌⊎◌};
+ghost use Rattle.std.specs.Prelude.{◌≡◌, ◌↔◌, ◌+◌, ◌≤◌, ◌^◌, [], length, vec_len, IsTrue, OnOk, OnErr, IfErr, IfSome, IsErrOf, option_map, None, ◌⊎◌, IsOkUnless};
 ghost use Rattle.std.specs.Borrow.{sem};
 ghost use Rattle.std.specs.Io.BufRead.{Rests};
 ghost use Rattle.std.specs.List.{AllByRecursion};
@@ -25,8 +25,8 @@ use cell_key::{CellKey, Edit, EntryRef, Family, Qualifier, Refusal, Row, Stamp};
 use std::alloc::Global;
 use std::marker::Model;
 
-/// The recent writes of a tablet: an entry for each key that was put or erased, in the byte order of the
-/// texts of keys (Bigtable, tablet serving: the memtable). An erasure is an entry.
+/// The recent writes of a tablet: an entry for each key that was put or erased, in the byte order of the keys' texts
+/// (Bigtable, tablet serving: the memtable). An erasure is an entry.
 #[derive(Drop)]
 pub struct Memtable {
     alloc: Global,
@@ -35,7 +35,7 @@ pub struct Memtable {
     bytes: usize,
     /// How many locks have a value.
     locks: usize,
-    /// The stamps of all keys are within it.
+    /// A range with the stamps of all keys.
     stamps: StampRange,
 }
 
@@ -52,8 +52,8 @@ impl Model for Memtable {
         IsKept table.blocks table.len table.bytes table.locks table.stamps };
 }
 
-/// Whether a table is within the limits once entries are put over it. If there is room for them whatever they
-/// replace, they aren't looked up.
+/// Whether a table stays within the limits when entries are put over it. If there is room for them whatever they
+/// replace, the replaced ones aren't looked up.
 fn fit(table: &[Block], before: Size, staged: &[Box<Slot>]) -> bool
     requires rising { IsRising (block_entries table.now) }
     requires blocks { AllByRecursion IsEntryBlock table.now }
@@ -79,7 +79,7 @@ impl Memtable {
     /// The most bytes of all entries together, as `entry_bytes` counts them.
     pub const MOST_BYTES: usize = size::MOST_BYTES;
 
-    /// No entries. Takes no memory.
+    /// A table without entries. Allocates nothing.
     pub fn new(alloc: Global) -> Memtable
         ensures { result ≡ [] }
     {
@@ -97,7 +97,7 @@ impl Memtable {
         }
     }
 
-    /// How many entries there are, erasures among them: at most 100,000. Takes no memory.
+    /// How many entries there are, erasures included: at most 100,000. Allocates nothing.
     pub fn len(&self) -> usize
         ensures len { result ≡ length self.now }
         ensures list { IsEntryList self.now }
@@ -106,23 +106,23 @@ impl Memtable {
         self.len
     }
 
-    /// Whether there is no entry. Takes no memory.
+    /// Whether there are no entries. Allocates nothing.
     pub fn is_empty(&self) -> bool
         ensures { IsTrue result ↔ (self.now ≡ []) }
     {
         self.len == 0
     }
 
-    /// How many bytes the entries have in a file, at most 67,108,864: of each 4 and those of its text, a
-    /// byte for whether it has a value, and 4 and those of the value. Takes no memory.
+    /// The entries' length in a file, at most 67,108,864 bytes: for each entry 4 bytes and its text, one byte for
+    /// whether it has a value, and 4 bytes and the value if it has one. Allocates nothing.
     pub fn entry_bytes(&self) -> usize
         ensures { result ≡ bytes_of self.now }
     {
         self.bytes
     }
 
-    /// The entry of a key, if it has one: its value, or an erasure. If its stamp is outside those of all
-    /// entries it searches nothing. Takes no memory.
+    /// The entry of a key, a value or an erasure, if there is one. Searches nothing if the key's stamp is outside the
+    /// range of all entries' stamps. Allocates nothing.
     pub fn lookup(&self, key: &CellKey) -> Option<EntryRef<'_>>
         ensures found { option_map (λ lent. (lent_entry lent).1) result
             ≡ entry_of_key self.now (text key.now) }
@@ -138,21 +138,21 @@ impl Memtable {
         searches::find_version(&self.blocks.filled, &self.blocks.recent, version_of(key))
     }
 
-    /// The entries whose texts aren't below some bytes, in order. Takes no memory.
+    /// A cursor over the entries at or above some bytes, in order. Allocates nothing.
     pub fn cursor(&self, from: &[u8]) -> Cursor<'_>
         ensures cursor { result ≡ (None, entries_from from.now self.now) }
         ensures list { IsEntryList self.now }
     {
-        // A copy: a cursor leaves the places as they are.
+        // A copy, so that a cursor leaves the recent places unchanged.
         let mut recent = self.blocks.recent;
         let (rest, later) = blocks::rest_from(&self.blocks.filled, from, &mut recent);
         Cursor::new(rest, later)
     }
 
-    /// The version of a cell's column with the greatest stamp in `lo..=hi`, if it has one there: its stamp, from
-    /// 1 to 2^63 - 1, and its value of at most 65,536 bytes. An erasure is no version. Of a lock it searches
-    /// nothing if no lock has a value. Outside the stamps of all entries it searches nothing. The entries stay: it
-    /// changes only where the next search begins. Takes no memory.
+    /// The version of a cell's column with the greatest stamp in `lo..=hi`, if there is one: its stamp (1 to 2^63 - 1)
+    /// and its value, of at most 65,536 bytes. An erasure is no version. Searches nothing for a lock if no lock has a
+    /// value, nor outside the range of all entries' stamps. The entries are unchanged; only the hint where the next
+    /// search starts may change. Allocates nothing.
     pub fn newest(
         &mut self,
         row: &Row,
@@ -182,13 +182,13 @@ impl Memtable {
         searches::newest(&self.blocks.filled, &mut self.blocks.recent, sought, lo)
     }
 
-    /// Makes edits under one row in order, all of them or none: a put sets the entry of its key to the
-    /// value, and an erase to an erasure. Room for all of them is made before the first change.
+    /// Applies edits of one row in order, all or none: a put sets its key's entry to the value, and an erase sets it to
+    /// an erasure. Memory for all of them is allocated before the first change.
     ///
     /// # Errors
     ///
-    /// `MemtableFull` if the table with all edits made would have more than 100,000 entries or more than
-    /// 67,108,864 bytes of entries, and `NoMemory` if a growth was refused. The table is then as before.
+    /// `MemtableFull` if the table with all edits would have more than 100,000 entries or more than 67,108,864 bytes of
+    /// entries, and `NoMemory` if an allocation failed. The table is then unchanged.
     pub fn apply(&mut self, row: &Row, edits: Vec<Edit>) -> Result<(), Refusal>
         requires { AllByRecursion (IsEditOf row.now) edits.items }
         ensures ok { OnOk result (self.new ≡ with_edits self.old edits.items) }
@@ -223,7 +223,7 @@ impl Memtable {
         Ok(())
     }
 
-    /// Makes two edits in order. There is room for them, whatever they replace.
+    /// Applies two edits in order. There must be room for them, whatever they replace.
     fn put_two(&mut self, row: &Row, mut edits: Vec<Edit>, before: Size) -> Result<(), Refusal>
         requires two { vec_len edits ≡ 2 }
         requires edits { AllByRecursion (IsEditOf row.now) edits.items }
@@ -235,7 +235,7 @@ impl Memtable {
         ensures keys { OnOk result (AllByRecursion HasStoredKey edits.items) }
         ensures list { IsEntryList self.new }
         ensures err { OnErr result (self.new ≡ self.old) }
-        ensures refusal { IfErr result (λ refusal. refusal ≡ Refusal.NoMemory) }
+        ensures refusal { IsOkUnless result Refusal.NoMemory }
     {
         let stamps = self.stamps.with_edits(&edits);
         let last = edits.pop().unwrap();

@@ -23,7 +23,7 @@ not_self x e = less_greater (sym e ∙ (nat_list_cmp_total.antisymm x x ∙ ap o
 pub not_both : (x y : List ℕ) → byte_cmp x y ≡ Less → byte_cmp y x ≡ Less → ⊥
 not_both x y p q = not_self x (nat_list_cmp_total.trans x y x p q)
 
--- a row that isn't below another one, and isn't it, is above
+-- a row that is neither below another one nor equal to it is above it
 pub above : (x y : List ℕ) → (byte_cmp x y ≡ Less → ⊥) → (x ≡ y → ⊥) → byte_cmp y x ≡ Less
 above x y n d = go (byte_cmp x y) refl
   where
@@ -32,7 +32,7 @@ above x y n d = go (byte_cmp x y) refl
     go Equal e = absurd (d (one_row x y e))
     go Greater e = nat_list_cmp_total.antisymm y x ∙ ap ordering_reverse e
 
--- below a row that isn't above another one is below that one
+-- a row below one that is not above a third row is below the third
 pub below_other : (x y z : List ℕ) → byte_cmp x y ≡ Less → (byte_cmp z y ≡ Less → ⊥) → byte_cmp x z ≡ Less
 below_other x y z p n = go (byte_cmp z y) refl
   where
@@ -61,7 +61,7 @@ pub before_true : (end : Option (List ℕ)) (row : List ℕ) → EndsBefore end 
 before_true None row h = absurd h
 before_true (Some end) row h = ap is_lt h
 
--- an end is below a row or isn't
+-- an end is below a row, or it is not
 pub is_before : (end : Option (List ℕ)) (row : List ℕ) → EndsBefore end row ⊎ (EndsBefore end row → ⊥)
 is_before end row = go (ends_before end row) refl
   where
@@ -69,7 +69,7 @@ is_before end row = go (ends_before end row) refl
     go true e = inl (true_before end row e)
     go false e = inr (false_before end row e)
 
--- an end below one that is below a row
+-- an end below another end that is below a row is below the row
 pub lower_before : (a b : Option (List ℕ)) (row : List ℕ) → IsLower a b → EndsBefore b row → EndsBefore a row
 lower_before None b row l h = l
 lower_before (Some x) None row l h = absurd h
@@ -89,7 +89,7 @@ pub some_lower : (end : Option (List ℕ)) (row : List ℕ) → EndsBefore end r
 some_lower None row h = h
 some_lower (Some x) row h = h
 
--- a row after an end that isn't infinite is one that the end is before, and the other way round
+-- an end is before a row if and only if it is finite and the row is after it
 pub before_after : (end : Option (List ℕ)) (row : List ℕ) → EndsBefore end row → IsRowAfter end row
 before_after None row h = tt
 before_after (Some end) row h = h

@@ -59,7 +59,7 @@ held_range start row (q ∷ before) after p a past n =
     let found = held_range q.end row before after p (before_after q.end row past.0) past.1 n in
     (found.0, contains_later _ found.0 (ranges_after q.end (before ++ p ∷ after)) found.1, found.2, found.3, found.4)
 
--- each range is that of a place
+-- each range belongs to a place
 range_tablet : (P : ℕ → Type 0) (start : Option (List ℕ)) (ps : List PlaceView) → AllByRecursion (λ q. P q.tablet) ps → (r : TabletRange) → Contains (ranges_after start ps) r → P r.tablet
 range_tablet P start [] a r c = absurd (contains_none r c)
 range_tablet P start (p ∷ ps) a r c = elim (contains_cases _ r (ranges_after p.end ps) c) [
@@ -115,7 +115,7 @@ cut_range row n start _ _ a (cuts_later {p = p} {ps = ps} {ps' = ps'} h c) =
       has = rest.has;
     }
 
--- a range that has a row has the rows that aren't above that one and come after its start
+-- a range that has a row has every row from its start up to that row
 ends_later : (end : Option (List ℕ)) (row other : List ℕ) → (EndsBefore end row → ⊥) → (byte_cmp row other ≡ Less → ⊥) → EndsBefore end other → ⊥
 ends_later None row other n m h = h
 ends_later (Some last) row other n m h = n (below_other last other row h m)

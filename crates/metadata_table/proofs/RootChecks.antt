@@ -1,4 +1,4 @@
--- What is looked at in lists of places, beside what holds of them.
+-- Checks of lists of places, and the facts that they decide.
 use Rattle.std.proofs.Common.{◌≡◌, ◌≢◌, ◌<◌, ◌≤◌, ◌^◌, ℕ, List, [], ◌∷◌, length, map, sym, subst, arith}
 use Rattle.std.specs.Prelude.{◌↔◌}
 use Rattle.std.specs.List.{AllByRecursion, AllPairs}
@@ -21,7 +21,7 @@ pub small_files : (next : ℕ) (places : List Place) → AllByRecursion (λ p. A
 small_files next [] h = tt
 small_files next (p ∷ ps) h = (omega (arith, h.0.few), small_files next ps h.1)
 
--- two lists of pairs that differ, where the first item differs from the others
+-- all pairs of a list differ if the first item differs from the others, and all pairs of these differ
 pub differ_step : {X : Type 0} (R : X → X → Type 0) (P : Type 0) (all : List X) (x : X) (xs : List X) → all ≡ x ∷ xs → AllByRecursion (R x) xs → P ↔ AllPairs R all → P ↔ AllPairs R xs
 differ_step R P all x xs e first h = (
   λ p. pairs_rest R x xs (subst (AllPairs R) e (h.0 p)),

@@ -1,4 +1,4 @@
--- What was spelled is read again, so bytes are the root of one table.
+-- Reading gives back what was written, so bytes are the root of one table.
 use Rattle.std.proofs.Common.{◌≡◌, ℕ, zero, suc, ◌+◌, ◌*◌, ◌^◌, ◌<◌, ◌≤◌, false, ltb, List, [], ◌∷◌, ◌++◌, length, map, take, drop, length-take, length-drop, Option, Some, None, refl, sym, ap, subst, ◌∙◌, append_assoc, arith}
 use Rattle.std.specs.Prelude.{IfSome, flat_map, codes}
 use Rattle.std.specs.List.{AllByRecursion}
@@ -62,7 +62,7 @@ each_again item bytes_of Fits again (x ∷ xs) rest fits =
 
 -- ---- files
 
--- as many lengths as a format has for these names
+-- the lengths that a format has for these names
 abbrev pub HasShare : RootFormat → List ℕ → List ℕ → Type 0
 HasShare One names lengths = lengths ≡ []
 HasShare Two names lengths = length lengths ≡ length names
@@ -82,7 +82,7 @@ names_two [] lengths h = refl
 names_two (n ∷ names) [] h = absurd (omega (arith, h))
 names_two (n ∷ names) (l ∷ lengths) h = ap (λ (x : List ℕ). n ∷ x) (names_two names lengths (omega (arith, h)))
 
--- behind a number that is passed over
+-- after the first number, which is skipped
 lengths_two : (names lengths : List ℕ) → length lengths ≡ length names → every_second (drop 1 (numbers_of names lengths)) ≡ lengths
 lengths_two [] [] h = refl
 lengths_two [] (l ∷ lengths) h = absurd (omega (arith, h))
@@ -114,7 +114,7 @@ files_again f names lengths rest h fn fl =
     ap (λ (k : ℕ). each_at (number_at w64) k (flat_map (to_be_bytes w64) ns ++ rest)) (sym (count_numbers f names lengths h)) ∙ each_again (number_at w64) (to_be_bytes w64) (λ n. n < 2 ^ 64) u64_again ns rest (fit_numbers names lengths fn fl) in
     rw (read, names_again f names lengths h, lengths_again f names lengths h) refl
 
--- what a place needs to be read again
+-- the limits under which a place can be read again
 pub record Spells (f : RootFormat) (p : PlaceView × List ℕ) : Type 0 where
   pub tablet : p.0.tablet < 2 ^ 32
   pub end : IfSome p.0.end IsRow
@@ -156,7 +156,7 @@ take_none zero xs e = refl
 take_none (suc n) [] e = refl
 take_none (suc n) (x ∷ xs) e = cc
 
--- what a format has of a first place, and of those behind it
+-- a format's lengths for a first place, and for the places after it
 first_share : (f : RootFormat) (p : PlaceView) (ps : List PlaceView) (lengths : List ℕ) → HasLengths f (p ∷ ps) lengths → HasShare f p.files (take (length p.files) lengths)
 first_share One p ps lengths h = take_none (length p.files) lengths h
 first_share Two p ps lengths h = omega (arith, h, length-append p.files (file_names ps), length-take (length p.files) lengths)
@@ -272,7 +272,7 @@ pub is_not_read : (bytes : List ℕ) → root_at bytes ≡ None → IsNoRoot byt
 is_not_read bytes none root is =
     no_some (is.measured.format, (root, is.lengths)) (sym (read_with root is.lengths bytes is.measured) ∙ none)
 
--- bytes that aren't the root of what is read from them are no root
+-- bytes that are not the root read from them are no root
 pub none_or_read : (f : RootFormat) (read : RootView) (lengths bytes : List ℕ) → root_at bytes ≡ Some (f, (read, lengths)) → (IsRootIn f read lengths bytes → ⊥) → IsNoRoot bytes
 none_or_read f read lengths bytes e isnt root is =
     let same : (is.measured.format, (root, is.lengths)) ≡ (f, (read, lengths)) = some_inj (sym (read_with root is.lengths bytes is.measured) ∙ e) in

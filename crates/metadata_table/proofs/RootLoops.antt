@@ -1,4 +1,4 @@
--- Reading items one after the other, as a loop does.
+-- Reading items in a loop.
 use Rattle.std.proofs.Common.{◌≡◌, ℕ, suc, ◌-◌, ◌+◌, ◌≤◌, ◌<◌, List, [], ◌∷◌, ◌++◌, Option, Some, None, refl, sym, ap, ◌∙◌, append_assoc, arith}
 use Rattle.std.proofs.lemmas.List.{append-nil}
 use Rattle.metadata_table.specs.declared.root.reader.ReadFault.{ReadFault}
@@ -10,7 +10,7 @@ use Rattle.metadata_table.specs.Places.{PlaceView}
 use Rattle.metadata_table.specs.RootReader.{◌>>=◌, Fails, each_at, placed}
 
 module _ {X : Type 0} (item : List ℕ → Option (X × List ℕ)) where
-  -- what was read before, and what is still read
+  -- the items read before, followed by those still to be read
   abbrev pub with_front : List X → Option (List X × List ℕ) → Option (List X × List ℕ)
   with_front front read = read >>= λ x. Some (front ++ x.0, x.1)
 
@@ -42,13 +42,13 @@ module _ {X : Type 0} (item : List ℕ → Option (X × List ℕ)) where
       let one : with_front front (each_at item (count - i) bytes) ≡ Some (front, bytes) = rw k (ap (λ (ns : List X). Some (ns, bytes)) (append-nil front)) in
       sym so_far ∙ one
 
--- what goes on from what fails fails
+-- a reading that continues from a failed one fails
 pub fails_with : {A B : Type 0} (e : ReadFault) (read : Option A) (f : A → Option B) → Fails e read → Fails e (read >>= f)
 fails_with fault.Memory read f h = tt
 fails_with fault.Malformed (Some x) f h = cc
 fails_with fault.Malformed None f h = refl
 
--- one place more, with the lengths of its files
+-- one more place, with the lengths of its files
 pub placed_more : (front : List (PlaceView × List ℕ)) (p : PlaceView) (own : List ℕ) (ps : List PlaceView) (lengths : List ℕ) → placed front ≡ (ps, lengths) → placed (front ++ (p, own) ∷ []) ≡ (ps ++ p ∷ [], lengths ++ own)
 placed_more front p own ps lengths e =
     let these : map (λ (x : PlaceView × List ℕ). x.0) (front ++ (p, own) ∷ []) ≡ ps ++ p ∷ [] = map_push (λ (x : PlaceView × List ℕ). x.0) front (p, own) ∙ ap (λ (x : List PlaceView × List ℕ). x.0 ++ p ∷ []) e in

@@ -18,7 +18,7 @@ module _ (row : List ℕ) where
   abbrev pub is_past : Place → Bool
   is_past place = ends_before place.end row
 
-  -- if a later end is below the row, so are those before
+  -- if a later end is below the row, so are the earlier ones
   pub parted : (ps : List Place) → EndsRise (views ps) → (i j : ℕ) (d : Place) → i ≤ j → j < length ps → is_past (get_or ps j d) ≡ true → is_past (get_or ps i d) ≡ true
   parted [] r i j d le lt t = absurd (omega arith)
   parted (p ∷ ps) r zero zero d le lt t = t
@@ -79,7 +79,7 @@ module _ (row : List ℕ) where
   below_row : (end last : Option (List ℕ)) → last ≡ Some row → IsLower end last → EndsBefore end row
   below_row end last e l = lower_some end row (subst (λ (o : Option (List ℕ)). IsLower end o) e l)
 
-  -- a row that is an end is that of its holder
+  -- a row that is an end is its holder's end
   pub end_holder : (ps : List PlaceView) (p : PlaceView) → EndsRise ps → IsHolder row ps p → IsEnd row ps → p.end ≡ Some row
   end_holder ps p r h w = elim (contains_parts h.before h.after p w.0 (subst (λ (qs : List PlaceView). Contains qs w.0) h.parts w.1)) [
     | inl b ↦ absurd (at_row w.0.end w.2 (each_member (λ q. EndsBefore q.end row) h.before h.past w.0 b))

@@ -1,11 +1,10 @@
--- A tablet's place as clauses see it, and rows beside ends.
+-- Views of tablets' places, and rows compared with ends.
 use Rattle.std.specs.Prelude.{◌≡◌, ℕ, List, map, Option, None, Some, ⊤}
 use Rattle.std.specs.declared.cmp.Ordering.TheVariants.{Less}
 use Rattle.cell_key.specs.Keys.{byte_cmp}
 use Rattle.metadata_table.specs.declared.places.Place.{Place}
 
--- a tablet's place: its number, its end (no row is the infinite one), its server,
--- and its files' names
+-- a tablet's place: its number, its end (`None` is the infinite one), its server and its files' names
 pub record PlaceView : Type 0 where
   pub tablet : ℕ
   pub end : Option (List ℕ)
@@ -24,18 +23,18 @@ view_of place =
 abbrev pub views : List Place → List PlaceView
 views places = map view_of places
 
--- an end is below a row; the infinite one is below none
+-- the end is below the row; the infinite one is below no row
 abbrev pub EndsBefore : Option (List ℕ) → List ℕ → Type 0
 EndsBefore None row = ⊥
 EndsBefore (Some end) row = byte_cmp end row ≡ Less
 
--- an end is below another one; the infinite one is above all others
+-- the end is below another one; the infinite one is above all others
 abbrev pub IsLower : Option (List ℕ) → Option (List ℕ) → Type 0
 IsLower None other = ⊥
 IsLower (Some end) None = ⊤
 IsLower (Some end) (Some other) = byte_cmp end other ≡ Less
 
--- a row comes after another one, or after the start
+-- the row comes after another one, or after the start
 abbrev pub IsRowAfter : Option (List ℕ) → List ℕ → Type 0
 IsRowAfter None row = ⊤
 IsRowAfter (Some before) row = byte_cmp before row ≡ Less

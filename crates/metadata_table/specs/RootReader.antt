@@ -1,5 +1,5 @@
--- Reading a root's bytes from left to right. What is read is held against the spelling afterwards,
--- so that head, the next tablet's number, foot and what follows it are only passed over here.
+-- The reader of a root's bytes, from left to right. The result is written again and compared with the bytes afterwards,
+-- so head, next tablet's number, foot and any bytes after it are only skipped here.
 use Rattle.std.specs.Prelude.{◌≡◌, ℕ, zero, suc, ◌*◌, List, [], ◌∷◌, length, take, drop, Option, Some, None, Result, Ok, Err, nat_eq, nat_lt, map, flat_map, if◌then◌else◌}
 use Rattle.std.specs.Int.{Width, w32, w64, byte_len, from_be_bytes}
 use Rattle.metadata_table.specs.declared.root.reader.ReadFault.{ReadFault}
@@ -15,7 +15,7 @@ abbrev pub ◌>>=◌ : {A B : Type 0} → Option A → (A → Option B) → Opti
 (Some x) >>= f = f x
 None >>= f = None
 
--- What a function returned, seen by view, is what reading gives, unless memory ran out.
+-- A function's result, seen through `view`, is the specified reading, unless memory ran out.
 abbrev pub Fails : {Y : Type 0} → ReadFault → Option Y → Type 0
 Fails fault.Memory read = Unit {0}
 Fails fault.Malformed read = read ≡ None
@@ -24,7 +24,7 @@ abbrev pub GivesRead : {X Y : Type 0} → (X → Y) → Result X ReadFault → O
 GivesRead view (Ok x) read = read ≡ Some (view x)
 GivesRead view (Err e) read = Fails e read
 
--- what was read so
+-- the root and the lengths of a draft
 abbrev pub draft_of : Draft → RootView
 draft_of draft =
     record {
@@ -37,16 +37,16 @@ draft_of draft =
 abbrev pub drafted : Draft → RootFormat × (RootView × List ℕ)
 drafted draft = (draft.format, (draft_of draft, draft.lengths.items))
 
--- the format that a head names: one that is no head is taken for format 1, whose spelling it hasn't
+-- the format of a head; an unknown head counts as format 1, and is refused later because it is not that format's head
 abbrev pub format_of : ℕ → RootFormat
 format_of head = if nat_eq head (from_be_bytes w64 (root_head Two)) then Two else One
 
--- how many numbers each file has: its name, and in format 2 its length
+-- how many numbers each file has: its name and, in format 2, its length
 abbrev pub numbers_each : RootFormat → ℕ
 numbers_each One = 1
 numbers_each Two = 2
 
--- of such numbers the names and the lengths
+-- the names, and the lengths, among such numbers
 abbrev pub every_second : List ℕ → List ℕ
 every_second [] = []
 every_second (n ∷ []) = n ∷ []
@@ -88,7 +88,7 @@ end_at (zero ∷ rest) = do
 end_at (suc zero ∷ rest) = Some (None, rest)
 end_at (suc (suc kind) ∷ rest) = None
 
--- count items, one after the other
+-- count items in order
 unfoldable pub each_at : {X : Type 0} → (List ℕ → Option (X × List ℕ)) → ℕ → List ℕ
     → Option (List X × List ℕ)
 each_at read zero bytes = Some ([], bytes)

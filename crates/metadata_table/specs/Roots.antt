@@ -1,4 +1,4 @@
--- The bytes of a root, in both formats. Numbers stand with their highest byte first.
+-- The bytes of a root, in both formats. Numbers are big-endian.
 use Rattle.std.specs.Prelude.{◌≡◌, ◌≢◌, ◌≤◌, ◌<◌, ◌+◌, ◌^◌, ℕ, List, [], ◌∷◌, ◌++◌, length, take, drop, flat_map, codes, Option, Some, None, IfSome, AllPairs}
 use Rattle.std.specs.List.{AllByRecursion}
 use Rattle.std.specs.Int.{w32, w64, to_be_bytes}
@@ -10,8 +10,7 @@ use Rattle.metadata_table.specs.declared.root.Root.{Root}
 use Rattle.metadata_table.specs.declared.root.format.RootFormat.{RootFormat}
 use Rattle.metadata_table.specs.declared.root.format.RootFormat.TheVariants.{One, Two}
 
--- what a root says, beside the lengths of files: two stamps, the next file's name, and the places
--- of all tablets
+-- the content of a root without the lengths of files: two stamps, the next file's name, and the places of all tablets
 pub record RootView : Type 0 where
   pub top : ℕ
   pub floor : ℕ
@@ -22,7 +21,7 @@ abbrev pub root_of : Root → RootView
 root_of root =
     record { top = root.top; floor = root.floor; next_name = root.next_name; places = root.table }
 
--- the lengths of the files, in the order in which the places name them
+-- the files' lengths, in the order in which the places name the files
 abbrev pub lengths_of : Root → List ℕ
 lengths_of root = root.lengths.items
 
@@ -30,21 +29,21 @@ lengths_of root = root.lengths.items
 abbrev pub file_names : List PlaceView → List ℕ
 file_names ps = flat_map (λ p. p.files) ps
 
--- ---- what a root may say
+-- ---- valid roots
 
--- at most 64 files, each once, with names from 1 on and below the next file's
+-- at most 64 files, each once, with names from 1 on and below the next name
 pub record AreFiles (next_name : ℕ) (names : List ℕ) : Type 0 where
   pub few : length names ≤ 64
   pub distinct : AllPairs (λ m n. m ≢ n) names
   pub named : AllByRecursion (λ name. (1 ≤ name) × (name < next_name)) names
 
--- the next file's name is from 1 to 2 ^ 63, and each tablet's files come before it
+-- the next file's name is from 1 to 2 ^ 63, and all files' names are below it
 pub record IsNaming (next_name : ℕ) (ps : List PlaceView) : Type 0 where
   pub from : 1 ≤ next_name
   pub to : next_name ≤ 2 ^ 63
   pub files : AllByRecursion (λ p. AreFiles next_name p.files) ps
 
--- each end but the infinite one is a row
+-- each end except the infinite one is a row
 abbrev pub AreEnds : List PlaceView → Type 0
 AreEnds ps = AllByRecursion (λ p. IfSome p.end IsRow) ps
 
@@ -55,25 +54,25 @@ pub record IsSoundRoot (root : RootView) : Type 0 where
   pub ends : AreEnds root.places
   pub naming : IsNaming root.next_name root.places
 
--- format 1 has no lengths, and format 2 one for each file
+-- format 1 has no lengths, format 2 has one for each file
 abbrev pub HasLengths : RootFormat → List PlaceView → List ℕ → Type 0
 HasLengths One ps lengths = lengths ≡ []
 HasLengths Two ps lengths = length lengths ≡ length (file_names ps)
 
--- ---- how it is spelled
+-- ---- encoding
 
 -- 0 and the row, or 1 for the infinite end
 abbrev pub end_bytes : Option (List ℕ) → List ℕ
 end_bytes (Some row) = 0 ∷ field row
 end_bytes None = 1 ∷ []
 
--- each name, and behind it its length, as far as there are lengths
+-- each name, followed by its length as far as there are lengths
 abbrev pub numbers_of : List ℕ → List ℕ → List ℕ
 numbers_of [] lengths = []
 numbers_of (name ∷ names) [] = name ∷ numbers_of names []
 numbers_of (name ∷ names) (n ∷ lengths) = name ∷ n ∷ numbers_of names lengths
 
--- how many files there are, and each, the newest first
+-- the number of files, and each file, the newest first
 abbrev pub files_bytes : List ℕ → List ℕ → List ℕ
 files_bytes names lengths =
     to_be_bytes w32 (length names) ++ flat_map (to_be_bytes w64) (numbers_of names lengths)
@@ -90,7 +89,7 @@ with_lengths [] lengths = []
 with_lengths (p ∷ ps) lengths =
     (p, take (length p.files) lengths) ∷ with_lengths ps (drop (length p.files) lengths)
 
--- the next tablet's number, how many tablets there are, and the place of each
+-- the next tablet's number, the number of tablets, and the place of each
 abbrev pub places_bytes : List PlaceView → List ℕ → List ℕ
 places_bytes ps lengths =
     to_be_bytes w32 (length ps + 1)
@@ -107,7 +106,7 @@ root_bytes format root lengths =
     ++ (to_be_bytes w64 root.next_name
     ++ (places_bytes root.places lengths ++ codes "TABROOTZ"))))
 
--- the bytes are the root of this format that says this, with these lengths
+-- the bytes are this root in this format, with these lengths
 pub record IsRootIn
     (format : RootFormat) (root : RootView) (lengths bytes : List ℕ) : Type 0 where
   pub sound : IsSoundRoot root
@@ -115,25 +114,25 @@ pub record IsRootIn
   pub fit : AllByRecursion (λ n. n < 2 ^ 64) lengths
   pub whole : bytes ≡ root_bytes format root lengths
 
--- the bytes are the root that says this, with these lengths
+-- the bytes are this root, with these lengths
 pub record IsRootWith (root : RootView) (lengths bytes : List ℕ) : Type 0 where
   pub format : RootFormat
   pub form : IsRootIn format root lengths bytes
 
--- the bytes are the root that says this
+-- the bytes are this root
 pub record IsRoot (root : RootView) (bytes : List ℕ) : Type 0 where
   pub lengths : List ℕ
   pub measured : IsRootWith root lengths bytes
 
--- the bytes are no root
+-- the bytes are not a root
 abbrev pub IsNoRoot : List ℕ → Type 0
 IsNoRoot bytes = (root : RootView) → ¬ IsRoot root bytes
 
--- bytes are the root of one table, with one set of numbers
+-- bytes are the root of at most one table and one set of numbers
 abbrev pub OneRoot : Type 0
 OneRoot = (a b : RootView) (bytes : List ℕ) → IsRoot a bytes → IsRoot b bytes → a ≡ b
 
--- and with one list of lengths
+-- and have at most one list of lengths
 abbrev pub OneMeasure : Type 0
 OneMeasure =
     (a b : RootView) (m n bytes : List ℕ) → IsRootWith a m bytes → IsRootWith b n bytes → m ≡ n

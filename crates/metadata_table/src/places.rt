@@ -1,4 +1,4 @@
-//! The place of a tablet.
+//! Places of tablets.
 
 ghost use Rattle.std.specs.Prelude.{◌≡◌, ◌↔◌, IsTrue, IfOk, Some};
 ghost use Rattle.metadata_table.specs.Places.{view_of, IsLower};
@@ -8,8 +8,8 @@ ghost use Rattle.metadata_table.specs.Search.{ends_before};
 use cell_key::Row;
 use std::alloc::AllocError;
 
-/// Where a tablet is: its number, the last row that it may hold (no row is the infinite end), the number of
-/// its server, and the names of its files, the newest first.
+/// The place of a tablet: its number, the last row that it may hold (`None` is the infinite end), the number of its
+/// server, and the names of its files, the newest first.
 #[derive(Debug, Drop)]
 pub struct Place {
     pub tablet: u32,
@@ -19,7 +19,7 @@ pub struct Place {
 }
 
 impl Place {
-    /// Whether the end is below a row. The infinite end is below none.
+    /// Whether the end is below a row. The infinite end is below no row.
     pub(crate) fn ends_before(&self, row: &Row) -> bool
         ensures { result ≡ ends_before self.now.end row.now }
     {
@@ -29,7 +29,7 @@ impl Place {
         }
     }
 
-    /// Whether the end is below that of another place. The infinite end is below none, and all others are below it.
+    /// Whether the end is below another place's end. The infinite end is above all others.
     pub(crate) fn ends_below(&self, other: &Place) -> bool
         ensures { IsTrue result ↔ IsLower self.now.end other.now.end }
     {
@@ -40,7 +40,7 @@ impl Place {
         }
     }
 
-    /// Whether a row is the end.
+    /// Whether the row is the end.
     pub(crate) fn ends_with(&self, row: &Row) -> bool
         ensures { IsTrue result ↔ (self.now.end ≡ Some row.now) }
     {
@@ -50,7 +50,7 @@ impl Place {
         }
     }
 
-    /// The left part of the place, cut at a row: it ends with the row and has another number.
+    /// The left part of the place, cut at a row: it ends with the row and has the new number.
     pub(crate) fn left_part(&self, row: &Row, tablet: u32) -> Result<Place, AllocError>
         ensures { IfOk result (λ part. view_of part ≡ left_part row.now tablet (view_of self.now)) }
     {

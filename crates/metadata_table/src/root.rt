@@ -1,4 +1,4 @@
-//! The root of a store: what it says of the table, and its bytes.
+//! The root of a store: its content, and its bytes.
 
 ghost use Rattle.std.specs.Prelude.{◌≡◌, ◌≤◌, ◌<◌, ◌^◌, ◌++◌, ◌↔◌, ◌⊎◌, IsTrue, IfOk, IfErr, IfSome, IfNone, OnOk, OnErr, IsOkUnless, length};
 ghost use Rattle.metadata_table.specs.Roots.{HasLengths, IsNaming, IsNoRoot, IsRootIn, IsRootWith, IsSoundRoot, lengths_of, root_bytes, root_of};
@@ -18,19 +18,19 @@ use crate::table::MetadataTable;
 use cell_key::{Refusal, Stamp};
 use std::alloc::Global;
 
-/// What a root says of a store: the greatest stamp that it answered, the greatest floor of a collector, the
-/// name of its next file, and where its tablets are. Each stamp is 0 if there is none.
+/// The content of a root: the greatest stamp ever answered, the greatest floor of a collector, the name of the next
+/// file, and the tablets' places. A stamp is 0 if there is none.
 #[derive(Drop)]
 pub struct Root {
     pub top: Stamp,
     pub floor: Stamp,
     pub next_name: u64,
     pub table: MetadataTable,
-    /// The lengths of the files, in the order in which the table names them. A root of format 1 has none.
+    /// The files' lengths, in the order in which the table names the files. Empty for a root of format 1.
     pub lengths: Vec<u64>,
 }
 
-/// Whether the bytes are the root of what was read from them.
+/// Whether the draft read from these bytes is valid, and written again gives the same bytes.
 fn is_root(alloc: Global, draft: &Draft, bytes: &[u8]) -> Result<bool, Refusal>
     ensures exact { IfOk result (λ is. IsTrue is
         ↔ IsRootIn draft.now.format (draft_of draft.now) draft.now.lengths.items bytes.now) }
@@ -55,7 +55,7 @@ fn is_root(alloc: Global, draft: &Draft, bytes: &[u8]) -> Result<bool, Refusal>
     Ok(image.as_slice() == bytes)
 }
 
-/// What the bytes say, if they are a root.
+/// The root's content, if the bytes are a root.
 fn draft_of_root(alloc: Global, bytes: &[u8]) -> Result<Option<Draft>, Refusal>
     ensures form { IfOk result (λ found.
         IfSome found (λ draft.
@@ -77,13 +77,13 @@ fn draft_of_root(alloc: Global, bytes: &[u8]) -> Result<Option<Draft>, Refusal>
 }
 
 impl MetadataTable {
-    /// Appends the bytes of the root of format 2 that names this table, these numbers and the lengths of the
-    /// files, in the order in which the table names them. Each tablet has at most 64 files, each once, whose names are
-    /// from 1 on and below the next one, which is at most 2^63.
+    /// Appends the bytes of the root in format 2 with this table, these numbers and the lengths of the files, in the
+    /// order in which the table names them. Each tablet must have at most 64 files, each once, with names from 1 on and
+    /// below the next one, which is at most 2^63.
     ///
     /// # Errors
     ///
-    /// `NoMemory` if a growth was refused. `out` has then what it had.
+    /// `NoMemory` if an allocation failed. `out` is then unchanged.
     pub fn write_root(
         &self,
         top: Stamp,
@@ -126,12 +126,12 @@ impl MetadataTable {
         Ok(())
     }
 
-    /// What the root with these bytes says, or nothing if they are no root's: one with bytes before its
-    /// head or after its foot is none. It takes as much memory as the bytes a few times over.
+    /// The root with these bytes, or `None` if they are not a root; with bytes before the head or after the foot they
+    /// are not. Allocates a few times the size of the bytes.
     ///
     /// # Errors
     ///
-    /// `NoMemory` if a growth was refused.
+    /// `NoMemory` if an allocation failed.
     pub fn read_root(alloc: Global, bytes: &[u8]) -> Result<Option<Root>, Refusal>
         ensures form { IfOk result (λ found.
             IfSome found (λ root. IsRootWith (root_of root) (lengths_of root) bytes.now)) }

@@ -18,7 +18,7 @@ pub(crate) fn by_row(places: &[Place], row: &Row) -> usize
     places.partition_point(|place| place.ends_before(row))
 }
 
-/// The first position of a place of this number.
+/// The first position of a place with this number.
 fn first_of(places: &[Place], tablet: u32) -> Option<usize>
     ensures { result ≡ position (λ place. place.tablet == tablet) places.now }
 {

@@ -1,4 +1,4 @@
-//! The table of all tablets' places.
+//! The metadata table: the places of all tablets.
 
 ghost use Rattle.std.specs.Prelude.{◌≡◌, ◌+◌, ◌<◌, ◌≤◌, ◌↔◌, ◌∷◌, [], IsTrue, OnOk, IfOk, OnErr, IfErr, IsErrOf, MatchResult, ◌⊎◌, length};
 ghost use Rattle.std.specs.List.{Contains};
@@ -12,8 +12,8 @@ use cell_key::{Refusal, Row};
 use std::alloc::{AllocError, Global};
 use std::marker::Model;
 
-/// The places of all tablets, in the order of their ends (Bigtable, tablet location). A tablet holds the rows
-/// after the end of the one before, up to and with its own end.
+/// The places of all tablets, in the order of their ends (Bigtable, tablet location). A tablet holds the rows after the
+/// end of the one before it, up to and including its own end.
 #[derive(Debug, Drop)]
 pub struct MetadataTable {
     places: Vec<Place>,
@@ -35,14 +35,14 @@ impl MetadataTable {
     /// The most tablets.
     pub const MOST_TABLETS: usize = 1024;
 
-    /// How many servers there are. They are numbered from 0 on.
+    /// The number of servers. They are numbered from 0.
     pub const SERVERS: u8 = 16;
 
     /// The table of a new store: tablet 1 on server 0, with all rows and no files.
     ///
     /// # Errors
     ///
-    /// `NoMemory` if a growth was refused.
+    /// `NoMemory` if an allocation failed.
     pub fn new(alloc: Global) -> Result<MetadataTable, Refusal>
         ensures ok { IfOk result (λ table. table ≡ first_place ∷ []) }
         ensures refusal { IfErr result (λ refusal. refusal ≡ Refusal.NoMemory) }
@@ -65,7 +65,7 @@ impl MetadataTable {
         MetadataTable { places }
     }
 
-    /// How many tablets there are: 1 to 1,024. Takes no memory.
+    /// How many tablets there are: 1 to 1,024. Allocates nothing.
     pub fn len(&self) -> usize
         ensures len { result ≡ length self.now }
         ensures table { IsTable self.now }
@@ -73,7 +73,7 @@ impl MetadataTable {
         self.places.len()
     }
 
-    /// The places of all tablets, in the order of their ends. Takes no memory.
+    /// The places of all tablets, in the order of their ends. Allocates nothing.
     pub fn places(&self) -> &[Place]
         ensures places { views result.now ≡ self.now }
         ensures table { IsTable self.now }
@@ -81,7 +81,7 @@ impl MetadataTable {
         self.places.as_slice()
     }
 
-    /// The place of the tablet that holds a row: the first one whose end isn't below the row. Takes no memory.
+    /// The place of the tablet that holds a row: the first one whose end is not below the row. Allocates nothing.
     pub fn locate(&self, row: &Row) -> &Place
         ensures holder { IsHolder row.now self.now (view_of result.now) }
         ensures table { IsTable self.now }
@@ -90,7 +90,7 @@ impl MetadataTable {
         &self.places[position]
     }
 
-    /// The place of a tablet. Takes no memory.
+    /// The place of a tablet. Allocates nothing.
     ///
     /// # Errors
     ///
@@ -106,7 +106,7 @@ impl MetadataTable {
         Ok(&self.places[position])
     }
 
-    /// Where the place of a tablet stands in the order of the ends, from 0 on. Takes no memory.
+    /// The index of a tablet's place in the order of the ends, from 0. Allocates nothing.
     pub fn position(&self, tablet: u32) -> usize
         requires { HasTablet tablet self.now }
         ensures bound { result < length self.now }
@@ -115,7 +115,7 @@ impl MetadataTable {
         search::by_tablet(&self.places, tablet).unwrap()
     }
 
-    /// Whether the tablet that holds a row can be cut there. Takes no memory.
+    /// Whether the tablet that holds a row can be cut there. Allocates nothing.
     ///
     /// # Errors
     ///
@@ -130,14 +130,14 @@ impl MetadataTable {
         Ok(())
     }
 
-    /// Cuts the tablet that holds a row in two there, and answers the number of the left part. The left part
-    /// ends with the row, takes the next number and stands before the right part, which keeps the number and
-    /// the end. Both have the server and the files of the tablet that was cut (Bigtable, tablet splits).
+    /// Cuts the tablet that holds a row in two there, and answers the number of the left part. The left part ends with
+    /// the row, takes the next number and comes before the right part, which keeps the number and the end. Both have
+    /// the server and the files of the tablet that was cut (Bigtable, tablet splits).
     ///
     /// # Errors
     ///
-    /// `BadSplit` if the row is already the end of its tablet, or there are 1,024 tablets, and then
-    /// `NoMemory` if a growth was refused. The table is then as before.
+    /// `BadSplit` if the row is already the end of its tablet, or there are 1,024 tablets; then `NoMemory` if an
+    /// allocation failed. The table is then unchanged.
     pub fn split_at(&mut self, row: &Row) -> Result<u32, Refusal>
         ensures number { IfOk result (λ left. left ≡ length self.old + 1) }
         ensures cut { IfOk result (λ left. Cuts row.now left self.old self.new) }
@@ -151,11 +151,11 @@ impl MetadataTable {
         Ok(self.cut_at(row)?)
     }
 
-    /// The same of a tablet that can be cut there, as `check_split` says.
+    /// Cuts as `split_at`, without its check: `check_split` must have accepted the row.
     ///
     /// # Errors
     ///
-    /// A growth was refused. The table is then as before.
+    /// An allocation failed. The table is then unchanged.
     pub fn cut_at(&mut self, row: &Row) -> Result<u32, AllocError>
         requires free { ¬ BarsSplit row.now self.old }
         ensures number { IfOk result (λ left. left ≡ length self.old + 1) }
@@ -169,12 +169,12 @@ impl MetadataTable {
         Ok(left)
     }
 
-    /// Puts a tablet on a server. All else stays. Takes no memory.
+    /// Records a tablet's server. All else is unchanged. Allocates nothing.
     ///
     /// # Errors
     ///
-    /// `UnknownTablet` if no tablet has the number, and then `UnknownServer` if the server's number is
-    /// above 15. The table is then as before.
+    /// `UnknownTablet` if no tablet has the number; then `UnknownServer` if the server's number is above 15. The table
+    /// is then unchanged.
     pub fn assign(&mut self, tablet: u32, server: u8) -> Result<(), Refusal>
         ensures ok { OnOk result (self.new ≡ moved tablet server self.old) }
         ensures known { OnOk result (HasTablet tablet self.old × (server < most_servers)) }
@@ -193,11 +193,11 @@ impl MetadataTable {
         Ok(())
     }
 
-    /// Gives a tablet these files, the newest first. All else stays. Takes no memory.
+    /// Records a tablet's files, the newest first. All else is unchanged. Allocates nothing.
     ///
     /// # Errors
     ///
-    /// `UnknownTablet` if no tablet has the number. The table is then as before.
+    /// `UnknownTablet` if no tablet has the number. The table is then unchanged.
     pub fn set_files(&mut self, tablet: u32, names: Vec<u64>) -> Result<(), Refusal>
         ensures ok { OnOk result (self.new ≡ with_files tablet names.items self.old) }
         ensures known { OnOk result (HasTablet tablet self.old) }
@@ -210,7 +210,7 @@ impl MetadataTable {
         Ok(())
     }
 
-    /// Whether some tablet has a file of this name. Takes no memory.
+    /// Whether some tablet has a file of this name. Allocates nothing.
     pub fn listed(&self, name: u64) -> bool
         ensures { IsTrue result ↔ IsListed name self.now }
     {

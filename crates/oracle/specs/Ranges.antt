@@ -1,4 +1,4 @@
--- What an oracle holds, and the ranges from which it serves.
+-- The state of an oracle, and the ranges from which it serves.
 use Rattle.std.specs.Prelude.{◌≡◌, ℕ, ◌+◌, ◌-◌, ◌^◌, min, ⊤}
 use Rattle.cell_key.specs.declared.refusals.Refusal.{Refusal}
 use Rattle.cell_key.specs.declared.refusals.Refusal.TheVariants.{Exhausted, Device}
@@ -13,7 +13,7 @@ pub record OracleState (M : Type 0) : Type 0 where
 abbrev pub next_range_end : ℕ → ℕ
 next_range_end range_end = min (range_end + 1000) (2 ^ 63 - 1)
 
--- the last stamp and the range stay, whatever the mark store does
+-- the last stamp and the range are unchanged, whatever the mark store does
 pub record SameNumbers {M : Type 0} (old new : OracleState M) : Type 0 where
   pub last : new.last ≡ old.last
   pub range_end : new.range_end ≡ old.range_end

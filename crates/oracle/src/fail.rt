@@ -1,4 +1,4 @@
-//! A mark store of which one call fails, for tests.
+//! Fault injection for tests: a mark store with one failing call.
 
 ghost use Rattle.std.specs.Prelude.{◌≡◌, ◌≤◌, ◌<◌, ◌^◌, IfOk, IfSome, OnErr, OnOk, false};
 ghost use Rattle.cell_key.specs.Faults.{HasRisen};
@@ -8,18 +8,18 @@ ghost use Rattle.oracle.specs.Marks.{MayHold, mark_after};
 use crate::marks::{MarkFault, MarkStore};
 use cell_key::Stamp;
 
-/// What a call has done when it fails.
+/// The work that a failing call has done.
 #[derive(Clone, Copy, Debug, PartialEq, Eq)]
 pub enum Fail {
     /// Nothing.
     Before,
-    /// Nothing: a mark has no halves.
+    /// Nothing, like `Before`: a mark is not written in halves.
     Half,
-    /// All that it was to do.
+    /// All of it.
     After,
 }
 
-/// How many calls there were, which of them fails, and how many have failed.
+/// The number of calls so far, the call that fails and how, and the number of failed calls.
 #[derive(Clone, Copy, Debug)]
 struct Counter {
     at: u64,
@@ -29,7 +29,7 @@ struct Counter {
 }
 
 impl Counter {
-    /// Counts a call, and answers how it fails, if it is the one that does.
+    /// Counts a call; answers how it fails if it is the failing one.
     fn count(&mut self) -> Option<Fail>
         ensures fail { result ≡ next_fail self.old }
         ensures counted { self.new ≡ counted self.old }
@@ -44,8 +44,8 @@ impl Counter {
     }
 }
 
-/// A mark store of which one call answers a device's fault, whatever the store inside answers to it. All other calls are that
-/// store's.
+/// A mark store with one call that answers a device's fault, whatever the inner store answers to it. All other calls
+/// are passed to the inner store.
 #[derive(Drop)]
 pub struct FailMarkAt<M> {
     inner: M,
@@ -54,7 +54,7 @@ pub struct FailMarkAt<M> {
 }
 
 impl<M: MarkStore> FailMarkAt<M> {
-    /// A mark store of which the call with this number fails, counted from 1. At 0 none does.
+    /// A mark store whose call with this number fails, counted from 1. With 0 none does.
     pub fn new(inner: M, at: u64, how: Fail) -> FailMarkAt<M>
         ensures inner { result.inner ≡ inner }
         ensures counter { result.counter ≡ record { at = at; how = how; calls = 0; faults = 0 } }
@@ -73,21 +73,21 @@ impl<M: MarkStore> FailMarkAt<M> {
         }
     }
 
-    /// How many calls of `load` and `store` there were, up to the greatest number.
+    /// How many calls of `load` and `store` there were. The count saturates at 2^64 - 1.
     pub fn calls(&self) -> u64
         ensures { result ≡ self.now.counter.calls }
     {
         self.counter.calls
     }
 
-    /// Whether the store inside failed too at the call that failed.
+    /// Whether the inner store failed too in the failing call.
     pub fn inner_failed(&self) -> bool
         ensures { result ≡ self.now.inner_failed }
     {
         self.inner_failed
     }
 
-    /// The mark store inside.
+    /// The inner mark store.
     pub fn into_inner(self) -> M
         ensures { result ≡ self.inner }
     {

@@ -1,6 +1,7 @@
-//! A mark in a folder.
+//! The oracle's mark in a folder.
 
-ghost use Rattle.std.specs.Prelude.{◌≡◌, ◌≢◌, ◌≤◌, ◌<◌, ◌^◌, ℕ, length, take, Err, IfErr, IfNone, IfOk, IfSome, IsErr, None, Ok, OnErr, OnOk};
+ghost use Rattle.std.specs.Prelude.{◌≡◌, ◌≢◌, ◌≤◌, ◌<◌, ◌^◌, ◌↔◌, ℕ, length, take, Err, IfErr, IfNone, IfOk, IfSome, IsErr, IsOk, None, Ok, OnErr, OnOk};
+ghost use Rattle.std.specs.Fs.{IsFile, file_type};
 ghost use Rattle.std.specs.Io.KnownBytes.{Appends, Consumes, IsAtEnd};
 ghost use Rattle.std.specs.IoError.{error_kind};
 ghost use Rattle.cell_key.specs.Faults.{HasRisen};
@@ -8,19 +9,25 @@ ghost use Rattle.oracle.specs.Marks.{IsMark, mark_bytes};
 
 use crate::marks::{MarkFault, MarkStore};
 use cell_key::{MOST_STAMP, Stamp};
-use std::fs::{File, OpenFile};
+use std::fs::{File, Metadata, OpenFile, OpenOptions};
 use std::io::{ErrorKind, Read, Write};
+use std::os::unix::fs::OpenOptionsExt;
 use std::rt::Files as Folders;
 use std::{fs, io};
 
-/// How many bytes the mark has in its file.
+/// The length of the mark's file in bytes.
 const MARK_BYTES: usize = 8;
 
-/// A mark in the file `oracle.mark` of a folder, as 8 bytes, the highest first. Nothing is known of the bytes.
+/// Who may read and write the file of a mark: its owner alone.
+const OWNER_ALONE: u32 = 0o600;
+
+/// A mark in the file `oracle.mark` of a folder, as 8 bytes, big-endian. Contracts know nothing of the file's bytes.
 ///
-/// A new mark is written beside the file, as `oracle.new`, forced to the disk, and then put in its place, and the folder is
-/// forced to the disk too: if the machine stops between, the old mark stands or the new one. If the write fails, what stands
-/// beside the file is removed.
+/// A new mark is written to a second file, `oracle.new`, and synced; that file is renamed over the old one, and the
+/// folder is synced. If the machine stops in between, the file has the old mark or the new one. If the write or the
+/// rename fails, `oracle.new` is removed.
+///
+/// Only the owner may read and write the file. What has its name and is no regular file isn't opened.
 #[derive(Drop)]
 pub struct DirMark<R> {
     rt: R,
@@ -30,7 +37,7 @@ pub struct DirMark<R> {
     faults: u64,
 }
 
-/// The number of a mark's bytes, if there are eight and the number is not past the greatest stamp.
+/// The number of a mark's bytes, if there are eight and the number is at most the greatest stamp.
 fn number_of(bytes: &[u8]) -> Option<Stamp>
     ensures some { IfSome result (IsMark bytes.now) }
     ensures none { IfNone result ((number : ℕ) → ¬ IsMark bytes.now number) }
@@ -43,7 +50,39 @@ fn number_of(bytes: &[u8]) -> Option<Stamp>
     Some(number)
 }
 
-/// Fills a buffer from a file, and answers how many bytes it got: fewer only at the file's end.
+/// The metadata of a path if it is a regular file. A failure is passed on.
+fn regular(found: io::Result<Metadata>) -> io::Result<Metadata>
+    ensures regular { IfOk found (λ metadata. IsOk result ↔ IsFile (file_type metadata)) }
+    ensures same { IfOk result (λ metadata. found ≡ Ok metadata) }
+    ensures failed { IfErr found (λ error. result ≡ Err error) }
+{
+    let metadata = found?;
+    if !metadata.is_file() {
+        return Err(io::Error::from(ErrorKind::InvalidInput));
+    }
+    Ok(metadata)
+}
+
+/// Opens a regular file for reading. Fails for anything else, also for a symbolic link.
+fn open_regular<R: Folders>(rt: &R, path: &str) -> io::Result<R::File> {
+    regular(fs::symlink_metadata(rt, path))?;
+    File::open(rt, path)
+}
+
+/// Makes a temporary file. If something has its name, that is removed first.
+fn create_beside<R: Folders>(rt: &R, beside: &str) -> io::Result<R::File> {
+    let mut how = OpenOptions::new();
+    how.write(true).create_new(true).mode(OWNER_ALONE);
+    match how.open(rt, beside) {
+        Err(error) if error.kind() == ErrorKind::AlreadyExists => {
+            fs::remove_file(rt, beside)?;
+            how.open(rt, beside)
+        }
+        opened => opened,
+    }
+}
+
+/// Fills a buffer from a file, and answers how many bytes were read: fewer than the buffer's only at the file's end.
 fn fill<F: Read>(file: &mut F, bytes: &mut [u8]) -> io::Result<usize>
     ensures within { IfOk result (λ n. n ≤ length bytes.old) }
     ensures end { IfOk result (λ n. n < length bytes.old → IsAtEnd (F.remaining file.new)) }
@@ -61,7 +100,7 @@ fn fill<F: Read>(file: &mut F, bytes: &mut [u8]) -> io::Result<usize>
     Ok(at)
 }
 
-/// Reads a mark from here to the end of a file.
+/// Reads a mark; the rest of the file must be the mark.
 fn read_number<F: Read>(file: &mut F) -> io::Result<Stamp>
     ensures within { IfOk result (λ number. number < 2 ^ 63) }
     ensures whole { IfOk result (λ number.
@@ -72,7 +111,7 @@ fn read_number<F: Read>(file: &mut F) -> io::Result<Stamp>
     number_of(&bytes[..count]).ok_or(io::Error::from(ErrorKind::InvalidData))
 }
 
-/// Reads the mark of a file that was opened: 0 if there is no such file. Any other failure is passed on.
+/// Reads the mark from a file just opened: 0 if the file doesn't exist. Other errors are passed on.
 fn read_mark<F: Read + Drop>(opened: io::Result<F>) -> io::Result<Stamp>
     ensures within { IfOk result (λ number. number < 2 ^ 63) }
     ensures missing { IfErr opened (λ error.
@@ -90,7 +129,7 @@ fn read_mark<F: Read + Drop>(opened: io::Result<F>) -> io::Result<Stamp>
     read_number(&mut file)
 }
 
-/// Writes bytes behind those of a file, and forces it to the disk.
+/// Appends bytes to a file and syncs it.
 fn write_synced<W: Write + OpenFile>(file: &mut W, bytes: &[u8]) -> io::Result<()>
     ensures { OnOk result (Appends (W.contents file.old) (W.contents file.new) bytes.now) }
 {
@@ -98,7 +137,7 @@ fn write_synced<W: Write + OpenFile>(file: &mut W, bytes: &[u8]) -> io::Result<(
     file.sync_all()
 }
 
-/// Writes the bytes of a mark behind those of a file, and forces it to the disk.
+/// Appends a mark's bytes to a file and syncs it.
 fn write_number<W: Write + OpenFile>(file: &mut W, number: Stamp) -> io::Result<()>
     ensures { OnOk result
         (Appends (W.contents file.old) (W.contents file.new) (mark_bytes number)) }
@@ -106,7 +145,7 @@ fn write_number<W: Write + OpenFile>(file: &mut W, number: Stamp) -> io::Result<
     write_synced(file, &number.to_be_bytes())
 }
 
-/// Puts what was written beside the file in its place. A failure to write it is passed on.
+/// Renames the second file over the mark's file. An error of the write before is passed on instead.
 fn put_there<R: Folders>(
     rt: &R,
     path: &str,
@@ -119,14 +158,14 @@ fn put_there<R: Folders>(
     fs::rename(rt, beside, path)
 }
 
-/// Writes a mark beside the file, and puts it in the file's place.
+/// Writes a mark to the second file, and renames that over the mark's file.
 fn place_mark<R: Folders>(rt: &R, path: &str, beside: &str, number: Stamp) -> io::Result<()> {
-    let mut file = File::create(rt, beside)?;
+    let mut file = create_beside(rt, beside)?;
     let written = write_number(&mut file, number);
     put_there(rt, path, beside, written)
 }
 
-/// Forces a folder that was opened to the disk. A failure to open it is passed on.
+/// Syncs a folder just opened. An error of the opening is passed on.
 fn sync_opened<F: OpenFile + Drop>(opened: io::Result<F>) -> io::Result<()>
     ensures failed { IfErr opened (λ error. result ≡ Err error) }
 {
@@ -134,8 +173,8 @@ fn sync_opened<F: OpenFile + Drop>(opened: io::Result<F>) -> io::Result<()>
     folder.sync_all()
 }
 
-/// Forces the folder to the disk once a mark was put in the place of the file. If that failed, what was written beside
-/// it is removed, and the failure is passed on.
+/// Syncs the folder after the rename. If the write or the rename failed, the second file is removed, and the error is
+/// passed on.
 fn finish<R: Folders>(rt: &R, folder: &str, beside: &str, placed: io::Result<()>) -> io::Result<()>
     ensures failed { IfErr placed (λ error. result ≡ Err error) }
 {
@@ -146,7 +185,7 @@ fn finish<R: Folders>(rt: &R, folder: &str, beside: &str, placed: io::Result<()>
     sync_opened(File::open(rt, folder))
 }
 
-/// Puts a mark in the place of the file. If that fails, what was written beside it is removed.
+/// Replaces the mark's file by a new mark. If the write or the rename fails, the second file is removed.
 fn write_mark<R: Folders>(
     rt: &R,
     folder: &str,
@@ -163,14 +202,14 @@ impl<R: Folders + AllocGlobal + Drop> DirMark<R> {
     ///
     /// # Errors
     ///
-    /// A device's fault if there is no such folder, or memory was refused.
+    /// A device's fault if there is no such folder, or an allocation failed.
     pub fn open(rt: R, folder: &str) -> Result<DirMark<R>, MarkFault>
         ensures { IfOk result (λ mark. mark.faults ≡ 0) }
     {
         open_folder(rt, folder).map_err(|_| MarkFault)
     }
 
-    /// What a call answered, or its fault, which is counted.
+    /// Passes on a call's result; an error becomes a fault and is counted.
     fn count_fault<T: Drop>(&mut self, called: io::Result<T>) -> Result<T, MarkFault>
         ensures later { self.old.faults ≤ self.new.faults }
         ensures device { OnErr result (HasRisen self.old.faults self.new.faults) }
@@ -188,7 +227,7 @@ impl<R: Folders + AllocGlobal + Drop> DirMark<R> {
     }
 }
 
-/// The mark of a folder, if the folder is there.
+/// The mark of a folder, if the folder exists.
 fn open_folder<R: Folders + AllocGlobal + Drop>(rt: R, folder: &str) -> io::Result<DirMark<R>>
     ensures { IfOk result (λ mark. mark.faults ≡ 0) }
 {
@@ -214,7 +253,7 @@ impl<R: Folders + AllocGlobal + Drop> MarkStore for DirMark<R> {
     ghost faults = { λ mark. mark.faults };
 
     fn load(&mut self) -> Result<Stamp, MarkFault> {
-        let called = read_mark(File::open(&self.rt, self.path.as_str()));
+        let called = read_mark(open_regular(&self.rt, self.path.as_str()));
         self.count_fault(called)
     }
 

@@ -1,4 +1,4 @@
-//! Stamps that rise strictly, from ranges whose highest number is stored first.
+//! Strictly ascending stamps, from ranges whose last number is stored first.
 #![tactic(auto)]
 
 mod fail;

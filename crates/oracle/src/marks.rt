@@ -1,4 +1,4 @@
-//! Stores of the oracle's mark: what they promise.
+//! Stores of the oracle's mark: their contract.
 
 ghost use Rattle.std.specs.Prelude.{◌≡◌, ◌≤◌, ◌<◌, ◌^◌, ℕ, Option, Some, codes, OnOk, OnErr, IfOk, IfSome};
 ghost use Rattle.cell_key.specs.Faults.{HasRisen};
@@ -33,15 +33,15 @@ impl From<MarkFault> for Refusal {
     }
 }
 
-/// A place that keeps one number, the mark, while an oracle is closed.
+/// A store that keeps one number, the mark, while an oracle is closed.
 pub trait MarkStore {
-    /// The number that is stored, if the store says it.
+    /// The stored number, if the store reveals it to contracts.
     ghost mark: { Self → Option ℕ };
 
-    /// How often a device has failed, up to the greatest number.
+    /// How often a device has failed. The count saturates at 2^64 - 1.
     ghost faults: { Self → ℕ };
 
-    /// The number that is stored, and 0 if none was. It is never past the greatest stamp.
+    /// The stored number, or 0 if none was stored. It is never above the greatest stamp.
     fn load(&mut self) -> Result<Stamp, MarkFault>
         ensures limit { IfOk result (λ number. number < 2 ^ 63) }
         ensures stored { IfOk result (λ number.
@@ -51,7 +51,7 @@ pub trait MarkStore {
         ensures device { OnErr result (HasRisen (faults self.old) (faults self.new)) }
         ensures told { OnOk result (faults self.new ≡ faults self.old) };
 
-    /// Stores a number. After an `Err` the mark is the old or the new number.
+    /// Stores a number. After an `Err` the mark is either the old or the new number.
     fn store(&mut self, number: Stamp) -> Result<(), MarkFault>
         requires { number < 2 ^ 63 }
         ensures ok { OnOk result (mark self.new ≡ mark_after number (mark self.old)) }
@@ -60,7 +60,7 @@ pub trait MarkStore {
         ensures device { OnErr result (HasRisen (faults self.old) (faults self.new)) }
         ensures told { OnOk result (faults self.new ≡ faults self.old) };
 
-    /// How often a device has failed, up to the greatest number.
+    /// How often a device has failed. The count saturates at 2^64 - 1.
     fn faults(&self) -> u64
         ensures { result ≡ faults self.now };
 }

@@ -6,7 +6,7 @@ use crate::marks::{MarkFault, MarkStore};
 use cell_key::Stamp;
 use std::marker::Model;
 
-/// A mark in memory, which is known and never fails.
+/// A mark in memory, which contracts know, and which never fails.
 #[derive(Debug, Drop)]
 pub struct MemMark {
     number: Stamp,
@@ -23,7 +23,7 @@ impl Model for MemMark {
 }
 
 impl MemMark {
-    /// A store in which nothing was stored.
+    /// A store with no number stored yet.
     pub fn new() -> MemMark
         ensures { result ≡ 0 }
     {

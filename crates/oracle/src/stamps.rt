@@ -12,9 +12,9 @@ use std::marker::Model;
 /// How many stamps a range has.
 const RANGE: Stamp = 1000;
 
-/// A source of stamps that rise by one (Percolator, the timestamp oracle). A range of them is
-/// served once its highest number was stored as the mark, so that a stamp is not served again after
-/// a restart, if the mark store gives back what was stored.
+/// A source of stamps that ascend by one (Percolator, the timestamp oracle). A range of them is served only after its
+/// last number was stored as the mark, so that no stamp is served again after a restart, as long as the mark store
+/// returns the number stored.
 #[derive(Drop)]
 pub struct Oracle<M: MarkStore> {
     marks: M,
@@ -37,7 +37,7 @@ impl<M: MarkStore> Model for Oracle<M> {
         × IsWithinMark oracle.range_end (M.mark oracle.marks) };
 }
 
-/// The end of the range that follows one with this end.
+/// The end of the next range after one with this end.
 fn range_end_after(range_end: Stamp) -> Stamp
     requires { range_end < 2 ^ 63 }
     ensures { result ≡ next_range_end range_end }
@@ -50,7 +50,7 @@ fn range_end_after(range_end: Stamp) -> Stamp
 }
 
 impl<M: MarkStore> Oracle<M> {
-    /// An oracle whose last stamp is the mark. A refusal (Device) gives the mark store back.
+    /// An oracle whose last stamp is the mark. With the refusal, `Device`, the mark store is handed back.
     pub fn open(mut marks: M) -> Result<Oracle<M>, (Refusal, M)>
         ensures mark { IfOk result (λ oracle. IfSome (M.mark marks) (λ mark. oracle.last ≡ mark)) }
         ensures range { IfOk result (λ oracle. oracle.range_end ≡ oracle.last) }
@@ -72,8 +72,8 @@ impl<M: MarkStore> Oracle<M> {
         }
     }
 
-    /// The next stamp. It is refused with Exhausted once the greatest stamp was served, and with
-    /// Device if the next range was needed and its end could not be stored.
+    /// The next stamp. Refused with `Exhausted` once the greatest stamp was served, and with `Device` if the next range
+    /// was needed and its end could not be stored.
     pub fn draw(&mut self) -> Result<Stamp, Refusal>
         ensures next { IfOk result (λ stamp. stamp ≡ self.old.last + 1) }
         ensures last { IfOk result (λ stamp. self.new.last ≡ stamp) }
@@ -84,7 +84,7 @@ impl<M: MarkStore> Oracle<M> {
         ensures unstored { self.old.last < self.old.range_end
             → (self.new.marks ≡ self.old.marks) × (self.new.range_end ≡ self.old.range_end) }
 
-        // At its end the next range is taken, and its end is the mark before its first stamp is served.
+        // At its end the next range begins; its end is stored as the mark before its first stamp is served.
         ensures stored { self.old.range_end ≤ self.old.last → OnOk result
             ((self.new.range_end ≡ next_range_end self.old.range_end) × (M.mark self.new.marks
             ≡ mark_after self.new.range_end (M.mark self.old.marks))) }
@@ -115,7 +115,7 @@ impl<M: MarkStore> Oracle<M> {
         Ok(self.last)
     }
 
-    /// Drops the range and goes on from the mark. A refusal is Device.
+    /// Drops the rest of the range and continues from the mark. The only refusal is `Device`.
     pub fn restart(&mut self) -> Result<(), Refusal>
         ensures mark { OnOk result (IfSome (M.mark self.old.marks) (λ mark. self.new.last ≡ mark)) }
         ensures range { OnOk result (self.new.range_end ≡ self.new.last) }
@@ -145,7 +145,7 @@ impl<M: MarkStore> Oracle<M> {
         self.last
     }
 
-    /// How often a device of the mark store has failed, up to the greatest number.
+    /// How often a device of the mark store has failed. The count saturates at 2^64 - 1.
     pub fn faults(&self) -> u64
         ensures { result ≡ M.faults self.now.marks }
     {

@@ -1,4 +1,4 @@
--- A stream is cut in one way, and each has a cut.
+-- A stream can be cut in only one way, and each stream has a cut.
 use Rattle.std.proofs.Common.{◌≡◌, ℕ, zero, suc, ◌+◌, ◌<◌, ◌≤◌, get_or, inl, inr, append-nil, length-take-le, List, [], ◌∷◌, ◌++◌, length, take, drop, refl, sym, ap, ◌∙◌, subst, arith, take_at, drop_at, length-append, append_assoc}
 use Rattle.std.proofs.lemmas.List.{take-append-drop, length-drop, length-take, get_or-drop, get_or-take, get_or_past}
 use Rattle.std.proofs.lemmas.Bool.{cases_lt}
@@ -70,7 +70,7 @@ bytes-take n bytes h i =
 bytes-drop : (n : ℕ) (bytes : List ℕ) → IsBytes bytes → IsBytes (drop n bytes)
 bytes-drop n bytes h i = rw get_or-drop (h (n + i))
 
--- the first four bytes spell what they announce
+-- the first four bytes encode the announced length
 spells : (stream : List ℕ) → IsBytes stream → 4 ≤ length stream → to_be_bytes w32 (announced stream) ≡ take 4 stream
 unfolding announced
 spells stream bytes long = be_bytes_4 (take 4 stream) (announced stream) (length-take-le 4 stream long) (bytes-take 4 stream bytes) refl
@@ -126,7 +126,7 @@ has_cut_always stream bytes = cut_of (length stream) stream (omega arith) bytes
 pub frame_begins : (a b more : List ℕ) → IsBody a → IsBody b → frame b ≡ frame a ++ more → a ≡ b
 frame_begins a b more p q e = sym (same_frame b a [] more q p (append-nil (frame b) ∙ e)).0
 
--- ---- the cut goes on after frames that were handed out
+-- ---- the cut continues after frames that were handed out
 
 pub cut_from : (handed : List (List ℕ)) (stream pending : List ℕ) (bodies : List (List ℕ)) (rest : List ℕ) → stream ≡ frames handed ++ pending → AllByRecursion IsBody handed → CutsInto stream bodies rest
     → (more : List (List ℕ)) × (bodies ≡ handed ++ more) × CutsInto pending more rest

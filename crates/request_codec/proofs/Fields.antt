@@ -1,4 +1,4 @@
--- How long fields are, what they tell of what they were made of, and what comes after them.
+-- The lengths of fields, their contents, and the bytes after them.
 use Rattle.std.proofs.Common.{◌≡◌, ℕ, ◌+◌, ◌^◌, ◌-◌, ◌<◌, ◌≤◌, List, [], ◌∷◌, ◌++◌, length, get_or, take, drop, refl, sym, ap, ◌∙◌, append_assoc, append-nil, length-append, false, ◌==◌, subst, take_at, drop_at, Option, None, Some, IfSome, IfNone, Result, Ok, Err, OnErr, ◌≢◌, arith}
 use Rattle.std.proofs.lemmas.Nat.{be_bytes_2, be_bytes_4, be_bytes_8}
 use Rattle.std.specs.Borrow.{Bor}
@@ -29,7 +29,7 @@ past_number k m n x y e = sym (drop_at (number k m) x k (length-number k m)) ∙
 pub no_number : (k n : ℕ) (bytes after : List ℕ) → length bytes < k → bytes ≡ number k n ++ after → ⊥
 no_number k n bytes after few e = omega (arith, length-append (number k n) after, length-number k n, ap length e)
 
--- a number that was read is spelled as it stood
+-- a decoded number is encoded to the same bytes
 pub spells_2 : (front : List ℕ) (n : ℕ) → length front ≡ 2 → ((i : ℕ) → get_or front i 0 < 256) → n ≡ big_number 2 front → front ≡ number 2 n
 unfolding number
 spells_2 front n len bytes e = sym (be_bytes_2 front n len bytes (omega arith))
@@ -42,7 +42,7 @@ pub spells_8 : (front : List ℕ) (n : ℕ) → length front ≡ 8 → ((i : ℕ
 unfolding number
 spells_8 front n len bytes e = sym (be_bytes_8 front n len bytes (omega arith))
 
--- lists of one length before the same
+-- lists of the same length, followed by the same
 same_front : (a b x y : List ℕ) → length a ≡ length b → a ++ x ≡ b ++ y → (a ≡ b) × (x ≡ y)
 same_front a b x y size same = (
   sym (take_at a x (length a) refl) ∙ ap (take (length a)) same ∙ take_at b y (length a) (sym size),
@@ -59,7 +59,7 @@ pub field-append : (bytes rest : List ℕ) → field bytes ++ rest ≡ number 4 
 unfolding field
 field-append bytes rest = append_assoc (number 4 (length bytes)) bytes rest
 
--- the bytes of two fields, and what comes after them
+-- the contents of two fields, and the bytes after them
 pub same_field : (a b x y : List ℕ) → FitsField a → FitsField b → field a ++ x ≡ field b ++ y → (a ≡ b) × (x ≡ y)
 same_field a b x y p q e =
     let whole = sym (field-append a x) ∙ e ∙ field-append b y in
@@ -99,14 +99,14 @@ numbered-back Data = refl
 numbered-back Lock = refl
 numbered-back Write = refl
 
--- a qualifier, and what comes after it
+-- a qualifier, and the bytes after it
 pub same_qualifier : (a b : Qualifier) (x y : List ℕ) → number 1 (qualifier_number a) ++ x ≡ number 1 (qualifier_number b) ++ y → (a ≡ b) × (x ≡ y)
 same_qualifier a b x y e = (
   sym (numbered-back a) ∙ ap numbered (same_number 1 (qualifier_number a) (qualifier_number b) x y (qualifier-fits a) (qualifier-fits b) e) ∙ numbered-back b,
   past_number 1 (qualifier_number a) (qualifier_number b) x y e,
 )
 
--- a number that is none of a qualifier's
+-- a number that is no qualifier's
 pub no_qualifier : (o : Option Qualifier) (old : List ℕ) (byte : ℕ) (mid : List ℕ) → byte < 256 → old ≡ number 1 byte ++ mid → IfNone o ((q : Qualifier) → qualifier_number q ≢ byte)
     → IfNone o ((q : Qualifier) (after : List ℕ) → old ≢ number 1 (qualifier_number q) ++ after)
 no_qualifier (Some q) old byte mid fits e none = tt

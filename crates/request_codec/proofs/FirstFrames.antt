@@ -1,4 +1,4 @@
--- What stands first among bytes, by the length that their first four give.
+-- The first frame of bytes, by the length in their first four bytes.
 use Rattle.std.proofs.Common.{◌≡◌, ℕ, ◌+◌, ◌<◌, ◌≤◌, ◌⊎◌, List, ◌++◌, length, take, drop, inl, inr, arith, sym, ap, ◌∙◌, append_assoc, length-take-le}
 use Rattle.std.proofs.lemmas.List.{take-append-drop, length-drop, drop-drop}
 use Rattle.std.specs.Int.{from_be_bytes, to_be_bytes, w32}
@@ -20,7 +20,7 @@ IsPartial-from_header bytes header n first value fits short = record {
   short = λ _. omega (arith, announced-header bytes header n first value);
 }
 
--- the bytes are the frame of the body that was moved to the front of a buffer, and those that are left
+-- the bytes are the frame of the body that was moved to the front of a buffer, and the bytes left
 pub frame-from_header : (bytes header buffer left : List ℕ) (n : ℕ) → take 4 bytes ≡ header → to_be_bytes w32 n ≡ header → 4 + n ≤ length bytes
     → take n buffer ≡ take n (drop 4 bytes) → left ≡ drop (4 + n) bytes → bytes ≡ frame (take n buffer) ++ left
 unfolding frame
@@ -36,7 +36,7 @@ frame-from_header bytes header buffer left n first spells whole body rest =
     ∙ take-append-drop 4 bytes
     )
 
--- the same, if the body and those that are left stand one after the other behind the header
+-- the same, if the body and the bytes left follow the header in this order
 pub frame-from_parts : (bytes header after body left : List ℕ) (n : ℕ) → take 4 bytes ≡ header → to_be_bytes w32 n ≡ header → after ≡ drop 4 bytes
     → length body ≡ n → body ++ left ≡ after → bytes ≡ frame body ++ left
 unfolding frame
@@ -48,7 +48,8 @@ frame-from_parts bytes header after body left n first spells behind size parts =
     ∙ take-append-drop 4 bytes
     )
 
--- They begin with no whole frame, if the length that their first four give is past the limit, or more than there are.
+-- They do not begin with a whole frame, if the length in their first four bytes is past the limit, or there are too few
+-- bytes.
 pub BeginsNoFrame-from_header : (bytes header : List ℕ) (n : ℕ) → take 4 bytes ≡ header → n ≡ from_be_bytes w32 header
     → (longest < n) ⊎ (length bytes < 4 + n) → BeginsNoFrame bytes
 BeginsNoFrame-from_header bytes header n first value (inl past) = record {

@@ -1,4 +1,4 @@
--- How long the bodies of replies are.
+-- The lengths of replies' bodies.
 use Rattle.std.proofs.Common.{◌≡◌, ℕ, ◌+◌, ◌≤◌, List, ◌++◌, length, Some, None, arith, length-append}
 use Rattle.std.specs.Int.{to_be_bytes, w32}
 use Rattle.si_model.specs.Messages.{Reply, Answered, Cleaning, Collecting, Blocked, RawFound, Scanned, Begun, Pending, Held, Conflict, Drawn, Committed, Finished, RolledForward, SplitOff, Swept}

@@ -1,4 +1,4 @@
--- The limits of rows and families: within them the fields fit, and what can't be refuted of them holds.
+-- The limits of rows and families: names within them fit their fields, and a limit that can't be refuted holds.
 use Rattle.std.proofs.Common.{ℕ, ◌≤◌, List, [], ◌∷◌, length, inl, inr, arith}
 use Rattle.std.specs.List.{AllByRecursion}
 use Rattle.std.proofs.lemmas.Bool.{cases_lt}

@@ -1,4 +1,4 @@
--- What a body tells of its reply.
+-- A body has one reply.
 use Rattle.std.proofs.Common.{◌≡◌, ℕ, ◌<◌, ◌^◌, ◌-◌, List, [], ◌∷◌, ◌++◌, length, get_or, Some, None, refl, sym, ap, subst, drop, arith, ◌∙◌}
 use Rattle.cell_key.specs.Names.{IsRow, IsFamily}
 use Rattle.cell_key.specs.Refusals.{refusal_number}
@@ -18,7 +18,7 @@ use Rattle.request_codec.proofs.OneRequest.{lone_number, lone_tablet, lone_field
 lone_small : (m n : ℕ) → m < 2 ^ 16 → n < 2 ^ 16 → number 2 m ≡ number 2 n → m ≡ n
 lone_small m n p q e = same_number 2 m n [] [] p q (ap (λ (t : List ℕ). t ++ []) e)
 
--- ---- refusals of one number
+-- ---- refusals with the same number
 
 refusals : List Refusal
 refusals =
@@ -277,7 +277,7 @@ raw_some_only (RawFound (Some found)) f p =
 raw_some_only (RawFound None) f p = let d = ap second p.whole in absurd (omega (arith, d))
 raw_some_only other f p = let e = ap first p.whole in absurd (omega (arith, e))
 
--- what a scan found
+-- the result of a scan
 pub record AsScanned (r : Reply) (f : List ℕ) : Type 0 where
   pub items : List (Cell × Item)
   pub reach : Reach
@@ -290,7 +290,7 @@ pub scanned_only : (r : Reply) (f : List ℕ) → IsReply r (0xB1 ∷ f) → AsS
 scanned_only (Scanned items reach) f p = record { items = items; reach = reach; starts = p.numbers; fits = p.bytes; is = refl; fields = ap (drop 1) p.whole }
 scanned_only other f p = let e = ap first p.whole in absurd (omega (arith, e))
 
--- ---- two replies of one body
+-- ---- two replies with the same body
 
 same_scanned : (items : List (Cell × Item)) (reach : Reach) (b : Reply) → AllByRecursion (λ (item : Cell × Item). StartFits item.1) items → FitsScan items reach
     → AsScanned b (reach_fields reach ++ (number 4 (length items) ++ items_fields items)) → Scanned items reach ≡ b

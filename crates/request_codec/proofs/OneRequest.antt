@@ -1,4 +1,4 @@
--- What a body tells of its request.
+-- A body has one request.
 use Rattle.std.proofs.Common.{◌≡◌, ℕ, ◌<◌, ◌^◌, Bool, List, [], ◌∷◌, ◌++◌, refl, sym, ap, subst, ◌∙◌, drop, arith}
 use Rattle.cell_key.specs.declared.keys.Qualifier.{Qualifier}
 use Rattle.si_model.specs.declared.replies.Cell.{Cell}
@@ -192,7 +192,7 @@ raw_only (Raw cell qualifier low high) f p =
     record { cell = cell; qualifier = qualifier; low = low; high = high; cell_fits = p.bytes; low_fits = p.numbers.0; high_fits = p.numbers.1; is = refl; fields = ap (drop 1) p.whole }
 raw_only other f p = let e = ap first p.whole in absurd (omega (arith, e))
 
--- ---- two requests of one body
+-- ---- two requests with the same body
 
 same_of_cell : (made : ℕ → Cell → Request) (start : ℕ) (cell : Cell) (b : Request) → start < 2 ^ 64 → FitsCell cell → AsOfCell b made (number 8 start ++ cell_fields cell) → made start cell ≡ b
 same_of_cell made start cell b fits cell_fits g =

@@ -1,4 +1,4 @@
--- What the fields of scans tell of what they were made of, and how long they are.
+-- The contents of scans' fields, and their lengths.
 use Rattle.std.proofs.Common.{◌≡◌, ℕ, ◌+◌, ◌≤◌, Bool, true, false, List, [], ◌∷◌, ◌++◌, length, Option, None, Some, IfSome, option_map, drop, refl, sym, ap, subst, ◌∙◌, append_assoc, append-nil, length-append, arith}
 use Rattle.std.specs.List.{AllByRecursion}
 use Rattle.si_model.specs.Messages.{Range, Item, Valued, Locked, Unsent, Reach, ToEnd, UpTo}
@@ -104,7 +104,7 @@ same_items (a ∷ xs) (b ∷ ys) p q size e =
     let t = same_items xs ys p.1 q.1 (omega (arith, size)) s.1 in
     λ i. s.0 i ∷ t i
 
--- an item more at the front
+-- one more item at the front
 pub no_items : (bytes : List ℕ) → AreItems 0 bytes → bytes ≡ []
 no_items bytes are = elim (are.items) as (λ (items : List (Cell × Item)). length items ≡ 0 → bytes ≡ items_fields items → bytes ≡ []) [
   | [] ↦ λ many whole. whole
@@ -149,13 +149,13 @@ one_less m n item bytes after more fits e are =
     let s = same_item item f.item after f.after fits f.fits (sym e ∙ f.whole) in
     subst (AreItems n) (sym s.1) f.rest
 
--- the next of them can't be missing
+-- the next of them isn't missing
 pub none_missing : (m n : ℕ) (bytes : List ℕ) → m ≡ n + 1 → AreItems m bytes → ((item : Cell × Item) (after : List ℕ) → ItemFits item → bytes ≡ item_fields item ++ after → ⊥) → ⊥
 none_missing m n bytes more are none =
     let f = front m n bytes more are in
     none f.item f.after f.fits f.whole
 
--- an item more at the back
+-- one more item at the back
 pub items_and : (xs : List (Cell × Item)) (item : Cell × Item) (x : List ℕ) → items_fields (xs ++ item ∷ []) ++ x ≡ items_fields xs ++ (item_fields item ++ x)
 items_and [] item x = ap (λ (t : List ℕ). t ++ x) (append-nil (item_fields item))
 items_and (a ∷ xs) item x =

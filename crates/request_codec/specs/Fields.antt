@@ -5,11 +5,11 @@ use Rattle.cell_key.specs.declared.keys.Qualifier.{Qualifier}
 use Rattle.cell_key.specs.declared.keys.Qualifier.TheVariants.{Data, Lock, Write}
 use Rattle.si_model.specs.declared.replies.Cell.{Cell}
 
--- a number in this many bytes, the highest byte first
+-- a number in this many bytes, big-endian
 unfoldable pub number : ℕ → ℕ → List ℕ
 number len n = big_bytes len n
 
--- a field of bytes: their length in four bytes, and the bytes
+-- a field of bytes: their length as four bytes, and the bytes
 unfoldable pub field : List ℕ → List ℕ
 field bytes = number 4 (length bytes) ++ bytes
 
@@ -17,7 +17,7 @@ field bytes = number 4 (length bytes) ++ bytes
 unfoldable pub cell_fields : Cell → List ℕ
 cell_fields cell = field cell.row ++ field cell.family
 
--- what may be left out: 0, or 1 and its fields
+-- an optional part: 0, or 1 and its fields
 abbrev pub optional : {A : Type 0} → (A → List ℕ) → Option A → List ℕ
 optional fields None = 0x00 ∷ []
 optional fields (Some kept) = 0x01 ∷ fields kept
@@ -32,7 +32,7 @@ qualifier_number Write = 3
 abbrev pub FitsField : List ℕ → Type 0
 FitsField bytes = length bytes < 2 ^ 32
 
--- likewise of both parts of a cell
+-- the same for both parts of a cell
 pub record FitsCell (cell : Cell) : Type 0 where
   pub row : FitsField cell.row
   pub family : FitsField cell.family

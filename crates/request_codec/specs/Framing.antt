@@ -1,4 +1,4 @@
--- What a framer hands out of the bytes that it has taken.
+-- The results of a framer on the bytes that it holds.
 use Rattle.std.specs.Prelude.{◌≡◌, ℕ, ◌+◌, ◌<◌, ◌≤◌, List, ◌++◌, ◌⊎◌, length, take}
 use Rattle.request_codec.specs.Stream.{announced, frame, longest, IsBody, IsPartial, IsTooLong}
 use Rattle.request_codec.specs.declared.framer.First.{First}
@@ -15,8 +15,7 @@ abbrev pub IsReady : List ℕ → Type 0
 IsReady bytes =
     (4 ≤ length bytes) × ((longest < announced bytes) ⊎ (4 + announced bytes ≤ length bytes))
 
--- What a framer hands out of the bytes that it had, and those that are left:
--- the body of their first frame, or nothing.
+-- The result of a framer on its bytes, and the bytes left afterwards: the body of their first frame, or nothing.
 abbrev pub HandsOut : Next → List ℕ → List ℕ → Type 0
 HandsOut More bytes left = IsPartial bytes × (left ≡ bytes)
 HandsOut (Frame body) bytes left = IsBody body.now × (bytes ≡ frame body.now ++ left)

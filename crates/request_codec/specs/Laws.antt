@@ -6,7 +6,7 @@ use Rattle.request_codec.specs.Requests.{IsRequest}
 use Rattle.request_codec.specs.Replies.{reply_body, IsReply, HoldsWithinLimits}
 use Rattle.request_codec.specs.Stream.{frame, frames, longest_reply, IsBody, CutsInto}
 
--- a stream is cut into bodies and a rest in one way
+-- a stream can be cut into bodies and a rest in only one way
 abbrev pub OneCut : Type 0
 OneCut = (stream : List ℕ) (bodies others : List (List ℕ)) (rest other : List ℕ)
     → CutsInto stream bodies rest → CutsInto stream others other
@@ -17,26 +17,26 @@ abbrev pub HasCut : Type 0
 HasCut = (stream : List ℕ) → ((i : ℕ) → slice_index stream i < 256)
     → (bodies : List (List ℕ)) × (rest : List ℕ) × CutsInto stream bodies rest
 
--- Whatever frames were handed out of a stream, they are a beginning of its cut, and the cut of what
--- is left has its other bodies and its rest.
+-- Any frames handed out of a stream are a prefix of its cut, and the cut of the remaining bytes has the other bodies
+-- and the same rest.
 abbrev pub CutGoesOn : Type 0
 CutGoesOn = (stream pending rest : List ℕ) (handed bodies : List (List ℕ))
     → stream ≡ frames handed ++ pending → AllByRecursion IsBody handed → CutsInto stream bodies rest
     → (more : List (List ℕ)) × (bodies ≡ handed ++ more) × CutsInto pending more rest
 
--- a frame that begins another one is that frame
+-- a frame that is a prefix of another frame is that frame
 abbrev pub NoFrameBeginsAnother : Type 0
 NoFrameBeginsAnother = (a b more : List ℕ) → IsBody a → IsBody b → frame b ≡ frame a ++ more → a ≡ b
 
--- two requests of one body are the same
+-- two requests with the same body are equal
 abbrev pub OneRequestABody : Type 0
 OneRequestABody = (a b : Request) (body : List ℕ) → IsRequest a body → IsRequest b body → a ≡ b
 
--- two replies of one body are the same
+-- two replies with the same body are equal
 abbrev pub OneReplyABody : Type 0
 OneReplyABody = (a b : Reply) (body : List ℕ) → IsReply a body → IsReply b body → a ≡ b
 
--- no reply within the limits has a longer frame
+-- no reply within the limits has a longer frame than this
 abbrev pub RepliesFit : Type 0
 RepliesFit =
     (reply : Reply) → HoldsWithinLimits reply → length (frame (reply_body reply)) ≤ longest_reply

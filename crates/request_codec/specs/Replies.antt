@@ -1,5 +1,5 @@
--- The bodies of replies: an operation's number with its highest bit, and its fields.
--- A refusal has a body of its own.
+-- The bodies of replies: an operation's number with its highest bit set, and its fields. A refusal has a body of its
+-- own.
 use Rattle.std.specs.Prelude.{◌≡◌, ℕ, List, [], ◌∷◌, ◌++◌, ◌<◌, ◌≤◌, ◌^◌, length, Option, Some, None, option_map}
 use Rattle.cell_key.specs.Names.{IsRow, IsFamily}
 use Rattle.cell_key.specs.Refusals.{refusal_number}
@@ -14,7 +14,7 @@ use Rattle.std.specs.List.{AllByRecursion}
 use Rattle.request_codec.specs.declared.replies.Reply.{Reply as Kept}
 use Rattle.request_codec.specs.declared.replies.Reply.TheVariants as kept
 
--- what a reply is to the machine
+-- a reply as the machine's
 abbrev pub replied : Kept → Reply
 replied (kept.Begin start) = Begun start
 replied (kept.Get found) = found_reply found
@@ -48,7 +48,7 @@ abbrev pub raw_fields : Option (ℕ × List ℕ) → List ℕ
 raw_fields None = 0x00 ∷ []
 raw_fields (Some found) = 0x01 ∷ (number 8 found.0 ++ field found.1)
 
--- the one body of a reply
+-- the body of a reply
 abbrev pub reply_body : Reply → List ℕ
 reply_body (Begun start) = 0x81 ∷ number 8 start
 reply_body (Answered answer) = 0x82 ∷ answer_fields answer
@@ -105,8 +105,8 @@ ReplyNumbersFit (Swept count) = count < 2 ^ 64
 ReplyNumbersFit (RawFound (Some found)) = found.0 < 2 ^ 64
 ReplyNumbersFit other = Unit {0}
 
--- each field of bytes has a length that fits; if a lock blocks a collector,
--- the row and the family are within their limits; of a scan these and the items are
+-- the length of each field of bytes fits its field; if a lock blocks a collector, the row and the family are within
+-- their limits; a scan's names and items are within their limits
 abbrev pub ReplyBytesFit : Reply → Type 0
 ReplyBytesFit (Answered (Some value)) = FitsField value
 ReplyBytesFit (Scanned items reach) = FitsScan items reach
@@ -114,17 +114,17 @@ ReplyBytesFit (Blocked cell start) = IsRow cell.row × IsFamily cell.family
 ReplyBytesFit (RawFound (Some found)) = FitsField found.1
 ReplyBytesFit other = Unit {0}
 
--- the body is that of a reply in the grammar
+-- the body is this reply's, in the grammar
 pub record IsReply (reply : Reply) (body : List ℕ) : Type 0 where
   pub numbers : ReplyNumbersFit reply
   pub bytes : ReplyBytesFit reply
   pub whole : body ≡ reply_body reply
 
--- the body is that of no reply
+-- the body is no reply's
 abbrev pub IsNoReply : List ℕ → Type 0
 IsNoReply body = (reply : Reply) → IsReply reply body → ⊥
 
--- what the reply holds is within the limits of rows, families and values
+-- the contents of the reply are within the limits of rows, families and values
 abbrev pub HoldsWithinLimits : Reply → Type 0
 HoldsWithinLimits (Answered (Some value)) = length value ≤ 65536
 HoldsWithinLimits (Scanned items reach) = FitsScan items reach
@@ -132,7 +132,7 @@ HoldsWithinLimits (RawFound (Some found)) = length found.1 ≤ 65536
 HoldsWithinLimits (Blocked cell start) = IsRow cell.row × IsFamily cell.family
 HoldsWithinLimits other = Unit {0}
 
--- the reply holds bytes, which take memory
+-- the reply has bytes that must be allocated
 abbrev pub HoldsBytes : Reply → Type 0
 HoldsBytes (Answered (Some value)) = Unit {0}
 HoldsBytes (Scanned [] ToEnd) = ⊥
@@ -141,6 +141,6 @@ HoldsBytes (Blocked cell start) = Unit {0}
 HoldsBytes (RawFound (Some found)) = Unit {0}
 HoldsBytes other = ⊥
 
--- the body is that of such a reply
+-- the body is the body of such a reply
 abbrev pub NeedsMemory : List ℕ → Type 0
 NeedsMemory body = (reply : Reply) × IsReply reply body × HoldsBytes reply

@@ -8,7 +8,7 @@ use Rattle.si_model.specs.Replies.{range_of}
 use Rattle.request_codec.specs.declared.requests.Request.{Request as Lent}
 use Rattle.request_codec.specs.declared.requests.Request.TheVariants as lent
 
--- what a request asks of the machine
+-- a request as the machine's
 abbrev pub asked : Lent → Request
 asked lent.Begin = Begin
 asked (lent.Get start row family) = Get start (record { row = row.now; family = family.now })
@@ -34,7 +34,7 @@ asked (lent.Raw row family qualifier lo hi) =
     Raw (record { row = row.now; family = family.now }) qualifier lo hi
 asked lent.Checkpoint = Checkpoint
 
--- the one body of a request
+-- the body of a request
 abbrev pub request_body : Request → List ℕ
 request_body Begin = 0x01 ∷ []
 request_body (Get start cell) = 0x02 ∷ (number 8 start ++ cell_fields cell)
@@ -92,7 +92,7 @@ NumbersFit (Move tablet server) = (tablet < 2 ^ 32) × (server < 2 ^ 8)
 NumbersFit (Raw cell qualifier low high) = (low < 2 ^ 64) × (high < 2 ^ 64)
 NumbersFit other = Unit {0}
 
--- each field of bytes has a length that fits
+-- the length of each field of bytes fits its field
 abbrev pub BytesFit : Request → Type 0
 BytesFit (Get start cell) = FitsCell cell
 BytesFit (ScanFrom start range keys_only cells) = FitsRange range
@@ -103,12 +103,12 @@ BytesFit (Split row) = FitsField row
 BytesFit (Raw cell qualifier low high) = FitsCell cell
 BytesFit other = Unit {0}
 
--- the body is that of a request in the grammar
+-- the body is this request's, in the grammar
 pub record IsRequest (request : Request) (body : List ℕ) : Type 0 where
   pub numbers : NumbersFit request
   pub bytes : BytesFit request
   pub whole : body ≡ request_body request
 
--- the body is that of no request
+-- the body is no request's
 abbrev pub IsMalformed : List ℕ → Type 0
 IsMalformed body = (request : Request) → IsRequest request body → ⊥

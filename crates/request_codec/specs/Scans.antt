@@ -13,17 +13,17 @@ use Rattle.request_codec.specs.declared.read_items.LentFound.TheVariants as lent
 use Rattle.request_codec.specs.declared.read_items.LentReach.{LentReach}
 use Rattle.request_codec.specs.declared.read_items.LentReach.TheVariants as reached
 
--- whether keys alone are asked for
+-- whether only keys are asked for
 abbrev pub flag_number : Bool → ℕ
 flag_number false = 0x00
 flag_number true = 0x01
 
--- the cells that are asked for
+-- the range of a scan
 unfoldable pub range_fields : Range → List ℕ
 range_fields range =
     optional cell_fields range.after ++ (optional field range.end ++ optional field range.family)
 
--- each field of bytes has a length that fits
+-- the length of each field of bytes fits its field
 pub record FitsRange (range : Range) : Type 0 where
   pub after : IfSome range.after (λ cell. FitsCell cell)
   pub end : IfSome range.end (λ row. FitsField row)
@@ -34,13 +34,13 @@ abbrev pub reach_fields : Reach → List ℕ
 reach_fields ToEnd = 0x01 ∷ []
 reach_fields (UpTo cell) = 0x02 ∷ cell_fields cell
 
--- what is said of a cell
+-- the result for a cell
 abbrev pub said_fields : Item → List ℕ
 said_fields (Valued value) = 0x01 ∷ field value
 said_fields (Locked start) = 0x02 ∷ number 8 start
 said_fields Unsent = 0x03 ∷ []
 
--- an item: a cell, and what is said of it
+-- an item: a cell, and the result for it
 unfoldable pub item_fields : Cell × Item → List ℕ
 item_fields item = cell_fields item.0 ++ said_fields item.1
 
@@ -60,13 +60,13 @@ abbrev pub StartFits : Item → Type 0
 StartFits (Locked start) = start < 2 ^ 64
 StartFits other = Unit {0}
 
--- the names are within their limits, and the items take no more of the reply than they may
+-- the names are within their limits, and the items take no more bytes of the reply than permitted
 pub record FitsScan (items : List (Cell × Item)) (reach : Reach) : Type 0 where
   pub reached : IsNamedReach reach
   pub named : AllByRecursion (λ (item : Cell × Item). IsNamed item.0) items
   pub few : items_length items ≤ most_items
 
--- what is said of a cell fits its field
+-- the result for a cell fits its fields
 abbrev pub SaidFits : Item → Type 0
 SaidFits (Valued value) = FitsField value
 SaidFits (Locked start) = start < 2 ^ 64
@@ -84,7 +84,7 @@ pub record AreItems (count : ℕ) (bytes : List ℕ) : Type 0 where
   pub fit : AllByRecursion ItemFits items
   pub whole : bytes ≡ items_fields items
 
--- what a body lends
+-- the same, as borrowed from a body
 abbrev pub lent_said : LentFound → Item
 lent_said (lent.Value value) = Valued value.now
 lent_said (lent.Pending start) = Locked start

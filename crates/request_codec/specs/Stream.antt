@@ -27,7 +27,7 @@ pub record IsTooLong (rest : List ℕ) : Type 0 where
   pub whole_length : 4 ≤ length rest
   pub past : longest < announced rest
 
--- less than a whole frame, with no length past the limit
+-- less than a whole frame, and no length past the limit
 pub record IsPartial (rest : List ℕ) : Type 0 where
   pub within : 4 ≤ length rest → announced rest ≤ longest
   pub short : 4 ≤ length rest → length rest < 4 + announced rest
@@ -39,7 +39,7 @@ pub record BeginsNoFrame (rest : List ℕ) : Type 0 where
 abbrev pub IsBody : List ℕ → Type 0
 IsBody body = length body ≤ longest
 
--- The stream is the frames of these bodies, and a rest that doesn't begin with one.
+-- The stream is the frames of these bodies, and a rest that doesn't begin with a whole frame.
 pub record CutsInto (stream : List ℕ) (bodies : List (List ℕ)) (rest : List ℕ) : Type 0 where
   pub whole : stream ≡ frames bodies ++ rest
   pub each : AllByRecursion IsBody bodies

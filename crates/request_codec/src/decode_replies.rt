@@ -22,7 +22,7 @@ use cell_key::{Family, Refusal, Row};
 use si_model::{Cell, CleanReply, CleanStart, CollectReply, Found, Progress, ScanReply};
 use std::alloc::{AllocError, Global};
 
-/// The refusal of a number.
+/// The refusal with a number.
 fn refusal_of(number: u8) -> Option<Refusal>
     ensures found { IfSome result (λ refusal. refusal_number refusal ≡ number) }
     ensures none { IfNone result ((refusal : Refusals) → refusal_number refusal ≢ number) }
@@ -55,7 +55,7 @@ fn refusal_of(number: u8) -> Option<Refusal>
     })
 }
 
-/// What a read found, from the fields of its reply.
+/// The result of a read, from the fields of its reply.
 fn decode_found(alloc: Global, fields: &[u8]) -> Result<Option<Found>, AllocError>
     ensures found { IfOk result (λ found.
         IfSome found (λ found. IsReply (found_reply found) (0x82 ∷ fields.now))) }
@@ -83,7 +83,7 @@ fn decode_found(alloc: Global, fields: &[u8]) -> Result<Option<Found>, AllocErro
     }
 }
 
-/// The reply of a raw read, from its fields, and none if they are not those of one.
+/// The reply of a raw read, from its fields; `None` if they are malformed.
 fn decode_raw(alloc: Global, fields: &[u8]) -> Result<Option<Reply>, AllocError>
     ensures found { IfOk result (λ found.
         IfSome found (λ reply. IsReply (replied reply) (0x91 ∷ fields.now))) }
@@ -106,7 +106,7 @@ fn decode_raw(alloc: Global, fields: &[u8]) -> Result<Option<Reply>, AllocError>
     }
 }
 
-/// What a scan answers, from the fields of its reply, and none if they are not those of one.
+/// The result of a scan, from the fields of its reply; `None` if they are malformed.
 fn decode_scan(alloc: Global, fields: &[u8]) -> Result<Option<ScanReply>, Refusal>
     ensures found { IfOk result (λ found.
         IfSome found (λ reply. IsReply (scan_reply reply) (0xB1 ∷ fields.now))) }
@@ -122,7 +122,7 @@ fn decode_scan(alloc: Global, fields: &[u8]) -> Result<Option<ScanReply>, Refusa
     Ok(Some(ScanReply { items, reach }))
 }
 
-/// What a step did, from the fields of its reply.
+/// The result of a session's step, from the fields of its reply.
 fn decode_progress(fields: &[u8]) -> Option<Progress>
     ensures found { IfSome result (λ progress.
         IsReply (progress_reply progress) (0x84 ∷ fields.now)) }
@@ -155,7 +155,7 @@ fn decode_progress(fields: &[u8]) -> Option<Progress>
     }
 }
 
-/// What was found when a cleaner was to be opened, from the fields of the reply.
+/// The result of a cleaner's beginning, from the fields of its reply.
 fn decode_clean_start(fields: &[u8]) -> Option<CleanStart>
     ensures found { IfSome result (λ found. IsReply (clean_start_reply found) (0x86 ∷ fields.now)) }
     ensures none { IfNone result (IsNoReply (0x86 ∷ fields.now)) }
@@ -171,7 +171,7 @@ fn decode_clean_start(fields: &[u8]) -> Option<CleanStart>
     }
 }
 
-/// What a cleaner's step did, from the fields of its reply.
+/// The result of a cleaner's step, from the fields of its reply.
 fn decode_clean_reply(fields: &[u8]) -> Option<CleanReply>
     ensures found { IfSome result (λ done. IsReply (clean_reply done) (0x87 ∷ fields.now)) }
     ensures none { IfNone result (IsNoReply (0x87 ∷ fields.now)) }
@@ -189,7 +189,7 @@ fn decode_clean_reply(fields: &[u8]) -> Option<CleanReply>
     }
 }
 
-/// The cell of a row and a family, and none if one of them is outside its limits.
+/// The cell of a row and a family; `None` if one of them is outside its limits.
 #[tactic(auto, using(crate::proofs::Names::row_stable, crate::proofs::Names::family_stable))]
 fn cell_of(alloc: Global, row: &[u8], family: &[u8]) -> Result<Option<Cell>, Refusal>
     ensures found { IfOk result (λ found.
@@ -215,7 +215,7 @@ fn cell_of(alloc: Global, row: &[u8], family: &[u8]) -> Result<Option<Cell>, Ref
     }))
 }
 
-/// What a collector's step came to, from the fields of its reply.
+/// The result of a collector's step, from the fields of its reply.
 fn decode_collect_reply(alloc: Global, fields: &[u8]) -> Result<Option<CollectReply>, Refusal>
     ensures found { IfOk result (λ found.
         IfSome found (λ done. IsReply (collect_reply done) (0x89 ∷ fields.now))) }
@@ -234,7 +234,7 @@ fn decode_collect_reply(alloc: Global, fields: &[u8]) -> Result<Option<CollectRe
     }
 }
 
-/// What a blocked collector answers, from the fields after the tag.
+/// The answer of a blocked collector, from the fields after the tag.
 fn decode_blocked(alloc: Global, rest: &[u8]) -> Result<Option<CollectReply>, Refusal>
     ensures found { IfOk result (λ found.
         IfSome found (λ done. IsReply (collect_reply done) (0x89 ∷ 0x02 ∷ rest.now))) }
@@ -251,7 +251,7 @@ fn decode_blocked(alloc: Global, rest: &[u8]) -> Result<Option<CollectReply>, Re
     Ok(Some(CollectReply::Blocked(cell, start)))
 }
 
-/// The refusal that the fields of a refusal's body name.
+/// The refusal in the fields of a refusal's body.
 fn decode_refusal(fields: &[u8]) -> Option<Refusal>
     ensures found { IfSome result (λ refusal. fields.now ≡ refusal_number refusal ∷ []) }
     ensures none { IfNone result ((refusal : Refusals) → fields.now ≢ refusal_number refusal ∷ []) }
@@ -263,8 +263,8 @@ fn decode_refusal(fields: &[u8]) -> Option<Refusal>
     refusal_of(*number)
 }
 
-/// The reply of a body that begins with this operation's number, neither a read's nor a scan's nor a
-/// collector's step's, and none if it is the body of no reply.
+/// The reply whose body begins with this operation's number; `None` if the body is no reply's. The operation is not a
+/// read, a scan or a collector's step.
 fn decode_other(operation: u8, fields: &[u8]) -> Option<Reply>
     requires get { operation ≢ 0x82 }
     requires collect { operation ≢ 0x89 }
@@ -319,9 +319,8 @@ fn decode_other(operation: u8, fields: &[u8]) -> Option<Reply>
     }
 }
 
-/// The reply whose body this is, and none if it is the body of no reply.
-/// Answers `NoMemory` if there is no room for a value, for the cell that blocks a collector, or
-/// for what a scan names.
+/// The reply with this body; `None` if the body is no reply's. Answers `NoMemory` if a value, the cell that blocks a
+/// collector, or the items or names of a scan cannot be allocated.
 pub fn decode_reply(alloc: Global, body: &[u8]) -> Result<Option<Reply>, Refusal>
     ensures found { IfOk result (λ found.
         IfSome found (λ reply. IsReply (replied reply) body.now)) }

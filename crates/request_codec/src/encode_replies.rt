@@ -17,7 +17,7 @@ use crate::write_scans::{push_scanned, scan_length};
 use cell_key::{Refusal, Stamp};
 use si_model::{Cell, CleanReply, CleanStart, CollectReply, Found, Progress};
 
-/// How many bytes the body of a reply has.
+/// The length of a reply's body in bytes.
 #[tactic(auto, using(crate::proofs::Fields::lengths))]
 pub fn reply_length(reply: &Reply) -> usize
     requires { ReplyBytesFit (replied reply.now) }
@@ -44,7 +44,7 @@ pub fn reply_length(reply: &Reply) -> usize
     }
 }
 
-/// How many bytes the body of a blocked collector's reply has.
+/// The length of the body of a blocked collector's reply in bytes.
 #[tactic(auto, using(crate::proofs::Fields::lengths))]
 fn blocked_length(cell: &Cell) -> usize
     ensures { (start : ℕ) → result ≡ length (reply_body (Blocked cell.now start)) }
@@ -52,7 +52,7 @@ fn blocked_length(cell: &Cell) -> usize
     18 + cell.row.as_bytes().len() + cell.family.as_bytes().len()
 }
 
-/// How many bytes the body of a step's reply has.
+/// The length of the body of a step's reply in bytes.
 #[tactic(auto, using(crate::proofs::Fields::lengths))]
 fn progress_length(progress: Progress) -> usize
     ensures { result ≡ length (reply_body (progress_reply progress)) }
@@ -145,7 +145,7 @@ fn push_progress(progress: Progress, out: &mut Vec<u8>)
     }
 }
 
-/// Appends the body of the reply to a clean-up's beginning.
+/// Appends the body of the reply to a cleaner's beginning.
 #[tactic(auto, using(crate::proofs::Fields::lengths))]
 fn push_clean_start(found: CleanStart, out: &mut Vec<u8>)
     requires { vec_len out.old
@@ -203,7 +203,7 @@ fn push_collect_reply(done: &CollectReply, out: &mut Vec<u8>)
     }
 }
 
-/// Appends the body of a reply, for which there is room. Takes no memory.
+/// Appends the body of a reply, for which there must be room. Allocates nothing.
 #[tactic(auto, using(crate::proofs::Fields::lengths))]
 pub fn push_reply(reply: &Reply, out: &mut Vec<u8>)
     requires fits { ReplyBytesFit (replied reply.now) }
@@ -253,14 +253,14 @@ pub fn push_reply(reply: &Reply, out: &mut Vec<u8>)
     }
 }
 
-/// Appends the body of a reply, whose value has at most 4,294,967,295 bytes. Answers `NoMemory` if there is no
-/// room for it, and then `out` is as it was.
+/// Appends the body of a reply, whose value has at most 4,294,967,295 bytes. Answers `NoMemory` if the buffer cannot
+/// grow, and then leaves `out` unchanged.
 pub fn encode_reply(reply: &Reply, out: &mut Vec<u8>) -> Result<(), Refusal>
     requires { ReplyBytesFit (replied reply.now) }
     ensures ok { OnOk result (out.new.items ≡ out.old.items ++ reply_body (replied reply.now)) }
     ensures err { OnErr result (out.new.items ≡ out.old.items) }
     ensures refusal { IfErr result (λ refusal. refusal ≡ Refusal.NoMemory) }
-    // If there is room it succeeds.
+    // It succeeds if the buffer already has room.
     ensures room { vec_len out.old + length (reply_body (replied reply.now)) ≤ vec_capacity out.old
         → IsOk result }
     ensures capacity { vec_capacity out.old ≤ vec_capacity out.new }

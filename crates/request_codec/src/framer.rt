@@ -15,22 +15,22 @@ use std::marker::Model;
 /// The most bytes of a frame's body.
 pub const LONGEST_BODY: usize = 1_048_576;
 
-/// The most bytes of a frame, its length's four bytes too.
+/// The most bytes of a frame, the four bytes of its length included.
 const LONGEST_FRAME: usize = 1_048_580;
 
-/// What a framer has to give next.
+/// The next result of a framer.
 #[derive(Clone, Copy)]
 pub enum Next<'a> {
-    /// No whole frame: more bytes are wanted.
+    /// No whole frame: more bytes are needed.
     More,
     /// The body of the next frame.
     Frame(&'a [u8]),
-    /// The next frame's length is above the limit, and so it stays.
+    /// The next frame's length is above the limit. The framer gives this result from now on.
     TooLarge,
 }
 
-/// What stands first among the bytes of a framer: a part of a frame, a whole one with the length of its body, or
-/// a length above the limit.
+/// The front of a framer's bytes: part of a frame, a whole frame with the length of its body, or a length above the
+/// limit.
 #[derive(Clone, Copy)]
 pub(crate) enum First {
     Part,
@@ -56,7 +56,7 @@ fn byte_at(ring: &HeapCircularBuffer<u8>, at: usize) -> u8
     }
 }
 
-/// The first four bytes, if there are as many.
+/// The first four bytes, if there are four.
 fn header_of(ring: &HeapCircularBuffer<u8>) -> Option<[u8; 4]>
     ensures some { IfSome result (λ header. take 4 ring.now.items ≡ header) }
     ensures four { IfSome result (λ header. 4 ≤ length ring.now.items) }
@@ -82,7 +82,7 @@ pub(crate) fn length_in(header: [u8; 4]) -> u32
     u32::from_be_bytes(header)
 }
 
-/// Moves the body of the first frame, which is whole, to the front of a buffer.
+/// Moves the body of the first frame, which must be whole, to the front of a buffer.
 fn take_body(ring: &mut HeapCircularBuffer<u8>, body: &mut [u8], len: usize)
     requires whole { 4 + len ≤ length ring.old.items }
     requires room { len ≤ length body.old }
@@ -96,7 +96,7 @@ fn take_body(ring: &mut HeapCircularBuffer<u8>, body: &mut [u8], len: usize)
     let _ = ring.read_into(&mut body[..len]);
 }
 
-/// Looks at what stands first in the ring. A whole frame leaves it, its body to the front of the buffer.
+/// Looks at the front of the ring. A whole frame is removed, and its body moved to the front of the buffer.
 fn advance(ring: &mut HeapCircularBuffer<u8>, body: &mut [u8]) -> First
     requires { length body.old ≡ longest }
     ensures first { IsAtFirst result body.new ring.old.items ring.new.items }
@@ -117,7 +117,7 @@ fn advance(ring: &mut HeapCircularBuffer<u8>, body: &mut [u8]) -> First
     First::Whole(len)
 }
 
-/// The bytes of a stream that were taken and not yet handed out as frames. It has room for the longest frame.
+/// The bytes of a stream that were taken but not yet handed out as frames. There is room for the longest frame.
 #[derive(Drop)]
 pub struct Framer {
     ring: HeapCircularBuffer<u8>,
@@ -140,11 +140,11 @@ impl Model for Framer {
 impl Framer {
     ghost use Rattle.request_codec.specs.contracts.framer.Framer.{the_row};
 
-    /// A framer that has taken nothing. It takes all its memory here.
+    /// An empty framer. All its memory is allocated here.
     ///
     /// # Errors
     ///
-    /// `NoMemory` if a growth was refused.
+    /// `NoMemory` if an allocation failed.
     pub fn new(alloc: Global) -> Result<Framer, Refusal>
         ensures empty { IfOk result (λ framer. framer ≡ []) }
         ensures refusal { IfErr result (λ refusal. refusal ≡ Refusal.NoMemory) }
@@ -154,8 +154,8 @@ impl Framer {
         Ok(Framer { ring, body })
     }
 
-    /// Takes as many bytes from the front of a piece as there is room for, and answers how many. It takes none only of
-    /// an empty piece, or if `next` has something to give.
+    /// Takes bytes from the front of a piece, as far as there is room, and returns their number. That is 0 only for an
+    /// empty piece, or if `next` has a frame or TooLarge to return.
     pub fn feed(&mut self, piece: &[u8]) -> usize
         ensures count { result ≡ min (length piece.now) (longest_frame - length self.old) }
         ensures bytes { self.new ≡ self.old ++ take result piece.now }
@@ -164,14 +164,14 @@ impl Framer {
         self.ring.fill_from_slice(piece)
     }
 
-    /// Whether all that was taken was handed out.
+    /// Whether all bytes taken were handed out.
     pub fn is_empty(&self) -> bool
         ensures { result ≡ (length self.now == 0) }
     {
         self.ring.is_empty()
     }
 
-    /// How many bytes of the first frame are wanted, at least: those of its length, or else of its body. It is 1 or more.
+    /// The number of bytes still missing from the first frame's length, or else from its body: at least 1.
     pub fn wanted(&self) -> usize
         ensures some { 1 ≤ result }
         ensures of_length { length self.now < 4 → length self.now + result ≡ 4 }
@@ -187,8 +187,8 @@ impl Framer {
         }
     }
 
-    /// The body of the next frame, if a whole one was taken, or that the next frame is too large, or that more bytes are
-    /// wanted.
+    /// The body of the next frame, if a whole one was taken; or that the next frame is too large, or that more bytes
+    /// are needed.
     pub fn next(&mut self) -> Next<'_>
         ensures* hands_out { sem 𝓛 (follows_so the_row the_row self.entry.ghost_name none (λ _ _. ⊤)
             (λ left. HandsOut result self.old left)) }

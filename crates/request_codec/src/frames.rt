@@ -1,11 +1,11 @@
-//! Frames that stand whole in a piece of a stream.
+//! Whole frames within a piece of a stream.
 
 ghost use Rattle.std.specs.Prelude.{◌≡◌, ◌++◌, IfNone, IfSome};
 ghost use Rattle.request_codec.specs.Stream.{BeginsNoFrame, IsBody, frame};
 
 use crate::framer::{LONGEST_BODY, length_in};
 
-/// The body of the frame that bytes begin with, and what follows the frame. `None` if they don't begin with a whole
+/// The body of the first frame of these bytes, and the bytes after the frame. `None` if they don't begin with a whole
 /// frame whose body has at most 1,048,576 bytes. Nothing is copied.
 pub fn split_frame(bytes: &[u8]) -> Option<(&[u8], &[u8])>
     ensures some { IfSome result (λ p. IsBody p.0.now × (bytes.now ≡ frame p.0.now ++ p.1.now)) }

@@ -7,7 +7,7 @@ ghost use Rattle.std.specs.Prelude.{◌≡◌};
 use crate::framer::LONGEST_BODY;
 use crate::replies::LONGEST_REPLY;
 
-/// A stream is cut into bodies and a rest in one way.
+/// A stream can be cut into bodies and a rest in only one way.
 pub fn one_cut()
     ensures { OneCut }
 {}
@@ -17,22 +17,22 @@ pub fn has_cut()
     ensures { HasCut }
 {}
 
-/// Frames that were handed out of a stream are a beginning of its cut, which goes on in what is left.
+/// Frames handed out of a stream are a prefix of its cut, which continues in the remaining bytes.
 pub fn cut_goes_on()
     ensures { CutGoesOn }
 {}
 
-/// A frame that begins another one is that frame.
+/// A frame that is a prefix of another frame is that frame.
 pub fn no_frame_begins_another()
     ensures { NoFrameBeginsAnother }
 {}
 
-/// Two requests of one body are the same.
+/// Two requests with the same body are equal.
 pub fn one_request_a_body()
     ensures { OneRequestABody }
 {}
 
-/// Two replies of one body are the same.
+/// Two replies with the same body are equal.
 pub fn one_reply_a_body()
     ensures { OneReplyABody }
 {}
@@ -47,7 +47,7 @@ pub fn raw_is_longest()
     ensures { RawIsLongest }
 {}
 
-/// The public limits are those of the definitions.
+/// The public limits are equal to the limits of the definitions.
 pub fn limits()
     ensures body { LONGEST_BODY ≡ longest }
     ensures reply { LONGEST_REPLY ≡ longest_reply }

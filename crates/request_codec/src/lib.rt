@@ -1,4 +1,4 @@
-//! The bodies of requests and replies, both ways, and the cut of a stream into them.
+//! The bodies of requests and replies, encoded and decoded, and the cut of a stream into them.
 #![tactic(auto)]
 
 mod decode_replies;

@@ -22,7 +22,7 @@ pub(crate) fn number_of(qualifier: Qualifier) -> u8
     }
 }
 
-/// The qualifier of a number, and none if it is no qualifier's.
+/// The qualifier with a number; `None` if there is no such qualifier.
 pub(crate) fn qualifier_of(number: u8) -> Option<Qualifier>
     ensures found { IfSome result (λ qualifier. qualifier_number qualifier ≡ number) }
     ensures none { IfNone result ((qualifier : Qualifiers) → qualifier_number qualifier ≢ number) }

@@ -1,4 +1,4 @@
-//! Reading whole bodies: fields that are all of the lent bytes.
+//! Decoding of whole bodies: the fields take all of the borrowed bytes.
 ghost use Rattle.std.specs.Prelude.{◌≡◌, ◌≢◌, ◌<◌, ◌^◌, ◌++◌, List, ℕ, IfSome, IfNone};
 ghost use Rattle.si_model.specs.declared.replies.Cell.{Cell as CellOf};
 ghost use Rattle.cell_key.specs.declared.keys.Qualifier.{Qualifier as Qualifiers};

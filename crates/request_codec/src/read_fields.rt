@@ -1,4 +1,4 @@
-//! Reading fields from the front of lent bytes.
+//! Decoding of fields from the front of borrowed bytes.
 ghost use Rattle.std.specs.Prelude.{◌≡◌, ◌≢◌, ◌≤◌, ◌<◌, ◌^◌, ◌++◌, ◌∷◌, [], List, ℕ, length, IfSome, IfNone};
 ghost use Rattle.si_model.specs.declared.replies.Cell.{Cell as CellOf};
 ghost use Rattle.cell_key.specs.declared.keys.Qualifier.{Qualifier as Qualifiers};
@@ -46,7 +46,7 @@ pub(crate) fn take_u8(rest: &mut &[u8]) -> Option<u8>
     Some(*byte)
 }
 
-/// The number that two bytes spell.
+/// The number in two bytes.
 fn u16_of(bytes: &[u8]) -> u16
     requires { length bytes.now ≡ 2 }
     ensures { bytes.now ≡ number 2 result }
@@ -64,7 +64,7 @@ pub(crate) fn take_u16(rest: &mut &[u8]) -> Option<u16>
     Some(u16_of(front))
 }
 
-/// The number that four bytes spell.
+/// The number in four bytes.
 fn u32_of(bytes: &[u8]) -> u32
     requires { length bytes.now ≡ 4 }
     ensures { bytes.now ≡ number 4 result }
@@ -82,7 +82,7 @@ pub(crate) fn take_u32(rest: &mut &[u8]) -> Option<u32>
     Some(u32_of(front))
 }
 
-/// The number that eight bytes spell.
+/// The number in eight bytes.
 fn u64_of(bytes: &[u8]) -> u64
     requires { length bytes.now ≡ 8 }
     ensures { bytes.now ≡ number 8 result }

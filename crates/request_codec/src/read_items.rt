@@ -1,4 +1,4 @@
-//! Reading the fields of a scan's reply.
+//! Decoding of the fields of a scan's reply.
 
 ghost use Rattle.std.specs.Prelude.{◌≡◌, ◌≢◌, ◌<◌, ◌≤◌, ◌↔◌, ◌++◌, ◌∷◌, List, ℕ, IsTrue, IfSome, IfNone, IfOk, IfErr, OnErr, length, map};
 ghost use Rattle.std.specs.List.{AllByRecursion};
@@ -17,10 +17,10 @@ use cell_key::{Refusal, Row, Stamp, is_family};
 use si_model::{Cell, ScanFound, ScanItem, ScanReach};
 use std::alloc::{AllocError, Global};
 
-/// The most bytes of a reply that a scan's items take.
+/// The most bytes of a scan's items in a reply.
 const MOST_ITEM_BYTES: usize = 61_440;
 
-/// What a scan says of a cell, lent by the body.
+/// The result of a scan for a cell, borrowed from the body.
 #[derive(Clone, Copy)]
 pub(crate) enum LentFound<'a> {
     Value(&'a [u8]),
@@ -28,7 +28,7 @@ pub(crate) enum LentFound<'a> {
     Unsent,
 }
 
-/// A cell that a scan names, and what it says of it, lent by the body.
+/// A cell that a scan names, and the result for it, borrowed from the body.
 #[derive(Clone, Copy)]
 pub(crate) struct LentItem<'a> {
     row: &'a [u8],
@@ -36,14 +36,14 @@ pub(crate) struct LentItem<'a> {
     found: LentFound<'a>,
 }
 
-/// How far a scan went, lent by the body.
+/// How far a scan went, borrowed from the body.
 #[derive(Clone, Copy)]
 pub(crate) enum LentReach<'a> {
     End,
     More(&'a [u8], &'a [u8]),
 }
 
-/// Whether the names are a cell's.
+/// Whether the names are within the limits of rows and families.
 fn is_named(row: &[u8], family: &[u8]) -> bool
     ensures { IsTrue result ↔ IsNamed (cell_of row.now family.now) }
 {
@@ -85,7 +85,7 @@ pub(crate) fn take_reach<'a>(rest: &mut &'a [u8]) -> Option<LentReach<'a>>
     }
 }
 
-/// What a scan says of a cell.
+/// The result of a scan for a cell.
 fn take_said<'a>(rest: &mut &'a [u8]) -> Option<LentFound<'a>>
     ensures found { IfSome result (λ said.
         rest.old.now ≡ said_fields (lent_said said) ++ rest.new.now) }
@@ -108,7 +108,7 @@ fn take_said<'a>(rest: &mut &'a [u8]) -> Option<LentFound<'a>>
     }
 }
 
-/// A cell that a scan names, and what it says of it.
+/// A cell that a scan names, and the result for it.
 fn take_item<'a>(rest: &mut &'a [u8]) -> Option<LentItem<'a>>
     ensures found { IfSome result (λ item.
         rest.old.now ≡ item_fields (lent_item item) ++ rest.new.now) }
@@ -134,7 +134,7 @@ pub(crate) fn are_items(bytes: &[u8], count: u32) -> bool
     rest.is_empty()
 }
 
-/// How far a scan went, how many items follow, and their bytes.
+/// How far a scan went, the number of items that follow, and their bytes.
 pub(crate) fn whole_scanned(bytes: &[u8]) -> Option<(LentReach<'_>, u32, &[u8])>
     ensures found { IfSome result (λ p.
         bytes.now ≡ reach_fields (lent_reach p.0) ++ (number 4 p.1 ++ p.2.now)) }
@@ -155,12 +155,12 @@ pub(crate) fn whole_scanned(bytes: &[u8]) -> Option<(LentReach<'_>, u32, &[u8])>
     }
 }
 
-/// How far a scan went, of memory of its own.
+/// How far a scan went, as an owned copy.
 pub(crate) fn own_reach(alloc: Global, reach: LentReach<'_>) -> Result<ScanReach, Refusal>
     requires { IsNamedReach (lent_reach reach) }
     ensures ok { IfOk result (λ own. reach_of own ≡ lent_reach reach.entry) }
     ensures refusal { IfErr result (λ refusal. refusal ≡ Refusal.NoMemory) }
-    // The end takes no memory.
+    // The end needs no allocation.
     ensures needed { OnErr result (lent_reach reach.entry ≢ ToEnd) }
 {
     match reach {
@@ -172,7 +172,7 @@ pub(crate) fn own_reach(alloc: Global, reach: LentReach<'_>) -> Result<ScanReach
     }
 }
 
-/// What is said of a cell, of memory of its own.
+/// The result for a cell, as an owned copy.
 fn own_found(alloc: Global, found: LentFound<'_>) -> Result<ScanFound, AllocError>
     ensures { IfOk result (λ own. found_item own ≡ lent_said found.entry) }
 {
@@ -183,7 +183,7 @@ fn own_found(alloc: Global, found: LentFound<'_>) -> Result<ScanFound, AllocErro
     }
 }
 
-/// An item, of memory of its own.
+/// An item, as an owned copy.
 fn own_item(alloc: Global, item: LentItem<'_>) -> Result<ScanItem, Refusal>
     requires { IsNamed (lent_item item).0 }
     ensures ok { IfOk result (λ own. item_of own ≡ lent_item item.entry) }
@@ -194,14 +194,14 @@ fn own_item(alloc: Global, item: LentItem<'_>) -> Result<ScanItem, Refusal>
     Ok(ScanItem { cell, found })
 }
 
-/// The items that the bytes are, of memory of their own.
+/// The items in the bytes, as owned copies.
 pub(crate) fn own_items(alloc: Global, bytes: &[u8], count: u32) -> Result<Vec<ScanItem>, Refusal>
     requires { AreItems count bytes.now }
     ensures ok { IfOk result (λ own. bytes.now ≡ items_fields (map item_of own.items)) }
     ensures count { IfOk result (λ own. length own.items ≡ count) }
     ensures fit { IfOk result (λ own. AllByRecursion ItemFits (map item_of own.items)) }
     ensures refusal { IfErr result (λ refusal. refusal ≡ Refusal.NoMemory) }
-    // No items take no memory.
+    // An empty list needs no allocation.
     ensures needed { OnErr result (0 < count) }
 {
     let mut items = Vec::new(alloc);

@@ -1,4 +1,4 @@
-//! Reading the fields of a scan's request.
+//! Decoding of the fields of a scan's request.
 
 ghost use Rattle.std.specs.Prelude.{◌≡◌, ◌≢◌, ◌<◌, ◌^◌, ◌++◌, ◌∷◌, List, ℕ, Bool, Option, IfSome, IfNone, option_map};
 ghost use Rattle.si_model.specs.Messages.{Range};
@@ -16,7 +16,7 @@ pub(crate) const LEFT_OUT: u8 = 0x00;
 
 pub(crate) const KEPT: u8 = 0x01;
 
-/// Whether keys alone are asked for.
+/// Whether only keys are asked for.
 fn take_flag(rest: &mut &[u8]) -> Option<bool>
     ensures found { IfSome result (λ flag. rest.old.now ≡ flag_number flag ∷ rest.new.now) }
     ensures none { IfNone result ((flag : Bool) (after : List ℕ)
@@ -30,7 +30,7 @@ fn take_flag(rest: &mut &[u8]) -> Option<bool>
     }
 }
 
-/// The row and the family of a cell, if it isn't left out.
+/// The row and the family of a cell, if they are present.
 fn take_optional_cell<'a>(rest: &mut &'a [u8]) -> Option<Option<(&'a [u8], &'a [u8])>>
     ensures found { IfSome result (λ cell. rest.old.now
         ≡ optional cell_fields (option_map (λ p. cell_of p.0.now p.1.now) cell) ++ rest.new.now) }
@@ -50,7 +50,7 @@ fn take_optional_cell<'a>(rest: &mut &'a [u8]) -> Option<Option<(&'a [u8], &'a [
     }
 }
 
-/// A length and that many bytes, if they aren't left out.
+/// A length and that many bytes, if they are present.
 fn take_optional_bytes<'a>(rest: &mut &'a [u8]) -> Option<Option<&'a [u8]>>
     ensures found { IfSome result (λ bytes. rest.old.now
         ≡ optional field (option_map (λ bytes. bytes.now) bytes) ++ rest.new.now) }
@@ -69,7 +69,7 @@ fn take_optional_bytes<'a>(rest: &mut &'a [u8]) -> Option<Option<&'a [u8]>>
     }
 }
 
-/// The cells that are asked for.
+/// The range of a scan.
 fn take_range<'a>(rest: &mut &'a [u8]) -> Option<ScanRange<'a>>
     ensures found { IfSome result (λ range.
         rest.old.now ≡ range_fields (range_of range) ++ rest.new.now) }
@@ -83,7 +83,7 @@ fn take_range<'a>(rest: &mut &'a [u8]) -> Option<ScanRange<'a>>
     Some(ScanRange { after, end, family })
 }
 
-/// A start, whether keys alone are asked for, a range, and a count of cells.
+/// A start, whether only keys are asked for, a range, and a count of cells.
 pub(crate) fn whole_scan(bytes: &[u8]) -> Option<(u64, bool, ScanRange<'_>, u32)>
     ensures found { IfSome result (λ p. bytes.now ≡ number 8 p.0
         ++ (flag_number p.1 ∷ (range_fields (range_of p.2) ++ number 4 p.3))) }

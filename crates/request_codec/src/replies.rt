@@ -1,55 +1,55 @@
-//! What the store answers, and the numbers by which its bytes say so.
+//! The replies of the store, and the longest frame of one.
 
 use cell_key::{Refusal, Stamp};
 use si_model::{CleanReply, CleanStart, CollectReply, Found, Progress, ScanReply};
 
-/// The most bytes of a reply's frame, its length's four bytes too: a stamp and the longest value.
+/// The most bytes of a reply's frame, the four bytes of its length included: a stamp and the longest value.
 pub const LONGEST_REPLY: usize = 65_554;
 
-/// What the store answers to a request. The fields are those of the operation of the same name.
+/// The reply of the store to a request. The fields are the result of the operation of the same name.
 #[derive(Debug, Drop)]
 pub enum Reply {
     /// A session began at this stamp.
     Begin(Stamp),
-    /// What the read found.
+    /// The result of the read.
     Get(Found),
-    /// What the scan found, and how far it went.
+    /// The result of the scan, and how far it went.
     Scan(ScanReply),
     /// The write is buffered.
     Set,
     /// The deletion is buffered.
     Delete,
-    /// What the step did.
+    /// The result of the step.
     Step(Progress),
     /// The session has ended.
     Stop,
-    /// What was found when a cleaner was to be opened.
+    /// The result of the cleaner's beginning.
     CleanBegin(CleanStart),
-    /// What the cleaner's step did.
+    /// The result of the cleaner's step.
     CleanStep(CleanReply),
     /// A collector was opened: its number, and its floor.
     CollectBegin(u64, Stamp),
-    /// What the collector's step came to.
+    /// The result of the collector's step.
     CollectStep(CollectReply),
-    /// The memtable of the tablet is a file.
+    /// The tablet's memtable was written to a file.
     Minor,
-    /// The files of the tablet are merged.
+    /// The files of the tablet were merged.
     Merge,
-    /// All that the tablet has is in one file.
+    /// All data of the tablet is in one file.
     Major,
-    /// The number of the left one of the two tablets.
+    /// The number of the left tablet.
     Split(u32),
     /// The tablet is on that server.
     Move,
-    /// How many files were removed.
+    /// The number of files removed.
     Sweep(u64),
-    /// The oracle goes on from its stored mark.
+    /// The oracle continues from its stored mark.
     OracleRestart,
     /// The stamp and the value of the newest version in the range, if there is one.
     Raw(Option<(Stamp, Vec<u8>)>),
-    /// The files keep all, and the store can be opened of them.
+    /// The files keep the store, and it can be opened from them.
     Checkpoint,
-    /// The request was refused, and why.
+    /// The request was refused, for this reason.
     Refused(Refusal),
 }
 

@@ -16,8 +16,8 @@ use crate::write_scans::{push_scan, range_length};
 use cell_key::{Qualifier, Refusal, Stamp};
 use si_model::ScanRange;
 
-/// What is asked of the store. Rows, families and values are lent by the body that was read, and may be outside
-/// their limits.
+/// A request to the store. Rows, families and values are borrowed from the body that was read, and may be outside their
+/// limits.
 #[derive(Clone, Copy, Debug)]
 pub enum Request<'a> {
     /// Begins a session.
@@ -28,8 +28,8 @@ pub enum Request<'a> {
         row: &'a [u8],
         family: &'a [u8],
     },
-    /// Reads the cells of a range as of the session's start: their values, or whether they have one. At most `cells`
-    /// of them are looked at.
+    /// Reads the cells of a range as of the session's start: their values, or only whether they have one. At most
+    /// `cells` of them are looked at.
     Scan {
         start: Stamp,
         range: ScanRange<'a>,
@@ -49,11 +49,11 @@ pub enum Request<'a> {
         row: &'a [u8],
         family: &'a [u8],
     },
-    /// Takes the session's next step towards its end.
+    /// Takes the next step of the session's commit.
     Step {
         start: Stamp,
     },
-    /// Ends the session where it stands.
+    /// Ends the session at once.
     Stop {
         start: Stamp,
     },
@@ -82,7 +82,7 @@ pub enum Request<'a> {
         tablet: u32,
         count: u32,
     },
-    /// Merges all that a tablet has into one file.
+    /// Merges the tablet's memtable and all its files into one file.
     Major {
         tablet: u32,
     },
@@ -95,7 +95,7 @@ pub enum Request<'a> {
         tablet: u32,
         server: u8,
     },
-    /// Removes the files that no tablet names.
+    /// Removes the files that no tablet has.
     Sweep,
     /// Starts the oracle again from its stored mark.
     OracleRestart,
@@ -107,7 +107,7 @@ pub enum Request<'a> {
         lo: Stamp,
         hi: Stamp,
     },
-    /// Puts all that is in memory into files, from which the store can be opened again.
+    /// Writes everything in memory to files, from which the store can be opened again.
     Checkpoint,
 }
 
@@ -151,8 +151,8 @@ const DELETE: u8 = 0x13;
 
 pub(crate) const SCAN: u8 = 0x31;
 
-/// The request of a body that begins with this operation's number, a session's, a cleaner's or a
-/// collector's, and none if it is the body of no request.
+/// The request of a session, a cleaner or a collector whose body begins with this operation's number; `None` if the
+/// body is no request's.
 fn decode_client(operation: u8, fields: &[u8]) -> Option<Request<'_>>
     requires { (operation < 0x0A) ⊎ (operation ≡ 0x13) }
     ensures found { IfSome result (λ request. IsRequest (asked request) (operation ∷ fields.now)) }
@@ -202,8 +202,7 @@ fn decode_client(operation: u8, fields: &[u8]) -> Option<Request<'_>>
     }
 }
 
-/// The request of a body that begins with this operation's number, no client's, and none if it is the body of
-/// no request.
+/// The request of no client whose body begins with this operation's number; `None` if the body is no request's.
 fn decode_upkeep(operation: u8, fields: &[u8]) -> Option<Request<'_>>
     requires later { 0x0A ≤ operation }
     requires other { operation ≢ 0x13 }
@@ -240,7 +239,7 @@ fn decode_upkeep(operation: u8, fields: &[u8]) -> Option<Request<'_>>
     }
 }
 
-/// A raw read, from its fields, and none if they are not those of one.
+/// A raw read, from its fields; `None` if they are malformed.
 fn decode_raw(fields: &[u8]) -> Option<Request<'_>>
     ensures found { IfSome result (λ request. IsRequest (asked request) (0x11 ∷ fields.now)) }
     ensures malformed { IfNone result (IsMalformed (0x11 ∷ fields.now)) }
@@ -255,7 +254,7 @@ fn decode_raw(fields: &[u8]) -> Option<Request<'_>>
     })
 }
 
-/// A scan, from its fields, and none if they are not those of one.
+/// A scan, from its fields; `None` if they are malformed.
 fn decode_scan(fields: &[u8]) -> Option<Request<'_>>
     ensures found { IfSome result (λ request. IsRequest (asked request) (0x31 ∷ fields.now)) }
     ensures malformed { IfNone result (IsMalformed (0x31 ∷ fields.now)) }
@@ -269,7 +268,7 @@ fn decode_scan(fields: &[u8]) -> Option<Request<'_>>
     })
 }
 
-/// The request whose body this is, and none if it is the body of no request. Its fields are lent by the body.
+/// The request with this body; `None` if the body is no request's. Its fields are borrowed from the body.
 pub fn decode_request(body: &[u8]) -> Option<Request<'_>>
     ensures found { IfSome result (λ request. IsRequest (asked request) body.now) }
     ensures malformed { IfNone result (IsMalformed body.now) }
@@ -284,7 +283,7 @@ pub fn decode_request(body: &[u8]) -> Option<Request<'_>>
     }
 }
 
-/// How many bytes the body of a request has.
+/// The length of a request's body in bytes.
 #[tactic(auto, using(crate::proofs::Fields::lengths))]
 fn request_length(request: &Request<'_>) -> usize
     requires { BytesFit (asked request.now) }
@@ -316,7 +315,7 @@ fn request_length(request: &Request<'_>) -> usize
     }
 }
 
-/// Appends the number of an operation and one of eight bytes: a start, a cleaner or a collector.
+/// Appends the number of an operation and an eight-byte number: a start, a cleaner or a collector.
 #[tactic(auto, using(crate::proofs::Fields::lengths))]
 fn push_numbered(out: &mut Vec<u8>, operation: u8, n: u64)
     requires { vec_len out.old + 9 ≤ vec_capacity out.old }
@@ -328,7 +327,7 @@ fn push_numbered(out: &mut Vec<u8>, operation: u8, n: u64)
     push_u64(out, n);
 }
 
-/// Appends the number of an operation and that of a tablet.
+/// Appends the number of an operation and the number of a tablet.
 #[tactic(auto, using(crate::proofs::Fields::lengths))]
 fn push_tablet(out: &mut Vec<u8>, operation: u8, tablet: u32)
     requires { vec_len out.old + 5 ≤ vec_capacity out.old }
@@ -373,7 +372,7 @@ fn push_set(out: &mut Vec<u8>, start: Stamp, row: &[u8], family: &[u8], value: &
     push_field(out, value);
 }
 
-/// Appends the body of a clean-up's beginning.
+/// Appends the body of a cleaner's beginning.
 #[tactic(auto, using(crate::proofs::Fields::lengths))]
 fn push_clean_begin(out: &mut Vec<u8>, row: &[u8], family: &[u8])
     requires row { FitsField row.now }
@@ -464,7 +463,7 @@ fn push_client(request: &Request<'_>, out: &mut Vec<u8>)
     }
 }
 
-/// Appends the body of a request that is no client's.
+/// Appends the body of a request of no client.
 #[tactic(auto, using(crate::proofs::Fields::lengths))]
 fn push_upkeep(request: &Request<'_>, out: &mut Vec<u8>)
     requires upkeep { ¬ (IsOfClient (asked request.now)) }
@@ -524,14 +523,14 @@ fn push_request(request: &Request<'_>, out: &mut Vec<u8>)
     }
 }
 
-/// Appends the body of a request, none of whose rows, families and values has more than 4,294,967,295 bytes.
-/// Answers `NoMemory` if there is no room for it, and then `out` is as it was.
+/// Appends the body of a request. Its rows, families and values have at most 4,294,967,295 bytes each. Answers
+/// `NoMemory` if the buffer cannot grow, and then leaves `out` unchanged.
 pub fn encode_request(request: &Request<'_>, out: &mut Vec<u8>) -> Result<(), Refusal>
     requires { BytesFit (asked request.now) }
     ensures ok { OnOk result (out.new.items ≡ out.old.items ++ request_body (asked request.now)) }
     ensures err { OnErr result (out.new.items ≡ out.old.items) }
     ensures refusal { IfErr result (λ refusal. refusal ≡ Refusal.NoMemory) }
-    // If there is room it succeeds.
+    // It succeeds if the buffer already has room.
     ensures room { vec_len out.old
         + length (request_body (asked request.now)) ≤ vec_capacity out.old → IsOk result }
     ensures capacity { vec_capacity out.old ≤ vec_capacity out.new }

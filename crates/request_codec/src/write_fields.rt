@@ -1,4 +1,4 @@
-//! Writing fields at the end of a buffer that has room.
+//! Encoding of fields at the end of a buffer that has room.
 ghost use Rattle.std.specs.Prelude.{◌≡◌, ◌+◌, ◌≤◌, ◌<◌, ◌++◌, ◌∷◌, [], length, vec_len, vec_capacity};
 ghost use Rattle.request_codec.specs.Fields.{number, field, cell_fields, qualifier_number, FitsField};
 

@@ -1,4 +1,4 @@
-//! Writing the fields of scans at the end of a buffer that has room.
+//! Encoding of the fields of scans at the end of a buffer that has room.
 
 ghost use Rattle.std.specs.Prelude.{◌≡◌, ◌+◌, ◌≤◌, ◌<◌, ◌^◌, ◌++◌, ◌∷◌, [], length, map, option_map, vec_len, vec_capacity, IfSome};
 ghost use Rattle.std.specs.List.{AllByRecursion};
@@ -18,7 +18,7 @@ use crate::write_fields::{push_byte, push_cell, push_field, push_u32, push_u64};
 use cell_key::Stamp;
 use si_model::{ScanFound, ScanItem, ScanRange, ScanReach, ScanReply};
 
-/// How many bytes the row and the family of a cell take, which may be left out.
+/// The length of the row and the family of an optional cell in bytes.
 fn optional_cell_length(cell: Option<(&[u8], &[u8])>) -> usize
     requires { IfSome cell (λ p. FitsCell (cell_of p.0.now p.1.now)) }
     ensures length { result
@@ -31,7 +31,7 @@ fn optional_cell_length(cell: Option<(&[u8], &[u8])>) -> usize
     }
 }
 
-/// How many bytes a field of bytes takes, which may be left out.
+/// The length of an optional field of bytes.
 fn optional_length(bytes: Option<&[u8]>) -> usize
     requires { IfSome bytes (λ bytes. FitsField bytes.now) }
     ensures length { result
@@ -44,7 +44,7 @@ fn optional_length(bytes: Option<&[u8]>) -> usize
     }
 }
 
-/// How many bytes a range takes.
+/// The length of a range in bytes.
 pub(crate) fn range_length(range: ScanRange<'_>) -> usize
     requires { FitsRange (range_of range) }
     ensures length { result ≡ length (range_fields (range_of range.entry)) }
@@ -53,7 +53,7 @@ pub(crate) fn range_length(range: ScanRange<'_>) -> usize
     optional_cell_length(range.after) + optional_length(range.end) + optional_length(range.family)
 }
 
-/// Appends whether keys alone are asked for.
+/// Appends whether only keys are asked for.
 fn push_flag(out: &mut Vec<u8>, flag: bool)
     requires { vec_len out.old < vec_capacity out.old }
     ensures items { out.new.items ≡ out.old.items ++ flag_number flag ∷ [] }
@@ -63,7 +63,7 @@ fn push_flag(out: &mut Vec<u8>, flag: bool)
     push_byte(out, if flag { 1 } else { 0 });
 }
 
-/// Appends the row and the family of a cell, which may be left out.
+/// Appends the row and the family of a cell, which may be absent.
 #[tactic(auto, using(crate::proofs::Fields::lengths))]
 fn push_optional_cell(out: &mut Vec<u8>, cell: Option<(&[u8], &[u8])>)
     requires fits { IfSome cell (λ p. FitsCell (cell_of p.0.now p.1.now)) }
@@ -83,7 +83,7 @@ fn push_optional_cell(out: &mut Vec<u8>, cell: Option<(&[u8], &[u8])>)
     }
 }
 
-/// Appends a length and that many bytes, which may be left out.
+/// Appends a length and that many bytes, which may be absent.
 #[tactic(auto, using(crate::proofs::Fields::lengths))]
 fn push_optional(out: &mut Vec<u8>, bytes: Option<&[u8]>)
     requires fits { IfSome bytes (λ bytes. FitsField bytes.now) }
@@ -102,7 +102,7 @@ fn push_optional(out: &mut Vec<u8>, bytes: Option<&[u8]>)
     }
 }
 
-/// Appends the cells that are asked for.
+/// Appends the range of a scan.
 #[tactic(auto, using(crate::proofs::Fields::lengths), unfolding(crate::specs::Scans::range_fields))]
 fn push_range(out: &mut Vec<u8>, range: ScanRange<'_>)
     requires fits { FitsRange (range_of range) }
@@ -140,7 +140,7 @@ pub(crate) fn push_scan(
     push_u32(out, cells);
 }
 
-/// How many bytes what is said of a cell takes.
+/// The length of the result for a cell in bytes.
 fn said_length(found: &ScanFound) -> usize
     requires { found_length (found_item found.now) ≤ most_items }
     ensures { result ≡ 1 + found_length (found_item found.now) }
@@ -152,7 +152,7 @@ fn said_length(found: &ScanFound) -> usize
     }
 }
 
-/// How many bytes the items take.
+/// The length of the items in bytes.
 fn items_length(items: &[ScanItem]) -> usize
     requires { items_length (map item_of items.now) ≤ most_items }
     ensures { result ≡ items_length (map item_of items.now) }
@@ -168,7 +168,7 @@ fn items_length(items: &[ScanItem]) -> usize
     sum
 }
 
-/// How many bytes it takes to say how far a scan went.
+/// The length of the field for how far a scan went.
 #[tactic(auto, using(crate::proofs::Fields::lengths))]
 fn reach_length(reach: &ScanReach) -> usize
     ensures length { result ≡ length (reach_fields (reach_of reach.now)) }
@@ -180,7 +180,7 @@ fn reach_length(reach: &ScanReach) -> usize
     }
 }
 
-/// How many bytes the body of a scan's reply has.
+/// The length of the body of a scan's reply in bytes.
 pub(crate) fn scan_length(reply: &ScanReply) -> usize
     requires { ReplyBytesFit (scan_reply reply.now) }
     ensures { result ≡ length (reply_body (scan_reply reply.now)) }
@@ -188,7 +188,7 @@ pub(crate) fn scan_length(reply: &ScanReply) -> usize
     5 + reach_length(&reply.reach) + items_length(&reply.items)
 }
 
-/// Appends what is said of a cell.
+/// Appends the result for a cell.
 #[tactic(auto, using(crate::proofs::Fields::lengths))]
 fn push_said(out: &mut Vec<u8>, found: &ScanFound)
     requires few { found_length (found_item found.now) ≤ most_items }

@@ -1,4 +1,4 @@
--- What a call of one tablet leaves of the cluster.
+-- Effects on the cluster of a call of one tablet.
 use Rattle.std.proofs.Common.{◌≡◌, ◌∙◌, ◌⊎◌, ℕ, List, [], ◌++◌, set, slice_get, Option, Some, Result, Ok, Err, OnOk, refl, sym, ap, subst}
 use Rattle.cell_key.specs.Cells.{Cells, after_edits}
 use Rattle.cell_key.specs.declared.edits.Edit.{Edit}
@@ -31,11 +31,11 @@ module _ {F : Type 0} (contents : F → Option Contents) (state : ClusterState F
   abbrev with_tablet : ℕ → Tablet → ClusterState F
   with_tablet i u = record state { tablets = set state.tablets i u }
 
-  -- a tablet that is as it was
+  -- a tablet that is unchanged
   pub same_tablet : (i : ℕ) (t u : Tablet) → slice_get state.tablets i ≡ Some t → u ≡ t → OnlyReads shown state (with_tablet i u)
   same_tablet i t u there same = subst (λ (ts : List Tablet). OnlyReads shown state (record state { tablets = ts })) (sym (ap (set state.tablets i) same ∙ set_same state.tablets i t there)) reads_none
 
-  -- a read of a tablet that leaves it what it was, and what the files tell
+  -- a read that leaves the tablet and the files' contents the same
   pub tablet_read : (i : ℕ) (t u : Tablet) (files : F) → slice_get state.tablets i ≡ Some t → IsSameTablet (contents state.files) t u → contents files ≡ contents state.files
       → OnlyReads shown state (record state { files = files; tablets = set state.tablets i u })
   tablet_read i t u files there stays same = record {
@@ -47,7 +47,7 @@ module _ {F : Type 0} (contents : F → Option Contents) (state : ClusterState F
     stays = λ k. record { disk = same k; file_limit = state.file_limit; next_name = state.next_name; places = state.places; logged = [] };
   }
 
-  -- files that tell what they told
+  -- files with the same contents
   pub files_read : (files : F) → contents files ≡ contents state.files → OnlyReads shown state (record state { files = files })
   files_read files same = record {
     still = subst (λ (o : Option Contents). InOrder o state.next_name state.tablets) (sym same);
@@ -57,7 +57,7 @@ module _ {F : Type 0} (contents : F → Option Contents) (state : ClusterState F
     stays = λ k. record { disk = same k; file_limit = state.file_limit; next_name = state.next_name; places = state.places; logged = [] };
   }
 
-  -- one in which edits were made
+  -- a tablet in which edits were made
   pub applied_in : (i : ℕ) (u : Tablet) (row : List ℕ) (edits : List Edit) {A : Type 0} (r : Result A Refusal) → (IsOrdered state → IsOrdered (with_tablet i u)) → OnOk r (StaysReadable shown state (with_tablet i u))
       → (shown.readable state row → OnOk r (cells_shown (with_tablet i u) ≡ after_edits (cells_shown state) edits))
       → OnOk r ((r : List ℕ) (later : List Edit) → IsOver (with_tablet i u) r later → IsOver state r later ⊎ IsOver state r (edits ++ later))

@@ -1,4 +1,4 @@
--- What the calls that change one tablet leave of the cluster.
+-- Effects on the cluster of calls that change one tablet.
 use Rattle.std.proofs.Common.{◌≡◌, ◌≢◌, ◌≤◌, ◌<◌, ◌+◌, ◌-◌, ◌^◌, inl, inr, ℕ, zero, suc, Bool, true, false, cond, nat_eq, List, [], ◌∷◌, map, set, length, get_or, Option, Some, None, IfSome, Result, Ok, Err, OnOk, OnErr, slice_get, slice_index_or, refl, sym, ap, ◌∙◌, subst, arith}
 use Rattle.std.proofs.lemmas.Option.{same_Some}
 use Rattle.std.proofs.lemmas.List.{length-map, length-set}
@@ -30,7 +30,7 @@ numbered_at ts n i t e there =
     let number : n ≡ suc i = omega arith in
     ap (λ (k : ℕ). tablet_numbered k ts) number ∙ there
 
--- a tablet of a number that is there
+-- there is a tablet with the number
 pub record IsKnown (ts : List Tablet) (n : ℕ) : Type 0 where
   pub from : 1 ≤ n
   pub at : IsAt n ts (n - 1)
@@ -80,7 +80,7 @@ module _ (ts : List Tablet) (i : ℕ) (t u : Tablet) (there : slice_get ts i ≡
   pub numbered_old : (P : Tablet → Type 0) (n : ℕ) → n ≡ i + 1 → P t → Numbered P n ts
   numbered_old P n e such = record { tablet = t; numbered = numbered_at ts n i t e there; such = such }
 
-  -- a tablet that is as it was
+  -- a tablet that is unchanged
   same_parts : (range_of u ≡ range_of t) → (memory_of u ≡ memory_of t) → (files_of u ≡ files_of t) → parts_of u ≡ parts_of t
   same_parts range memory files = ap (λ r. (r, (memory_of u, files_of u))) range ∙ ap (λ m. (range_of t, (m, files_of u))) memory ∙ ap (λ f. (range_of t, (memory_of t, f))) files
 
@@ -114,12 +114,12 @@ matched_next limit old new before after places ts uses to matched = record {
   files = later_files before after (no_less old new before after uses) places matched.files;
 }
 
--- where the call was refused
+-- if the call was refused
 pub matched_unchanged : (limit : ℕ) (old new : Option Contents) (before after : ℕ) (places : List PlaceView) (ts : List Tablet) (i : ℕ) (t u : Tablet) → slice_get ts i ≡ Some t → UsesName old before new after → (before ≤ 2 ^ 63 → after ≤ 2 ^ 63) → IsUnchanged t u → IsMatched limit before places ts → IsMatched limit after places (set ts i u)
 matched_unchanged limit old new before after places ts i t u there uses to same matched =
     matched_set limit after places ts i t u there same.range (ap (λ (files : List SortedFile). map name_of files) same.files) (matched_next limit old new before after places ts uses to matched)
 
--- where the place lists the new names
+-- if the place lists the new names
 pub matched_listed : (limit : ℕ) (old new : Option Contents) (before after : ℕ) (places places' : List PlaceView) (ts : List Tablet) (n i : ℕ) (t u : Tablet) → n ≡ i + 1 → slice_get ts i ≡ Some t → UsesName old before new after → (before ≤ 2 ^ 63 → after ≤ 2 ^ 63) → range_of u ≡ range_of t → places' ≡ with_files n (names_of u) places → AreFiles after (names_of u) → IsMatched limit before places ts → IsMatched limit after places' (set ts i u)
 matched_listed limit old new before after places places' ts n i t u e there uses to range listed names matched =
     let number : n ≡ suc i = omega arith in
@@ -133,7 +133,7 @@ matched_listed limit old new before after places places' ts n i t u e there uses
       files = subst (λ (ps : List PlaceView). AllByRecursion (λ p. AreFiles after p.files) ps) (sym listed) (listed_files after n (names_of u) names places (later_files before after (no_less old new before after uses) places matched.files));
     }
 
--- other files leave the spots
+-- new files don't change the spots
 pub same_spots : (n : ℕ) (names : List ℕ) (places : List PlaceView) → map spot_of (with_files n names places) ≡ map spot_of places
 same_spots n names [] = refl
 same_spots n names (p ∷ ps) = ap (λ s. s ∷ map spot_of (with_files n names ps)) (one (nat_eq p.tablet n)) ∙ ap (λ ss. spot_of p ∷ ss) (same_spots n names ps)
@@ -142,9 +142,9 @@ same_spots n names (p ∷ ps) = ap (λ s. s ∷ map spot_of (with_files n names 
     one true = refl
     one false = refl
 
--- ---- what stands at the index
+-- ---- the tablet at the index
 
--- it is what was put there
+-- it is the tablet that was put there
 pub is_set : (ts : List Tablet) (i : ℕ) (t u x : Tablet) → slice_get ts i ≡ Some t → x ≡ slice_index_or (set ts i u) i x → x ≡ u
 is_set ts i t u x there is =
     let put = set_there ts i t u there in
@@ -166,7 +166,7 @@ kept_valued [] = tt
 kept_valued ((text, None) ∷ es) = kept_valued es
 kept_valued ((text, Some value) ∷ es) = (refl, kept_valued es)
 
--- what a major compaction leaves has no erasure
+-- a tablet has no erasures after a major compaction
 pub cleaned : (old : Option Contents) (before : ℕ) (t : Tablet) (new : Option Contents) (u : Tablet) → MakesLists old before t new u (λ memory lists. [] ∷ written false (map (seen (range_of t)) (memory ∷ lists)) ∷ []) → IfSome old (λ m. Holds m t → IsBelow before t → LacksErasures new u)
 cleaned None before t new u made = tt
 cleaned (Some m) before t None u made = λ holds below. absurd (made holds below)
@@ -174,7 +174,7 @@ cleaned (Some m) before t (Some n) u made = λ holds below.
     subst (λ (lists : List (List Entry)). AllByRecursion (λ es. AllByRecursion HasValue es) lists) (sym (made holds below))
     (tt, (kept_valued (merged (map (seen (range_of t)) (memory_of t ∷ map (listed m) (files_of t)))), tt))
 
--- what a call on one tablet is told of it, where the tablets are in order
+-- a call's fact about one tablet holds if the tablets are in order
 pub at_order : (P : Contents → Type 0) (o : Option Contents) (next : ℕ) (ts : List Tablet) (i : ℕ) (t : Tablet) → slice_get ts i ≡ Some t → InOrder o next ts → IfSome o (λ m. Holds m t → P m) → IfSome o P
 at_order P None next ts i t there order h = tt
 at_order P (Some m) next ts i t there order h =
@@ -193,7 +193,7 @@ pub if_err : {A : Type 0} (P : Type 0) (r : Result A Refusal) → P → OnErr r 
 if_err P (Ok x) h = tt
 if_err P (Err e) h = h
 
--- what is told of told files, where the tablets are in order
+-- a fact about known contents holds if the tablets are in order
 pub in_order : (P : Type 0) (o : Option Contents) (next : ℕ) (ts : List Tablet) (i : ℕ) (t : Tablet) → slice_get ts i ≡ Some t → InOrder o next ts → IfSome o (λ m. Holds m t → IsBelow next t → P) → P
 in_order P None next ts i t there order h = absurd (not_told order.contents order.on_disk)
   where

@@ -1,4 +1,4 @@
--- What a checkpoint keeps, and what its refusal tells.
+-- The state that a checkpoint keeps, and the faults that it answers.
 use Rattle.std.proofs.Common.{◌≡◌, ◌≢◌, ◌≤◌, ◌⊎◌, inl, inr, ℕ, List, [], ◌∷◌, Option, Result, Ok, Err, IfErr, IsErrOf, refl, sym, ap, ◌∙◌, subst, arith}
 use Rattle.std.specs.Result.{IsErrAnd}
 use Rattle.cell_key.specs.Faults.{HasRisen}
@@ -20,14 +20,14 @@ use Rattle.row_atomic.proofs.Flushes.{keeps_on, keeps_start}
 use Rattle.row_atomic.proofs.RestedClusters.{still_told}
 use Rattle.row_atomic.proofs.RootFlushes.{refused_same}
 
--- what is kept, and what is told
+-- the state is kept, and faults are answered
 pub record Tells {F : Type 0} (contents : F → Option Contents) (faults : F → ℕ) (result : Outcome) (old new : ClusterState F) : Type 0 where
   pub keeps : KeepsShown contents faults old new
   pub telling : TellsFaults faults result old new
   pub undamaged : Holds contents old → result ≢ outcome.Refused refused.Damaged
 
 module _ {F : Type 0} (contents : F → Option Contents) (faults : F → ℕ) where
-  -- a compaction that was done, and one that was refused
+  -- an accepted compaction, and a refused one
   one_done : (old new : ClusterState F) (n : ℕ) → IsOutcome contents faults (command.Minor n) outcome.Done old new → Tells contents faults outcome.Done old new
   one_done old new n is = record {
     keeps = record { kept = λ holds. (is.still holds, is.answers holds); spots = is.files.1; limit = is.files.0.limit; later = is.faults.later };
@@ -48,7 +48,7 @@ module _ {F : Type 0} (contents : F → Option Contents) (faults : F → ℕ) wh
   not_device : outcome.Done ≢ outcome.Refused refused.Device
   not_device same = cc
 
-  -- what was done first tells no fault
+  -- the accepted first part has no fault
   pub both_tell : (old mid new : ClusterState F) (result : Outcome) → Tells contents faults outcome.Done old mid → Tells contents faults result mid new → Tells contents faults result old new
   both_tell old mid new result first then =
       let same : faults mid.files ≡ faults old.files = first.telling.told not_device in
@@ -96,7 +96,7 @@ module _ {F : Type 0} (contents : F → Option Contents) (faults : F → ℕ) wh
 
 -- ---- refusals
 
--- a tablet that is known is never refused as unknown
+-- a compaction of an existing tablet is never refused as unknown
 pub known_refusal : (e : Refusal) → IsNumberedRefusal compaction.minor e → e ≢ refused.UnknownTablet → IsRefusalOf compaction.minor e
 known_refusal refused.UnknownTablet is known = absurd (known refl)
 known_refusal e is known = is

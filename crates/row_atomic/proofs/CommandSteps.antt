@@ -1,4 +1,4 @@
--- Answers to one command more.
+-- Answers to one more command.
 use Rattle.std.proofs.Common.{◌≡◌, ℕ, Option, Result, Ok, Err, OnOk, IfErr, List, [], ◌∷◌, ◌++◌, refl, sym, ap, ◌∙◌, subst, append-nil, length, arith}
 use Rattle.file_store.specs.Store.{Contents}
 use Rattle.cell_key.specs.declared.refusals.Refusal.{Refusal}
@@ -11,7 +11,7 @@ one_more : {A : Type 0} (xs : List A) (x : A) (ys : List A) → xs ++ x ∷ ys �
 one_more [] x ys = refl
 one_more (z ∷ xs) x ys = ap (λ (zs : List _). z ∷ zs) (one_more xs x ys)
 
--- what answers the commands that are left completes the answers to all
+-- answers to the remaining commands complete the answers to all
 abbrev pub Completes : {F : Type 0} → (F → Option Contents) → (F → ℕ) → ClusterState F → List Command → List Outcome → ClusterState F → List Command → Type 0
 Completes {F} contents faults start commands done now left = (outcomes : List Outcome) (state : ClusterState F) → AnswersAll contents faults now left outcomes state → AnswersAll contents faults start commands (done ++ outcomes) state
 
@@ -35,12 +35,12 @@ pub none_left : {A : Type 0} (xs : List A) → length xs ≡ 0 → xs ≡ []
 none_left [] e = refl
 none_left (x ∷ xs) e = absurd (omega (arith, e))
 
--- a refusal that is not answered
+-- a refusal that the call does not answer
 pub not_answered : {A : Type 0} (P : Refusal → Type 0) (r : Result A Refusal) (e f : Refusal) → IfErr r P → r ≡ Err e → e ≡ f → P f
 not_answered P (Ok x) e f answers is same = cc
 not_answered P (Err d) e f answers is same = subst P (let i = is in cc) answers
 
--- what is so where a call is done
+-- a fact about an accepted call
 pub when_ok : {A : Type 0} {P : Type 0} (r : Result A Refusal) (x : A) → OnOk r P → r ≡ Ok x → P
 when_ok (Ok y) x p is = p
 when_ok (Err e) x p is = cc

@@ -1,4 +1,4 @@
--- What an accepted compaction tells of the limits.
+-- Limits that an accepted compaction keeps, and the room in memory.
 use Rattle.std.proofs.Common.{◌≡◌, ◌≢◌, ◌≤◌, ◌<◌, ◌^◌, ◌+◌, ℕ, Bool, true, cond, List, [], ◌∷◌, length, Option, Some, Result, Ok, Err, IfErr, IsErrOf, slice_get, set, ◌++◌, ◌⊎◌, inl, inr, zero, suc, refl, sym, ap, ◌∙◌, subst, arith}
 use Rattle.std.specs.List.{AllByRecursion}
 use Rattle.cell_key.specs.Cells.{IsEditOf}
@@ -46,7 +46,7 @@ has_room t room full =
     let many = full.files in
     absurd (omega arith)
 
--- a full tablet is told nothing that comes of writing
+-- a compaction of a full tablet is never refused by the writing of a file
 pub not_full_written : {A : Type 0} (r : Result A Refusal) (t : Tablet) → (memory_of t ≢ [] → 64 ≤ length (names_of t) → IsErrOf r TooManyFiles) → IfErr r (λ refusal. ComesOfWriting refusal → ¬ IsFullTablet t)
 not_full_written (Ok x) t told = tt
 not_full_written (Err e) t told = λ of full. subst ComesOfWriting (which (told full.memory full.files)) of
@@ -66,7 +66,7 @@ none_written t next left most = go (memory_of t) left
         let less = h (not_empty e es) in
         absurd (omega arith)
 
--- a number below a limit isn't at the limit, and the other way round
+-- a number is below a limit if and only if the limit is not at or below it
 pub not_least : (limit next : ℕ) → next < limit → limit ≤ next → ⊥
 not_least limit next less most = omega arith
 
@@ -86,24 +86,24 @@ module _ (ts : List Tablet) (i : ℕ) (t : Tablet) (there : slice_get ts i ≡ S
       same : (o : Option Tablet) (v : Tablet) → o ≡ Some v → o ≡ Some t → v ≡ t
       same o v f g = cc
 
--- the tablet of the place that holds a row
+-- a property of the tablet that holds a row
 pub holder_not : (P : Tablet → Type 0) (row : List ℕ) (places : List PlaceView) (ts : List Tablet) (p : PlaceView) → IsHolder row places p → ¬ Numbered P p.tablet ts → ¬ OfHolder P row places ts
 holder_not P row places ts p holder not such = not (subst (λ (q : PlaceView). Numbered P q.tablet ts) (one_holder row places such.place p such.holder holder) such.tablet)
 
 pub holder_that : (P : Tablet → Type 0) (row : List ℕ) (places : List PlaceView) (ts : List Tablet) (p : PlaceView) → IsHolder row places p → OfHolder P row places ts → Numbered P p.tablet ts
 holder_that P row places ts p holder such = subst (λ (q : PlaceView). Numbered P q.tablet ts) (one_holder row places such.place p such.holder holder) such.tablet
 
--- a name that was used before nothing was written
+-- a call that used a name, followed by one that wrote nothing
 pub still_used : (old mid new : Option Contents) (before between after : ℕ) → after ≡ between → new ≡ mid → UsesName old before mid between → UsesName old before new after
 still_used old mid new before between after same_name same_files used =
     subst (λ (n : ℕ). UsesName old before new n) (sym same_name) (subst (λ (o : Option Contents). UsesName old before o between) (sym same_files) used)
 
--- ---- what is kept in memory
+-- ---- room in memory
 
 is_that : (x y : Tablet) → Some x ≡ Some y → x ≡ y
 is_that x y e = cc
 
--- a row's edits are all those of a range that has the row
+-- all of a row's edits are in a range that has the row
 kept_first : (range : RowRange) (row : List ℕ) (e : Edit) (es : List Edit) → has_row range row ≡ true → IsEditOf row e → edits_in range (e ∷ es) ≡ e ∷ edits_in range es
 kept_first range row e es has under = ap (λ (b : Bool). cond b (e ∷ edits_in range es) (edits_in range es)) (ap (λ (r : List ℕ). has_row range r) under.under ∙ has)
 
@@ -129,7 +129,7 @@ with_both : (es : List Entry) (xs ys : List Edit) → with_edits (with_edits es 
 with_both es [] ys = refl
 with_both es (x ∷ xs) ys = with_both (with_edit es x) xs ys
 
--- what stands where one tablet was set
+-- the tablets after one was replaced
 where_set : (ts : List Tablet) (j i : ℕ) (t u v : Tablet) → slice_get ts i ≡ Some t → slice_get (set ts i u) j ≡ Some v → (slice_get ts j ≡ Some v) ⊎ ((slice_get ts j ≡ Some t) × (v ≡ u))
 where_set [] j i t u v there e = inl e
 where_set (x ∷ xs) zero zero t u v there e = inr (there, sym (is_that u v e))
@@ -141,7 +141,7 @@ numbered_set : (ts : List Tablet) (n i : ℕ) (t u v : Tablet) → slice_get ts 
 numbered_set ts zero i t u v there e = inl e
 numbered_set ts (suc j) i t u v there e = where_set ts j i t u v there e
 
--- After a row's edits its tablet has the room that it had, less theirs, and all others what they had.
+-- After edits of a row its tablet has the room that it had, less theirs, and all other tablets the room that they had.
 pub room_after : (places : List PlaceView) (ts : List Tablet) (at : List ℕ) (i : ℕ) (t u : Tablet) (edits : List Edit) → slice_get ts i ≡ Some t → has_row (range_of t) at ≡ true → AllByRecursion (IsEditOf at) edits → range_of u ≡ range_of t → memory_of u ≡ with_edits (memory_of t) edits
     → (row : List ℕ) (later : List Edit) → Overfills places (set ts i u) row later → Overfills places ts row later ⊎ Overfills places ts row (edits ++ later)
 room_after places ts at i t u edits there has under range memory row later full = go (numbered_set ts full.place.tablet i t u full.tablet there full.numbered)

@@ -1,4 +1,4 @@
--- Where a tablet is cut, its two parts are placed as the table's two parts.
+-- If a tablet is cut, its two parts are placed like the table's two parts.
 use Rattle.std.proofs.Common.{◌≡◌, ◌≢◌, ℕ, zero, suc, List, [], ◌∷◌, ◌++◌, set, length, Option, Some, None, slice_get, refl, sym, ap, ◌∙◌, subst}
 use Rattle.std.proofs.lemmas.Option.{same_Some}
 use Rattle.std.specs.List.{AllByRecursion}
@@ -30,7 +30,7 @@ pushed_there [] i x y = refl
 pushed_there (z ∷ xs) zero x y = at_end xs y
 pushed_there (z ∷ xs) (suc i) x y = pushed_there xs i x y
 
--- the holder of a row is the first place whose end isn't below the row
+-- the holder of a row is the first place whose end is not below the row
 pub holder_first : (row : List ℕ) (p h : PlaceView) (ps before after : List PlaceView) → ¬ EndsBefore p.end row → p ∷ ps ≡ before ++ h ∷ after → AllByRecursion (λ q. EndsBefore q.end row) before → h ≡ p
 holder_first row p h ps [] after not parts past = cc
 holder_first row p h ps (q ∷ before) after not parts past =

@@ -1,4 +1,4 @@
--- Tablets that are out of order, and what was out of order before a flush.
+-- Tablets that are out of order, before and after a flush.
 use Rattle.std.proofs.Common.{◌≡◌, ◌<◌, ◌≤◌, ℕ, zero, suc, List, Option, Some, None, subst}
 use Rattle.file_store.specs.Store.{Contents}
 use Rattle.metadata_table.specs.Places.{PlaceView}
@@ -20,11 +20,11 @@ none_out o next zero ts order out = not_numbered out.tablet out.numbered
     not_numbered t e = cc
 none_out o next (suc i) ts order out = undamaged o next ts order i out.tablet (Unit {0}) out.numbered (λ _. out.such) tt
 
--- the names of a tablet's files come before the next one
+-- the names of a tablet's files are below the next one
 pub named_below : (next : ℕ) (t : Tablet) → AreFiles next (names_of t) → IsBelow next t
 named_below next t files = each_map (λ (name : ℕ). (1 ≤ name) × (name < next)) (λ (name : ℕ). name < next) (λ name h. h.1) (names_of t) files.named
 
--- what a call keeps in order stays so
+-- a call that keeps a tablet in order never puts it out of order
 pub stays_ordered : (old new : Option Contents) (before after : ℕ) (t u : Tablet) → Keeps old before t new after u → IsBelow before t → StaysInOrder old new t u
 stays_ordered None new before after t u keeps below out = tt
 stays_ordered (Some m) None before after t u keeps below out = λ holds. keeps holds below
@@ -38,7 +38,7 @@ out_before old new n ts us made out = record {
   such = made.made (subst (IsOutOfOrder new) (same_numbered (tablet_numbered n us) out.tablet made.is out.numbered made.is_numbered) out.such);
 }
 
--- so was that of the place that holds a row, which lists other files since
+-- so was the tablet that holds a row, whose place lists other files since
 pub holder_out_before : (old new : Option Contents) (row : List ℕ) (places places' : List PlaceView) (ts us : List Tablet) (p : PlaceView) → IsHolder row places p → Numbered (λ t. places' ≡ with_files p.tablet (names_of t) places) p.tablet us
     → Remakes (StaysInOrder old new) p.tablet ts us → OfHolder (IsOutOfOrder new) row places' us → OfHolder (IsOutOfOrder old) row places ts
 holder_out_before old new row places places' ts us p holder listed made out = record {

@@ -1,4 +1,4 @@
--- What the emptying of caches leaves: each tablet is what it was.
+-- Emptying the caches leaves each tablet the same.
 use Rattle.std.proofs.Common.{◌≡◌, ◌<◌, ℕ, zero, suc, List, [], ◌∷◌, map, set, get_or, length, slice_get, Option, Some, None, refl, sym, ap, ◌∙◌, subst, arith}
 use Rattle.std.specs.List.{AllByRecursion, AllZip}
 use Rattle.cell_key.specs.Cells.{Cells}
@@ -18,7 +18,7 @@ use Rattle.row_atomic.specs.declared.commands.Command.TheVariants as command
 use Rattle.row_atomic.specs.declared.commands.Outcome.TheVariants as outcome
 use Rattle.row_atomic.proofs.Shares.{cells_told}
 
--- ---- tablets one after another
+-- ---- lists of tablets
 
 same_itself : (o : Option Contents) (t : Tablet) → IsSameTablet o t t
 same_itself None t = record { range = refl; memory = refl; names = refl; lists = λ m. refl; still = tt }
@@ -52,7 +52,7 @@ module _ (o : Option Contents) where
   below_still next (t ∷ ts) [] all each = absurd all
   below_still next (t ∷ ts) (u ∷ us) all each = (subst (λ (names : List ℕ). AllByRecursion (λ name. name < next) names) (sym all.0.names) each.0, below_still next ts us all.1 each.1)
 
-  -- the tablet that one was
+  -- the tablet before
   record Was (ts : List Tablet) (i : ℕ) (u : Tablet) : Type 0 where
     tablet : Tablet
     there : slice_get ts i ≡ Some tablet
@@ -67,7 +67,7 @@ module _ (o : Option Contents) where
       let rest = was_there ts us all.1 i u is in
       record { tablet = rest.tablet; there = rest.there; same = rest.same }
 
-  -- and the tablet that it is
+  -- the tablet after
   record Is (us : List Tablet) (i : ℕ) (t : Tablet) : Type 0 where
     tablet : Tablet
     there : slice_get us i ≡ Some tablet
@@ -131,7 +131,7 @@ module _ (m : Contents) where
       ap (λ (range : RowRange). cells_of (merged (map (seen range) (lists_of m u)))) same.range
       ∙ ap (λ (lists : List (List Entry)). cells_of (merged (map (seen (range_of t)) lists))) (same.lists m)
 
-  -- if they were open they are, with the same cells
+  -- if the tablets were open they still are, with the same cells
   record AreOpen (ts us : List Tablet) : Type 0 where
     each : AllByRecursion (HoldsAt m) us
     cells : map (cells_at m) us ≡ map (cells_at m) ts

@@ -51,7 +51,7 @@ distinct_with next names named distinct zero (suc j) d less below = not_next nex
 distinct_with next names named distinct (suc i) zero d less below = absurd (omega arith)
 distinct_with next names named distinct (suc i) (suc j) d less below = distinct i j d (omega arith) (omega arith)
 
--- the next name comes to some of the names
+-- the next name added to some names
 with_next : (next : ℕ) (names : List ℕ) → 1 ≤ next → length names < 64 → Distinct names → Named next names → AreFiles (next + 1) (next ∷ names)
 with_next next names from few distinct named = record {
   few = omega arith;
@@ -74,7 +74,7 @@ fewer zero names = omega arith
 fewer (suc count) [] = omega arith
 fewer (suc count) (name ∷ names) = let less = fewer count names in omega arith
 
--- if one is taken away, another one may come
+-- if two or more of the names are dropped, there is room for another
 few_from : (count : ℕ) (names : List ℕ) → 2 ≤ count → length names ≤ 64 → length (drop count names) < 64
 few_from zero names two few = absurd (omega arith)
 few_from (suc count) [] two few = omega arith
@@ -92,7 +92,7 @@ flushed_files before after (e ∷ es) names from more room used files =
     less : {m : ℕ} → ¬ (64 ≤ m) → m < 64
     less not = omega arith
 
--- a compaction leaves names as there may be
+-- after a compaction a tablet's names are still valid
 pub compacted_files : (compaction : Compaction) (t u : Tablet) (before after : ℕ) → IsMade compaction before t u → ¬ MeetsFull compaction t → ¬ MeetsBadCount compaction t
     → (¬ WritesNone compaction t → after ≡ before + 1) → 1 ≤ before → before ≤ after → AreFiles before (names_of t) → AreFiles after (names_of u)
 compacted_files Minor t u before after made room counted used from more files =

@@ -1,4 +1,4 @@
--- Compactions of the tablets whose memtables are full, one after the other.
+-- Compactions of the tablets with full memtables, in order.
 use Rattle.std.proofs.Common.{◌≡◌, ◌≢◌, ◌<◌, ◌≤◌, ◌+◌, ℕ, zero, suc, Bool, true, false, List, [], ◌∷◌, length, map, filter, drop, Option, Some, None, Result, Ok, Err, cond, refl, sym, ap, ◌∙◌, subst, arith, slice_get, slice_index_or, add-one}
 use Rattle.std.proofs.lemmas.List.{drop_all, length-map}
 use Rattle.std.specs.Bool.{⊤}
@@ -73,7 +73,7 @@ place_there places i d h = (view_of (slice_index_or places i d), (i, within plac
     at (q ∷ ps) zero v h e = e
     at (q ∷ ps) (suc i) v h e = at ps i v (omega arith) e
 
--- the number there comes first of those from there on
+-- the number at an index is the first of those from the index on
 pub from_there : (ns : List ℕ) (i n : ℕ) → slice_get ns i ≡ Some n → drop i ns ≡ n ∷ drop (i + 1) ns
 from_there ns i n there = rw add-one (go ns i there)
   where
@@ -85,9 +85,9 @@ from_there ns i n there = rw add-one (go ns i there)
 pub none_from : (places : List PlaceView) (i : ℕ) → length places ≤ i → drop i (numbers_of places) ≡ []
 none_from places i h = drop_all i (numbers_of places) (let same = length-map places (λ (p : PlaceView). p.tablet) in omega arith)
 
--- ---- memtables that stay
+-- ---- unchanged memtables
 
--- what is told of a tablet by its parts
+-- whether a tablet's memtable is full, by the tablet's parts
 abbrev full_by : FlushLimits → Option (RowRange × (List Entry × List SortedFile)) → Bool
 full_by limits None = false
 full_by limits (Some parts) = reaches limits (length parts.1.0) (bytes_of parts.1.0)
@@ -109,7 +109,7 @@ by_parts limits ts (suc i) = by_index limits ts i
 abbrev has_at : {F : Type 0} → FlushLimits → ClusterState F → ℕ → Bool
 has_at limits state n = has_full limits (tablet_numbered n state.tablets)
 
--- as to that these tablets are as at the start
+-- for these tablets that is the same as at the start
 abbrev pub AreStill : {F : Type 0} → FlushLimits → ClusterState F → ClusterState F → List ℕ → Type 0
 AreStill limits start now ns = AllByRecursion (λ n. has_at limits now n ≡ has_at limits start n) ns
 
@@ -117,13 +117,13 @@ pub all_still : {F : Type 0} (limits : FlushLimits) (start : ClusterState F) (ns
 all_still limits start [] = tt
 all_still limits start (n ∷ ns) = (refl, all_still limits start ns)
 
--- ---- what is kept
+-- ---- the state that is kept
 
 module _ {F : Type 0} (contents : F → Option Contents) (faults : F → ℕ) where
   pub keeps_start : (start : ClusterState F) → KeepsShown contents faults start start
   keeps_start start = record { kept = λ holds. (holds, refl); spots = refl; limit = refl; later = omega arith }
 
-  -- what is kept by one and then by another is kept by both
+  -- the state kept by two calls in sequence
   pub keeps_on : (start now after : ClusterState F) → KeepsShown contents faults start now → KeepsShown contents faults now after → KeepsShown contents faults start after
   keeps_on start now after keeps more = record {
     kept = λ holds. let before = keeps.kept holds in let then = more.kept before.0 in (then.0, then.1 ∙ before.1);
@@ -136,7 +136,7 @@ module _ {F : Type 0} (contents : F → Option Contents) (faults : F → ℕ) (l
   abbrev has : ClusterState F → ℕ → Bool
   has state n = has_at limits state n
 
-  -- what compacts those of these tablets completes the whole
+  -- outcomes for the full ones of these tablets complete the outcomes for all
   abbrev pub Completes : ClusterState F → ClusterState F → List ℕ → Type 0
   Completes start now ns = (outcomes : List Outcome) (state : ClusterState F) → AnswersAll contents faults now (map command.Minor (filter (has start) ns)) outcomes state → CompactsFull contents faults limits start state
 
@@ -178,7 +178,7 @@ module _ {F : Type 0} (contents : F → Option Contents) (faults : F → ℕ) (l
         shown (Ok _) is holds = is.answers holds
         shown (Err refusal) is holds = (is.answers holds).1
 
--- an index within the places is within those that are kept
+-- an index within the first places is within the later ones
 pub within_kept : {F : Type 0} (contents : F → Option Contents) (faults : F → ℕ) (start now : ClusterState F) (i : ℕ) → KeepsShown contents faults start now → i < length start.places → i < length now.places
 within_kept contents faults start now i keeps within =
     let olds = length-map start.places spot_of in
@@ -186,9 +186,9 @@ within_kept contents faults start now i keeps within =
     let same = ap (λ (spots : List Spot). length spots) keeps.spots in
     omega arith
 
--- ---- one place after the other
+-- ---- the loop over the places
 
--- The tablets before the index are done, and those from there on are as at the start.
+-- The tablets before the index are done, and the others are as at the start.
 pub record IsReached {F : Type 0} (contents : F → Option Contents) (faults : F → ℕ) (limits : FlushLimits) (start now : ClusterState F) (i : ℕ) : Type 0 where
   pub table : IsTable start.places
   pub keeps : KeepsShown contents faults start now
@@ -211,7 +211,7 @@ module _ {F : Type 0} (contents : F → Option Contents) (faults : F → ℕ) (l
     pub at_end : length start.places ≤ i → CompactsFull contents faults limits start now
     at_end past = all_done contents faults limits start now (drop i (numbers_of start.places)) (none_from start.places i past) reached.completes
 
-    -- the tablet whose number stands there
+    -- the tablet with the number at the index
     module _ (n : ℕ) (there : slice_get (numbers_of now.places) i ≡ Some n) where
       first : drop i (numbers_of start.places) ≡ n ∷ drop (i + 1) (numbers_of start.places)
       first = from_there (numbers_of start.places) i n (ap (λ (ns : List ℕ). slice_get ns i) (sym (same_numbers start.places now.places reached.keeps.spots)) ∙ there)

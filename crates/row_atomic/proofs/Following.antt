@@ -1,4 +1,4 @@
--- What is written down follows what is shown.
+-- The journal leads to the cells shown.
 use Rattle.std.proofs.Common.{◌≡◌, ◌+◌, ◌∙◌, inl, inr, ℕ, List, [], ◌∷◌, ◌++◌, length, Option, None, Some, IsSome, refl, sym, ap, subst, arith}
 use Rattle.std.proofs.lemmas.List.{append_assoc, length-append}
 use Rattle.std.proofs.lemmas.List.Concat.{flat_map-append}
@@ -27,13 +27,13 @@ use Rattle.row_atomic.specs.declared.commands.Outcome.TheVariants as outcome
 use Rattle.row_atomic.specs.declared.recorded.Recorded.{Recorded}
 use Rattle.row_atomic.proofs.JournalRoom.{empty_fits}
 
--- ---- what a journal says of edits
+-- ---- the edits of a journal
 
 all_both : (P : Edit → Type 0) (xs ys : List Edit) → AllByRecursion P xs → AllByRecursion P ys → AllByRecursion P (xs ++ ys)
 all_both P [] ys first then = then
 all_both P (x ∷ xs) ys first then = (first.0, all_both P xs ys first.1 then)
 
--- such edits as are written down are such others
+-- a property of the journal's edits implies another
 pub each_such : {Such Other : List Edit → Type 0} → ((edits : List Edit) → Such edits → Other edits) → (journal : Option JournalView) → IfWritten Such journal → IfWritten Other journal
 each_such goes None written = tt
 each_such goes (Some journal) written = record {
@@ -46,7 +46,7 @@ each_such goes (Some journal) written = record {
   such = goes (written.logged ++ written.waiting) written.such;
 }
 
--- edits that are written down as well
+-- more edits in the journal
 pub more_written : {Such Other : List Edit → Type 0} (more : List Edit) → AllByRecursion IsStoredEdit more → ((edits : List Edit) → Such edits → Other (edits ++ more)) → (journal : JournalView) → HasWritten Such journal → HasWritten Other (with_waiting more journal)
 more_written {Such} {Other} more stored goes journal written =
     let behind : (written.logged ++ written.waiting) ++ more ≡ written.logged ++ (written.waiting ++ more) = append_assoc written.logged written.waiting more in
@@ -61,7 +61,7 @@ more_written {Such} {Other} more stored goes journal written =
       such = subst Other behind (goes (written.logged ++ written.waiting) written.such);
     }
 
--- the journal's room after edits is that before them
+-- the room of a journal with edits added
 pub less_room : (journal : JournalView) (edits later : List Edit) → ¬ HasRoomFor (with_waiting edits journal) later → ¬ HasRoomFor journal (edits ++ later)
 less_room journal edits later none room =
     let e = room.edits in
@@ -90,7 +90,7 @@ more_room journal edits later none room =
 -- ---- calls of rows
 
 module _ {F : Type 0} (contents : F → Option Contents) (stored : RootIsStored contents) where
-  -- a call that leaves what lies below, and takes the cells where more edits take them
+  -- a call that keeps the state below, and changes the cells as the further edits do
   tracks_on : (old new : ClusterState F) → storage_of contents new ≡ storage_of contents old → (before after : List Edit) → ((base : Cells) → after_edits base before ≡ cells_shown contents old → after_edits base after ≡ cells_shown contents new)
       → Tracks contents old before → Tracks contents new after
   tracks_on old new same before after goes tracks = record {
@@ -116,7 +116,7 @@ module _ {F : Type 0} (contents : F → Option Contents) (stored : RootIsStored 
     stays = λ i. record (reads.stays i) { logged = logged_of (same i) };
   }
 
-  -- where no edits are recorded
+  -- without a journal
   pub applies_plain : (row : List ℕ) (edits : List Edit) (old new : Recorded F) → old.journal ≡ None → new.journal ≡ None → Applies (seen_of contents) row edits old.cluster new.cluster → Applies (seen_recorded contents) row edits old new
   applies_plain row edits old new none still_none applies = record {
     still = λ held. (applies.still held.0, subst (λ (journal : Option JournalView). Follows contents new.cluster journal) (sym still_none) tt);
@@ -166,7 +166,7 @@ module _ {F : Type 0} (contents : F → Option Contents) where
     | inr after ↦ more_room journal edits later (subst (λ (o : Option JournalView). OverfillsJournal o (edits ++ later)) was (fits r (edits ++ later) after))
   ])
 
--- ---- what a cluster does beside
+-- ---- other calls of a cluster
 
 -- no command of upkeep changes a cell
 unchanged : (old new : Cells) (request : Command) (result : Outcome) → IsOfUpkeep request → AnswersFromCells old request result new → new ≡ old
@@ -199,7 +199,7 @@ module _ {F : Type 0} (contents : F → Option Contents) (faults : F → ℕ) wh
         lists = keeps.lists;
       }
 
-  -- from a new root all edits lead to what is shown
+  -- from a new root the journal's edits lead to the cells shown
   rests_all : Replays → (top floor : ℕ) (old new : ClusterState F) → Rests contents top floor old new → Holds contents old → cells_shown contents new ≡ cells_shown contents old → (edits : List Edit) → Tracks contents old edits → TracksListed contents new edits
   rests_all replays top floor old new rests holds same edits tracks = record {
     tracks = record {

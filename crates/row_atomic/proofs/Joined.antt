@@ -1,4 +1,4 @@
--- What joined cell maps have at a key.
+-- Joined cell maps at a key.
 use Rattle.std.proofs.Common.{◌≡◌, ◌≢◌, ℕ, zero, suc, Bool, true, false, cond, List, [], ◌∷◌, ◌++◌, map, set, flat_map, Option, Some, None, IsSome, slice_get, refl, sym, ap, ◌∙◌, subst, arith}
 use Rattle.std.specs.Ordering.{eq_by_cmp}
 use Rattle.std.specs.FinMap.{entries, get, get-entries, get-empty, get-from_entries, get-insert, get-remove}
@@ -66,7 +66,7 @@ none_some None e h = cc
 none_some (Some x) e h = cc
 
 module _ {A : Type 0} (f : A → Cells) (q : CellKey) where
-  -- if no map has the key, the joined one hasn't
+  -- if no map has the key, the joined one does not either
   pub joined_nowhere : (ts : List A) → ((j : ℕ) (u : A) → slice_get ts j ≡ Some u → get (f u) q ≡ None) → get (joined (map f ts)) q ≡ None
   joined_nowhere [] h = get_joined_none q
   joined_nowhere (t ∷ ts) h =
@@ -74,7 +74,7 @@ module _ {A : Type 0} (f : A → Cells) (q : CellKey) where
       ∙ ap (λ (o : Option (List ℕ)). or_else o (get (joined (map f ts)) q)) (h zero t refl)
       ∙ joined_nowhere ts (λ j u e. h (suc j) u e)
 
-  -- if one map alone has the key, the joined one has what that has
+  -- if only one map has the key, the joined one has its value
   pub joined_at : (ts : List A) (i : ℕ) (t : A) → slice_get ts i ≡ Some t → ((j : ℕ) (u : A) → j ≢ i → slice_get ts j ≡ Some u → get (f u) q ≡ None) → get (joined (map f ts)) q ≡ get (f t) q
   joined_at [] i t e h = cc
   joined_at (s ∷ ts) zero t e h =
@@ -87,7 +87,7 @@ module _ {A : Type 0} (f : A → Cells) (q : CellKey) where
       ∙ ap (λ (o : Option (List ℕ)). or_else o (get (joined (map f ts)) q)) (h zero s (λ same. suc_not_zero i (sym same)) refl)
       ∙ joined_at ts i t e (λ j u other there. h (suc j) u (λ same. other (suc_same j i same)) there)
 
-  -- the joined map has each key of each
+  -- the joined map has every key of each map
   pub joined_some : (ts : List A) (i : ℕ) (t : A) → slice_get ts i ≡ Some t → IsSome (get (f t) q) → IsSome (get (joined (map f ts)) q)
   joined_some [] i t e h = cc
   joined_some (s ∷ ts) zero t e h =
@@ -97,7 +97,7 @@ module _ {A : Type 0} (f : A → Cells) (q : CellKey) where
       subst (λ (o : Option (List ℕ)). IsSome o) (sym (get_joined (f s) (map f ts) q))
       (or_later (get (f s) q) (get (joined (map f ts)) q) (joined_some ts i t e h))
 
-  -- and no other
+  -- and no other key
   pub joined_from : (ts : List A) → IsSome (get (joined (map f ts)) q) → (i : ℕ) × ((t : A) × ((slice_get ts i ≡ Some t) × IsSome (get (f t) q)))
   joined_from [] h = absurd (none_some (get (joined []) q) (get_joined_none q) h)
   joined_from (s ∷ ts) h = go (get (f s) q) refl (λ some. joined_from ts some)
@@ -109,7 +109,7 @@ module _ {A : Type 0} (f : A → Cells) (q : CellKey) where
           (suc later.0, later.1)
       go (Some value) e rest = (zero, (s, (refl, subst (λ (o : Option (List ℕ)). IsSome o) (sym e) refl)))
 
-  -- one map is replaced by another that has the same at the key
+  -- replacing one map by another with the same value at the key
   pub joined_set : (ts : List A) (i : ℕ) (t u : A) → slice_get ts i ≡ Some t → get (f u) q ≡ get (f t) q → get (joined (map f (set ts i u))) q ≡ get (joined (map f ts)) q
   joined_set [] i t u e h = cc
   joined_set (s ∷ ts) zero t u e h =
@@ -123,7 +123,7 @@ module _ {A : Type 0} (f : A → Cells) (q : CellKey) where
 
 -- ---- edits of a row
 
--- an edit of a row leaves all keys of other rows
+-- an edit of a row changes no key of another row
 edit_elsewhere : (row : List ℕ) (cells : Cells) (edit : Edit) (q : CellKey) → IsEditOf row edit → q.row ≢ row → get (after_edit cells edit) q ≡ get cells q
 edit_elsewhere row cells (Put key value) q one other = get-insert key_cmp_total cells key value.items q ∙ go (eq_by_cmp key_cmp q key) refl
   where
@@ -140,7 +140,7 @@ pub edits_elsewhere : (row : List ℕ) (cells : Cells) (edits : List Edit) (q : 
 edits_elsewhere row cells [] q all other = refl
 edits_elsewhere row cells (edit ∷ edits) q all other = edits_elsewhere row (after_edit cells edit) edits q all.1 other ∙ edit_elsewhere row cells edit q all.0 other
 
--- what an edit makes of a key depends on that key alone
+-- an edit's effect on a key depends only on that key's value
 edit_agrees : (c d : Cells) (edit : Edit) (q : CellKey) → get c q ≡ get d q → get (after_edit c edit) q ≡ get (after_edit d edit) q
 edit_agrees c d (Put key value) q h =
     get-insert key_cmp_total c key value.items q ∙ ap (cond (eq_by_cmp key_cmp q key) (Some value.items)) h ∙ sym (get-insert key_cmp_total d key value.items q)
@@ -151,14 +151,14 @@ pub edits_agree : (c d : Cells) (edits : List Edit) (q : CellKey) → get c q �
 edits_agree c d [] q h = h
 edits_agree c d (edit ∷ edits) q h = edits_agree (after_edit c edit) (after_edit d edit) edits q (edit_agrees c d edit q h)
 
--- rows that compare alike are one
+-- rows that compare equal are equal
 pub same_row : (a b : List ℕ) → byte_cmp a b ≡ Equal → a ≡ b
 same_row a b e = slice_cmp-IsAntisymmetric nat_cmp-IsAntisymmetric a b e
 
 pub row_itself : (a b : List ℕ) → a ≡ b → byte_cmp a b ≡ Equal
 row_itself a b e = subst (λ (x : List ℕ). byte_cmp a x ≡ Equal) e (tied_itself nat_list_cmp_total a)
 
--- A newest version is one of each cell map that has the same at the column's keys.
+-- A newest version in one cell map is one in every map with the same values at the column's keys.
 pub newest_there : (c d : Cells) (at : ℕ → CellKey) (lo hi : ℕ) (found : Option (ℕ × List ℕ)) → ((s : ℕ) → get d (at s) ≡ get c (at s)) → IsNewest c at lo hi found → IsNewest d at lo hi found
 newest_there c d at lo hi None same h = λ s low high. same s ∙ h s low high
 newest_there c d at lo hi (Some found) same h = (h.0, h.1, same found.0 ∙ h.2, λ s low high. same s ∙ h.3 s low high)

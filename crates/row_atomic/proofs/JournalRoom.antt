@@ -1,4 +1,4 @@
--- What a journal has room for fits an empty memtable.
+-- Edits that fit a journal fit an empty memtable.
 use Rattle.std.proofs.Common.{◌≡◌, ◌≤◌, ◌+◌, ℕ, zero, suc, Bool, true, false, List, [], ◌∷◌, length, Option, Some, refl, ap, subst, arith}
 use Rattle.std.proofs.lemmas.List.{length-append}
 use Rattle.std.specs.List.{AllByRecursion}
@@ -21,7 +21,7 @@ use Rattle.row_atomic.specs.Clusters.{ClusterState, Overfills, edits_in, tablet_
 use Rattle.row_atomic.specs.Journals.{HasRoomFor, JournalView}
 use Rattle.row_atomic.proofs.Shares.{each_at}
 
--- an entry in the place of another one has no more bytes than both
+-- an entry that replaces another has at most the bytes of both
 in_place : (name : List ℕ) (v : Option (List ℕ)) (e : Entry) → entry_len (e.0, v) ≤ entry_len e + entry_len (name, v)
 in_place name v e =
     let here = length-append (field e.0) (spelled_value v) in

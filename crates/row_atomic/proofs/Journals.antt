@@ -1,4 +1,4 @@
--- What a journal's bytes are after a call.
+-- A journal's bytes after a call.
 use Rattle.std.proofs.Common.{◌≡◌, ◌≤◌, ◌+◌, ◌-◌, ℕ, List, ◌++◌, drop, length, take, sym, ap, subst, ◌∙◌, arith}
 use Rattle.std.proofs.lemmas.List.{drop-append-le, drop-take, length-append, length-take-le, take-append-drop, take-append-le}
 use Rattle.cell_key.specs.declared.edits.Edit.{Edit}
@@ -6,21 +6,21 @@ use Rattle.commit_log.specs.Edits.{spelled_edits}
 use Rattle.row_atomic.specs.Journals.{JournalView, with_waiting}
 use Rattle.std.proofs.Math.Seq.{take-add, take-append_seam, take-length}
 
--- the bytes that the log has and those that wait are all
+-- the logged bytes and the waiting ones are all bytes
 pub both_lengths : (s : ℕ) (bs : List ℕ) → length (take s bs) + length (drop s bs) ≡ length bs
 both_lengths s bs = sym (length-append (take s bs) (drop s bs)) ∙ ap (λ (l : List ℕ). length l) (take-append-drop s bs)
 
 pub all_first : (s : ℕ) (bs : List ℕ) → take (length bs) bs ≡ take s bs ++ drop s bs
 all_first s bs = take-length bs ∙ sym (take-append-drop s bs)
 
--- more bytes behind
+-- bytes appended
 pub first_stays : (s : ℕ) (bs more now : List ℕ) → s ≤ length bs → now ≡ bs ++ more → take s now ≡ take s bs
 first_stays s bs more now within is = ap (take s) is ∙ take-append-le s bs more within
 
 pub rest_grows : (s : ℕ) (bs more now : List ℕ) → s ≤ length bs → now ≡ bs ++ more → drop s now ≡ drop s bs ++ more
 rest_grows s bs more now within is = ap (drop s) is ∙ drop-append-le s bs more within
 
--- fewer bytes
+-- bytes truncated
 module _ (s n : ℕ) (bs : List ℕ) (less : s ≤ n) (within : s ≤ length bs) where
   parts : n ≡ s + (n - s)
   parts = omega arith
@@ -49,7 +49,7 @@ no_longer n bs =
     let all : length (take n bs ++ drop n bs) ≡ length bs = ap (λ (l : List ℕ). length l) (take-append-drop n bs) in
     omega (arith, both, all)
 
--- what is seen of a journal
+-- the view of a journal
 abbrev pub view_at : ℕ → List ℕ → ℕ → JournalView
 view_at s bs count = record { logged = take s bs; waiting = drop s bs; count = count }
 
@@ -68,7 +68,7 @@ cut_view s n count less bs now is within enough = ap (λ (l : List ℕ). view_at
 pub push_view : (s count more : ℕ) (bs bytes now : List ℕ) → now ≡ bs ++ bytes → s ≤ length bs → view_at s now (count + more) ≡ record { logged = take s bs; waiting = drop s bs ++ bytes; count = count + more }
 push_view s count more bs bytes now is within i = record { logged = first_stays s bs bytes now within is i; waiting = rest_grows s bs bytes now within is i; count = count + more }
 
--- edits that were written down are taken back
+-- edits that were added are removed again
 pub taken_back : (edits : List Edit) (journal pushed cut : JournalView) (len count : ℕ) → pushed ≡ with_waiting edits journal → len ≡ length journal.logged + length journal.waiting → count ≡ journal.count
     → cut ≡ record pushed { waiting = take (len - length pushed.logged) pushed.waiting; count = count } → cut ≡ journal
 taken_back edits journal pushed cut len count is long counted became = became ∙ (ap (λ (j : JournalView). record j { waiting = take (len - length j.logged) j.waiting; count = count }) is ∙ all)

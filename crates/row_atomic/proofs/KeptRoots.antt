@@ -1,4 +1,4 @@
--- What the files keep of a cluster stays there: how commands leave a root and its cells.
+-- Commands leave a root and its cells in the files.
 use Rattle.std.proofs.Common.{◌≡◌, ◌≢◌, ◌≤◌, ◌<◌, ◌==◌, ◌||◌, ◌⊎◌, inl, inr, ℕ, suc, Bool, true, false, cond, List, [], ◌∷◌, map, Option, Some, None, option_map, refl, sym, ap, ◌∙◌, subst, arith}
 use Rattle.std.proofs.lemmas.Option.{same_Some}
 use Rattle.std.specs.FinMap.{get, get-retain_keys, nat_cmp-IsAntisymmetric}
@@ -28,7 +28,7 @@ use Rattle.row_atomic.proofs.Shares.{each_at, each_map}
 use Rattle.row_atomic.proofs.Sweeps.{each_of, listed_true, maps_alike}
 use Rattle.row_atomic.proofs.EmptiedCaches.{uncached_stored}
 
--- ---- what is listed
+-- ---- listed files
 
 all_contained : (P : ℕ → Type 0) (names : List ℕ) → ((name : ℕ) → Contains names name → P name) → AllByRecursion P names
 all_contained P [] h = tt
@@ -41,19 +41,19 @@ all_listed P (p ∷ ps) h = (
   all_listed P ps (λ name l. h name (l.0, (suc l.1.0, omega (arith, l.1.1), l.1.2), l.2)),
 )
 
--- what is listed is named from 1 on and below the next name
+-- listed names are from 1 on and below the next name
 listed_below : (next : ℕ) (ps : List PlaceView) → AllByRecursion (λ p. AreFiles next p.files) ps → (name : ℕ) → IsListed name ps → (1 ≤ name) × (name < next)
 listed_below next ps files name l = contained (λ n. (1 ≤ n) × (n < next)) l.0.files name (contained (λ p. AreFiles next p.files) ps l.0 files l.1).named l.2
 
--- ---- files that stay
+-- ---- unchanged files
 
--- The file of the root is as it was, and so is each file that the places list.
+-- The root file is unchanged, and so is each file that the places list.
 pub record SameFiles (places : List PlaceView) (m n : Contents) : Type 0 where
   pub root : get n root_name ≡ get m root_name
   pub listed : (name : ℕ) → IsListed name places → get n name ≡ get m name
 
 module _ (law : UnnamedMayGo) (m n : Contents) (places : List PlaceView) (ts : List Tablet) (same : SameFiles places m n) where
-  -- the names of a place's tablet
+  -- the files of a place's tablet are unchanged
   abbrev Says : PlaceView → Type 0
   Says p = (t : Tablet) → tablet_numbered p.tablet ts ≡ Some t → AllByRecursion (λ name. get n name ≡ get m name) (names_of t)
 
@@ -87,14 +87,14 @@ cells_stay law m n root cells same keeps =
       shows = ap joined (maps_alike (cells_at n) (cells_at m) keeps.tablets (each_map (λ t. HoldsAt n t × (cells_at n t ≡ cells_at m t)) (λ t. cells_at n t ≡ cells_at m t) (λ t h. h.1) keeps.tablets each)) ∙ keeps.shows;
     }
 
--- such files are told
+-- the contents are known, and these files are unchanged
 abbrev StillTells : List PlaceView → Contents → Option Contents → Type 0
 StillTells places m told = (n : Contents) × (told ≡ Some n) × SameFiles places m n
 
 same_told : (places : List PlaceView) (m : Contents) (told : Option Contents) → told ≡ Some m → StillTells places m told
 same_told places m told e = (m, e, record { root = refl; listed = λ name l. refl })
 
--- a file of a name that is none of theirs was written
+-- a file with another name was written
 others_told : (places : List PlaceView) (m : Contents) (next : ℕ) (told : Option Contents) → KeepsOthers next (Some m) told → 1 ≤ next → ((name : ℕ) → IsListed name places → name < next) → StillTells places m told
 others_told places m next None others from below = absurd others
 others_told places m next (Some n) others from below = (
@@ -119,7 +119,7 @@ used_told root m next after told sound below (inr used) = (
   (let more = used.0 in omega arith),
 )
 
--- what has to stay does, whatever a sweep removes
+-- files that must stay do, whatever a sweep removes
 root_kept : (places : List PlaceView) → is_kept places root_name ≡ true
 root_kept places = refl
 
@@ -200,7 +200,7 @@ module _ {F : Type 0} (contents : F → Option Contents) (law : UnnamedMayGo) (r
       let used = used_told root has.kept old.next_name new.next_name (contents new.files) has.keeps.form.measured.form.sound has.below (subst (λ (o : Option Contents). UsesName o old.next_name (contents new.files) new.next_name) has.on_disk name) in
       has_told old new has used.0 used.1
 
-  -- a sweep leaves what the tablets list
+  -- a sweep leaves the files that the tablets list
   has_lacking : (old new : ClusterState F) → IsSweptInPart contents old new → ListsAll root.places old.places → HasRoot contents root cells old → HasRoot contents root cells new
   has_lacking old new is lists has = has_told old new has
       (lacking_told root.places old.places has.kept (contents new.files) (subst (λ (o : Option Contents). MayLackUnkept old.places o (contents new.files)) has.on_disk is.files) lists)
@@ -231,7 +231,7 @@ module _ {F : Type 0} (contents : F → Option Contents) (law : UnnamedMayGo) (r
       lists = λ name l. is.lists none name (keeps.lists name l);
     }
 
-  -- ---- what comes between two commands
+  -- ---- automatic compactions between two commands
 
   module _ (faults : F → ℕ) where
     minor_stay : (old new : ClusterState F) (n : ℕ) (result : Outcome) → IsOutcome contents faults (command.Minor n) result old new → StayRooted contents root cells old new

@@ -1,4 +1,4 @@
--- The tablets that splits and moves leave.
+-- Tablets after splits and moves.
 use Rattle.std.proofs.Common.{◌≡◌, ◌≢◌, ◌+◌, inr, ℕ, zero, suc, List, [], ◌∷◌, ◌++◌, map, set, length, Option, Some, Result, Ok, Err, IfOk, slice_get, refl, sym, ap, ◌∙◌, subst, arith}
 use Rattle.std.proofs.lemmas.List.{length-set}
 use Rattle.cell_key.specs.Entries.{Entry}
@@ -27,7 +27,7 @@ pushed_elsewhere (x ∷ xs) (suc j) y other = pushed_elsewhere xs j y (λ e. oth
 pub same_numbered : (o : Option Tablet) (t v : Tablet) → o ≡ Some t → o ≡ Some v → t ≡ v
 same_numbered o t v e h = cc
 
--- a tablet stands as two parts in its place and at the end
+-- a tablet was replaced by two parts: one at its index, one at the end
 module _ (row : List ℕ) (places : List PlaceView) (ts : List Tablet) (i : ℕ) (t left right : Tablet) (p : PlaceView) (holder : IsHolder row places p) (number : p.tablet ≡ i + 1) (there : slice_get ts i ≡ Some t) where
   pub cut_in_two : (next n count : ℕ) → n ≡ count + 1 → length ts ≡ count → IsFlushed next t left → IsFlushed next t right → IsHalved next row n places ts (set ts i right ++ left ∷ [])
   cut_in_two next n count e as_many left_flushed right_flushed = record {
@@ -52,7 +52,7 @@ module _ (row : List ℕ) (places : List PlaceView) (ts : List Tablet) (i : ℕ)
       others zero not_left not_holder = refl
       others (suc j) not_left not_holder = pushed_elsewhere (set ts i right) j left (not_last j not_left) ∙ set_elsewhere ts i j right (not_this j not_holder)
 
--- if the tablet of a row stays as it was, all do
+-- if the tablet of a row is unchanged, all tablets are
 pub holder_stays : (row : List ℕ) (places : List PlaceView) (ts : List Tablet) → OfHolder IsEmptied row places ts → (p : PlaceView) → IsHolder row places p → Remakes IsUnchanged p.tablet ts ts
 holder_stays row places ts emptied p holder =
     let same = one_holder row places emptied.place p emptied.holder holder in
@@ -66,13 +66,13 @@ holder_stays row places ts emptied p holder =
       others = λ other differs. refl;
     }
 
--- if the tablet of a row alone was written anew, and is as it was
+-- if only the tablet of a row was replaced, and the new one is unchanged
 pub holder_unchanged : (row : List ℕ) (places : List PlaceView) (ts : List Tablet) (i : ℕ) (t u : Tablet) (p : PlaceView) → IsHolder row places p → p.tablet ≡ i + 1 → slice_get ts i ≡ Some t → IsUnchanged t u
     → (q : PlaceView) → IsHolder row places q → Remakes IsUnchanged q.tablet ts (set ts i u)
 holder_unchanged row places ts i t u p holder number there same q holds =
     subst (λ (r : PlaceView). Remakes IsUnchanged r.tablet ts (set ts i u)) (one_holder row places p q holder holds) (remade ts i t u there IsUnchanged p.tablet number same)
 
--- a flushed tablet that is as it was is flushed
+-- a flushed tablet stays flushed if it is unchanged
 still_flushed : (next : ℕ) (t u v : Tablet) → IsFlushed next t u → IsUnchanged u v → IsFlushed next t v
 still_flushed next t u v flushed same = record {
   memory = same.memory ∙ flushed.memory;
@@ -86,7 +86,7 @@ part_flushed next later t u v first second = record {
   names = second.names ∙ ap (λ (memory : List Entry). with_name later memory (names_of u)) first.memory ∙ first.names;
 }
 
--- The place that holds a row lists other files.
+-- The place that holds a row now lists other files.
 module _ (row : List ℕ) (places places' : List PlaceView) (mid : List Tablet) (p : PlaceView) (holder : IsHolder row places p) (listed : Numbered (λ t. places' ≡ with_files p.tablet (names_of t) places) p.tablet mid) where
   mid_holder : IsHolder row places' (naming p.tablet (names_of listed.tablet) p)
   mid_holder = subst (λ (ps : List PlaceView). IsHolder row ps (naming p.tablet (names_of listed.tablet) p)) (sym listed.such) (holder_listed p.tablet (names_of listed.tablet) row places p holder)
@@ -113,7 +113,7 @@ module _ (next later : ℕ) (row : List ℕ) (places places' : List PlaceView) (
         others = λ other not_left not_holder. second.others other not_left (λ e. not_holder (e ∙ number)) ∙ first.others other not_holder;
       }
 
-  -- where there was no cut
+  -- without a cut
   pub flushed_alone : ((q : PlaceView) → IsHolder row places' q → Remakes IsUnchanged q.tablet mid new) → MayHolderBeFlushed next row places old new
   flushed_alone stays = λ q holds.
       let number = same_tablet p.tablet (names_of listed.tablet) p in
@@ -129,7 +129,7 @@ module _ (next later : ℕ) (row : List ℕ) (places places' : List PlaceView) (
         others = λ other differs. second.others other differs ∙ first.others other differs;
       }))
 
--- the places that are cut are those that list the files
+-- the cut places are those that list the new files
 pub cut_listed : (row : List ℕ) (places places' new : List PlaceView) (ts : List Tablet) (p : PlaceView) (r : Result ℕ Refusal) → IsHolder row places p → Numbered (λ t. places' ≡ with_files p.tablet (names_of t) places) p.tablet ts → IfOk r (λ left. Cuts row left places' new) → IfOk r (λ left. IsCut row left places new)
 cut_listed row places places' new ts p (Err e) holder listed cut = tt
 cut_listed row places places' new ts p (Ok left) holder listed cut = record {
@@ -141,7 +141,7 @@ cut_listed row places places' new ts p (Ok left) holder listed cut = record {
 
 -- ---- moves
 
--- a tablet that is opened anew after it was flushed
+-- a tablet that is reopened after it was flushed
 pub flushed_opened : (next n : ℕ) (old mid new : List Tablet) → Remakes (IsFlushed next) n old mid → Remakes IsReopened n mid new → Remakes (IsFlushed next) n old new
 flushed_opened next n old mid new first second =
     let same = same_numbered (tablet_numbered n mid) second.was first.is second.was_numbered first.is_numbered in

@@ -13,7 +13,7 @@ use Rattle.sorted_file.specs.File.{HasFile}
 use Rattle.row_atomic.specs.Roots.{AreMeasured, root_sum}
 use Rattle.row_atomic.specs.Open.{AreCounted, LacksFile}
 
--- ---- names that are joined
+-- ---- joined names
 
 measured_joined : (m : Contents) (xs ys ms ns : List ℕ) → length ms ≡ length xs → AreMeasured m xs ms → AreMeasured m ys ns → AreMeasured m (xs ++ ys) (ms ++ ns)
 measured_joined m [] ys [] ns e h k = k
@@ -70,7 +70,7 @@ one_list m (n ∷ names) (x ∷ a) [] there p q h k = absurd (omega (arith, q))
 one_list m (n ∷ names) (x ∷ a) (y ∷ b) there p q h k =
     ap (λ (z : ℕ). z ∷ a) (one_length (get m n) x y there.0 h.0 k.0) ∙ ap (λ (l : List ℕ). y ∷ l) (one_list m names a b there.1 (omega (arith, p)) (omega (arith, q)) h.1 k.1)
 
--- the files that places name
+-- the files named in the places exist
 there_in : (m : Contents) (names : List ℕ) → AllByRecursion (HasFile m) names → AllByRecursion (λ name. IsSome (get m name)) names
 there_in m [] h = tt
 there_in m (n ∷ names) h = (subst (λ (o : Option (List ℕ)). IsSome o) (sym h.0.there) refl, there_in m names h.1)
@@ -87,9 +87,9 @@ pub of_places : (P : ℕ → Type 0) (ps : List PlaceView) → AllByRecursion (�
 of_places P [] h = tt
 of_places P (p ∷ ps) h = all_both P p.files (file_names ps) h.0 (of_places P ps h.1)
 
--- ---- what files tell
+-- ---- known contents
 
--- if no lengths are told, none is wrong
+-- without lengths none is wrong
 pub none_measured : (told : Option Contents) (names lengths : List ℕ) → lengths ≡ [] → IfSome told (λ m. AreMeasured m names lengths)
 none_measured None names lengths e = tt
 none_measured (Some m) names lengths e = subst (AreMeasured m names) (sym e) (go names)
@@ -98,7 +98,7 @@ none_measured (Some m) names lengths e = subst (AreMeasured m names) (sym e) (go
     go [] = tt
     go (n ∷ names) = tt
 
--- if every file is there, and other lengths than theirs are told, one is wrong
+-- if every file exists and the lengths differ from theirs, one is wrong
 pub wrong_lengths : (told : Option Contents) (ps : List PlaceView) (lengths now : List ℕ) → AreCounted ps lengths → lengths ≢ [] → length now ≡ length (file_names ps) → now ≢ lengths
     → IfSome told (λ m. AllByRecursion (λ p. AllByRecursion (HasFile m) p.files) ps) → IfSome told (λ m. AreMeasured m (file_names ps) now) → IfSome told (λ m. ¬ AreMeasured m (file_names ps) lengths)
 wrong_lengths told ps lengths now (inl none) some count other there are = absurd (some none)

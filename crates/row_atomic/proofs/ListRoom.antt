@@ -1,4 +1,4 @@
--- The room for a split or a move is made before the minor compaction, and fits the tablet after it.
+-- The room for a split or a move, reserved before the minor compaction, fits the tablet after it.
 use Rattle.std.proofs.Common.{◌≡◌, ◌≢◌, ◌≤◌, ◌+◌, ℕ, zero, suc, Bool, true, false, cond, nat_eq, List, [], ◌∷◌, ◌++◌, length, Option, Some, Result, Ok, Err, is_ok, slice_get, refl, sym, ap, ◌∙◌, subst, arith}
 use Rattle.std.specs.List.{AllByRecursion, Contains}
 use Rattle.std.specs.Vec.{vec_capacity}
@@ -20,7 +20,7 @@ use Rattle.row_atomic.proofs.ListedFiles.{contains_map}
 use Rattle.row_atomic.proofs.Numbers.{AreOthers}
 use Rattle.row_atomic.proofs.SplitClusters.{holder_listed, length_listed, one_holder, same_end, same_tablet}
 
--- ---- tablets of a table that is cut
+-- ---- tablets of a cut table
 
 has_later : (n : ℕ) (p : PlaceView) (ps : List PlaceView) → HasTablet n ps → HasTablet n (p ∷ ps)
 has_later n p ps has = (has.0, (suc has.1.0, omega (arith, has.1.1), has.1.2), has.2)
@@ -42,7 +42,7 @@ cut_has_others row n m ps new (cuts_later {p = p} {ps = rest} {ps' = after} past
 pub listed_has : (n : ℕ) (names : List ℕ) (m : ℕ) (ps : List PlaceView) → HasTablet m ps → HasTablet m (with_files n names ps)
 listed_has n names m ps has = (naming n names has.0, contains_map (naming n names) ps has.0 has.1, same_tablet n names has.0 ∙ has.2)
 
--- ---- both parts are given the files
+-- ---- both parts get the files
 
 naming_this : (n : ℕ) (names : List ℕ) (p : PlaceView) → p.tablet ≡ n → naming n names p ≡ record p { files = names }
 naming_this n names p is = go (nat_eq p.tablet n) refl
@@ -70,11 +70,11 @@ others_listed n names m [] others = tt
 others_listed n names m (p ∷ ps) others = ((λ is. others.0 (sym (same_tablet n names p) ∙ is)), others_listed n names m ps others.1)
 
 module _ (row : List ℕ) (n : ℕ) (names : List ℕ) (h : ℕ) where
-  -- the table that is cut once both parts were given the files
+  -- the table after the cut, once both parts have the files
   abbrev after_both : List PlaceView → List PlaceView
   after_both ps = with_files n names (with_files h names ps)
 
-  -- the two places of the tablet that is cut, and all others
+  -- the two places of the cut tablet, and all others
   both_listed : (p : PlaceView) (ps : List PlaceView) → p.tablet ≡ h → AreOthers n (p ∷ ps)
       → after_both (left_part row n p ∷ p ∷ ps) ≡ (left_part row n (naming h names p) ∷ naming h names p ∷ with_files h names ps)
   both_listed p ps is others =
@@ -103,7 +103,7 @@ module _ (row : List ℕ) (n : ℕ) (names : List ℕ) (h : ℕ) where
       subst (λ (r : PlaceView). Cuts row n (naming h names q ∷ with_files h names rest) (r ∷ after_both after)) (sym stays)
       (cuts_later (subst (λ (e : Option (List ℕ)). EndsBefore e row) (sym (same_end h names q)) ends) (cut_both rest after p is later others.1 more))
 
--- the number after those of a table is that of no place
+-- the number after a table's numbers belongs to no place
 not_numbered : (count : ℕ) (ps : List PlaceView) → AllByRecursion (IsNumbered count) ps → AreOthers (count + 1) ps
 not_numbered count [] all = tt
 not_numbered count (p ∷ ps) all =
@@ -173,7 +173,7 @@ open_flushed room next n ts ts' for made ranges =
       };
     }
 
--- what the room says of the tablet at an index
+-- the room fits the tablet at an index
 pub record IsReady (row : List ℕ) (room : CutRoom) (places : List PlaceView) (p : PlaceView) (t : Tablet) : Type 0 where
   pub right : HasTablet p.tablet room.table
   pub cut : Cuts row room.left places (with_files room.left (names_of t) (with_files p.tablet (names_of t) room.table))
@@ -186,9 +186,9 @@ ready row room places ts p i t holder number there for =
     let tablet : for.tablet ≡ t = same_numbered (tablet_numbered p.tablet ts) for.tablet t here (numbered_at ts p.tablet i t number there) in
     subst (IsReady row room places p) tablet (subst (λ (q : PlaceView). IsReady row room places q for.tablet) place (record { right = for.right; cut = for.cut; names = for.names }))
 
--- ---- lists that had room
+-- ---- lists with reserved room
 
--- an append that is done, to no items
+-- a successful append to an empty list
 pub appended : {A E X : Type 0} (r : Result A E) (x : A) (old more new : List X) → new ≡ cond (is_ok r) (old ++ more) old → r ≡ Ok x → old ≡ [] → new ≡ more
 appended (Ok y) x old more new items is none = items ∙ ap (λ (xs : List _). xs ++ more) none
 appended (Err e) x old more new items is none = cc

@@ -1,4 +1,4 @@
--- Which files places list after tablets were flushed, cut and moved.
+-- The files listed in places after tablets were flushed, cut and moved.
 use Rattle.std.proofs.Common.{◌≡◌, ◌==◌, ℕ, zero, suc, Bool, true, false, cond, List, [], ◌∷◌, map, Option, Some, None, Result, Ok, Err, IfOk, OnOk, OnErr, refl, sym, ap, ◌∙◌, subst, arith}
 use Rattle.std.proofs.lemmas.Option.{same_Some}
 use Rattle.std.specs.List.{AllByRecursion, Contains}
@@ -21,14 +21,14 @@ same_lists old new same name l = subst (IsListed name) (sym same) l
 pub stored_lists : {F : Type 0} (contents : F → Option Contents) (old new : ClusterState F) → storage_of contents new ≡ storage_of contents old → ListsAll old.places new.places
 stored_lists contents old new same = same_lists old.places new.places (ap (λ s. s.places) same)
 
--- ---- files of a place that changes
+-- ---- files of a changed place
 
 pub contains_map : {A B : Type 0} (f : A → B) (xs : List A) (x : A) → Contains xs x → Contains (map f xs) (f x)
 contains_map f [] x c = absurd (omega (arith, c.1))
 contains_map f (y ∷ xs) x (zero, below, is) = (0, omega arith, ap f is)
 contains_map f (y ∷ xs) x (suc k, below, is) = let rest = contains_map f xs x (k, omega (arith, below), is) in (suc rest.0, omega (arith, rest.1), rest.2)
 
--- where each place has the files that it had all files are listed still
+-- if each place keeps its files, all listed files are still listed
 mapped_lists : (f : PlaceView → PlaceView) (ps : List PlaceView) → ((p : PlaceView) → Contains ps p → (name : ℕ) → Contains p.files name → Contains (f p).files name) → ListsAll ps (map f ps)
 mapped_lists f ps keeps name l = (f l.0, contains_map f ps l.0 l.1, keeps l.0 l.1 name l.2)
 

@@ -1,4 +1,4 @@
--- Tablets that are loaded by their numbers, each with the rows and files of its place.
+-- Tablets loaded in the order of their numbers, each with the rows and files of its place.
 use Rattle.std.proofs.Common.{◌≡◌, ◌≢◌, ◌≤◌, ◌<◌, ◌+◌, ◌-◌, ◌⊎◌, ℕ, zero, suc, List, [], ◌∷◌, ◌++◌, length, Option, Some, None, Result, Ok, Err, inl, inr, slice_get, slice_index_or, IfOk, IfSome, refl, sym, ap, ◌∙◌, subst, arith}
 use Rattle.std.specs.Bool.{⊤}
 use Rattle.std.specs.List.{AllByRecursion}
@@ -19,7 +19,7 @@ use Rattle.row_atomic.proofs.Numbers.{AreOthers, Differ, HasNumber, differ_of}
 
 -- ---- one place
 
--- what holds of each place holds of that at an index
+-- a property of each place holds for the place at an index
 pub of_place : (P : PlaceView → Type 0) (places : List Place) (i : ℕ) (d : Place) → i < length places → AllByRecursion P (views places) → P (view_of (slice_index_or places i d))
 of_place P [] i d h all = absurd (omega arith)
 of_place P (q ∷ places) zero d h all = all.0
@@ -40,7 +40,7 @@ fits_later t (q ∷ []) before j c d e h range names = absurd (omega arith)
 fits_later t (q ∷ r ∷ places) before zero c d e h range names = record { range = range; names = names }
 fits_later t (q ∷ r ∷ places) before (suc j) c d e h range names = fits_later t (r ∷ places) q.end j c d e (omega arith) range names
 
--- the rows begin at the start, or after the place before
+-- the rows begin at the start, or after the end of the place before
 abbrev pub BeginsAfter : List Place → ℕ → Option (List ℕ) → Type 0
 BeginsAfter places i after = ((i ≡ 0) × (after ≡ None)) ⊎ ((1 ≤ i) × ((c : Place) × (after ≡ (slice_index_or places (i - 1) c).end)))
 
@@ -69,7 +69,7 @@ has_tablet n [] h = absurd h
 has_tablet n (p ∷ ps) (inl same) = (p, (0, omega arith, refl), same)
 has_tablet n (p ∷ ps) (inr later) = later_has n p ps (has_tablet n ps later)
 
--- the tablet fits each place of this number
+-- the tablet fits each place with this number
 abbrev pub FitsNumber : ℕ → Option (List ℕ) → List PlaceView → Tablet → Type 0
 FitsNumber n before [] t = ⊤
 FitsNumber n before (p ∷ ps) t = (p.tablet ≡ n → FitsPlace before p t) × FitsNumber n p.end ps t
@@ -88,7 +88,7 @@ fits_number n before [] i t d at fits = absurd at
 fits_number n before (p ∷ ps) zero t d at fits = (λ same. fits, others_fit n p.end ps t (subst (λ (k : ℕ). AreOthers k ps) at d.0))
 fits_number n before (p ∷ ps) (suc i) t d at fits = (λ same. absurd (not_at n p.tablet i ps d.0 at (sym same)), fits_number n p.end ps i t d.1 at fits)
 
--- the tablets fit the places of the numbers from this one on
+-- the tablets fit the places with the numbers from `n` on
 abbrev pub FitFrom : ℕ → List PlaceView → List Tablet → Type 0
 FitFrom n places [] = ⊤
 FitFrom n places (t ∷ ts) = FitsNumber n None places t × FitFrom (suc n) places ts

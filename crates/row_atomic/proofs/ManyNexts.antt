@@ -1,4 +1,4 @@
--- The next cells of a cluster are those of one tablet after the other.
+-- The next cells of a cluster come from one tablet after the other.
 use Rattle.std.proofs.Common.{◌≡◌, ◌<◌, ◌+◌, ◌-◌, ℕ, zero, add-one, slice_index_or, Bool, true, false, List, [], ◌∷◌, ◌++◌, length, drop, suc, inl, inr, Option, Some, None, refl, sym, ap, ◌∙◌, subst, arith, ◌&&◌}
 use Rattle.std.specs.List.{AllByRecursion, Contains}
 use Rattle.std.specs.Prelude.{IfSome}
@@ -32,12 +32,12 @@ after_after None p q h k = tt
 after_after (Some start) p q h k = place_cmp_total.trans start p q h k
 
 module _ (cells : Cells) where
-  -- what lies behind the last of next cells lies behind the start
+  -- places after the last next cell are after the start
   pub behind_last : (most : ℕ) (start : Option Place) (places : List Place) → AreNextCells cells start most places → (place : Place) → IsAfter (last_or start places) place → IsAfter start place
   behind_last most start [] some place behind = behind
   behind_last most start (p ∷ places) some place behind = after_after start p place some.1.0 (behind_last (most - 1) (Some p) places some.2 place behind)
 
-  -- next cells are those after any place before which there are none
+  -- next cells after a place are also those after any later place up to which there is no cell
   pub begin_later : (start later : Option Place) → ((place : Place) → IsAfter later place → IsAfter start place) → ((place : Place) → HasCell cells place → IsAfter later place) → (most : ℕ) (places : List Place) → AreNextCells cells start most places → AreNextCells cells later most places
   begin_later start later back far most [] some = λ wanted place behind. some wanted place (back place behind)
   begin_later start later back far most (p ∷ places) some = (
@@ -86,14 +86,14 @@ first_of : (a b : Bool) → (a && b) ≡ true → a ≡ true
 first_of true b e = refl
 first_of false b e = cc
 
--- the places of a range that begins past a row lie behind those of the row
+-- places in a range that begins past a row are after the places of the row
 pub past_row : (low place : Place) (range : RowRange) → BeginsPast low.0 range → has_row range place.0 ≡ true → IsAfter (Some low) place
 past_row low place range begins has =
     let after = first_of (is_after range.after place.0) (is_up_to range.end place.0) has in
     let up = less_is _ (subst (λ (o : Option (List ℕ)). is_after o place.0 ≡ true) begins.after after) in
     less_first (byte_cmp low.0 place.0) (byte_cmp low.1 place.1) (below_begin low.0 begins.end place.0 begins.past up)
 
--- ---- one tablet more
+-- ---- one more tablet
 
 -- the tablets of these places begin past the row of a place, if there is one
 abbrev pub BeginBehind : List Tablet → Option Place → List PlaceView → Type 0
@@ -104,7 +104,7 @@ pub begin_fewer : (ts : List Tablet) (o : Option Place) (p : PlaceView) (rest : 
 begin_fewer ts None p rest h = tt
 begin_fewer ts (Some place) p rest h = h.1
 
--- the places that are left, from one at an index on
+-- the places from an index on
 pub dropped_at : (places : List Spot) (i : ℕ) (p : Spot) → i < length places → p ≡ slice_index_or places i p → views (drop i places) ≡ view_of p ∷ views (drop (i + 1) places)
 dropped_at places i p h e = rw add-one (dropped places i p h ∙ ap (λ (q : Spot). view_of q ∷ views (drop (suc i) places)) (sym e))
   where
@@ -113,7 +113,7 @@ dropped_at places i p h e = rw add-one (dropped places i p h ∙ ap (λ (q : Spo
     dropped (p ∷ places) zero d h = refl
     dropped (p ∷ places) (suc i) d h = dropped places i d (omega (arith, h))
 
--- what a scan has found when it comes to these places
+-- the cells that a scan has found when it reaches these places
 pub record HasScanned (m : Contents) (ts : List Tablet) (start : Option Place) (most : ℕ) (found : List Place) (before rest : List PlaceView) : Type 0 where
   pub next : AreNextCells (cells_in (Some m) ts) start (length found) found
   pub begins : BeginBehind ts (last_or None found) rest
@@ -126,7 +126,7 @@ module _ (m : Contents) (ts : List Tablet) (pre : List PlaceView) (p : PlaceView
   passed_on : (start : Option Place) (f : Place) → IsAfter start f → AllByRecursion (NoneAfter m ts start) pre → AllByRecursion (NoneAfter m ts (Some f)) pre
   passed_on start f far passed = each_map (NoneAfter m ts start) (NoneAfter m ts (Some f)) (λ q none place behind. none place (after_after start f place far behind)) pre passed
 
-  -- what the tablet answers is next in the cluster
+  -- the tablet's next cells are the cluster's
   pub tablet_next : (most : ℕ) (start : Option Place) (more : List Place) → AllByRecursion (NoneAfter m ts start) pre → AreNextCells (cells_at m t) start most more → AreNextCells whole start (length more) more
   tablet_next most start [] passed next = λ wanted. absurd (omega (arith, wanted))
   tablet_next most start (f ∷ more) passed next =
@@ -174,7 +174,7 @@ module _ (m : Contents) (ts : List Tablet) (pre : List PlaceView) (p : PlaceView
         subst (λ (o : Option Place). IsNextCell (cells_at m t) o None) (sym (last_more start found more))
         (next_ended (IsNextCell (cells_at m t)) (most - length found) (last_or start found) more then (omega (arith, few, length-append found more)))
 
--- ---- what is passed
+-- ---- passed places
 
 pub passes_more : (disk : Option Contents) (ts : List Tablet) (after : Option Place) (found more : List Place) (q : PlaceView) → Passes disk ts after found q → Passes disk ts after (found ++ more) q
 passes_more disk ts after found more q (inl low) = inl low

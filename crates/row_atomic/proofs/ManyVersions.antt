@@ -1,4 +1,4 @@
--- The next cells of a cluster with their newest versions are those of one tablet after the other.
+-- The next cells of a cluster with their newest versions come from one tablet after the other.
 use Rattle.std.proofs.Common.{◌≡◌, ◌+◌, ◌-◌, ℕ, Bool, true, List, [], ◌∷◌, ◌++◌, length, Option, Some, None, Result, Ok, Err, IfErr, IfOk, IsErrOf, refl, sym, ap, ◌∙◌, subst}
 use Rattle.std.specs.List.{AllByRecursion}
 use Rattle.std.proofs.lemmas.List.{length-append, length-map, map-append}
@@ -25,7 +25,7 @@ use Rattle.row_atomic.proofs.Parts.{owns_if_has}
 use Rattle.row_atomic.proofs.Readable.{IsFrom, open_from, refused_read, told_from}
 use Rattle.row_atomic.proofs.Shares.{each_map, newest_of_row}
 
--- what a scan for versions has found when it comes to these places
+-- the cells that a scan for versions has found when it reaches these places
 pub record HasFound (m : Contents) (ts : List Tablet) (start : Option Place) (hi : ℕ) (found : List CellVersions) (is_last : Bool) (before rest : List PlaceView) : Type 0 where
   pub next : AreNextCells (cells_in (Some m) ts) start (length found) (places_in found)
   pub newest : AllByRecursion (HasNewest (cells_in (Some m) ts) hi) found
@@ -40,7 +40,7 @@ module _ (m : Contents) (ts : List Tablet) (pre : List PlaceView) (p : PlaceView
   abbrev whole : Cells
   whole = cells_in (Some m) ts
 
-  -- the newest versions in the tablet are those in the cluster
+  -- the newest versions in the tablet are the cluster's
   newest_whole : (hi k : ℕ) (start : Option Place) (cells : List CellVersions) → AreNextCells (cells_at m t) start k (places_in cells) → AllByRecursion (HasNewest (cells_at m t) hi) cells → AllByRecursion (HasNewest whole hi) cells
   newest_whole hi k start [] next all = tt
   newest_whole hi k start (one ∷ cells) next all =
@@ -99,7 +99,7 @@ module _ (m : Contents) (ts : List Tablet) (pre : List PlaceView) (p : PlaceView
         subst (λ (ps : List Place). IsNextCell (cells_at m t) (last_or start ps) None) (sym joined)
         (subst (λ (o : Option Place). IsNextCell (cells_at m t) o None) (sym (last_more start before after)) (ended after (next.last last)))
 
--- ---- what a cluster answers
+-- ---- answers of a cluster
 
 module _ (disk : Option Contents) (places : List PlaceView) (ts : List Tablet) (table : IsTable places) (after : Option Place) (spots : List PlaceView) (us : List Tablet) (same_spots : spots ≡ places) (same : us ≡ ts) (placed : ArePlaced ts None places) where
   open_now : IsFrom disk places ts table after → (m : Contents) → disk ≡ Some m → AreOpenFrom m us after spots

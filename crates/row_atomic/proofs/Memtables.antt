@@ -1,4 +1,4 @@
--- That no memtable has more entries and bytes than two numbers, after calls that change one tablet, and what follows of full ones.
+-- Upper bounds of the memtables' entries and bytes, after calls that change one tablet, and full memtables.
 use Rattle.std.proofs.Common.{◌≡◌, ◌≤◌, ℕ, zero, suc, Bool, true, false, IsTrue, nat_le, max, List, [], ◌∷◌, ◌++◌, length, map, filter, set, Option, Some, None, slice_get, ◌||◌, refl, sym, ap, subst, arith}
 use Rattle.std.proofs.lemmas.Bool.{le-leb, leb-true}
 use Rattle.std.specs.List.{AllByRecursion, AllZip}
@@ -19,7 +19,7 @@ use Rattle.row_atomic.specs.declared.fill.FlushLimits.{FlushLimits}
 use Rattle.row_atomic.specs.Memtables.{HasAtMost, HaveAtMost, has_bytes, is_any_full, is_full, largest, longest, reaches}
 use Rattle.row_atomic.proofs.Shares.{each_at, each_map, each_set}
 
--- ---- no more entries and bytes than two numbers
+-- ---- upper bounds of entries and bytes
 
 emptied_has : (most : Fill) (t : Tablet) → memory_of t ≡ [] → HasAtMost most t
 emptied_has most t none =
@@ -60,11 +60,11 @@ module _ (most : Fill) (ts : List Tablet) (i : ℕ) (few : HaveAtMost most ts) w
   set_made (Merge count) next t u there made = set_same t u there made.memory
   set_made Major next t u there made = set_emptied u made.memory
 
-  -- with the entries and bytes that the tablet has then
+  -- with the entries and bytes of the new tablet
   pub set_fuller : (now : Fill) (u : Tablet) → now.entries ≡ max most.entries (length (memory_of u)) → now.bytes ≡ max most.bytes (bytes_of (memory_of u)) → HaveAtMost now (set ts i u)
   set_fuller now u longer larger = each_set (HasAtMost now) ts i u (raised most now ts (omega arith) (omega arith) few) (record { entries = omega arith; bytes = omega arith })
 
--- ---- one more, or each changed
+-- ---- one more tablet, or each changed
 
 pub with_emptied : (most : Fill) (ts : List Tablet) (u : Tablet) → memory_of u ≡ [] → HaveAtMost most ts → HaveAtMost most (ts ++ u ∷ [])
 with_emptied most [] u none few = (emptied_has most u none, tt)
@@ -76,7 +76,7 @@ each_same o most [] (u ∷ us) all few = absurd all
 each_same o most (t ∷ ts) [] all few = absurd all
 each_same o most (t ∷ ts) (u ∷ us) all few = (same_has most t u all.0.memory few.0, each_same o most ts us all.1 few.1)
 
--- ---- full ones
+-- ---- full memtables
 
 or_none : (a b : Bool) → (a || b) ≡ false → (a ≡ false) × (b ≡ false)
 or_none true b e = cc
@@ -94,7 +94,7 @@ by_either : (a b : Bool) (P : Type 0) → (IsTrue a → P) → (IsTrue b → P) 
 by_either true b P first second is = first refl
 by_either false b P first second is = second is
 
--- more entries reach the same limit, and so do more bytes
+-- a greater number of entries or bytes reaches the same limit
 more_entries : (limit few many : ℕ) → few ≤ many → IsTrue (nat_le limit few) → IsTrue (nat_le limit many)
 more_entries limit few many more is = let enough = leb-true limit few is in le-leb limit many (omega arith)
 
@@ -112,7 +112,7 @@ pub may_be_full : (limits : FlushLimits) (most : Fill) (ts : List Tablet) → Ha
 may_be_full limits most [] few full = cc
 may_be_full limits most (t ∷ ts) few full = by_either (is_full limits t) (is_any_full limits ts) _ (full_within limits most t few.0) (may_be_full limits most ts few.1) full
 
--- what is no if it would make yes of a no
+-- if `full` implies `may`, and `may` is false, `full` is false
 pub none_if : (full may : Bool) → (IsTrue full → IsTrue may) → may ≡ false → full ≡ false
 none_if true may makes isnt = let yes = makes refl in cc
 none_if false may makes isnt = refl
@@ -130,7 +130,7 @@ pub none_with : (limits : FlushLimits) (ts : List Tablet) (ns : List ℕ) → is
 none_with limits ts [] none = refl
 none_with limits ts (n ∷ ns) none = rw (lacks limits ts n none) (none_with limits ts ns none)
 
--- then nothing is compacted
+-- if no memtable is full nothing is compacted
 pub none_compacted : {F : Type 0} (contents : F → Option Contents) (faults : F → ℕ) (limits : FlushLimits) (start : ClusterState F) → is_any_full limits start.tablets ≡ false → CompactsFull contents faults limits start start
 none_compacted contents faults limits start none =
     ([], subst (λ (ns : List ℕ). AnswersAll contents faults start (map command.Minor ns) [] start) (sym (none_with limits start.tablets (numbers_of start.places) none)) refl)

@@ -1,4 +1,4 @@
--- What opening a tablet's files anew leaves of the cluster.
+-- Effects on the cluster of reopening a tablet's files.
 use Rattle.std.proofs.Common.{◌≡◌, ◌≢◌, ◌<◌, IsTrue, ℕ, zero, suc, Bool, true, false, nat_eq, List, [], ◌∷◌, set, length, get_or, Option, Some, None, IfSome, slice_get, refl, sym, ap, ◌∙◌, subst, arith}
 use Rattle.std.specs.List.{AllByRecursion, Contains}
 use borrow.Author.Tests.{eqb-true, eqb-false}
@@ -18,7 +18,7 @@ use Rattle.row_atomic.specs.Clusters.{InOrder, IsMatched, cells_in, joined}
 use Rattle.row_atomic.proofs.PlacedTablets.{placed_moved}
 use Rattle.row_atomic.proofs.Shares.{each_at, each_set, map_set}
 
--- a file that can't be opened isn't that of a tablet in order
+-- a file that can't be opened belongs to no tablet in order
 pub not_there : FilesAreThere → (o : Option Contents) (names : List ℕ) (t : Tablet) → names ≡ names_of t → IfSome o (λ m. ¬ AllByRecursion (HasFile m) names) → IfSome o (λ m. ¬ Holds m t)
 not_there law None names t e h = tt
 not_there law (Some m) names t e h = λ holds. h (subst (λ (ns : List ℕ). AllByRecursion (HasFile m) ns) (sym e) (law m t holds))
@@ -82,7 +82,7 @@ elsewhere ps p n server table there number other on =
     let same = one_at ps there.0 on.1.0 p on.0 (differ_of ps table.distinct) there.1 there.2 on.1.1 on.1.2 (number ∙ sym on.2) in
     other (sym on.3 ∙ ap (λ (q : PlaceView). q.server) (sym same))
 
--- it is on its own server alone
+-- it is on its own server only
 pub on_same : (ps : List PlaceView) (p : PlaceView) (n server : ℕ) → IsTable ps → Contains ps p → p.tablet ≡ n → (b : Bool) → nat_eq server p.server ≡ b → (IsTrue b → IsOn n server ps) × (IsOn n server ps → IsTrue b)
 on_same ps p n server table there number true e = ((λ yes. (p, there, number, sym (eqb-true server p.server e))), (λ on. search))
 on_same ps p n server table there number false e = ((λ no. cc), (λ on. absurd (elsewhere ps p n server table there number (eqb-false server p.server e) on)))

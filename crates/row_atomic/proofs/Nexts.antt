@@ -1,4 +1,4 @@
--- The next cell of a cluster is that of the first tablet that has one.
+-- The next cell of a cluster belongs to the first tablet that has one.
 use Rattle.std.proofs.Common.{◌≡◌, ◌≢◌, ℕ, Bool, true, false, List, [], ◌∷◌, ◌++◌, length, Option, Some, None, IsSome, slice_get, refl, sym, ap, ◌∙◌, subst, ◌&&◌}
 use Rattle.std.specs.FinMap.{get}
 use Rattle.std.specs.List.{AllByRecursion}
@@ -62,7 +62,7 @@ first_less Less s h e = cc
 first_less Equal s h e = cc
 first_less Greater s h e = cc
 
--- a row that isn't above another is past no end that the other isn't past
+-- an end that is not before a row is not before any lower row
 up_to_too : (end : Option (List ℕ)) (low row : List ℕ) → byte_cmp low row ≢ Greater → ¬ EndsBefore end row → ¬ EndsBefore end low
 up_to_too None low row le h k = k
 up_to_too (Some e) low row le h k = by (byte_cmp low row) refl
@@ -72,7 +72,7 @@ up_to_too (Some e) low row le h k = by (byte_cmp low row) refl
     by Equal f = h (subst (λ (r : List ℕ). byte_cmp e r ≡ Less) (same_row low row f) k)
     by Greater f = le f
 
--- what is after a row's cell is not in a range that ends below the row
+-- an end before a row is before every row that is not below it
 past_end : (end : Option (List ℕ)) (row low : List ℕ) → EndsBefore end row → byte_cmp row low ≢ Greater → EndsBefore end low
 past_end None row low h le = h
 past_end (Some e) row low h le = by (byte_cmp row low) refl
@@ -83,7 +83,7 @@ past_end (Some e) row low h le = by (byte_cmp row low) refl
     by Greater f = absurd (le f)
 
 module _ (m : Contents) (ts : List Tablet) where
-  -- a tablet has cells in its range alone
+  -- a tablet has cells in its range only
   pub in_range : (i : ℕ) (t : Tablet) (place : Place) → slice_get ts i ≡ Some t → HasCell (cells_at m t) place → has_row (range_of t) place.0 ≡ true
   in_range i t place there cell = by (has_row (range_of t) place.0) refl
     where
@@ -102,14 +102,14 @@ module _ (m : Contents) (ts : List Tablet) where
       let found = joined_from (cells_at m) cell.key ts cell.some in
       record { index = found.0; tablet = found.1.0; there = found.1.1.0; cell = record { key = cell.key; at = cell.at; some = found.1.1.1 } }
 
-  -- if no tablet of a place has a cell there, the cluster hasn't
+  -- if no place's tablet has a cell there, the cluster has none there
   nowhere : (places : List PlaceView) (place : Place) → IsTable places → length ts ≡ length places → AllByRecursion (HasNone m ts place) places → ¬ (HasCell (cells_in (Some m) ts) place)
   nowhere places place table as_many none cell =
       let one = tablet_has place cell in
       let found = each_placed (HasNone m ts place) ts places table as_many none one.index one.tablet one.there in
       found.1.0 one.tablet (subst (λ (n : ℕ). tablet_numbered n ts ≡ Some one.tablet) (sym found.1.1) one.there) one.cell
 
-  -- no tablet has a cell more
+  -- no tablet has a further cell
   pub none_next : (places : List PlaceView) (after : Option Place) → IsTable places → length ts ≡ length places → AllByRecursion (NoneAfter m ts after) places → IsNextCell (cells_in (Some m) ts) after None
   none_next places after table as_many none = λ place behind. nowhere places place table as_many (each_map (NoneAfter m ts after) (HasNone m ts place) (λ q h. h place behind) places none)
 
@@ -136,7 +136,7 @@ module _ (m : Contents) (ts : List Tablet) where
   appended P [] ys h k = k
   appended P (x ∷ xs) ys h k = (h.0, appended P xs ys h.1 k)
 
-  -- the first tablet that has a cell more has the next one
+  -- the first tablet with a further cell has the next one
   module _ (pre : List PlaceView) (p : PlaceView) (post : List PlaceView) (after : Option Place) (found : Place) (t : Tablet) (table : IsTable (pre ++ p ∷ post)) (as_many : length ts ≡ length (pre ++ p ∷ post)) (placed : ArePlaced ts None (pre ++ p ∷ post)) (passed : AllByRecursion (NoneAfter m ts after) pre) (numbered : tablet_numbered p.tablet ts ≡ Some t) (next : IsNextCell (cells_at m t) after (Some found)) where
     reaches_found : ¬ EndsBefore p.end found.0
     reaches_found =
@@ -147,7 +147,7 @@ module _ (m : Contents) (ts : List Tablet) where
         let up = second_true (is_after at.before found.0) (is_up_to p.end found.0) (sym (ap (λ (r : RowRange). has_row r found.0) range) ∙ has) in
         not_past p.end found.0 up
 
-    -- what comes after its tablet begins past its row
+    -- the tablets after it begin past its row
     pub begin_past : AllByRecursion (OfTablet ts (BeginsPast found.0)) post
     begin_past = later_begin ts found.0 p post (rise_at pre p post table.rising) (placed_at None pre p post placed).later reaches_found
 
@@ -168,7 +168,7 @@ module _ (m : Contents) (ts : List Tablet) where
       λ place behind less. nowhere (pre ++ p ∷ post) place table as_many (none_before place behind less),
     )
 
-  -- a tablet that ends below a row has no cell after one of that row
+  -- a tablet that ends below a row has no cell after any cell of that row
   pub none_after_end : (before : Option (List ℕ)) (q : PlaceView) (row family : List ℕ) → IsPlaced ts before q → EndsBefore q.end row → NoneAfter m ts (Some (row, family)) q
   none_after_end before q row family placed ends place behind u e cell =
       let same = same_tablet (tablet_numbered q.tablet ts) placed.tablet u placed.numbered e in

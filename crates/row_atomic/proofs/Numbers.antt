@@ -1,4 +1,4 @@
--- Places whose numbers are distinct and from 1 to their count: each of these numbers is that of a place.
+-- Places with distinct numbers from 1 to their count: each of these numbers belongs to a place.
 use Rattle.std.proofs.Common.{◌≡◌, ◌≢◌, ◌≤◌, ℕ, zero, suc, Bool, true, false, cond, nat_eq, None, List, [], ◌∷◌, length, ◌⊎◌, inl, inr, refl, sym, ap, subst, arith}
 use Rattle.std.specs.Bool.{⊤}
 use Rattle.std.specs.List.{AllByRecursion, AllPairs}
@@ -81,7 +81,7 @@ lower_without n (p ∷ ps) h = go (nat_eq p.tablet (suc n)) refl (lower_without 
 no_number : (p : PlaceView) → IsUpTo 0 p → ⊥
 no_number p h = let from = h.from in let to = h.to in absurd (omega arith)
 
--- distinct numbers from 1 to n are n at most
+-- there are at most n distinct numbers from 1 to n
 few : (n : ℕ) (ps : List PlaceView) → Differ ps → AllByRecursion (IsUpTo n) ps → length ps ≤ n
 few zero [] differ each = omega arith
 few zero (p ∷ ps) differ each = absurd (no_number p each.0)
@@ -111,7 +111,7 @@ up_to : (n : ℕ) (ps : List PlaceView) → AllByRecursion (IsNumbered n) ps →
 up_to n [] h = tt
 up_to n (p ∷ ps) h = (record { from = h.0.from; to = h.0.to }, up_to n ps h.1)
 
--- each number from 1 to the count of a table's places is that of one
+-- each number from 1 to the count of a table's places belongs to a place
 pub each_number : (ps : List PlaceView) → IsTable ps → (k : ℕ) → 1 ≤ k → k ≤ length ps → HasNumber k ps
 each_number ps table k from to = go (has_or_others k ps)
   where
@@ -122,7 +122,7 @@ each_number ps table k from to = go (has_or_others k ps)
         let most : length (p ∷ ps) ≤ length ps = few (length ps) (p ∷ ps) (others, differ_of ps table.distinct) (record { from = from; to = to }, up_to (length ps) ps table.numbered) in
         absurd (omega arith)
 
--- what holds of each place holds of one with the number
+-- a property of each place holds for a place with the number
 pub of_number : (P : PlaceView → Type 0) (k : ℕ) (ps : List PlaceView) → AllByRecursion P ps → HasNumber k ps → (q : PlaceView) × (P q × (q.tablet ≡ k))
 of_number P k [] each there = absurd there
 of_number P k (p ∷ ps) each (inl same) = (p, (each.0, same))

@@ -1,4 +1,4 @@
--- What is opened is what the root file tells, and what is told damaged is.
+-- A store is opened as its root file says, and is refused as damaged only if it is.
 use Rattle.std.proofs.Common.{◌≡◌, ◌≤◌, ◌<◌, ◌⊎◌, inl, inr, ℕ, zero, suc, List, [], ◌∷◌, length, map, Option, Some, None, IfSome, slice_get, refl, sym, ap, ◌∙◌, subst, arith}
 use Rattle.std.proofs.lemmas.Option.{same_Some}
 use Rattle.std.specs.FinMap.{get}
@@ -38,7 +38,7 @@ lacks_told (Some m) root lengths finds lacks = go (get m root_name) refl finds
       | inr wrong ↦ no_length image root lengths e finds wrong
     ]
 
--- the files of tablets that are open are there
+-- the files of open tablets exist
 there_all : FilesAreThere → (m : Contents) (ts : List Tablet) (before : Option (List ℕ)) (ps : List PlaceView) → AllByRecursion (HoldsAt m) ts → ArePlaced ts before ps → AllByRecursion (λ p. AllByRecursion (HasFile m) p.files) ps
 there_all law m ts before [] each placed = tt
 there_all law m ts before (p ∷ ps) each placed = (
@@ -54,7 +54,7 @@ pub there_told : FilesAreThere → (told : Option Contents) (ts : List Tablet) (
 there_told law None ts ps loaded each = tt
 there_told law (Some m) ts ps loaded each = there_all law m ts None ps each loaded.placed
 
--- if what the root file tells was opened, nothing is damaged
+-- if the root file's store was opened, nothing is damaged
 whole_of : OneRoot → OneMeasure → FilesAreThere → (m : Contents) (image : List ℕ) (root : RootView) (ts : List Tablet) → get m root_name ≡ Some image → (form : IsRoot root image) → AreMeasured m (file_names root.places) form.lengths → AreOpened m root.places ts → ¬ IsDamaged m
 whole_of one measure law m image root ts there form measured opened (no_root bytes e none) = none root (subst (λ (b : List ℕ). IsRoot root b) (same_Some image bytes (sym there ∙ e)) form)
 whole_of one measure law m image root ts there form measured opened (no_file bytes other e is lacks) =
@@ -134,7 +134,7 @@ module _ (law : SameCells) (m : Contents) (ts us : List Tablet) (places : List P
       go (v ∷ vs) [] many same = absurd (omega arith)
       go (v ∷ vs) (w ∷ ws) many same = ap (λ (c : Cells). c ∷ map (cells_at m) vs) (same 0 v w refl refl) ∙ ap (λ (cs : List Cells). cells_at m w ∷ cs) (go vs ws (omega arith) (λ j t u e f. same (suc j) t u e f))
 
--- ---- a cluster of what was opened
+-- ---- a cluster of the opened tablets
 
 below_all : (next : ℕ) (ts : List Tablet) (before : Option (List ℕ)) (ps : List PlaceView) → ArePlaced ts before ps → AllByRecursion (λ p. AreFiles next p.files) ps → AllByRecursion (λ p. (t : Tablet) × ((tablet_numbered p.tablet ts ≡ Some t) × IsBelow next t)) ps
 below_all next ts before [] placed files = tt
@@ -192,7 +192,7 @@ module _ {F : Type 0} (contents : F → Option Contents) (one : OneRoot) (measur
             };
           }
 
-  -- where they keep cells they are not damaged
+  -- files that keep cells are not damaged
   pub not_damaged : FilesAreThere → (told : Option Contents) (P : Type 0) → (P → IfSome told (λ m. IsDamaged m)) → (m : Contents) (root : RootView) (cells : Cells) → told ≡ Some m → KeepsCells m root cells → ¬ P
   not_damaged there None P damaged m root cells e keeps p = cc
   not_damaged there (Some n) P damaged m root cells e keeps p = kept_whole one measure there m root cells keeps (subst IsDamaged (same_Some n m e) (damaged p))

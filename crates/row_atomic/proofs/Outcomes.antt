@@ -1,4 +1,4 @@
--- What makes up the outcome of a command.
+-- The parts of a command's outcome.
 use Rattle.std.proofs.Common.{Global, ◌≡◌, ◌↔◌, ◌<◌, ◌≤◌, ◌⊎◌, inl, inr, ℕ, List, Option, Result, Ok, Err, IfOk, IfErr, OnOk, OnErr, IsErrOf, IfSome, option_map, length, ◌+◌, ◌++◌, refl, sym, ap, ◌∙◌, subst, arith}
 use Rattle.std.specs.Result.{IsErrAnd}
 use Rattle.std.specs.declared.vec.Vec.{Vec}
@@ -45,7 +45,7 @@ not_unknown compactions.Major h = h
 pub known_refusal : (compaction : Compaction) (e : Refusal) → IsRefusalOf compaction e → ¬ (e ≡ UnknownTablet)
 known_refusal compaction e refusal is = not_unknown compaction (subst (IsRefusalOf compaction) is refusal)
 
--- only what flushes a tablet is refused for its files
+-- only a flush is refused because the tablet has too many files
 pub full_meets : {n : ℕ} {ts : List Tablet} (compaction : Compaction) (e : Refusal) → IsRefusalOf compaction e → (e ≡ TooManyFiles → Numbered IsFullTablet n ts) → e ≡ TooManyFiles → Numbered (MeetsFull compaction) n ts
 full_meets compactions.Minor e refusal full is = full is
 full_meets (compactions.Merge count) e refusal full is = absurd (subst (IsRefusalOf (compactions.Merge count)) is refusal)
@@ -78,7 +78,7 @@ read_not_out h = h
 read_not_large : IsFileRefusal FileTooLarge → ⊥
 read_not_large h = h
 
--- of a tablet that is known a split may be refused what its flush may be
+-- the refusals of flushing an existing tablet are refusals of a split
 flush_split : (x : Refusal) → IsNumberedRefusal compactions.Minor x → ¬ (x ≡ UnknownTablet) → IsSplitRefusal x
 flush_split UnknownTablet h not = absurd (not refl)
 flush_split BadSplit h not = tt
@@ -104,7 +104,7 @@ tells_refused count e old new reason = tells count (Err e) (Refused e) old new (
 no_fault : {F : Type 0} (count : F → ℕ) (result : Outcome) (state : ClusterState F) → ¬ (result ≡ Refused Device) → TellsFaults count result state state
 no_fault count result state not = record { later = omega arith; device = λ is. absurd (not is); told = λ other. refl }
 
--- what tells of a call's refusal tells of that of the call that makes it
+-- the reason of a call's refusal is the reason of its caller's
 pub err_reason : {A B : Type 0} (e : Refusal) (before now : ℕ) → HasReason {T = A} before now (Err e) → HasReason {T = B} before now (Err e)
 err_reason e before now reason = record {
   later = reason.later;
@@ -119,7 +119,7 @@ told_after count result old mid new same told = record {
   told = λ other. told.told other ∙ same;
 }
 
--- ---- an outcome by what the call answers
+-- ---- outcomes from the call's answer
 
 module _ {F : Type 0} (contents : F → Option Contents) (count : F → ℕ) (command : Command) where
   pub refused_done : (r : Result (Unit {0}) Refusal) (e d : Refusal) (old new : ClusterState F) → IsErrAnd r (λ f. f ≡ e) → e ≡ d → IsOutcome contents count command (Refused d) old new → IsOutcome contents count command (done_of r) old new
@@ -136,14 +136,14 @@ module _ {F : Type 0} (contents : F → Option Contents) (count : F → ℕ) (co
 
 -- ---- compactions
 
--- what a compaction tells of files and names, and where it leaves the tablets
+-- a compaction's use of files and names, and its tablets' places
 pub record Uses {F : Type 0} (contents : F → Option Contents) (nothing : Type 0) (old new : ClusterState F) : Type 0 where
   pub name : UsesName (contents old.files) old.next_name (contents new.files) new.next_name
   pub limit : new.file_limit ≡ old.file_limit
   pub none : nothing → (new.next_name ≡ old.next_name) × (contents new.files ≡ contents old.files)
   pub spots : spots_of new ≡ spots_of old
 
--- nothing is done: the tablets, files and names are as they were
+-- nothing is done: the tablets, files and names are unchanged
 as_was : {F : Type 0} (state : ClusterState F) → IsAsBefore state state
 as_was state = record { places = refl; tablets = refl }
 
@@ -154,7 +154,7 @@ not_device : (e : Refusal) → ¬ (e ≡ Device) → ¬ (Refused e ≡ Refused D
 not_device e not is = not (let is = is in cc)
 
 module _ {F : Type 0} (contents : F → Option Contents) (count : F → ℕ) (n : ℕ) (old new : ClusterState F) where
-  -- a compaction that is done
+  -- an accepted compaction
   pub compacted : (compaction : Compaction) → KeepsMap contents old new → IsCompacted contents compaction n old new → Uses contents (Numbered (WritesNone compaction) n old.tablets) old new
       → MayCompact contents compaction n old → (compaction ≡ compactions.Minor → ListsAll old.places new.places) → TellsFaults count Done old new → IsOutcome contents count (compacting compaction n) Done old new
   compacted compactions.Minor kept made uses room lists told = record {
@@ -188,7 +188,7 @@ module _ {F : Type 0} (contents : F → Option Contents) (count : F → ℕ) (n 
     faults = told;
   }
 
-  -- one that is refused, of a tablet that is known
+  -- a refused compaction of an existing tablet
   pub uncompacted : (compaction : Compaction) (e : Refusal) → KeepsMap contents old new → (Holds contents old → ¬ (e ≡ Damaged)) → IsRefusalOf compaction e → IsAsBefore old new
       → Uses contents (Numbered (WritesNone compaction) n old.tablets) old new → BarsCompaction contents compaction n e old → BarsReading contents compaction n e old → ¬ (e ≡ UnknownTablet) → ¬ (e ≡ BadCount) → (e ≡ TooManyFiles → IsUndone contents old new)
       → TellsFaults count (Refused e) old new → IsOutcome contents count (compacting compaction n) (Refused e) old new
@@ -230,7 +230,7 @@ module _ {F : Type 0} (contents : F → Option Contents) (count : F → ℕ) (n 
     faults = told;
   }
 
--- one that is refused before anything is done
+-- a compaction that is refused before anything is done
 module _ {F : Type 0} (contents : F → Option Contents) (count : F → ℕ) (n : ℕ) (state : ClusterState F) where
   pub stopped : (compaction : Compaction) (e : Refusal) → IsNumberedRefusal compaction e → ¬ (e ≡ Damaged) → ¬ (e ≡ Device) → BarsCompaction contents compaction n e state → BarsReading contents compaction n e state → IsOutcome contents count (compacting compaction n) (Refused e) state state
   stopped compactions.Minor e refusal whole not bars reads = record {
@@ -316,7 +316,7 @@ module _ {F : Type 0} (contents : F → Option Contents) (count : F → ℕ) (ro
     faults = no_fault count (Refused BadSplit) state (λ is. cc);
   }
 
-  -- there is no room for the cut
+  -- the room for the cut was refused
   pub unroomed : (state : ClusterState F) → ¬ BarsSplit row state.places → IsOutcome contents count (command.Split row) (Refused NoMemory) state state
   unroomed state free = record {
     still = λ order. order;
@@ -453,7 +453,7 @@ module _ {F : Type 0} (contents : F → Option Contents) (count : F → ℕ) (n 
         faults = no_fault count (Refused e) state (not_device e (λ is. subst IsUnknown is unknown));
       }
 
-  -- it is there already
+  -- the tablet is already there
   pub stayed : (state : ClusterState F) → IsTable state.places → IsOn n server state.places → IsOutcome contents count (command.Move n server) Done state state
   stayed state table on = record {
     still = λ order. order;
@@ -539,7 +539,7 @@ module _ {F : Type 0} (contents : F → Option Contents) (count : F → ℕ) (n 
 -- ---- sweeps
 
 module _ {F : Type 0} (contents : F → Option Contents) (count : F → ℕ) (old new : ClusterState F) (kept : KeepsMap contents old new) (rest : new ≡ record old { files = new.files }) where
-  -- other files take no room in memory
+  -- other files use no room in memory
   same_room : IsNoFuller old new
   same_room row later full = subst (λ (state : ClusterState F). OverfillsCluster state row later) rest full
 

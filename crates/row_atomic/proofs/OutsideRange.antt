@@ -1,4 +1,4 @@
--- A tablet shows no cell outside its range, whatever stands in its files.
+-- A tablet shows no cell outside its range, whatever its files contain.
 use Rattle.std.proofs.Common.{◌≡◌, ℕ, Bool, true, false, cond, List, [], ◌∷◌, ◌++◌, map, length, refl, sym, ap, subst, ◌∙◌, arith}
 use Rattle.std.specs.Prelude.{Option, Some, None, flat_map}
 use Rattle.std.specs.List.{AllByRecursion}
@@ -29,7 +29,7 @@ entries-empty : entries (empty {K = List ℕ} {X = Option (List ℕ)} {R = byte_
 entries-empty = no_entry _ (sym (len-entries empty) ∙ len-empty byte_cmp (Option (List ℕ)))
 
 module _ (range : RowRange) where
-  -- the row of an entry's key is one of the range
+  -- the row of an entry's key is in the range
   abbrev IsInside : Entry → Type 0
   IsInside e = has_row range (key_of_text e.0).row ≡ true
 

@@ -1,4 +1,4 @@
--- Each row has one tablet: that of the place that holds the row.
+-- Each row is owned by one tablet, the tablet of the place that holds the row.
 use Rattle.std.proofs.Common.{◌≡◌, ◌≢◌, ◌≤◌, ℕ, zero, suc, Bool, true, false, List, [], ◌∷◌, ◌++◌, length, Option, Some, None, slice_get, refl, sym, ap, ◌∙◌, subst, arith, ◌&&◌}
 use Rattle.std.specs.List.{AllByRecursion}
 use Rattle.std.specs.declared.cmp.Ordering.{Ordering}
@@ -51,7 +51,7 @@ second_false false b e = refl
 
 -- ---- single ranges
 
--- a range that ends below a row hasn't the row
+-- a range that ends below a row does not have the row
 ends_below : (end : Option (List ℕ)) (row : List ℕ) → EndsBefore end row → is_up_to end row ≡ false
 ends_below None row h = absurd h
 ends_below (Some e) row h = not_le_of e row h
@@ -64,7 +64,7 @@ goes_on : (end : Option (List ℕ)) (row : List ℕ) → EndsBefore end row → 
 goes_on None row h = absurd h
 goes_on (Some e) row h = ap is_lt h
 
--- the rows of the range begin after a row that isn't below this one
+-- the rows of the range begin after a row that is not below this one
 pub record BeginsPast (row : List ℕ) (range : RowRange) : Type 0 where
   pub end : List ℕ
   pub after : range.after ≡ Some end
@@ -73,7 +73,7 @@ pub record BeginsPast (row : List ℕ) (range : RowRange) : Type 0 where
 pub begins_past_has : (row : List ℕ) (range : RowRange) → BeginsPast row range → has_row range row ≡ false
 begins_past_has row range b = first_false (is_after range.after row) (is_up_to range.end row) (ap (λ (o : Option (List ℕ)). is_after o row) b.after ∙ not_less (byte_cmp b.end row) b.past)
 
--- what the tablet of a place has
+-- a property of the range of a place's tablet
 abbrev pub OfTablet : List Tablet → (RowRange → Type 0) → PlaceView → Type 0
 OfTablet tablets P q = (u : Tablet) → tablet_numbered q.tablet tablets ≡ Some u → P (range_of u)
 
@@ -84,7 +84,7 @@ module _ (tablets : List Tablet) (row : List ℕ) where
   abbrev Lacks : RowRange → Type 0
   Lacks range = has_row range row ≡ false
 
-  -- a tablet of a place, by its range
+  -- the same, by the range that the place gives
   of_placed : (P : RowRange → Type 0) (before : Option (List ℕ)) (p : PlaceView) → IsPlaced tablets before p → P (record { after = before; end = p.end }) → OfTablet tablets P p
   of_placed P before p placed h u e =
       let same = same_tablet (tablet_numbered p.tablet tablets) placed.tablet u placed.numbered e in
@@ -99,7 +99,7 @@ module _ (tablets : List Tablet) (row : List ℕ) where
   next_reaches None (Some e) low h k = absurd low
   next_reaches (Some d) (Some e) low h k = h (nat_list_cmp_total.trans d e row low k)
 
-  -- the tablets after one that reaches a row begin past the row
+  -- the tablets after one that ends at or above a row begin past the row
   pub later_begin : (p : PlaceView) (ps : List PlaceView) → EndsRise (p ∷ ps) → ArePlaced tablets p.end ps → ¬ EndsBefore p.end row → AllByRecursion (OfTablet tablets (BeginsPast row)) ps
   later_begin p [] rise placed h = tt
   later_begin p (q ∷ qs) rise placed h = (
@@ -115,7 +115,7 @@ module _ (tablets : List Tablet) (row : List ℕ) where
   rise_rest q [] p post rise = rise.1
   rise_rest q (r ∷ pre) p post rise = rise.1
 
-  -- at the place that holds a row
+  -- the place that holds a row has it, and no other place does
   pub record AtHolder (p : PlaceView) (ps : List PlaceView) : Type 0 where
     pub has : OfTablet tablets (λ range. has_row range row ≡ true) p
     pub others : AllByRecursion (λ q. q.tablet ≢ p.tablet → OfTablet tablets Lacks q) ps
@@ -137,7 +137,7 @@ below_length [] j x e = cc
 below_length (y ∷ xs) zero x e = omega arith
 below_length (y ∷ xs) (suc j) x e = let rest = below_length xs j x e in omega arith
 
--- the index of a number
+-- the index of a tablet's number
 abbrev pub index_of : ℕ → ℕ
 index_of zero = 0
 index_of (suc i) = i
@@ -150,14 +150,14 @@ number_of : (tablets : List Tablet) (n : ℕ) (t : Tablet) → tablet_numbered n
 number_of tablets zero t e = cc
 number_of tablets (suc i) t e = refl
 
--- the tablet of each number has a place
+-- each tablet has a place
 pub each_placed : (P : PlaceView → Type 0) (tablets : List Tablet) (places : List PlaceView) → IsTable places → length tablets ≡ length places → AllByRecursion P places → (j : ℕ) (u : Tablet) → slice_get tablets j ≡ Some u → (q : PlaceView) × (P q × (q.tablet ≡ suc j))
 each_placed P tablets places table as_many each j u e =
     let below = below_length tablets j u e in
     let to : suc j ≤ length places = omega arith in
     of_number P (suc j) places each (each_number places table (suc j) (omega arith) to)
 
--- the tablet of the place that holds a row has the row alone
+-- only the tablet of the place that holds a row has the row
 pub holder_owns : (tablets : List Tablet) (places : List PlaceView) (row : List ℕ) (p : PlaceView) (t : Tablet) → IsTable places → ArePlaced tablets None places → length tablets ≡ length places → IsHolder row places p → tablet_numbered p.tablet tablets ≡ Some t → OwnsRow tablets row (index_of p.tablet) t
 holder_owns tablets places row p t table placed as_many holder e =
     let placed_parts : ArePlaced tablets None (holder.before ++ p ∷ holder.after) = subst (λ (ps : List PlaceView). ArePlaced tablets None ps) holder.parts placed in

@@ -1,4 +1,4 @@
--- One tablet is replaced by two parts of it: the cells stay.
+-- Replacing one tablet by two parts of it keeps the cells.
 use Rattle.std.proofs.Common.{◌≡◌, ◌≢◌, ℕ, Bool, true, false, cond, nat_eq, List, [], ◌∷◌, ◌++◌, map, set, length, Option, Some, None, ◌⊎◌, inl, inr, slice_get, refl, sym, ap, ◌∙◌, subst, ◌&&◌}
 use Rattle.std.proofs.lemmas.Option.{same_Some}
 use Rattle.std.specs.FinMap.{get, same_map}
@@ -70,7 +70,7 @@ has_holder row (p ∷ q ∷ ps) rise = go (ends_or_not p.end row) (has_holder ro
     go (inl h) rest = later_holds row p (q ∷ ps) h rest
     go (inr h) rest = first_holds row p (q ∷ ps) h
 
--- ---- the tablet that has a row owns it
+-- ---- a tablet that has a row owns it
 
 pub record IsNumbered (ts : List Tablet) (k : ℕ) : Type 0 where
   pub tablet : Tablet
@@ -139,7 +139,7 @@ left_false false b e = refl
 turned : (a b : List ℕ) → is_le (byte_cmp b a) ≡ is_le (ordering_reverse (byte_cmp a b))
 turned a b = ap is_le (nat_list_cmp_total.antisymm b a)
 
--- a row of a range that is cut is in one part alone
+-- a row of a cut range is in exactly one part
 pub record InPart (range left right : RowRange) (row : List ℕ) : Type 0 where
   pub where_is : ((has_row left row ≡ true) × (has_row right row ≡ false)) ⊎ ((has_row left row ≡ false) × (has_row right row ≡ true))
 
@@ -169,7 +169,7 @@ in_part range left right cut row is_left is_right has = record { where_is = by (
       of_right false (left_false (is_lt (byte_cmp cut row)) (is_up_to range.end row) (ap is_lt e)),
     )
 
--- ---- joined lists with one more
+-- ---- joined maps with one more
 
 or_assoc : {A : Type 0} (x y z : Option A) → or_else x (or_else y z) ≡ or_else (or_else x y) z
 or_assoc None y z = refl
@@ -190,7 +190,7 @@ module _ {A : Type 0} (f : A → Cells) (q : CellKey) where
       ∙ or_assoc (get (f t) q) (get (joined (map f ts)) q) (get (f u) q)
       ∙ sym (ap (λ (o : Option (List ℕ)). or_else o (get (f u) q)) (get_joined (f t) (map f ts) q))
 
--- ---- the cells stay
+-- ---- the cells are unchanged
 
 module _ (law : StaysInRange) (m n : Contents) (places : List PlaceView) (ts : List Tablet) (i : ℕ) (t left right : Tablet) (cut : List ℕ)
     (table : IsTable places) (placed : ArePlaced ts None places) (as_many : length ts ≡ length places) (holds : AllByRecursion (Holds m) ts)
@@ -209,7 +209,7 @@ module _ (law : StaysInRange) (m n : Contents) (places : List PlaceView) (ts : L
   of_right : (b : Bool) (q : CellKey) → has_row (range_of right) q.row ≡ b → get (cells_at n right) q ≡ cond b (get (cells_at m t) q) None
   of_right b q e = right_part q ∙ ap (λ (c : Bool). cond c (get (cells_at m t) q) None) e
 
-  -- if the right part has what the tablet had, and the left one nothing
+  -- if the right part has the tablet's value, and the left part none
   stays_right : (q : CellKey) → get (cells_at n right) q ≡ get (cells_at m t) q → get (cells_at n left) q ≡ None → get (cells_in (Some n) (set ts i right ++ left ∷ [])) q ≡ get (cells_in (Some m) ts) q
   stays_right q on_right on_left =
       joined_push (cells_at n) q (set ts i right) left
@@ -218,7 +218,7 @@ module _ (law : StaysInRange) (m n : Contents) (places : List PlaceView) (ts : L
       ∙ joined_set (cells_at n) q ts i t right there (on_right ∙ ap (λ (c : Cells). get c q) (sym (each_at (λ u. cells_at n u ≡ cells_at m u) ts others i t there)))
       ∙ was q
 
-  -- if the left part has it, and the tablet had the row
+  -- if the left part has the tablet's value, and the tablet has the row
   stays_left : (q : CellKey) → has_row (range_of t) q.row ≡ true → get (cells_at n right) q ≡ None → get (cells_at n left) q ≡ get (cells_at m t) q → get (cells_in (Some n) (set ts i right ++ left ∷ [])) q ≡ get (cells_in (Some m) ts) q
   stays_left q has on_right on_left =
       joined_push (cells_at n) q (set ts i right) left
@@ -258,6 +258,6 @@ module _ (law : StaysInRange) (m n : Contents) (places : List PlaceView) (ts : L
           (of_right (has_row (range_of right) q.row) q refl ∙ none_of (has_row (range_of right) q.row) (get (cells_at m t) q) none ∙ sym none)
           (of_left (has_row (range_of left) q.row) q refl ∙ none_of (has_row (range_of left) q.row) (get (cells_at m t) q) none)
 
-  -- Two parts in the place of a tablet show what it showed.
+  -- Two parts that replace a tablet show its cells.
   pub parted : cells_in (Some n) (set ts i right ++ left ∷ []) ≡ cells_in (Some m) ts
   parted = same_map key_cmp_total exact_keys (cells_in (Some n) (set ts i right ++ left ∷ [])) (cells_in (Some m) ts) at_key

@@ -1,4 +1,4 @@
--- What a call tells where one that it makes was refused, or wasn't.
+-- A call's refusal, by the refusals of the calls that it makes.
 use Rattle.std.proofs.Common.{◌≡◌, ◌+◌, ◌<◌, ◌≤◌, ◌⊎◌, ◌↔◌, inl, inr, ℕ, Bool, false, IsTrue, List, length, map, Result, Ok, Err, IfOk, IfErr, IsErrOf, sym, ap, ◌∙◌, subst, arith}
 use Rattle.std.specs.Result.{IsErrAnd}
 use Rattle.std.proofs.lemmas.List.{length-map}
@@ -16,7 +16,7 @@ use Rattle.row_atomic.specs.Clusters.{spot_of}
 use Rattle.tablet.specs.declared.compactions.Compaction.{Compaction}
 use Rattle.tablet.specs.declared.compactions.Compaction.TheVariants.{Minor, Merge, Major}
 
--- ---- a refusal that is passed on
+-- ---- passed refusals
 
 pub refused_as : {B : Type 0} (r : Result B Refusal) (e n : Refusal) → IsErrAnd r (λ f. f ≡ e) → e ≡ n → IsErrOf r n
 refused_as (Ok x) e n by is = absurd by
@@ -25,20 +25,20 @@ refused_as (Err f) e n by is = ap (λ d. Err d) (by ∙ is)
 named : {A : Type 0} (e n : Refusal) → IsErrOf {T = A} (Err e) n → e ≡ n
 named e n is = cc
 
--- it is refused so where the call that it makes is
+-- the caller is refused in the same way as the call
 pub same_refusal : {A B : Type 0} (r : Result B Refusal) (e n : Refusal) (P : Type 0) → IsErrAnd r (λ f. f ≡ e) → (IsErrOf {T = A} (Err e) n ↔ P) → (IsErrOf r n ↔ P)
 same_refusal r e n P by only = (λ is. only.0 (passed r e n by is), λ h. refused_as r e n by (named e n (only.1 h)))
 
--- what holds of each refusal
+-- a property of all refusals
 pub each_refusal : {B : Type 0} (r : Result B Refusal) (P : Refusal → Type 0) → ((e : Refusal) → P e) → IfErr r P
 each_refusal (Ok x) P f = tt
 each_refusal (Err e) P f = f e
 
--- it is one of those that the call may answer
+-- the refusal is one that the call may answer
 pub one_of : {B : Type 0} (P : Refusal → Type 0) (r : Result B Refusal) (e n : Refusal) → IsErrAnd r (λ f. f ≡ e) → P e → IsErrOf r n → P n
 one_of P r e n = passed_kind r e n P
 
--- nor is want of memory
+-- a lack of memory
 abbrev pub IsWant : Refusal → Type 0
 IsWant NoMemory = Unit {0}
 IsWant _ = ⊥
@@ -65,7 +65,7 @@ read_move NoMemory h = tt
 read_move Damaged h = tt
 read_move _ h = absurd h
 
--- a tablet or a server that is not there
+-- a tablet or a server that doesn't exist
 abbrev pub IsUnknown : Refusal → Type 0
 IsUnknown UnknownTablet = Unit {0}
 IsUnknown UnknownServer = Unit {0}
@@ -100,7 +100,7 @@ below_only n m below from = omega arith
 pub reason_since : {B : Type 0} (r : Result B Refusal) (before mid now : ℕ) → mid ≡ before → HasReason mid now r → HasReason before now r
 reason_since r before mid now same reason = subst (λ (count : ℕ). HasReason count now r) same reason
 
--- what was refused so was not refused otherwise
+-- a call has only one refusal
 pub not_wanted : {B : Type 0} (r : Result B Refusal) (e n : Refusal) → IsErrAnd r (λ f. f ≡ e) → ¬ (e ≡ n) → ¬ IsErrOf r n
 not_wanted (Ok x) e n by other is = absurd by
 not_wanted (Err f) e n by other is = other (let same : f ≡ n = cc in sym by ∙ same)
@@ -110,7 +110,7 @@ reason_kept x y before now reason = record { later = reason.later; device = λ i
 
 -- ---- places
 
--- as many places as there are spots
+-- the number of places is the number of spots
 pub number_after : (places places' : List PlaceView) (r : Result ℕ Refusal) → map spot_of places' ≡ map spot_of places → IfOk r (λ left. left ≡ length places' + 1) → IfOk r (λ left. left ≡ length places + 1)
 number_after places places' r same number =
     let as_many : length places' ≡ length places = sym (length-map places' spot_of) ∙ ap (λ spots. length spots) same ∙ length-map places spot_of in

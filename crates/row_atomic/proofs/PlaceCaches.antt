@@ -1,4 +1,4 @@
--- What is kept of the rows that were located last.
+-- The cache of places.
 use Rattle.std.proofs.Common.{◌≡◌, ◌≤◌, ◌+◌, ◌-◌, inl, inr, ℕ, Bool, true, false, nat_eq, List, [], ◌∷◌, length, Option, Some, None, option_map, is_some, slice_get, Result, Ok, Err, OnOk, OnErr, refl, sym, ap, ◌∙◌, subst, arith, cond}
 use Rattle.std.specs.Cmp.Lexicographic.{pointwise, bytes_decides}
 use Rattle.std.specs.List.{AllByRecursion}
@@ -15,7 +15,7 @@ use Rattle.row_atomic.proofs.RowAnswers.{HasTabletAt, holder_index}
 use Rattle.row_atomic.proofs.Parts.{at_parts}
 use Rattle.row_atomic.proofs.SplitClusters.{holder_listed, same_tablet}
 
--- ---- what was found
+-- ---- entries found
 
 module _ {K V : Type 0} (test : K → Bool) where
   by_one : (b : Bool) (e : K × V) (x : Option V) (y : Option (K × V)) → x ≡ option_map (λ f. f.1) y → cond b (Some e.1) x ≡ option_map (λ f. f.1) (cond b (Some e) y)
@@ -26,7 +26,7 @@ module _ {K V : Type 0} (test : K → Bool) where
   by_entry [] = refl
   by_entry (e ∷ es) = by_one (test e.0) e (lookup test es) (lookup_entry test es) (by_entry es)
 
-  -- an entry that is there is the first one after it was promoted
+  -- an entry that is found is the first one after it was promoted
   pub first_promoted : (es : List (K × V)) → is_some (lookup test es) ≡ true → option_map (λ e. e.1) (slice_get (promoted test es) 0) ≡ lookup test es
   first_promoted es there = go (lookup_entry test es) refl
     where
@@ -34,7 +34,7 @@ module _ {K V : Type 0} (test : K → Bool) where
       go None is = let none : lookup test es ≡ None = by_entry es ∙ ap (option_map (λ e. e.1)) is in cc
       go (Some e) is = sym (by_entry es ∙ ap (option_map (λ f. f.1)) is)
 
--- ---- the row that was located last
+-- ---- the row located last
 
 is_own_key : (row : List ℕ) → is_key_of row row ≡ true
 is_own_key row = (bytes_decides row row).1 refl
@@ -52,7 +52,7 @@ first_stays row (e ∷ es) n is =
     let test : is_key_of row e.0 ≡ true = ap (is_key_of row) (ap (λ p. p.0) same) ∙ is_own_key row in
     sym (ap (λ (b : Bool). option_map_or (λ (f : List ℕ × ℕ). f ∷ cond b es (e ∷ remove_entry (is_key_of row) es)) (cond b (Some e) (lookup_entry (is_key_of row) es)) (e ∷ es)) test)
 
--- ---- what is kept
+-- ---- the cached numbers
 
 module _ (places : List PlaceView) where
   pub none_held : (kept : List (List ℕ × ℕ)) → kept ≡ [] → AreHeld places kept
@@ -70,19 +70,19 @@ module _ (places : List PlaceView) where
     | inr is ↦ subst (λ (e : List ℕ × ℕ). IsHeldBy places e.0 e.1) (sym is) this
   ]
 
-  -- what is kept with a row is the number of its tablet
+  -- the number cached for a row is its tablet's
   pub found_held : (row : List ℕ) (kept : List (List ℕ × ℕ)) (n : ℕ) → AreHeld places kept → number_kept row kept ≡ Some n → IsHeldBy places row n
   found_held row kept n held is =
       let at = Contains-lookup (is_key_of row) kept n is in
       subst (λ (r : List ℕ). IsHeldBy places r n) (sym ((bytes_decides row at.0).0 at.2)) (held (at.0, n) at.1)
 
-  -- files that a place lists change no number
+  -- new files of a place change no number
   pub held_listed : (n : ℕ) (names : List ℕ) (kept : List (List ℕ × ℕ)) → AreHeld places kept → AreHeld (with_files n names places) kept
   held_listed n names kept held entry there =
       let was = held entry there in
       record { place = naming n names was.place; holder = holder_listed n names entry.0 places was.place was.holder; number = same_tablet n names was.place ∙ was.number }
 
--- ---- what is put
+-- ---- adding an entry
 
 pub added : (old : LruCache (List ℕ) ℕ) (row : List ℕ) (n : ℕ) → AddsOnly row n old.entries (put_entries (pointwise nat_eq) old row n)
 added old row n entry there = elim (Contains-put_entries (pointwise nat_eq) old row n entry there) [

@@ -1,4 +1,4 @@
--- Which rows are readable: after one tablet was replaced, and from a place on.
+-- Rows that can be read: after one tablet was replaced, and from a place on.
 use Rattle.std.proofs.Common.{◌≡◌, ◌≢◌, ℕ, zero, suc, Bool, true, false, nat_eq, List, [], ◌∷◌, ◌++◌, set, slice_get, Option, Some, None, Result, Ok, Err, IfErr, IfOk, OnOk, IsErrOf, refl, sym, ap, ◌∙◌, subst}
 use Rattle.std.specs.Prelude.{IsSomeAnd}
 use Rattle.std.specs.List.{AllByRecursion}
@@ -36,7 +36,7 @@ same_one o t u e h = cc
 -- ---- one tablet is replaced
 
 module _ (o : Option Contents) (places : List PlaceView) (ts : List Tablet) (i : ℕ) (t u : Tablet) (there : slice_get ts i ≡ Some t) (stays : IsSomeAnd o (λ m. Holds m t) → IsSomeAnd o (λ m. Holds m u)) where
-  -- a row that was readable still is
+  -- a row that could be read still can
   pub readable_set : (row : List ℕ) → IsReadable o places ts row → IsReadable o places (set ts i u) row
   readable_set row readable p v holder is = by p.tablet refl
     where
@@ -54,23 +54,23 @@ module _ (o : Option Contents) (places : List PlaceView) (ts : List Tablet) (i :
       by zero number = absurd (none_some v (subst (λ (n : ℕ). tablet_numbered n (set ts i u) ≡ Some v) number is))
       by (suc j) number = at j number (subst (λ (n : ℕ). tablet_numbered n (set ts i u) ≡ Some v) number is) (nat_eq j i) refl
 
--- a tablet that was read is as whole as it was
+-- a tablet that was read still holds if it did
 pub read_stays : (o : Option Contents) (t u : Tablet) → IsSameTablet o t u → IsSomeAnd o (λ m. Holds m t) → IsSomeAnd o (λ m. Holds m u)
 read_stays None t u same held = held
 read_stays (Some m) t u same held = same.still held
 
--- so is one that stays over any files
+-- so does a new one that holds over all files over which the old one did
 pub over_any : (o : Option Contents) (t u : Tablet) → ((m : Contents) → Holds m t → Holds m u) → IsSomeAnd o (λ m. Holds m t) → IsSomeAnd o (λ m. Holds m u)
 over_any None t u stays held = held
 over_any (Some m) t u stays held = stays m held
 
--- what was readable still is after edits of a tablet
+-- rows that could be read still can after edits of a tablet
 pub readable_in : (o : Option Contents) (places : List PlaceView) (ts : List Tablet) (i : ℕ) (t u : Tablet) → slice_get ts i ≡ Some t → {A : Type 0} (r : Result A Refusal) → OnOk r ((m : Contents) → Holds m t → Holds m u)
     → OnOk r ((row : List ℕ) → IsReadable o places ts row → IsReadable o places (set ts i u) row)
 readable_in o places ts i t u there (Err e) stays = tt
 readable_in o places ts i t u there (Ok x) stays = readable_set o places ts i t u there (over_any o t u stays)
 
--- what a tablet's read is refused with, that of the cluster is
+-- the cluster's read is refused like the tablet's
 pub refused_read : {A : Type 0} (Holds : Type 0) (r : Result A Refusal) → (Holds → ¬ IsErrOf r Damaged) → IfErr r sources.IsReadRefusal → IfErr r (IsRefusalOfRead Holds)
 refused_read Holds (Ok x) undamaged h = tt
 refused_read Holds (Err Damaged) undamaged h = λ held. undamaged held refl
@@ -89,12 +89,12 @@ less_not a b e f = turned (byte_cmp a b) (byte_cmp b a) (nat_list_cmp_total.anti
 not_self : (a : List ℕ) → byte_cmp a a ≢ Less
 not_self a e = less_not a a e e
 
--- a row with a byte more comes after it
+-- a row followed by one more byte is after it
 longer : (a : List ℕ) → byte_cmp a (a ++ 0 ∷ []) ≡ Less
 longer [] = refl
 longer (x ∷ a) = ap (λ (o : Ordering). ordering_then o (byte_cmp a (a ++ 0 ∷ []))) (tied_itself nat_cmp_total x) ∙ longer a
 
--- what comes after a row that isn't below another comes after that one
+-- a row after one that is not below another is after the other
 past_both : (low d high : List ℕ) → byte_cmp d low ≢ Less → byte_cmp d high ≡ Less → byte_cmp low high ≡ Less
 past_both low d high above less = by (byte_cmp low d) refl
   where
@@ -103,7 +103,7 @@ past_both low d high above less = by (byte_cmp low d) refl
     by Equal e = nat_list_cmp_total.congr low d high e ∙ less
     by Greater e = absurd (above (nat_list_cmp_total.antisymm d low ∙ ap ordering_reverse e))
 
--- a row that isn't below one, and after each of these ends
+-- a row that is not below `low`, and is after each of these ends
 record IsAbove (low : List ℕ) (pre : List PlaceView) : Type 0 where
   row : List ℕ
   from : byte_cmp row low ≢ Less
@@ -167,7 +167,7 @@ lower_through None other e low h = absurd low
 lower_through (Some c) None e low h = absurd h
 lower_through (Some c) (Some d) e low h = nat_list_cmp_total.trans c d e low h
 
--- all ends before that of a place come before it
+-- all ends before a place's end are below it
 earlier_end : (pre : List PlaceView) (p : PlaceView) (post : List PlaceView) (e : List ℕ) → p.end ≡ Some e → EndsRise (pre ++ p ∷ post) → AllByRecursion (λ q. EndsBefore q.end e) pre
 earlier_end [] p post e is rise = tt
 earlier_end (q ∷ []) p post e is rise = (lower_ends q.end e p.end is rise.0, tt)
@@ -235,7 +235,7 @@ module _ (disk : Option Contents) (places : List PlaceView) (ts : List Tablet) (
   abbrev pub IsFrom : Type 0
   IsFrom = (row : List ℕ) → IsRowFrom after row → IsReadable disk places ts row
 
-  -- if the rows from a place on are readable, their tablets' files are open
+  -- if the rows from a place on can be read, their tablets' files are open
   pub open_from : IsFrom → (m : Contents) → disk ≡ Some m → AreOpenFrom m ts after places
   open_from readable m told = each_split (λ p. ¬ PrecedesCell p after → (t : Tablet) → tablet_numbered p.tablet ts ≡ Some t → Holds m t) places one
     where
@@ -245,7 +245,7 @@ module _ (disk : Option Contents) (places : List PlaceView) (ts : List Tablet) (
           let holder = subst (λ (ps : List PlaceView). IsHolder has.row ps p) (sym parts) has.holder in
           of_some disk m (λ n. Holds n t) told (readable has.row has.from p t holder numbered)
 
-  -- and it is known what the files tell
+  -- and the files' contents are known
   pub told_from : ArePlaced ts None places → IsFrom → (m : Contents) × (disk ≡ Some m)
   told_from placed readable =
       let row = row_from after in
@@ -261,7 +261,7 @@ module _ (disk : Option Contents) (places : List PlaceView) (ts : List Tablet) (
       let holder = subst (λ (ps : List PlaceView). IsHolder has.row ps meets.place) (sym meets.parts) has.holder in
       not_damaged disk meets.out.tablet (Unit {0}) (readable has.row has.from meets.place meets.out.tablet holder meets.out.numbered) (λ _. meets.out.such) tt
 
-  -- what a scan of the tablets finds is next in the cells
+  -- the cells that a scan of the tablets finds are the next ones
   pub next_found : (spots : List PlaceView) (us : List Tablet) → spots ≡ places → us ≡ ts → ArePlaced ts None places → IsFrom → (most : ℕ) {A : Type 0} (found_in : A → List Place) (r : Result A Refusal)
       → IfOk r (λ found. (m : Contents) → disk ≡ Some m → AreOpenFrom m us after spots → AreNextCells (cells_in (Some m) us) after most (found_in found))
       → IfOk r (λ found. AreNextCells (cells_in disk ts) after most (found_in found))
@@ -272,7 +272,7 @@ module _ (disk : Option Contents) (places : List PlaceView) (ts : List Tablet) (
       subst (λ (o : Option Contents). AreNextCells (cells_in o ts) after most (found_in found)) (sym told.1)
       (subst (λ (vs : List Tablet). AreNextCells (cells_in (Some told.0) vs) after most (found_in found)) same (h told.0 told.1 open_there))
 
-  -- and it is refused as damaged only if what it reads isn't in order
+  -- and it is refused as damaged only if a row from there on can't be read
   pub next_refused : (spots : List PlaceView) (us : List Tablet) → spots ≡ places → us ≡ ts → (most : ℕ) {A : Type 0} (r : Result A Refusal) → (IsErrOf r Damaged → MeetsDamage disk after most spots us) → IfErr r sources.IsReadRefusal
       → IfErr r (IsRefusalOfRead IsFrom)
   next_refused spots us same_spots same most r meets refusal =

@@ -1,4 +1,4 @@
--- After a checkpoint the files keep what the cluster shows.
+-- After a checkpoint the files keep the cells that the cluster shows.
 use Rattle.std.proofs.Common.{IfSome, ◌≡◌, ◌≤◌, ◌<◌, ◌==◌, ◌⊎◌, ◌++◌, ◌^◌, length, inl, inr, ℕ, Bool, true, false, cond, nat_eq, List, [], ◌∷◌, Option, Some, None, Result, Ok, Err, refl, sym, ap, ◌∙◌, subst, arith}
 use Rattle.std.proofs.lemmas.Option.{same_Some}
 use Rattle.std.specs.Prelude.{IsSomeAnd, OnErr, OnOk}
@@ -31,10 +31,10 @@ use Rattle.row_atomic.proofs.Owners.{each_placed}
 use Rattle.row_atomic.proofs.Shares.{each_at, each_map}
 use Rattle.row_atomic.proofs.Sweeps.{each_of, maps_alike}
 
--- ---- tablets that were flushed
+-- ---- flushed tablets
 
 module _ {F : Type 0} (contents : F → Option Contents) (faults : F → ℕ) where
-  -- what one compaction leaves
+  -- effects of one compaction
   pub record FlushKeeps (old new : ClusterState F) : Type 0 where
     pub emptied : (n : ℕ) → Numbered IsEmptied n old.tablets → Numbered IsEmptied n new.tablets
     pub spots : spots_of new ≡ spots_of old
@@ -77,9 +77,9 @@ module _ {F : Type 0} (contents : F → Option Contents) (faults : F → ℕ) wh
       subst (λ (ns : List ℕ). AllByRecursion (λ n. Numbered IsEmptied n new.tablets) ns) (sym (same_numbers old.places new.places (all_keep old new (numbers_of old.places) flushes).spots))
       (all_emptied old new (numbers_of old.places) flushes)
 
--- ---- the root beside them
+-- ---- the root file
 
--- bytes that were written behind none are those of the root alone
+-- bytes appended to an empty buffer are the bytes of the root
 pub new_root : (root : RootView) (lengths out image : List ℕ) → IsSoundRoot root → length lengths ≡ length (file_names root.places) → AllByRecursion (λ n. n < 2 ^ 64) lengths
     → out ≡ [] → image ≡ out ++ root_bytes Two root lengths → IsRootIn Two root lengths image
 new_root root lengths out image sound measured fit none whole =
@@ -96,13 +96,13 @@ module _ (m : Contents) (image : List ℕ) where
       by true e = let none = eqb-true name root_name e in absurd (omega arith)
       by false e = refl
 
--- a put of the root leaves all other files
+-- a put of the root changes no other file
 pub put_keeps : (old : Option Contents) (image : List ℕ) → KeepsOthers root_name old (with_file root_name image old)
 put_keeps None image = refl
 put_keeps (Some m) image = λ name other. elsewhere m image name (omega (arith, other))
 
 module _ (places : List PlaceView) (ts : List Tablet) (limit next : ℕ) (table : IsTable places) (matched : IsMatched limit next places ts) where
-  -- what is told of each place's tablet
+  -- a property of each place's tablet
   abbrev Says : (Tablet → Type 0) → PlaceView → Type 0
   Says P p = (t : Tablet) → tablet_numbered p.tablet ts ≡ Some t → P t
 
@@ -122,7 +122,7 @@ module _ (places : List PlaceView) (ts : List Tablet) (limit next : ℕ) (table 
     named_says p.end ps placed.1 files.1,
   )
 
-  -- the files of tablets are as before
+  -- the files of tablets are unchanged
   module _ (law : UnnamedMayGo) (m n : Contents) (same_at : (name : ℕ) → 1 ≤ name → get n name ≡ get m name) where
     each_still : AllByRecursion (HoldsAt m) ts → AllByRecursion (λ t. HoldsAt n t × (cells_at n t ≡ cells_at m t)) ts
     each_still holds = each_of (λ t. HoldsAt n t × (cells_at n t ≡ cells_at m t)) ts (λ j t e.
@@ -145,7 +145,7 @@ module _ (places : List PlaceView) (ts : List Tablet) (limit next : ℕ) (table 
       let same_at : (name : ℕ) → 1 ≤ name → get n name ≡ get m name = λ name from. others name (λ is. absurd (omega (arith, is, from))) in
       (record { contents = n; on_disk = refl; each_open = open_still law m n same_at holds; each_below = order.each_below }, cells_still law m n same_at holds)
 
-  -- the bytes of the root file change nothing for tablets
+  -- the root file's bytes change nothing for tablets
   pub still_told : UnnamedMayGo → (old new : Option Contents) → (new ≡ old) ⊎ KeepsOthers root_name old new → InOrder old next ts → InOrder new next ts × (cells_in new ts ≡ cells_in old ts)
   still_told law old new may order = elim may [
     | inl same ↦ (subst (λ (o : Option Contents). InOrder o next ts) (sym same) order, ap (λ (o : Option Contents). cells_in o ts) same)
@@ -186,7 +186,7 @@ module _ (places : List PlaceView) (ts : List Tablet) (limit next : ℕ) (table 
       (subst (λ (o : Option Contents). IsSomeAnd (with_file root_name image o) (λ k. KeepsCells k root (cells_in o ts))) (sym order.on_disk)
       (keeps law order.contents image order.each_open flushed root same form (subst (λ (o : Option Contents). IfSome o (λ m. AreMeasured m (file_names root.places) form.lengths)) order.on_disk measured)))
 
--- what a state's own root says of it
+-- a state's root has the state's numbers and places
 pub rooted : {F : Type 0} (contents : F → Option Contents) (top floor : ℕ) (state : ClusterState F) (cells : Cells) → IsSomeAnd (contents state.files) (λ m. KeepsCells m (root_at top floor state) cells) → KeepsRoot contents (root_at top floor state) cells state
 rooted contents top floor state cells keeps = go (contents state.files) refl keeps
   where
@@ -194,7 +194,7 @@ rooted contents top floor state cells keeps = go (contents state.files) refl kee
     go None e keeps = absurd keeps
     go (Some m) e keeps = record { has = record { kept = m; on_disk = e; keeps = keeps; below = omega arith }; lists = λ name l. l }
 
--- a root that was put keeps what the flushed state shows
+-- a root that was put keeps the cells of the flushed state
 pub put_rests : {F : Type 0} (contents : F → Option Contents) (top floor : ℕ) (old : ClusterState F) (files : F) → IsTable old.places → IsMatched old.file_limit old.next_name old.places old.tablets → UnnamedMayGo
     → (image lengths : List ℕ) → IsRootIn Two (root_at top floor old) lengths image → contents files ≡ with_file root_name image (contents old.files)
     → IfSome (contents old.files) (λ m. AreMeasured m (file_names old.places) lengths) → AreFlushed old → Rests contents top floor old (record old { files = files })
@@ -203,7 +203,7 @@ put_rests contents top floor old files table matched law image lengths written p
     (keeps_told old.places old.tablets old.file_limit old.next_name table matched law (contents old.files) (contents files) image (root_at top floor old) put refl
     (record { lengths = lengths; measured = record { format = Two; form = written } }) measured flushed order)
 
--- ---- both
+-- ---- the checkpoint
 
 module _ {F : Type 0} (contents : F → Option Contents) (faults : F → ℕ) (top floor : ℕ) where
   pub rests_after : (old mid new : ClusterState F) → FlushesEach contents faults old (numbers_of old.places) outcome.Done mid → Rests contents top floor mid new → Rests contents top floor old new

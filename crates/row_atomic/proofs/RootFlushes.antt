@@ -1,4 +1,4 @@
--- Minor compactions of all tablets, one after the other, and the root after them.
+-- Minor compactions of all tablets in order, and then the root.
 use Rattle.std.proofs.Common.{◌≡◌, ◌<◌, ◌≤◌, ◌+◌, ℕ, List, ◌∷◌, length, drop, Option, Some, Result, Ok, Err, refl, sym, ap, ◌∙◌, subst, arith, slice_get}
 use Rattle.std.proofs.lemmas.List.{length-map}
 use Rattle.std.specs.Result.{IsErrAnd}
@@ -18,7 +18,7 @@ refused_same (Ok x) e by = absurd by
 refused_same (Err f) e by = ap (λ (x : Refusal). outcome.Refused x) (sym by)
 
 module _ {F : Type 0} (contents : F → Option Contents) (faults : F → ℕ) where
-  -- The tablets before the index are flushed: what flushes those from there on flushes all.
+  -- The tablets before the index are flushed: flushing the remaining ones flushes all.
   pub record IsFlushing (start now : ClusterState F) (i : ℕ) : Type 0 where
     pub spots : spots_of now ≡ spots_of start
     pub completes : (result : Outcome) (state : ClusterState F) → FlushesEach contents faults now (drop i (numbers_of start.places)) result state
@@ -54,7 +54,7 @@ module _ {F : Type 0} (contents : F → Option Contents) (faults : F → ℕ) wh
             subst (λ (result : Outcome). FlushesEach contents faults start (numbers_of start.places) result after) (refused_same s e by)
             (flushing.completes (outcome.Refused e) after (subst (λ (ns : List ℕ). FlushesEach contents faults now ns (outcome.Refused e) after) (sym first) (refuses_one e is)))
 
-  -- the root is put after all are flushed
+  -- the root is put after all were flushed
   pub checkpointed : (top floor : ℕ) (old mid new : ClusterState F) (result : Outcome) → FlushesEach contents faults old (numbers_of old.places) outcome.Done mid
       → PutsRoot contents top floor mid result new.files → new ≡ record mid { files = new.files } → TellsFaults faults result mid new → Checkpoints contents faults top floor old result new
   checkpointed top floor old mid new result flushes puts rest tells =

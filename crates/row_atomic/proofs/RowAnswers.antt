@@ -1,4 +1,4 @@
--- What a cluster answers, from what the tablet of a row answers.
+-- A cluster's answers, from the answers of a row's tablet.
 use Rattle.std.proofs.Common.{◌≡◌, ◌<◌, ◌≤◌, ◌+◌, ◌-◌, ℕ, zero, suc, Bool, List, [], ◌∷◌, map, set, length, Option, Some, None, IfSome, Result, Ok, Err, IfOk, IfErr, OnOk, OnErr, IsTrue, slice_get, slice_index_or, refl, sym, ap, ◌∙◌, subst, arith}
 use Rattle.std.proofs.lemmas.List.{length-set}
 use Rattle.std.proofs.lemmas.Option.{same_Some}
@@ -24,7 +24,7 @@ use Rattle.row_atomic.proofs.Shares.{each_at, each_set, at_told, newest_list_of_
 use Rattle.row_atomic.proofs.PlacedTablets.{is_placed, placed_set}
 use Rattle.row_atomic.proofs.Parts.{IsNumbered, at_parts}
 
--- the tablet of the place that holds a row stands at the index
+-- the tablet of the place that holds a row is at the index
 pub record HasTabletAt (places : List PlaceView) (tablets : List Tablet) (row : List ℕ) (index : ℕ) : Type 0 where
   pub place : PlaceView
   pub holder : IsHolder row places place
@@ -32,7 +32,7 @@ pub record HasTabletAt (places : List PlaceView) (tablets : List Tablet) (row : 
   pub tablet : Tablet
   pub there : slice_get tablets index ≡ Some tablet
 
--- what stands at an index of a list
+-- the element at an index
 pub slice_get_at : {A : Type 0} (xs : List A) (i : ℕ) (d : A) → i < length xs → slice_get xs i ≡ Some (slice_index_or xs i d)
 slice_get_at [] i d h = absurd (omega arith)
 slice_get_at (x ∷ xs) zero d h = refl
@@ -43,18 +43,18 @@ index_below [] i x e = cc
 index_below (y ∷ xs) zero x e = omega arith
 index_below (y ∷ xs) (suc i) x e = let rest = index_below xs i x e in omega arith
 
--- what stands at an index that is in the list
+-- the element at an index within the list
 pub found_there : {A : Type 0} (xs : List A) (i : ℕ) (v x : A) → slice_get xs i ≡ Some v → x ≡ slice_index_or xs i x → slice_get xs i ≡ Some x
 found_there xs i v x e is = slice_get_at xs i x (index_below xs i v e) ∙ ap Some (sym is)
 
--- the tablet at a row's index has the row alone
+-- only the tablet at a row's index has the row
 pub owner_at : (places : List PlaceView) (ts : List Tablet) (row : List ℕ) (i : ℕ) (t : Tablet) → IsTable places → ArePlaced ts None places → length ts ≡ length places → HasTabletAt places ts row i → slice_get ts i ≡ Some t → OwnsRow ts row i t
 owner_at places ts row i t table placed as_many at there =
     let number : at.place.tablet ≡ suc i = let number = at.number in omega arith in
     let numbered : tablet_numbered at.place.tablet ts ≡ Some t = ap (λ (n : ℕ). tablet_numbered n ts) number ∙ there in
     subst (λ (k : ℕ). OwnsRow ts row k t) (ap index_of number) (holder_owns ts places row at.place t table placed as_many at.holder numbered)
 
--- what stands at the number less 1
+-- the tablet that holds a row is at the index of its number less 1
 pub record IsIndexed (places : List PlaceView) (ts : List Tablet) (row : List ℕ) (number : ℕ) : Type 0 where
   pub from : 1 ≤ number
   pub at : HasTabletAt places ts row (number - 1)
@@ -65,7 +65,7 @@ there_by ts (suc i) v e =
     let less : suc i - 1 ≡ i = omega arith in
     (omega arith, (omega arith, subst (λ (k : ℕ). slice_get ts k ≡ Some v) (sym less) e))
 
--- the place that holds a row leads to its tablet
+-- the place that holds a row gives its tablet's index
 pub holder_index : (places : List PlaceView) (ts : List Tablet) (row : List ℕ) (p : PlaceView) → ArePlaced ts None places → IsHolder row places p → IsIndexed places ts row p.tablet
 holder_index places ts row p placed holder =
     let all : AllByRecursion (λ q. IsNumbered ts q.tablet) places = is_placed (λ q. IsNumbered ts q.tablet) ts (λ before q h. record { tablet = h.tablet; numbered = h.numbered }) None places placed in
@@ -79,14 +79,14 @@ pub if_err : {A : Type 0} (P Q : Refusal → Type 0) → ((x : Refusal) → P x 
 if_err P Q h (Ok x) k = tt
 if_err P Q h (Err e) k = h e k
 
--- files that tell the same are in order
+-- tablets stay in order over the same contents
 pub still_in_order : (old new : Option Contents) (next : ℕ) (ts : List Tablet) → new ≡ old → InOrder old next ts → InOrder new next ts
 still_in_order old new next ts e order = subst (λ (o : Option Contents). InOrder o next ts) (sym e) order
 
 pub same_cells_in : (old new : Option Contents) (ts : List Tablet) → new ≡ old → cells_in new ts ≡ cells_in old ts
 same_cells_in old new ts e = ap (λ (o : Option Contents). cells_in o ts) e
 
--- the newest version of the row's tablet is that of the cells
+-- the newest version in the row's tablet is the cluster's
 pub newest_answer : (o : Option Contents) (ts : List Tablet) {A : Type 0} (seen : A → Option (ℕ × List ℕ)) (row family : List ℕ) (qualifier : Qualifier) (lo hi : ℕ) (i : ℕ) (t : Tablet) (r : Result A Refusal) → OwnsRow ts row i t
     → IsSomeAnd o (λ m. Holds m t)
     → IfOk r (λ found. IfSome o (λ m. Holds m t → IsTrue (has_row (range_of t) row) → IsNewest (cells_at m t) (version row family qualifier) lo hi (seen found)))
@@ -96,7 +96,7 @@ newest_answer None ts seen row family qualifier lo hi i t (Ok found) owns held h
 newest_answer (Some m) ts seen row family qualifier lo hi i t (Ok found) owns held h =
     newest_of_row m ts row family qualifier lo hi (seen found) i t owns (h held owns.has)
 
--- the newest versions of the row's tablet are those of the cells
+-- the newest versions in the row's tablet are the cluster's
 pub versions_answer : (o : Option Contents) (ts : List Tablet) {A : Type 0} (seen : A → List (ℕ × List ℕ)) (row family : List ℕ) (qualifier : Qualifier) (hi most : ℕ) (i : ℕ) (t : Tablet) (r : Result A Refusal) → OwnsRow ts row i t
     → IsSomeAnd o (λ m. Holds m t)
     → IfOk r (λ found. IfSome o (λ m. Holds m t → IsTrue (has_row (range_of t) row) → AreNewestFirst (cells_at m t) (version row family qualifier) hi most (seen found)))
@@ -106,7 +106,7 @@ versions_answer None ts seen row family qualifier hi most i t (Ok found) owns he
 versions_answer (Some m) ts seen row family qualifier hi most i t (Ok found) owns held h =
     newest_list_of_row m ts row family qualifier hi most (seen found) i t owns (h held owns.has)
 
--- a version that the row's tablet has is one of the cells
+-- the row's tablet has a version if and only if the cluster has it
 pub has_answer : (o : Option Contents) (ts : List Tablet) (row family : List ℕ) (qualifier : Qualifier) (lo hi : ℕ) (i : ℕ) (t : Tablet) (r : Result Bool Refusal) → OwnsRow ts row i t → IsSomeAnd o (λ m. Holds m t)
     → IfOk r (λ has. IfSome o (λ m. Holds m t → IsTrue (has_row (range_of t) row) → HasVersion (cells_at m t) (version row family qualifier) lo hi has)) → IfOk r (HasVersion (cells_in o ts) (version row family qualifier) lo hi)
 has_answer o ts row family qualifier lo hi i t (Err e) owns held h = tt
@@ -119,7 +119,7 @@ has_answer (Some m) ts row family qualifier lo hi i t (Ok has) owns held h =
       is = there.is;
     }
 
--- the edits of the row's tablet are the cells'
+-- edits of the row's tablet are edits of the cluster's cells
 pub apply_answer : (o : Option Contents) (ts : List Tablet) (row : List ℕ) (i : ℕ) (t u : Tablet) (edits : List Edit) {A : Type 0} (r : Result A Refusal) → OwnsRow ts row i t → IsSomeAnd o (λ m. Holds m t) → range_of u ≡ range_of t → AllByRecursion (IsEditOf row) edits
     → OnOk r ((m : Contents) → Holds m t → IsTrue (has_row (range_of t) row) → cells_at m u ≡ after_edits (cells_at m t) edits)
     → OnOk r (cells_in o (set ts i u) ≡ after_edits (cells_in o ts) edits)
@@ -127,7 +127,7 @@ apply_answer o ts row i t u edits (Err e) owns held same_range under made = tt
 apply_answer None ts row i t u edits (Ok x) owns held same_range under made = absurd held
 apply_answer (Some m) ts row i t u edits (Ok x) owns held same_range under made = applied m ts row i t u edits owns same_range under (made m held owns.has)
 
--- a tablet that is in order isn't answered as damaged
+-- a read of a tablet in order is not answered as damaged
 pub not_damaged : (o : Option Contents) (t : Tablet) (Told : Type 0) → IsSomeAnd o (λ m. Holds m t) → (Told → IfSome o (λ m. ¬ Holds m t)) → ¬ Told
 not_damaged None t Told held h told = held
 not_damaged (Some m) t Told held h told = h told held
@@ -139,11 +139,11 @@ holder_numbered places ts row i t at there =
     ap (λ (n : ℕ). tablet_numbered n ts) number ∙ there
 
 module _ (o : Option Contents) (next : ℕ) (ts : List Tablet) (order : InOrder o next ts) where
-  -- what is said of told files
+  -- a fact about known contents
   pub of_told : (P : Contents → Type 0) → IfSome o P → P order.contents
   of_told P h = at_told P o order.contents order.on_disk h
 
-  -- damage is not told under the premise
+  -- damage is not answered under the premise
   pub undamaged : (i : ℕ) (t : Tablet) (Told : Type 0) → slice_get ts i ≡ Some t → (Told → IfSome o (λ m. ¬ Holds m t)) → ¬ Told
   undamaged i t Told there h told = of_told (λ m. ¬ Holds m t) (h told) (each_at (Holds order.contents) ts order.each_open i t there)
 
@@ -196,7 +196,7 @@ module _ (o now : Option Contents) (next : ℕ) (ts : List Tablet) (i : ℕ) (t 
 
 -- ---- the structure
 
--- a tablet of the same range and the same files comes in the place of another
+-- a tablet is replaced by one with the same range and the same files
 pub matched_set : (limit next : ℕ) (places : List PlaceView) (ts : List Tablet) (i : ℕ) (t u : Tablet) → slice_get ts i ≡ Some t → range_of u ≡ range_of t → names_of u ≡ names_of t → IsMatched limit next places ts → IsMatched limit next places (set ts i u)
 matched_set limit next places ts i t u there same_range same_names matched = record {
   limit = matched.limit;

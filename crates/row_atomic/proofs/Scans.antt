@@ -21,7 +21,7 @@ at_index P [] i d all h = absurd (omega arith)
 at_index P (p ∷ ps) zero d all h = all.0
 at_index P (p ∷ ps) (suc i) d all h = at_index P ps i d all.1 (below_next p ps i h)
 
--- what holds of each place holds of the one at an index
+-- a property of each place holds for the one at an index
 pub at_item : (P : PlaceView → Type 0) (places : List Place) (i : ℕ) (p : Place) → AllByRecursion P (views places) → i < length places → p ≡ slice_index_or places i p → P (view_of p)
 at_item P places i p all h e = subst (λ (q : Place). P (view_of q)) (sym e) (at_index P places i p all h)
 
@@ -30,7 +30,7 @@ more P [] i d h all one = absurd (omega arith)
 more P (p ∷ ps) zero d h all one = (one, tt)
 more P (p ∷ ps) (suc i) d h all one = (all.0, more P ps i d (below_next p ps i h) all.1 one)
 
--- one place more was passed
+-- one more place was passed
 pub passed_more : (P : PlaceView → Type 0) (places : List Place) (i : ℕ) (p : Place) → i < length places → p ≡ slice_index_or places i p → AllByRecursion P (views (take i places)) → P (view_of p) → AllByRecursion P (views (take (i + 1) places))
 passed_more P places i p h e all one = rw add-one (more P places i p h all (subst (λ (q : Place). P (view_of q)) e one))
 
@@ -43,7 +43,7 @@ parts (p ∷ ps) (suc i) d h = ap (λ (vs : List PlaceView). view_of p ∷ vs) (
 pub parted_at : (places : List Place) (i : ℕ) (p : Place) → i < length places → p ≡ slice_index_or places i p → views places ≡ views (take i places) ++ view_of p ∷ views (drop (suc i) places)
 parted_at places i p h e = parts places i p h ∙ ap (λ (q : Place). views (take i places) ++ view_of q ∷ views (drop (suc i) places)) (sym e)
 
--- the tablet of a place stands at its number less 1
+-- the tablet of a place is at its number less 1
 pub record IsNumbered (ts : List Tablet) (n : ℕ) : Type 0 where
   pub from : 1 ≤ n
   pub below : n - 1 < length ts
@@ -76,7 +76,7 @@ place_numbered ts places i p placed h e = at_item (λ q. IsNumbered ts q.tablet)
 -- ---- the scan
 
 module _ (m : Contents) (ts : List Tablet) (places : List Place) (after : Option CellPlace) (placed : ArePlaced ts None (views places)) where
-  -- a place whose rows all come before the cell's has none after it
+  -- a place whose rows all come before the cell's row has no cell after it
   pub scan_skips : (i : ℕ) (p : Place) → i < length places → p ≡ slice_index_or places i p → PrecedesCell (view_of p) after → NoneAfter m ts after (view_of p)
   scan_skips i p h e low = at_item (λ q. PrecedesCell q after → NoneAfter m ts after q) places i p (is_placed (λ q. PrecedesCell q after → NoneAfter m ts after q) ts skip None (views places) placed) h e low
     where
@@ -92,13 +92,13 @@ module _ (m : Contents) (ts : List Tablet) (places : List Place) (after : Option
   scan_goes_on p t numbered none place behind u e cell = none place behind (subst (λ (v : Tablet). HasCell (cells_at m v) place) (same_tablet (tablet_numbered p.tablet ts) u t e numbered) cell)
 
   module _ (table : IsTable (views places)) (as_many : length ts ≡ length (views places)) where
-    -- the first that a tablet answers is the next one
+    -- the first cell that a tablet answers is the next one
     pub scan_finds : (i : ℕ) (p : Place) (t : Tablet) (found : CellPlace) → i < length places → p ≡ slice_index_or places i p → AllByRecursion (NoneAfter m ts after) (views (take i places)) → tablet_numbered p.tablet ts ≡ Some t → IsNextCell (cells_at m t) after (Some found) → IsNextCell (cells_in (Some m) ts) after (Some found)
     scan_finds i p t found h e passed numbered next =
         let whole = parted_at places i p h e in
         found_next m ts (views (take i places)) (view_of p) (views (drop (suc i) places)) after found t
         (subst IsTable whole table) (subst (λ (ps : List PlaceView). length ts ≡ length ps) whole as_many) (subst (λ (ps : List PlaceView). ArePlaced ts None ps) whole placed) passed numbered next
 
-    -- if all were passed, there is none
+    -- if all places were passed, there is no next cell
     pub scan_ends : (i : ℕ) → length places ≤ i → AllByRecursion (NoneAfter m ts after) (views (take i places)) → IsNextCell (cells_in (Some m) ts) after None
     scan_ends i h passed = none_next m ts (views places) after table as_many (subst (λ (ps : List Place). AllByRecursion (NoneAfter m ts after) (views ps)) (take_all i places h) passed)

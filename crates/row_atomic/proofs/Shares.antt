@@ -1,4 +1,4 @@
--- The cells of a cluster at a row are those of its one tablet, and what follows for calls that change one tablet.
+-- The cells of a cluster at a row are those of its owner, with consequences for calls that change one tablet.
 use Rattle.std.proofs.Common.{◌≡◌, ◌≢◌, ◌-◌, ℕ, zero, suc, false, List, [], ◌∷◌, map, set, Option, Some, None, IfSome, slice_get, refl, sym, ap, ◌∙◌, subst}
 use Rattle.std.proofs.lemmas.Option.{same_Some}
 use Rattle.std.specs.FinMap.{get, same_map}
@@ -51,7 +51,7 @@ module _ {A : Type 0} where
   set_elsewhere (z ∷ xs) (suc i) zero y other = refl
   set_elsewhere (z ∷ xs) (suc i) (suc j) y other = set_elsewhere xs i j y (λ e. other (ap suc e))
 
-  -- a list whose maps are those of another one, but for one element that maps alike
+  -- mapping a list with one element replaced by one that maps to the same
   pub map_set : {B : Type 0} (f g : A → B) (xs : List A) (i : ℕ) (x y : A) → slice_get xs i ≡ Some x → AllByRecursion (λ z. f z ≡ g z) xs → f y ≡ g x → map f (set xs i y) ≡ map g xs
   map_set f g [] i x y e all h = refl
   map_set f g (z ∷ xs) zero x y e all h = ap (λ b. b ∷ map f xs) (h ∙ ap g (sym (same_Some z x e))) ∙ ap (λ bs. g z ∷ bs) (map_same xs all.1)
@@ -63,7 +63,7 @@ module _ {A : Type 0} where
 
 -- ---- the core law
 
--- what holds of told contents holds of what they are
+-- a fact about any known contents holds for these
 pub at_told : (P : Contents → Type 0) (o : Option Contents) (m : Contents) → o ≡ Some m → IfSome o P → P m
 at_told P None m e h = cc
 at_told P (Some n) m e h = subst P (same_Some n m e) h
@@ -71,19 +71,19 @@ at_told P (Some n) m e h = subst P (same_Some n m e) h
 pub cells_told : (o : Option Contents) (m : Contents) (ts : List Tablet) → o ≡ Some m → cells_in o ts ≡ cells_in (Some m) ts
 cells_told o m ts e = ap (λ (p : Option Contents). cells_in p ts) e
 
--- At the keys of a row the cells are those of the row's tablet.
+-- For the keys of a row the cells are its owner's.
 pub cells_of_row : (m : Contents) (ts : List Tablet) (row : List ℕ) (i : ℕ) (t : Tablet) → OwnsRow ts row i t → (q : CellKey) → q.row ≡ row → get (cells_in (Some m) ts) q ≡ get (cells_at m t) q
 cells_of_row m ts row i t owns q e = joined_at (cells_at m) q ts i t owns.there none
   where
     none : (j : ℕ) (u : Tablet) → j ≢ i → slice_get ts j ≡ Some u → get (cells_at m u) q ≡ None
     none j u other there = outside_none m u q (subst (λ (r : List ℕ). has_row (range_of u) r ≡ false) (sym e) (owns.others j u other there))
 
--- The newest version in the row's tablet is that of the cluster.
+-- The newest version in the row's tablet is the cluster's.
 pub newest_of_row : (m : Contents) (ts : List Tablet) (row family : List ℕ) (qualifier : Qualifier) (lo hi : ℕ) (found : Option (ℕ × List ℕ)) (i : ℕ) (t : Tablet) → OwnsRow ts row i t → IsNewest (cells_at m t) (version row family qualifier) lo hi found → IsNewest (cells_in (Some m) ts) (version row family qualifier) lo hi found
 newest_of_row m ts row family qualifier lo hi found i t owns newest =
     newest_there (cells_at m t) (cells_in (Some m) ts) (version row family qualifier) lo hi found (λ s. cells_of_row m ts row i t owns (version row family qualifier s) refl) newest
 
--- And so are the newest versions.
+-- The same for several newest versions.
 pub newest_list_of_row : (m : Contents) (ts : List Tablet) (row family : List ℕ) (qualifier : Qualifier) (hi most : ℕ) (vs : List (ℕ × List ℕ)) (i : ℕ) (t : Tablet) → OwnsRow ts row i t → AreNewestFirst (cells_at m t) (version row family qualifier) hi most vs → AreNewestFirst (cells_in (Some m) ts) (version row family qualifier) hi most vs
 newest_list_of_row m ts row family qualifier hi most [] i t owns newest = λ wanted. newest_of_row m ts row family qualifier 0 hi None i t owns (newest wanted)
 newest_list_of_row m ts row family qualifier hi most (v ∷ vs) i t owns (some, newest, one, rest) = (
@@ -95,7 +95,7 @@ newest_list_of_row m ts row family qualifier hi most (v ∷ vs) i t owns (some, 
 
 -- ---- one tablet is replaced
 
--- a tablet of the same range has the rows of the one in whose place it comes
+-- a tablet with the same range owns the rows of the one that it replaces
 pub owns_set : (ts : List Tablet) (row : List ℕ) (i : ℕ) (t u : Tablet) → range_of u ≡ range_of t → OwnsRow ts row i t → OwnsRow (set ts i u) row i u
 owns_set ts row i t u e owns = record {
   there = set_there ts i t u owns.there;
@@ -129,12 +129,12 @@ applied m ts row i t u edits owns same_range under made = same_map key_cmp_total
     at_key : (q : CellKey) → get (cells_in (Some m) (set ts i u)) q ≡ get (after_edits (cells_in (Some m) ts) edits) q
     at_key q = at_order q (byte_cmp q.row row) refl
 
--- all tablets are in order, and the cells are as before
+-- all tablets are in order, and the cells are unchanged
 pub record KeepsCells (old : Option Contents) (ts : List Tablet) (new : Option Contents) (next : ℕ) (us : List Tablet) : Type 0 where
   pub in_order : InOrder new next us
   pub same : cells_in new us ≡ cells_in old ts
 
--- Where a call on one tablet keeps its cells, and writes at most a file under the next name, the cluster keeps its cells.
+-- If a call on one tablet keeps its cells, and writes at most a file under the next name, the cluster keeps its cells.
 pub compacted : OthersStay → (m n : Contents) (before after : ℕ) (ts : List Tablet) (i : ℕ) (t u : Tablet) → AllByRecursion (Holds m) ts → AllByRecursion (IsBelow before) ts → slice_get ts i ≡ Some t → UsesName (Some m) before (Some n) after → Holds n u → IsBelow after u → cells_at n u ≡ cells_at m t → KeepsCells (Some m) ts (Some n) after (set ts i u)
 compacted law m n before after ts i t u holds below there uses open_u below_u same_u = record {
   in_order = record {
@@ -158,7 +158,7 @@ compacted law m n before after ts i t u holds below there uses open_u below_u sa
     stay_same [] hs bs = tt
     stay_same (x ∷ xs) hs bs = ((law m n before after x uses hs.0 bs.0).2, stay_same xs hs.1 bs.1)
 
--- The same where it isn't known whether the files are told.
+-- The same if the files' contents may be unknown.
 pub keeps_cells : OthersStay → (old new : Option Contents) (before after : ℕ) (ts : List Tablet) (i : ℕ) (t u : Tablet) → slice_get ts i ≡ Some t → UsesName old before new after → Keeps old before t new after u → InOrder old before ts → KeepsCells old ts new after (set ts i u)
 keeps_cells law None new before after ts i t u there uses keeps order = absurd (told_not order.contents order.on_disk)
   where

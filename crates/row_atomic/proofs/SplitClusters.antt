@@ -1,4 +1,4 @@
--- What a split leaves of the cluster.
+-- The cluster after a split.
 use Rattle.std.proofs.Common.{◌≡◌, ◌≤◌, ◌<◌, ◌+◌, ◌^◌, inl, inr, ℕ, zero, suc, Bool, true, false, cond, nat_eq, List, [], ◌∷◌, ◌++◌, map, set, length, get_or, Option, Some, None, IfSome, IsSomeAnd, IsTrue, slice_get, refl, sym, ap, ◌∙◌, subst, arith}
 use Rattle.std.proofs.lemmas.Option.{same_Some}
 use Rattle.std.proofs.lemmas.List.{length-set}
@@ -28,7 +28,7 @@ contains_part (q ∷ pre) p post =
     let below = rest.1 in
     (suc rest.0, omega arith, rest.2)
 
--- the place that holds a row is that of a tablet
+-- the place that holds a row belongs to a tablet
 pub holder_known : (row : List ℕ) (places : List PlaceView) (p : PlaceView) → IsHolder row places p → HasTablet p.tablet places
 holder_known row places p holder = (p, subst (λ (ps : List PlaceView). Contains ps p) (sym holder.parts) (contains_part holder.before p holder.after), refl)
 
@@ -173,7 +173,7 @@ module _ (n : ℕ) (names : List ℕ) where
     within = λ ends. h.within (subst (λ (e : Option (List ℕ)). EndsBefore e row) (same_end p) ends);
   }
 
-  -- the place of which this one was made
+  -- the place from which this one was made
   record WasEnd (ps : List PlaceView) (end : Option (List ℕ)) : Type 0 where
     place : PlaceView
     there : Contains ps place

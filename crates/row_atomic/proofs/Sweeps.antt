@@ -1,4 +1,4 @@
--- A sweep removes what its list of names doesn't keep, and tablets don't see it.
+-- A sweep removes the files that its list of names doesn't keep, and changes no tablet.
 use Rattle.std.proofs.Common.{◌≡◌, ◌≢◌, ◌==◌, ◌||◌, ◌&&◌, ◌⊎◌, inl, inr, ℕ, zero, suc, Bool, true, false, not, cond, List, [], ◌∷◌, map, length, Option, Some, None, option_map, IfSome, IfOk, Result, Ok, Err, OnOk, IsTrue, slice_get, refl, sym, ap, ◌∙◌, subst, arith}
 use Rattle.std.proofs.lemmas.Option.{same_Some}
 use Rattle.std.specs.Prelude.{◌↔◌, is_some}
@@ -41,7 +41,7 @@ nat_cmp_itself n = grind (arith, common_steps)
 itself : (n : ℕ) → (n == n) ≡ true
 itself n = sym (unsigned_tied n n) ∙ ap is_eq (nat_cmp_itself n)
 
--- ---- which files stay
+-- ---- files that must stay
 
 abbrev has : ℕ → List ℕ → Bool
 has name files = list_any (λ file. file == name) files
@@ -71,7 +71,7 @@ listed_there places name e =
     let f = any_there (λ file. file == name) p.0.files p.1.1 in
     (p.0, p.1.0, subst (λ (n : ℕ). Contains p.0.files n) (eqb-true f.0 name f.1.1) f.1.0)
 
--- a name that isn't the root's stays if a tablet has it
+-- a name other than the root's stays if a tablet has it
 not_root : (name : ℕ) → name ≢ 0 → (b : Bool) → (name == 0) ≡ b → b ≡ false
 not_root name other true e = absurd (other (eqb-true name 0 e))
 not_root name other false e = refl
@@ -81,14 +81,14 @@ kept_if_listed places name b other listed =
     same_truth b (any_has places name) (λ e. listed_true places name (listed.0 e)) (λ e. listed.1 (listed_there places name e))
     ∙ sym (ap (λ (r : Bool). r || any_has places name) (not_root name other (name == 0) refl))
 
--- a file that stays is none of the names; one that doesn't is
+-- a file that must stay is not among the names to remove; any other is
 pub kept_first : (places : List PlaceView) (name : ℕ) (names : List ℕ) → is_kept places name ≡ true → unkept places (name ∷ names) ≡ unkept places names
 kept_first places name names e = ap (λ (b : Bool). cond (not b) (name ∷ unkept places names) (unkept places names)) e
 
 pub unkept_first : (places : List PlaceView) (name : ℕ) (names : List ℕ) → is_kept places name ≡ false → unkept places (name ∷ names) ≡ name ∷ unkept places names
 unkept_first places name names e = ap (λ (b : Bool). cond (not b) (name ∷ unkept places names) (unkept places names)) e
 
--- ---- files that may be gone
+-- ---- files that may be removed
 
 pub lacks_none : (places : List PlaceView) (o : Option Contents) → MayLackUnkept places o o
 lacks_none places None = refl
@@ -122,7 +122,7 @@ lacks_more places old now new name free before may = elim may [
   | inr e ↦ subst (λ (o : Option Contents). MayLackUnkept places old o) (sym e) (lacks_removed places old now name free before)
 ]
 
--- ---- what a whole sweep leaves
+-- ---- a complete sweep
 
 abbrev has_eq : ℕ → List ℕ → Bool
 has_eq q names = list_any (λ name. q == name) names
@@ -208,7 +208,7 @@ swept_is places (Some m) names e =
     ∙ ap (λ (ns : List ℕ). Some (without (unkept places ns) m)) e
     ∙ ap Some (swept_told places m)
 
--- ---- the tablets stay as they are
+-- ---- the tablets are unchanged
 
 files_kept : (places : List PlaceView) → AllByRecursion (λ p. (name : ℕ) → has name p.files ≡ true → any_has places name ≡ true) places
 files_kept [] = tt
@@ -238,7 +238,7 @@ maps_alike f g [] h = refl
 maps_alike f g (x ∷ xs) h = ap (λ y. y ∷ map f xs) h.0 ∙ ap (λ ys. g x ∷ ys) (maps_alike f g xs h.1)
 
 module _ (places : List PlaceView) (ts : List Tablet) (table : IsTable places) (placed : ArePlaced ts None places) (as_many : length ts ≡ length places) where
-  -- the files of the tablet of a place stay
+  -- the files of a place's tablet stay
   abbrev KeepsNames : PlaceView → Type 0
   KeepsNames p = (t : Tablet) → tablet_numbered p.tablet ts ≡ Some t → AllByRecursion (λ name. is_kept places name ≡ true) (names_of t)
 
@@ -276,7 +276,7 @@ module _ (places : List PlaceView) (ts : List Tablet) (table : IsTable places) (
         each_at_index : (j : ℕ) (t : Tablet) → slice_get ts j ≡ Some t → Holds m t
         each_at_index j t e = each_at (Holds m) ts each_open j t e
 
-  -- files that a sweep may remove are in no tablet
+  -- files that a sweep may remove belong to no tablet
   pub record KeepsOrder (told : Option Contents) (next : ℕ) (before : Option Contents) : Type 0 where
     pub order : InOrder told next ts
     pub same : cells_in told ts ≡ cells_in before ts
@@ -307,7 +307,7 @@ pub on_ok : {A E : Type 0} {P Q : Type 0} (r : Result A E) → (P → Q) → OnO
 on_ok (Ok x) f h = f h
 on_ok (Err e) f h = tt
 
--- as many as don't stay
+-- the count is the number of files that need not stay
 pub counted : {E : Type 0} (places : List PlaceView) (o : Option Contents) (names : List ℕ) (r : Result ℕ E) → IfSome o (λ m. names ≡ finite.keys m) → IfOk r (λ count. count ≡ length (unkept places names)) → IfOk r (λ count. IfSome o (λ m. count ≡ count_swept places m))
 counted places None names (Ok count) keyed is = tt
 counted places (Some m) names (Ok count) keyed is = is ∙ ap (λ (ns : List ℕ). length (unkept places ns)) keyed

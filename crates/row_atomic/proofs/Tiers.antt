@@ -1,4 +1,4 @@
--- Merges of the tablets that have many files, one after the other.
+-- Merges of the tablets that have many files, in order.
 use Rattle.std.proofs.Common.{◌≡◌, ◌≢◌, ◌<◌, ◌≤◌, ◌+◌, ◌^◌, ◌&&◌, ℕ, zero, suc, Bool, true, false, List, [], ◌∷◌, length, map, filter, drop, Option, Some, None, Result, Ok, Err, cond, refl, sym, ap, ◌∙◌, subst, nat_le, nat_lt, slice_get}
 use Rattle.std.specs.List.{AllByRecursion}
 use Rattle.cell_key.specs.Entries.{Entry}
@@ -16,9 +16,9 @@ use Rattle.row_atomic.specs.Flushes.{KeepsShown, LeavesFew, MergesEach, MergesMa
 use Rattle.row_atomic.specs.declared.commands.Command.TheVariants as command
 use Rattle.row_atomic.proofs.Flushes.{AreDistinct, are_distinct, distinct_from, from_there, keeps_on, keeps_start, none_from, part_at, same_numbers, within_kept}
 
--- ---- numbers of files that stay
+-- ---- unchanged numbers of files
 
--- what is told of a tablet by its parts
+-- whether a tablet has many files, by the tablet's parts
 abbrev files_by : ℕ → Option (RowRange × (List Entry × List SortedFile)) → Bool
 files_by most None = false
 files_by most (Some parts) = nat_le 2 most && nat_le most (length (map name_of parts.1.1)) && nat_lt (length (map name_of parts.1.1)) (2 ^ 32)
@@ -32,11 +32,11 @@ by_parts : (most : ℕ) (ts : List Tablet) (n : ℕ) → has_files most (tablet_
 by_parts most ts zero = refl
 by_parts most ts (suc i) = by_index most ts i
 
--- whether a tablet has this number of files
+-- whether a tablet has at least `most` files
 abbrev has_at : {F : Type 0} → ℕ → ClusterState F → ℕ → Bool
 has_at most state n = has_files most (tablet_numbered n state.tablets)
 
--- as to that these tablets are as at the start
+-- for these tablets that is the same as at the start
 abbrev pub AreStill : {F : Type 0} → ℕ → ClusterState F → ClusterState F → List ℕ → Type 0
 AreStill most start now ns = AllByRecursion (λ n. has_at most now n ≡ has_at most start n) ns
 
@@ -44,10 +44,10 @@ pub all_still : {F : Type 0} (most : ℕ) (start : ClusterState F) (ns : List �
 all_still most start [] = tt
 all_still most start (n ∷ ns) = (refl, all_still most start ns)
 
--- ---- what is kept
+-- ---- the state that is kept
 
 module _ {F : Type 0} (contents : F → Option Contents) (faults : F → ℕ) where
-  -- a merge keeps them
+  -- a merge keeps the state
   pub keeps_merged : (now after : ClusterState F) (n count : ℕ) (r : Result (Unit {0}) Refusal) → IsOutcome contents faults (command.Merge n count) (done_of r) now after → KeepsShown contents faults now after
   keeps_merged now after n count r is = record {
     kept = λ holds. (is.still holds, shown r is holds);
@@ -64,7 +64,7 @@ module _ {F : Type 0} (contents : F → Option Contents) (faults : F → ℕ) (m
   abbrev has : ClusterState F → ℕ → Bool
   has state n = has_at most state n
 
-  -- what merges those of these tablets completes the whole
+  -- merges of those of these tablets that have many files complete the merges of all
   abbrev pub Completes : ClusterState F → ClusterState F → List ℕ → Type 0
   Completes start now ns = (state : ClusterState F) → MergesEach contents faults most now (filter (has start) ns) state → MergesMany contents faults most start state
 
@@ -94,9 +94,9 @@ module _ {F : Type 0} (contents : F → Option Contents) (faults : F → ℕ) (m
     still_after [] others still = tt
     still_after (m ∷ ns) others still = (one_still m others.0 ∙ still.0, still_after ns others.1 still.1)
 
--- ---- one place after the other
+-- ---- the loop over the places
 
--- The tablets before the index are done, and those from there on are as at the start.
+-- The tablets before the index are done, and the others are as at the start.
 pub record IsReached {F : Type 0} (contents : F → Option Contents) (faults : F → ℕ) (most : ℕ) (start now : ClusterState F) (i : ℕ) : Type 0 where
   pub table : IsTable start.places
   pub keeps : KeepsShown contents faults start now
@@ -119,7 +119,7 @@ module _ {F : Type 0} (contents : F → Option Contents) (faults : F → ℕ) (m
     pub at_end : length start.places ≤ i → MergesMany contents faults most start now
     at_end past = all_done contents faults most start now (drop i (numbers_of start.places)) (none_from start.places i past) reached.completes
 
-    -- the tablet whose number stands there
+    -- the tablet with the number at the index
     module _ (n : ℕ) (there : slice_get (numbers_of now.places) i ≡ Some n) where
       first : drop i (numbers_of start.places) ≡ n ∷ drop (i + 1) (numbers_of start.places)
       first = from_there (numbers_of start.places) i n (ap (λ (ns : List ℕ). slice_get ns i) (sym (same_numbers start.places now.places reached.keeps.spots)) ∙ there)

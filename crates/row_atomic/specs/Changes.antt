@@ -1,6 +1,6 @@
--- What the calls of a cluster do to its tablets and their places. Begin with `IsOutcome` at the end
--- of Commands.antt, which cites these words: `IsCompacted`, `IsHalved` and `ComesTo` are what a
--- compaction, a split and a move do, and `IsAsBefore` what a refused one leaves.
+-- Changes to a cluster's tablets and their places by its calls. Begin with `IsOutcome` at the end of Commands.antt,
+-- which uses these definitions: `IsCompacted`, `IsHalved` and `ComesTo` are the effects of a compaction, a split and a
+-- move, and `IsAsBefore` the state after a refused one.
 use Rattle.std.specs.Prelude.{◌≡◌, ◌≢◌, ◌<◌, ◌≤◌, ◌+◌, ◌^◌, ◌⊎◌, ℕ, List, [], ◌∷◌, ◌++◌, length, map, drop, Option, Some, IsSome, IsSomeAnd, IfSome, ⊤}
 use Rattle.std.specs.List.{AllByRecursion, AllZip, Contains, slice_get}
 use Rattle.cell_key.specs.Entries.{Entry}
@@ -27,18 +27,18 @@ use Rattle.row_atomic.specs.Clusters.{ClusterState, InOrder, PrecedesCell, cells
 abbrev pub Holds : {F : Type 0} → (F → Option Contents) → ClusterState F → Type 0
 Holds contents state = InOrder (contents state.files) state.next_name state.tablets
 
--- If the tablets were in order, they still are, and the cells are as before.
+-- If the tablets were in order, they still are, with the same cells.
 abbrev pub KeepsMap : {F : Type 0} → (F → Option Contents) → ClusterState F → ClusterState F
     → Type 0
 KeepsMap contents old new =
     Holds contents old → Holds contents new
     × (cells_in (contents new.files) new.tablets ≡ cells_in (contents old.files) old.tablets)
 
--- over files whose bytes are known, a tablet isn't in order: its files aren't open
+-- the files' bytes are known, and the tablet's files are not open over them
 abbrev pub IsOutOfOrder : Option Contents → Tablet → Type 0
 IsOutOfOrder disk t = IfSome disk (λ m. ¬ HoldsAt m t)
 
--- a tablet that is out of order over the second files was so before, over the first ones
+-- a tablet that is out of order over the second files was already so over the first ones
 abbrev pub StaysInOrder : Option Contents → Option Contents → Tablet → Tablet → Type 0
 StaysInOrder first second t u = IsOutOfOrder second u → IsOutOfOrder first t
 
@@ -46,41 +46,41 @@ StaysInOrder first second t u = IsOutOfOrder second u → IsOutOfOrder first t
 abbrev pub parts_of : Tablet → RowRange × (List Entry × List SortedFile)
 parts_of t = (range_of t, (memory_of t, files_of t))
 
--- the places are as before, and so are the tablets
+-- the places and the tablets are unchanged
 pub record IsAsBefore {F : Type 0} (old new : ClusterState F) : Type 0 where
   pub places : new.places ≡ old.places
   pub tablets : map parts_of new.tablets ≡ map parts_of old.tablets
 
--- each file that tablets have at the first places is one that tablets have at the second
+-- each file listed in the first places is listed in the second
 abbrev pub ListsAll : List PlaceView → List PlaceView → Type 0
 ListsAll first second = (name : ℕ) → IsListed name first → IsListed name second
 
--- nothing was done: the tablets, their places, the files and the next name are as before
+-- nothing was done: the tablets, their places, the files and the next name are unchanged
 pub record IsUndone {F : Type 0} (contents : F → Option Contents)
     (old new : ClusterState F) : Type 0 where
   pub as_before : IsAsBefore old new
   pub name : new.next_name ≡ old.next_name
   pub files : contents new.files ≡ contents old.files
 
--- Over its files each tablet is what it was, and all else is as before.
+-- Over its files each tablet is unchanged except for its caches, and all else is unchanged.
 pub record IsUncached {F : Type 0} (contents : F → Option Contents)
     (old new : ClusterState F) : Type 0 where
   pub tablets : AllZip (IsSameTablet (contents old.files)) old.tablets new.tablets
   pub rest : new ≡ record old { tablets = new.tablets }
 
--- the tablet of a number stands at the index
+-- the tablet with the number is at the index
 pub record IsAt (n : ℕ) (tablets : List Tablet) (index : ℕ) : Type 0 where
   pub number : n ≡ index + 1
   pub tablet : Tablet
   pub there : slice_get tablets index ≡ Some tablet
 
--- the tablet of a number is such
+-- the tablet with the number has the property
 pub record Numbered (P : Tablet → Type 0) (n : ℕ) (tablets : List Tablet) : Type 0 where
   pub tablet : Tablet
   pub numbered : tablet_numbered n tablets ≡ Some tablet
   pub such : P tablet
 
--- the tablet of a number became another one, which was so made of it, and all others stay
+-- the tablet with the number became another one, made from it in this way, and all others are unchanged
 pub record Remakes (Made : Tablet → Tablet → Type 0) (n : ℕ) (old new : List Tablet) : Type 0 where
   pub was : Tablet
   pub is : Tablet
@@ -96,7 +96,7 @@ pub record IsFlushed (next : ℕ) (t u : Tablet) : Type 0 where
   pub memory : memory_of u ≡ []
   pub names : names_of u ≡ with_name next (memory_of t) (names_of t)
 
--- this many of the newest files became one
+-- the newest `count` files became one
 pub record IsMerged (count next : ℕ) (t u : Tablet) : Type 0 where
   pub memory : memory_of u ≡ memory_of t
   pub names : names_of u ≡ next ∷ drop count (names_of t)
@@ -119,13 +119,13 @@ HasValue entry = IsSome entry.1
 abbrev pub LacksErasures : Option Contents → Tablet → Type 0
 LacksErasures disk t = IsSomeAnd disk (λ m. AllByRecursion (AllByRecursion HasValue) (lists_of m t))
 
--- none is after a major compaction
+-- after a major compaction there is none
 abbrev pub IsCleaned : Compaction → Option Contents → Tablet → Type 0
 IsCleaned Major disk t = LacksErasures disk t
 IsCleaned _ disk t = ⊤
 
--- The tablet of a number was compacted: its file has keys of the tablet's range alone,
--- and erasures unless all files were merged.
+-- The tablet with the number was compacted: its file has only keys of the tablet's range, and has erasures unless all
+-- files were merged.
 pub record IsCompacted {F : Type 0} (contents : F → Option Contents) (compaction : Compaction)
     (tablet : ℕ) (old new : ClusterState F) : Type 0 where
   pub made : Remakes (IsMade compaction old.next_name) tablet old.tablets new.tablets
@@ -139,20 +139,20 @@ abbrev pub written_by : Compaction → Contents → Tablet → List Entry
 written_by Minor m t = seen (range_of t) (memory_of t)
 written_by compaction m t = compacted_of compaction m t
 
--- Their file would have more bytes than a file may have.
--- That of a merging or a major one is known if the tablet's files are open.
+-- The file of these entries would exceed the limit of bytes. For a merging or major compaction this is known only if
+-- the tablet's files are open.
 abbrev pub IsTooLarge : ℕ → Option Contents → Compaction → Tablet → Type 0
 IsTooLarge limit disk Minor t = ¬ FitsIn limit (seen (range_of t) (memory_of t))
 IsTooLarge limit disk compaction t =
     IfSome disk (λ m. HoldsAt m t → ¬ FitsIn limit (written_by compaction m t))
 
--- or it has as many at most
+-- the file of these entries is within the limit of bytes
 abbrev pub FitsLimit : ℕ → Option Contents → Compaction → Tablet → Type 0
 FitsLimit limit disk Minor t = FitsIn limit (seen (range_of t) (memory_of t))
 FitsLimit limit disk compaction t =
     IfSome disk (λ m. HoldsAt m t → FitsIn limit (written_by compaction m t))
 
--- this many files can't be merged
+-- `count` of the tablet's files can't be merged
 abbrev pub IsBadCount : ℕ → Tablet → Type 0
 IsBadCount count t = ¬ ((2 ≤ count) × (count ≤ length (names_of t)))
 
@@ -160,7 +160,7 @@ abbrev pub MeetsBadCount : Compaction → Tablet → Type 0
 MeetsBadCount (Merge count) t = IsBadCount count t
 MeetsBadCount _ t = ⊥
 
--- there are as many files as there may be, and one more would come
+-- the tablet has the most files it may have, and the memtable would add one
 pub record IsFullTablet (t : Tablet) : Type 0 where
   pub memory : memory_of t ≢ []
   pub files : 64 ≤ length (names_of t)
@@ -169,7 +169,7 @@ abbrev pub MeetsFull : Compaction → Tablet → Type 0
 MeetsFull Minor t = IsFullTablet t
 MeetsFull _ t = ⊥
 
--- a refusal that comes of writing a file: if the tablet is full, that is answered instead
+-- a refusal by the writing of a file; a full tablet is refused with `TooManyFiles` instead
 abbrev pub ComesOfWriting : Refusal → Type 0
 ComesOfWriting refused.Exhausted = ⊤
 ComesOfWriting refused.FileTooLarge = ⊤
@@ -186,7 +186,7 @@ abbrev pub WritesNone : Compaction → Tablet → Type 0
 WritesNone Minor t = IsEmptied t
 WritesNone _ t = ⊥
 
--- what a compaction of a known tablet may be refused
+-- the refusals of a compaction of a known tablet
 abbrev pub IsRefusalOf : Compaction → Refusal → Type 0
 IsRefusalOf Minor refused.TooManyFiles = ⊤
 IsRefusalOf Minor refusal = IsCompactionRefusal refusal
@@ -194,13 +194,13 @@ IsRefusalOf (Merge count) refused.BadCount = ⊤
 IsRefusalOf (Merge count) refusal = IsCompactionRefusal refusal
 IsRefusalOf Major refusal = IsCompactionRefusal refusal
 
--- what that of a tablet by its number may be refused
+-- the refusals of a compaction of a tablet given by number
 abbrev pub IsNumberedRefusal : Compaction → Refusal → Type 0
 IsNumberedRefusal compaction refused.UnknownTablet = ⊤
 IsNumberedRefusal compaction refusal = IsRefusalOf compaction refusal
 
--- A compaction of a tablet was done. Over the files before and after it, and their next names, it
--- made the tablet another one: it may be done, and it used the next name if it wrote.
+-- A compaction turned tablet `t` into `u`, with the disk and the next name before and after it. It was allowed, and
+-- used the next name if it wrote a file.
 pub record HasCompacted (compaction : Compaction) (limit : ℕ) (disk : Option Contents) (next : ℕ)
     (later : Option Contents) (after : ℕ) (t u : Tablet) : Type 0 where
   pub made : IsMade compaction next t u
@@ -211,13 +211,13 @@ pub record HasCompacted (compaction : Compaction) (limit : ℕ) (disk : Option C
   pub fits : FitsLimit limit disk compaction t
   pub used : ¬ WritesNone compaction t → after ≡ next + 1
 
--- Over files whose bytes are known, a compaction can't read a tablet's files: those that it reads, and
--- no others, aren't all open, and what stands there now breaks off, or isn't in order.
+-- The files' bytes are known, and a compaction can't read them: those files that it reads are not all open, and their
+-- bytes now can't be read to the end, or are out of order.
 abbrev pub CannotRead : Option Contents → Compaction → Tablet → Type 0
 CannotRead disk compaction t =
     IfSome disk (λ m. (¬ ReadsOpen compaction (Some m) t) × IsUnreadable compaction (Some m) t)
 
--- It was refused so: the refusal has a cause, and a full tablet is refused before anything is written.
+-- A compaction was refused: the refusal has a cause, and a full tablet is refused before anything is written.
 pub record HasRefused (compaction : Compaction) (limit : ℕ) (disk : Option Contents) (next : ℕ)
     (later : Option Contents) (after : ℕ) (t : Tablet) (refusal : Refusal) : Type 0 where
   pub count : refusal ≡ refused.BadCount → MeetsBadCount compaction t
@@ -232,7 +232,7 @@ pub record HasRefused (compaction : Compaction) (limit : ℕ) (disk : Option Con
 
 -- ---- the tablet of a row
 
--- the tablet of the place that holds the row is such
+-- the tablet that holds the row has the property
 pub record OfHolder (P : Tablet → Type 0) (row : List ℕ) (places : List PlaceView)
     (tablets : List Tablet) : Type 0 where
   pub place : PlaceView
@@ -241,19 +241,19 @@ pub record OfHolder (P : Tablet → Type 0) (row : List ℕ) (places : List Plac
 
 -- ---- scans
 
--- a tablet that is in order has no cells after this one but these
+-- if the tablet is in order, its cells after `after` are all among those found
 abbrev pub HasNoMore : Option Contents → Option Place → List Place → Tablet → Type 0
 HasNoMore disk after found t = IfSome disk (λ m. HoldsAt m t
     → (place : Place) → IsAfter after place → HasCell (cells_at m t) place → Contains found place)
 
--- A scan passes a place: its rows come before that of the cell after which the scan goes on,
--- or its tablet has no cells after that one but those that were found.
+-- A scan passes a place: all its rows come before the row of the cell `after`, or its tablet has no cells after that
+-- cell except those found.
 abbrev pub Passes : Option Contents → List Tablet → Option Place → List Place → PlaceView → Type 0
 Passes disk tablets after found p =
     PrecedesCell p after ⊎ Numbered (HasNoMore disk after found) p.tablet tablets
 
--- a scan for at most this number of cells comes to a tablet that is out of order, after it passed all
--- places before and found fewer
+-- a scan for at most `most` cells reaches a tablet that is out of order, after it passed all places before and found
+-- fewer cells
 pub record MeetsDamage (disk : Option Contents) (after : Option Place) (most : ℕ)
     (places : List PlaceView) (tablets : List Tablet) : Type 0 where
   pub before : List PlaceView
@@ -268,15 +268,15 @@ pub record MeetsDamage (disk : Option Contents) (after : Option Place) (most : �
 
 -- ---- splits and moves
 
--- The tablet that holds the row was cut there, after it was given files.
+-- The tablet that holds the row got new files and was then cut there.
 pub record IsCut (row : List ℕ) (left : ℕ) (old new : List PlaceView) : Type 0 where
   pub place : PlaceView
   pub holder : IsHolder row old place
   pub names : List ℕ
   pub cut : Cuts row left (with_files place.tablet names old) new
 
--- The tablet that holds the row was flushed and cut in two: the left part has the number. Both
--- parts have its files and empty memtables. All others stay.
+-- The tablet that holds the row was flushed and cut in two: the left part has the number `left`. Both parts have its
+-- files and empty memtables. All other tablets are unchanged.
 pub record IsHalved (next : ℕ) (row : List ℕ) (left : ℕ) (places : List PlaceView)
     (old new : List Tablet) : Type 0 where
   pub place : PlaceView
@@ -288,22 +288,22 @@ pub record IsHalved (next : ℕ) (row : List ℕ) (left : ℕ) (places : List Pl
   pub others : (other : ℕ) → other ≢ left → other ≢ place.tablet
       → tablet_numbered other new ≡ tablet_numbered other old
 
--- all tablets are as before, or that of the number was flushed
+-- all tablets are unchanged, or the one with the number was flushed
 abbrev pub MayBeFlushed : ℕ → ℕ → List Tablet → List Tablet → Type 0
 MayBeFlushed next n old new =
     (map parts_of new ≡ map parts_of old) ⊎ Remakes (IsFlushed next) n old new
 
--- so it is for the tablet that holds the row
+-- the same for the tablet that holds the row
 abbrev pub MayHolderBeFlushed : ℕ → List ℕ → List PlaceView → List Tablet → List Tablet → Type 0
 MayHolderBeFlushed next row places old new =
     (place : PlaceView) → IsHolder row places place → MayBeFlushed next place.tablet old new
 
--- the same files were opened anew, with an empty memtable
+-- the same files were opened again, with an empty memtable
 pub record IsReopened (t u : Tablet) : Type 0 where
   pub memory : memory_of u ≡ []
   pub names : names_of u ≡ names_of t
 
--- a tablet was put on a server, after it was given files
+-- a tablet got new files and was then put on a server
 pub record IsMoved (n server : ℕ) (old new : List PlaceView) : Type 0 where
   pub names : List ℕ
   pub moved : new ≡ moved n server (with_files n names old)
@@ -318,7 +318,7 @@ pub record IsFlushedAndPut {F : Type 0} (n server : ℕ) (old new : ClusterState
   pub moved : IsMoved n server old.places new.places
   pub flushed : Remakes (IsFlushed old.next_name) n old.tablets new.tablets
 
--- a tablet that is on the server stays so, and nothing is done; any other is put there
+-- a tablet that is already on the server is unchanged, and nothing is done; any other is flushed and put there
 abbrev pub ComesTo : {F : Type 0} → ℕ → ℕ → ClusterState F → ClusterState F → Type 0
 ComesTo n server old new =
     (IsOn n server old.places × (new ≡ old)) ⊎ IsFlushedAndPut n server old new

@@ -1,4 +1,4 @@
--- What a cluster of tablets holds and shows.
+-- The state of a cluster of tablets, and the cells that it shows.
 use Rattle.std.specs.Prelude.{◌≡◌, ◌≤◌, ◌^◌, ℕ, zero, suc, List, [], ◌∷◌, length, map, filter, flat_map, Option, None, Some, IsSomeAnd, ⊤}
 use Rattle.std.specs.List.{AllByRecursion, slice_get}
 use Rattle.std.specs.FinMap.{empty, from_entries, entries, get}
@@ -18,8 +18,8 @@ use Rattle.tablet.specs.Views.{Holds, IsBelow, cells_at, files_of, memory_of, na
 use Rattle.tablet.specs.declared.ranges.RowRange.{RowRange}
 use Rattle.tablet.specs.declared.tablet.Tablet.{Tablet}
 
--- its files, the most bytes of a sorted file, the next file's name, the places of its tablets in
--- the order of their ends, and the tablets, each at its number less 1
+-- its files, the most bytes of a sorted file, the next file's name, the places of its tablets in the order of their
+-- ends, and the tablets, each at the index of its number less 1
 pub record ClusterState (F : Type 0) : Type 0 where
   pub files : F
   pub file_limit : ℕ
@@ -27,32 +27,30 @@ pub record ClusterState (F : Type 0) : Type 0 where
   pub places : List PlaceView
   pub tablets : List Tablet
 
--- the tablet of a number, if there is one
+-- the tablet with a number, if there is one
 abbrev pub tablet_numbered : ℕ → List Tablet → Option Tablet
 tablet_numbered zero tablets = None
 tablet_numbered (suc i) tablets = slice_get tablets i
 
--- ---- what it shows
+-- ---- the cells that it shows
 
 -- all cells of all cell maps
 abbrev pub joined : List Cells → Cells
 joined maps = from_entries (flat_map entries maps)
 
--- the cells of tablets over files whose bytes are known: all cells of all of them
+-- the cells of all tablets over files whose bytes are known
 abbrev pub cells_in : Option Contents → List Tablet → Cells
 cells_in None tablets = empty
 cells_in (Some m) tablets = joined (map (cells_at m) tablets)
 
--- Over files whose bytes are known the files of each tablet are open,
--- and their names come before the next one.
+-- The files' bytes are known, the files of each tablet are open over them, and their names are below the next one.
 pub record InOrder (disk : Option Contents) (next : ℕ) (tablets : List Tablet) : Type 0 where
   pub contents : Contents
   pub on_disk : disk ≡ Some contents
   pub each_open : AllByRecursion (Holds contents) tablets
   pub each_below : AllByRecursion (IsBelow next) tablets
 
--- What a read of a row reads is in order: over files whose bytes are known, those of the tablet that
--- has the row are open.
+-- A row can be read: the files' bytes are known, and the files of the tablet that holds the row are open over them.
 abbrev pub IsReadable : Option Contents → List PlaceView → List Tablet → List ℕ → Type 0
 IsReadable disk places tablets row =
     (p : PlaceView) (t : Tablet) → IsHolder row places p
@@ -65,7 +63,7 @@ Spot = Option (List ℕ) × (ℕ × ℕ)
 abbrev pub spot_of : PlaceView → Spot
 spot_of p = (p.end, (p.tablet, p.server))
 
--- what lies below the memtables of a cluster that writes no edits down
+-- the state below the memtables, for a cluster without a journal
 abbrev pub storage_of : {F : Type 0} → (F → Option Contents) → ClusterState F → Storage
 storage_of contents state =
     record {
@@ -84,8 +82,7 @@ spots_of state = map spot_of state.places
 abbrev pub edits_in : RowRange → List Edit → List Edit
 edits_in range edits = filter (λ edit. has_row range (edited_key edit).row) edits
 
--- With those of these edits that are its own the memtable of the tablet that holds
--- the row would pass a limit.
+-- The memtable of the tablet that holds the row would exceed a limit with the edits that are in the tablet's range.
 pub record Overfills (places : List PlaceView) (tablets : List Tablet) (row : List ℕ)
     (edits : List Edit) : Type 0 where
   pub place : PlaceView
@@ -94,10 +91,10 @@ pub record Overfills (places : List PlaceView) (tablets : List Tablet) (row : Li
   pub numbered : tablet_numbered place.tablet tablets ≡ Some tablet
   pub over : ¬ IsWithinLimits (with_edits (memory_of tablet) (edits_in (range_of tablet) edits))
 
--- ---- what is true of every cluster
+-- ---- invariants of every cluster
 
--- The tablet of a place is that of its number. It has the rows after this one, up to the place's
--- end, and the files that the place lists.
+-- The place's tablet is the one with its number. It has the rows after `before`, up to the place's end, and the files
+-- that the place lists.
 pub record IsPlaced (tablets : List Tablet) (before : Option (List ℕ))
     (p : PlaceView) : Type 0 where
   pub tablet : Tablet
@@ -105,13 +102,13 @@ pub record IsPlaced (tablets : List Tablet) (before : Option (List ℕ))
   pub range : range_of tablet ≡ record { after = before; end = p.end }
   pub names : names_of tablet ≡ p.files
 
--- so is each of these places, whose rows begin after this one
+-- each of these places has its tablet; the rows of the first begin after `before`
 abbrev pub ArePlaced : List Tablet → Option (List ℕ) → List PlaceView → Type 0
 ArePlaced tablets before [] = ⊤
 ArePlaced tablets before (p ∷ ps) = IsPlaced tablets before p × ArePlaced tablets p.end ps
 
--- Each tablet has a place, the numbers are within their limits, and a tablet has at most 64 files,
--- each once, with names from 1 on and below the next one.
+-- Each tablet has a place, the numbers are within their limits, and a tablet has at most 64 files, each once, with
+-- names from 1 on and below the next one.
 pub record IsMatched (file_limit next_name : ℕ) (places : List PlaceView)
     (tablets : List Tablet) : Type 0 where
   pub limit : IsFileLimit file_limit
@@ -121,17 +118,17 @@ pub record IsMatched (file_limit next_name : ℕ) (places : List PlaceView)
   pub as_many : length tablets ≡ length places
   pub files : AllByRecursion (λ p. AreFiles next_name p.files) places
 
--- all rows of a place come before that of the cell after which a scan goes on
+-- all rows of a place come before the row of the cell after which a scan continues
 abbrev pub PrecedesCell : PlaceView → Option Place → Type 0
 PrecedesCell p None = ⊥
 PrecedesCell p (Some cell) = EndsBefore p.end cell.0
 
--- the files of each tablet are open whose rows don't all come before that cell's
+-- the files of each tablet are open, unless all its rows come before that cell's row
 abbrev pub AreOpenFrom : Contents → List Tablet → Option Place → List PlaceView → Type 0
 AreOpenFrom m tablets after places = AllByRecursion (λ p. ¬ PrecedesCell p after
     → (t : Tablet) → tablet_numbered p.tablet tablets ≡ Some t → Holds m t) places
 
--- a tablet of all rows, with no entries and no files, stands alone
+-- there is only one tablet, of all rows, with no entries and no files
 pub record IsFirstTablet (tablets : List Tablet) : Type 0 where
   pub tablet : Tablet
   pub alone : tablets ≡ tablet ∷ []
@@ -141,7 +138,7 @@ pub record IsFirstTablet (tablets : List Tablet) : Type 0 where
 
 -- ---- a law
 
--- At the keys of a row the cells are those of the one tablet that holds the row.
+-- For the keys of a row the cluster's cells are the cells of the tablet that holds the row.
 abbrev pub CellsByTablet : Type 0
 CellsByTablet =
     (m : Contents) (limit next : ℕ) (places : List PlaceView)

@@ -1,6 +1,5 @@
--- What a command answers, and what it leaves of the one cell map, of tablets and files,
--- and of the room in memory. Begin at the end, with `IsOutcome`: each of its fields is said under a
--- heading of this file, in the same order.
+-- Commands: their answers, and their effects on the cell map, on tablets and files, and on the room in memory. Begin at
+-- the end, with `IsOutcome`: each of its fields has a heading in this file, in the same order.
 use Rattle.std.specs.Prelude.{◌≡◌, ◌≢◌, ◌<◌, ◌≤◌, ◌+◌, ◌^◌, ◌↔◌, ◌⊎◌, ℕ, List, [], ◌∷◌, Option, Result, Ok, Err, length, option_map, ⊤}
 use Rattle.std.specs.List.{AllByRecursion}
 use Rattle.cell_key.specs.Cells.{Cells, IsEditOf, IsNewest, after_edits, version}
@@ -27,12 +26,12 @@ use Rattle.row_atomic.specs.declared.commands.Command.TheVariants as command
 use Rattle.row_atomic.specs.declared.commands.Outcome.{Outcome}
 use Rattle.row_atomic.specs.declared.commands.Outcome.TheVariants as outcome
 
--- the edits of an apply are under its row
+-- the edits of an apply are of its row
 abbrev pub IsUnderRow : Command → Type 0
 IsUnderRow (command.Apply row edits) = AllByRecursion (IsEditOf row) edits.items
 IsUnderRow _ = ⊤
 
--- the outcome of a call that answers nothing, of a split, and of a sweep
+-- the outcome of a call without a result, of a split, and of a sweep
 abbrev pub done_of : Result (Unit {0}) Refusal → Outcome
 done_of (Ok _) = outcome.Done
 done_of (Err refusal) = outcome.Refused refusal
@@ -45,20 +44,20 @@ abbrev pub swept_of : Result ℕ Refusal → Outcome
 swept_of (Ok count) = outcome.Swept count
 swept_of (Err refusal) = outcome.Refused refusal
 
--- the command that compacts the tablet of a number
+-- the command that compacts the tablet with a number
 abbrev pub compacting : Compaction → ℕ → Command
 compacting compactions.Minor tablet = command.Minor tablet
 compacting (compactions.Merge count) tablet = command.Merge tablet count
 compacting compactions.Major tablet = command.Major tablet
 
--- ---- the one cell map
+-- ---- the cell map
 
 -- the cells that a cluster shows
 abbrev pub cells_shown : {F : Type 0} → (F → Option Contents) → ClusterState F → Cells
 cells_shown contents state = cells_in (contents state.files) state.tablets
 
--- A command answers what is true of the cells, and leaves these:
--- only an apply that is done changes them.
+-- A command's answer is right for the cells before it, and these are the cells after it: only an accepted apply changes
+-- them.
 abbrev pub AnswersFromCells : Cells → Command → Outcome → Cells → Type 0
 AnswersFromCells old (command.Newest row family qualifier lo hi) (outcome.Newest found) new =
     IsNewest old (version row family qualifier) lo hi (option_map stamped found) × (new ≡ old)
@@ -77,7 +76,7 @@ AnswersFromCells old _ _ new = ⊥
 
 -- ---- tablets and files
 
--- what a command may be refused
+-- the refusals that each command may have
 abbrev pub MayRefuse : Command → Refusal → Type 0
 MayRefuse (command.Newest row family qualifier lo hi) refusal = IsReadRefusal refusal
 MayRefuse (command.NextCell after) refusal = IsReadRefusal refusal
@@ -91,7 +90,7 @@ MayRefuse (command.Move tablet server) refusal = IsMoveRefusal refusal
 MayRefuse command.Sweep refusal = (refusal ≡ refused.Device) ⊎ (refusal ≡ refused.NoMemory)
 MayRefuse command.DropCaches refusal = ⊥
 
--- what a command that is done does to tablets and files
+-- the effect of an accepted command on tablets and files
 abbrev pub DoesToTablets : {F : Type 0}
     → (F → Option Contents) → Command → Outcome → ClusterState F → ClusterState F → Type 0
 DoesToTablets contents (command.Minor tablet) outcome.Done old new =
@@ -109,7 +108,7 @@ DoesToTablets contents command.Sweep (outcome.Swept count) old new = IsSwept con
 DoesToTablets contents command.DropCaches outcome.Done old new = IsUncached contents old new
 DoesToTablets contents _ _ old new = storage_of contents new ≡ storage_of contents old
 
--- what one that is refused leaves of them
+-- the tablets and files after a refused command
 abbrev pub LeavesTablets : {F : Type 0} → (F → Option Contents) → Command → ClusterState F
     → ClusterState F → Type 0
 LeavesTablets contents (command.Minor tablet) old new = IsAsBefore old new
@@ -124,24 +123,24 @@ LeavesTablets contents (command.Move tablet server) old new =
 LeavesTablets contents command.Sweep old new = IsSweptInPart contents old new
 LeavesTablets contents _ old new = storage_of contents new ≡ storage_of contents old
 
--- a command was done, or it was refused what it may be refused
+-- a command was accepted and had its effect, or it had one of its refusals
 abbrev pub Upholds : {F : Type 0}
     → (F → Option Contents) → Command → Outcome → ClusterState F → ClusterState F → Type 0
 Upholds contents command (outcome.Refused refusal) old new =
     MayRefuse command refusal × LeavesTablets contents command old new
 Upholds contents command result old new = DoesToTablets contents command result old new
 
--- ---- what a command writes
+-- ---- files that a command writes
 
--- a command finds nothing in memory that it would write
+-- the memtable that a command would write is empty
 abbrev pub HasNothingToWrite : {F : Type 0} → Command → ClusterState F → Type 0
 HasNothingToWrite (command.Minor tablet) old = Numbered IsEmptied tablet old.tablets
 HasNothingToWrite (command.Split row) old = OfHolder IsEmptied row old.places old.tablets
 HasNothingToWrite (command.Move tablet server) old = Numbered IsEmptied tablet old.tablets
 HasNothingToWrite _ old = ⊥
 
--- One file was written, under the next name, or none.
--- No other file has changed, nor the most bytes of a file.
+-- At most one file was written, under the next name. No other file has changed, and the limit of bytes of a file is
+-- unchanged.
 pub record WritesOne {F : Type 0} (contents : F → Option Contents) (command : Command)
     (old new : ClusterState F) : Type 0 where
   pub name : UsesName (contents old.files) old.next_name (contents new.files) new.next_name
@@ -149,9 +148,8 @@ pub record WritesOne {F : Type 0} (contents : F → Option Contents) (command : 
   pub none : HasNothingToWrite command old
       → (new.next_name ≡ old.next_name) × (contents new.files ≡ contents old.files)
 
--- What a command that may write a file does to files and names, and where it leaves the tablets,
--- even if it is refused.
--- Splits and moves that are done say where these are.
+-- The effect on files and names of a command that may write a file, and its tablets' places, even if it is refused. For
+-- splits and moves `DoesToTablets` and `LeavesTablets` give the places.
 abbrev pub UsesFiles : {F : Type 0}
     → (F → Option Contents) → Command → ClusterState F → ClusterState F → Type 0
 UsesFiles contents (command.Minor tablet) old new =
@@ -165,32 +163,31 @@ UsesFiles contents (command.Move tablet server) old new =
     WritesOne contents (command.Move tablet server) old new
 UsesFiles contents _ old new = ⊤
 
--- a merging or a major compaction: if it is done a tablet has its new file in place of others
+-- a merging or a major compaction: if accepted, it replaces files of a tablet
 abbrev pub IsMerging : Command → Type 0
 IsMerging (command.Merge tablet count) = ⊤
 IsMerging (command.Major tablet) = ⊤
 IsMerging _ = ⊥
 
--- such a one was done
+-- a merging or a major compaction was accepted
 abbrev pub TakesFiles : Command → Outcome → Type 0
 TakesFiles command result = IsMerging command × (result ≡ outcome.Done)
 
 -- ---- the room in memory
 
--- edits of a row would pass a limit of what a cluster keeps in memory
+-- edits of a row would exceed a limit of the memory of a cluster
 abbrev pub OverfillsCluster : {F : Type 0} → ClusterState F → List ℕ → List Edit → Type 0
 OverfillsCluster state row edits = Overfills state.places state.tablets row edits
 
--- the memtables have as much room as they had
+-- the memtables have at least as much room as before
 abbrev pub IsNoFuller : {F : Type 0} → ClusterState F → ClusterState F → Type 0
 IsNoFuller old new = TakesNoRoom OverfillsCluster old new
 
--- a row and edits are these
+-- the row and the edits are the same
 abbrev pub AreThese : List ℕ → List Edit → List ℕ → List Edit → Type 0
 AreThese row edits other others = (other ≡ row) × (others ≡ edits)
 
--- An apply that is done takes the room of its edits.
--- A read, a sweep, an apply that is refused and the emptying of caches take none.
+-- An accepted apply uses the room of its edits. A read, a sweep, a refused apply and emptying the caches use none.
 abbrev pub LeavesRoom : {F : Type 0} → Command → Outcome → ClusterState F → ClusterState F → Type 0
 LeavesRoom (command.Newest row family qualifier lo hi) result old new = IsNoFuller old new
 LeavesRoom (command.NextCell after) result old new = IsNoFuller old new
@@ -203,7 +200,7 @@ LeavesRoom _ result old new = ⊤
 
 -- ---- why a command is refused
 
--- why a compaction of the tablet of a number is refused so
+-- the causes of a refused compaction of the tablet with a number
 pub record BarsCompaction {F : Type 0} (contents : F → Option Contents) (compaction : Compaction)
     (tablet : ℕ) (refusal : Refusal) (old : ClusterState F) : Type 0 where
   pub unknown : refusal ≡ refused.UnknownTablet ↔ ¬ HasTablet tablet old.places
@@ -218,7 +215,7 @@ pub record BarsCompaction {F : Type 0} (contents : F → Option Contents) (compa
   pub damaged : refusal ≡ refused.Damaged
       → Numbered (IsOutOfOrder (contents old.files)) tablet old.tablets
 
--- and what stands in its files now: it can't be read, or what is written of it is too much
+-- further causes in its files as they are now: they can't be read, or the entries read don't fit in a file
 pub record BarsReading {F : Type 0} (contents : F → Option Contents) (compaction : Compaction)
     (tablet : ℕ) (refusal : Refusal) (old : ClusterState F) : Type 0 where
   pub large : refusal ≡ refused.FileTooLarge
@@ -226,7 +223,7 @@ pub record BarsReading {F : Type 0} (contents : F → Option Contents) (compacti
   pub damaged : refusal ≡ refused.Damaged
       → Numbered (CannotRead (contents old.files) compaction) tablet old.tablets
 
--- and why a split at a row is, which flushes the tablet that holds it
+-- the causes of a refused split at a row, which flushes the tablet that holds it
 pub record BarsCut {F : Type 0} (contents : F → Option Contents) (row : List ℕ) (refusal : Refusal)
     (old : ClusterState F) : Type 0 where
   pub bad : refusal ≡ refused.BadSplit ↔ BarsSplit row old.places
@@ -239,8 +236,8 @@ pub record BarsCut {F : Type 0} (contents : F → Option Contents) (row : List �
   pub damaged : refusal ≡ refused.Damaged
       → OfHolder (IsOutOfOrder (contents old.files)) row old.places old.tablets
 
--- Why a command is refused so. Of a device's fault more is said below,
--- and of want of memory nothing.
+-- The causes of a refused command. Device faults are treated below (`TellsFaults`); a lack of memory has no cause in
+-- the state.
 abbrev pub IsDue : {F : Type 0} → (F → Option Contents) → Command → Refusal → ClusterState F
     → Type 0
 IsDue contents (command.Newest row family qualifier lo hi) refusal old =
@@ -265,11 +262,10 @@ IsDue contents (command.Move tablet server) refusal old =
     × BarsCompaction contents compaction.minor tablet refusal old
 IsDue contents _ refusal old = ⊤
 
--- ---- what may be done
+-- ---- preconditions of an accepted command
 
--- A compaction of the tablet of a number may be done: there is such a tablet, it has as many files
--- as are to be merged, it may have one more file if one comes, a name is left if one is used,
--- and the file may have its bytes.
+-- A compaction of the tablet with a number is possible: there is such a tablet with enough files to merge, it has room
+-- for one more file if one is added, a name is left if one is used, and the file fits the limit of bytes.
 pub record MayCompact {F : Type 0} (contents : F → Option Contents) (compaction : Compaction)
     (tablet : ℕ) (old : ClusterState F) : Type 0 where
   pub known : HasTablet tablet old.places
@@ -278,7 +274,7 @@ pub record MayCompact {F : Type 0} (contents : F → Option Contents) (compactio
   pub named : 2 ^ 63 ≤ old.next_name → Numbered (WritesNone compaction) tablet old.tablets
   pub fits : Numbered (FitsLimit old.file_limit (contents old.files) compaction) tablet old.tablets
 
--- and so may a split at a row, which flushes the tablet that holds it
+-- a split at a row is possible, which flushes the tablet that holds it
 pub record MayCut {F : Type 0} (contents : F → Option Contents) (row : List ℕ)
     (old : ClusterState F) : Type 0 where
   pub free : ¬ BarsSplit row old.places
@@ -287,7 +283,7 @@ pub record MayCut {F : Type 0} (contents : F → Option Contents) (row : List �
   pub fits : OfHolder
       (FitsLimit old.file_limit (contents old.files) compaction.minor) row old.places old.tablets
 
--- and a move, which flushes a tablet that is on another server
+-- a move is possible, which flushes a tablet that is on another server
 pub record MayMove {F : Type 0} (contents : F → Option Contents) (tablet server : ℕ)
     (old : ClusterState F) : Type 0 where
   pub known : HasTablet tablet old.places
@@ -318,22 +314,21 @@ IsBarred (command.Move tablet server) refusal =
     (refusal ≡ refused.UnknownTablet) ⊎ (refusal ≡ refused.UnknownServer)
 IsBarred _ refusal = ⊥
 
--- A refusal is due. Nothing is done if the command is barred,
--- or would give the tablet too many files.
+-- A refusal has a cause. Nothing is done if it comes before any work, or because the tablet would have too many files.
 pub record IsRefused {F : Type 0} (contents : F → Option Contents) (command : Command)
     (refusal : Refusal) (old new : ClusterState F) : Type 0 where
   pub due : IsDue contents command refusal old
   pub barred : IsBarred command refusal → new ≡ old
   pub undone : refusal ≡ refused.TooManyFiles → IsUndone contents old new
 
--- A command that is done may be done, and one that is refused has a cause.
+-- An accepted command was possible, and a refused one has a cause.
 abbrev pub HasCause : {F : Type 0}
     → (F → Option Contents) → Command → Outcome → ClusterState F → ClusterState F → Type 0
 HasCause contents command (outcome.Refused refusal) old new =
     IsRefused contents command refusal old new
 HasCause contents command _ old new = MayBeDone contents command old
 
--- A device has failed if an outcome says so, and else none has.
+-- A device failed during the command exactly if the outcome is `Device`.
 pub record TellsFaults {F : Type 0} (faults : F → ℕ) (result : Outcome)
     (old new : ClusterState F) : Type 0 where
   pub later : faults old.files ≤ faults new.files
@@ -343,31 +338,31 @@ pub record TellsFaults {F : Type 0} (faults : F → ℕ) (result : Outcome)
 
 -- ---- one command
 
--- A command had this outcome: over the files' bytes and the count of their faults. What needs the
--- tablets to be in order over their files says so.
+-- A command had this outcome, given the files' bytes and their count of faults. Fields that need the tablets in order
+-- over their files say so.
 pub record IsOutcome {F : Type 0} (contents : F → Option Contents) (count : F → ℕ)
     (command : Command) (result : Outcome) (old new : ClusterState F) : Type 0 where
-  -- tablets that were in order are
+  -- tablets that were in order still are
   pub still : Holds contents old → Holds contents new
-  -- it answers what is true of the one cell map
+  -- its answer is right for the cell map
   pub answers : Holds contents old
       → AnswersFromCells (cells_shown contents old) command result (cells_shown contents new)
-  -- what it is for was done to tablets, places and files, or it was refused what it may be refused
+  -- it had its effect on tablets, places and files, or one of its refusals
   pub upholds : Upholds contents command result old new
-  -- it wrote one file at most
+  -- it wrote at most one file
   pub files : UsesFiles contents command old new
-  -- the tablets have every file that they had, unless files were taken from one
+  -- the tablets have every file that they had, unless a compaction replaced some
   pub lists : ¬ TakesFiles command result → ListsAll old.places new.places
-  -- the room in memory that it took
+  -- the room in memory that it used
   pub room : LeavesRoom command result old new
-  -- nothing stood against it, or its refusal has a cause
+  -- it was possible, or its refusal has a cause
   pub cause : HasCause contents command result old new
-  -- a device's fault is answered, and no other
+  -- a device's fault is answered, and only if there was one
   pub faults : TellsFaults count result old new
 
 -- ---- a list of commands
 
--- commands were done one after the other
+-- commands ran in order
 abbrev pub AnswersAll : {F : Type 0} → (F → Option Contents)
     → (F → ℕ) → ClusterState F → List Command → List Outcome → ClusterState F → Type 0
 AnswersAll contents faults old [] [] new = new ≡ old

@@ -1,4 +1,4 @@
--- The compactions, by names for the crates above.
+-- Names of the compactions for the crates above.
 use Rattle.std.specs.Prelude.{ℕ}
 use Rattle.tablet.specs.declared.compactions.Compaction.{Compaction}
 use Rattle.tablet.specs.declared.compactions.Compaction.TheVariants.{Minor, Merge, Major}

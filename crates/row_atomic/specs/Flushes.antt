@@ -1,5 +1,4 @@
--- Compactions that no command asks for: of each tablet whose memtable is full, or that has many
--- files.
+-- Automatic compactions: of each tablet whose memtable is full, or that has many files.
 use Rattle.std.specs.Prelude.{◌≡◌, ◌≤◌, ◌^◌, ◌+◌, ◌&&◌, ℕ, Bool, false, nat_le, nat_lt, List, [], ◌∷◌, length, map, filter, Option, None, Some}
 use Rattle.file_store.specs.Store.{Contents}
 use Rattle.metadata_table.specs.Places.{PlaceView}
@@ -13,7 +12,7 @@ use Rattle.row_atomic.specs.declared.commands.Command.TheVariants as command
 use Rattle.row_atomic.specs.declared.commands.Outcome.{Outcome}
 use Rattle.row_atomic.specs.declared.fill.FlushLimits.{FlushLimits}
 
--- whether there is a tablet, and its memtable is full
+-- whether there is a tablet and its memtable is full
 abbrev pub has_full : FlushLimits → Option Tablet → Bool
 has_full limits None = false
 has_full limits (Some t) = is_full limits t
@@ -22,38 +21,37 @@ has_full limits (Some t) = is_full limits t
 abbrev pub numbers_of : List PlaceView → List ℕ
 numbers_of places = map (λ p. p.tablet) places
 
--- those of the tablets whose memtables are full
+-- the numbers of the tablets whose memtables are full
 abbrev pub numbers_full : {F : Type 0} → FlushLimits → ClusterState F → List ℕ
 numbers_full limits state =
     filter (λ n. has_full limits (tablet_numbered n state.tablets)) (numbers_of state.places)
 
--- Minor compactions of these tablets, and of no other, were done one after the other, or refused.
--- Their outcomes are not reported.
+-- Exactly these tablets had minor compactions, in order, done or refused. Their outcomes are not reported.
 abbrev pub CompactsFull : {F : Type 0}
     → (F → Option Contents) → (F → ℕ) → FlushLimits → ClusterState F → ClusterState F → Type 0
 CompactsFull contents faults limits old new =
     (outcomes : List Outcome)
     × AnswersAll contents faults old (map command.Minor (numbers_full limits old)) outcomes new
 
--- whether there is a tablet, and it has this many files or more, two at least,
--- and no more than a merge can count
+-- whether there is a tablet with at least `most` files, where `most` is 2 or more, and no more files than a merge can
+-- count
 abbrev pub has_files : ℕ → Option Tablet → Bool
 has_files most None = false
 has_files most (Some t) =
     nat_le 2 most && nat_le most (length (names_of t)) && nat_lt (length (names_of t)) (2 ^ 32)
 
--- those of the tablets that have this many files or more
+-- the numbers of the tablets that have at least `most` files
 abbrev pub numbers_over : {F : Type 0} → ℕ → ClusterState F → List ℕ
 numbers_over most state =
     filter (λ n. has_files most (tablet_numbered n state.tablets)) (numbers_of state.places)
 
--- If this many of a tablet's files are merged, fewer than `most` are left.
+-- If `count` of a tablet's files are merged, fewer than `most` are left.
 pub record LeavesFew (most count : ℕ) (t : Tablet) : Type 0 where
   pub within : count ≤ length (names_of t)
   pub enough : length (names_of t) + 2 ≤ most + count
 
--- Newest files of each of these tablets were merged, one tablet after the other, or the merge was
--- refused. The outcomes are not reported.
+-- The newest files of each of these tablets were merged, in order, or the merge was refused. The outcomes are not
+-- reported.
 abbrev pub MergesEach : {F : Type 0}
     → (F → Option Contents) → (F → ℕ) → ℕ → ClusterState F → List ℕ → ClusterState F → Type 0
 MergesEach contents faults most old [] new = new ≡ old
@@ -63,15 +61,14 @@ MergesEach {F} contents faults most old (n ∷ ns) new =
     × IsOutcome contents faults (command.Merge n count) outcome old next
     × MergesEach contents faults most next ns new
 
--- So it was for the tablets that have `most` files or more, in the order of their ends, and for
--- no other.
+-- Exactly the tablets with at least `most` files were merged, in the order of their ends.
 abbrev pub MergesMany : {F : Type 0}
     → (F → Option Contents) → (F → ℕ) → ℕ → ClusterState F → ClusterState F → Type 0
 MergesMany contents faults most old new =
     MergesEach contents faults most old (numbers_over most old) new
 
--- Tablets that were in order are, with the same cells. They are where they were, with the same
--- limit of a file, and no fault was forgotten.
+-- Tablets that were in order still are, with the same cells. Their ends, numbers and servers and the limit of a file
+-- are unchanged, and no fault was forgotten.
 pub record KeepsShown {F : Type 0} (contents : F → Option Contents) (faults : F → ℕ)
     (old new : ClusterState F) : Type 0 where
   pub kept : KeepsMap contents old new

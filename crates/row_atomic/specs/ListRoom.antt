@@ -1,5 +1,4 @@
--- The room in lists that is made for a split or a move, before the minor compaction that comes
--- first.
+-- Room in lists that a split or a move reserves before its minor compaction.
 use Rattle.std.specs.Prelude.{◌≡◌, ◌≤◌, ◌+◌, ℕ, List, [], length, Some, vec_capacity}
 use Rattle.std.specs.declared.vec.Vec.{Vec}
 use Rattle.metadata_table.specs.Places.{PlaceView}
@@ -10,18 +9,18 @@ use Rattle.row_atomic.specs.Clusters.{tablet_numbered}
 use Rattle.row_atomic.specs.declared.cluster.split.CutRoom.{CutRoom}
 use Rattle.row_atomic.specs.declared.cluster.split.OpenRoom.{OpenRoom}
 
--- an empty list that can have this many items before it grows
+-- an empty list with capacity for this many items
 pub record IsEmptyFor {X Z : Type 0} (count : ℕ) (list : Vec X Z) : Type 0 where
   pub empty : list.items ≡ []
   pub room : count ≤ vec_capacity list
 
--- in both lists of names there is room for those of a tablet's files, and for this many more
+-- both lists of names have room for a tablet's file names and this many more
 pub record HasNameRoom (room : CutRoom) (more : ℕ) (t : Tablet) : Type 0 where
   pub left : IsEmptyFor (length (names_of t) + more) room.left_names
   pub right : IsEmptyFor (length (names_of t) + more) room.right_names
 
--- The room is that for the cut of the tablet that holds the row: once both parts were given the
--- tablet's files, its table is the one that is cut there.
+-- The room fits a cut of the tablet that holds the row: its table is the one after the cut, once both parts list the
+-- tablet's files.
 pub record IsRoomToCut (row : List ℕ) (room : CutRoom) (places : List PlaceView)
     (tablets : List Tablet) : Type 0 where
   pub place : PlaceView
@@ -36,8 +35,7 @@ pub record IsRoomToCut (row : List ℕ) (room : CutRoom) (places : List PlaceVie
   pub names : HasNameRoom room 0 tablet
   pub space : IsEmptyFor (length places + 1) room.tablets
 
--- The range is the tablet's, and in the list there is room for its files' names, and for this many
--- more.
+-- The range is the tablet's, and the list has room for its files' names and this many more.
 pub record HasOpenRoom (room : OpenRoom) (more : ℕ) (t : Tablet) : Type 0 where
   pub range : room.range ≡ range_of t
   pub names : IsEmptyFor (length (names_of t) + more) room.names

@@ -7,7 +7,7 @@ use Rattle.tablet.specs.declared.tablet.Tablet.{Tablet}
 use Rattle.row_atomic.specs.declared.fill.Fill.{Fill}
 use Rattle.row_atomic.specs.declared.fill.FlushLimits.{FlushLimits}
 
--- no memtable has more entries or bytes than these
+-- the tablet's memtable, and all memtables, have at most these entries and bytes
 pub record HasAtMost (most : Fill) (t : Tablet) : Type 0 where
   pub entries : length (memory_of t) ≤ most.entries
   pub bytes : bytes_of (memory_of t) ≤ most.bytes
@@ -15,7 +15,7 @@ pub record HasAtMost (most : Fill) (t : Tablet) : Type 0 where
 abbrev pub HaveAtMost : Fill → List Tablet → Type 0
 HaveAtMost most tablets = AllByRecursion (HasAtMost most) tablets
 
--- as many entries as the longest memtable has, and as many bytes as the largest
+-- the most entries, and the most bytes, of any memtable
 abbrev pub longest : List Tablet → ℕ
 longest [] = 0
 longest (t ∷ ts) = max (length (memory_of t)) (longest ts)
@@ -24,19 +24,19 @@ abbrev pub largest : List Tablet → ℕ
 largest [] = 0
 largest (t ∷ ts) = max (bytes_of (memory_of t)) (largest ts)
 
--- whether a number of bytes is given, and these are as many or more
+-- whether there is a limit of bytes and it is reached
 abbrev pub has_bytes : Option ℕ → ℕ → Bool
 has_bytes None bytes = false
 has_bytes (Some most) bytes = nat_le most bytes
 
--- whether a memtable of this number of entries and of bytes is full
+-- whether a memtable with this many entries and bytes is full
 abbrev pub reaches : FlushLimits → ℕ → ℕ → Bool
 reaches limits entries bytes = nat_le limits.entries entries || has_bytes limits.bytes bytes
 
--- whether a tablet's memtable is
+-- whether a tablet's memtable is full
 abbrev pub is_full : FlushLimits → Tablet → Bool
 is_full limits t = reaches limits (length (memory_of t)) (bytes_of (memory_of t))
 
--- whether some tablet's memtable is
+-- whether some tablet's memtable is full
 abbrev pub is_any_full : FlushLimits → List Tablet → Bool
 is_any_full limits tablets = list_any (is_full limits) tablets

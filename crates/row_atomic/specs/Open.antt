@@ -1,4 +1,4 @@
--- What is opened of the files that keep a cluster.
+-- Opening a cluster from its files.
 use Rattle.std.specs.Prelude.{◌≡◌, ◌⊎◌, ℕ, zero, suc, List, [], ◌∷◌, length, Option, None, Some, Result, Err, ⊤}
 use Rattle.std.specs.List.{AllByRecursion}
 use Rattle.std.specs.FinMap.{get}
@@ -19,12 +19,11 @@ use Rattle.row_atomic.specs.Roots.{AreMeasured, AreOpened, KeepsRoot, root_at, r
 
 -- ---- damage
 
--- A file that places name is missing, or is the file of no entry list.
+-- A file named in the places is missing, or is not the file of an entry list.
 abbrev pub LacksFile : Contents → List PlaceView → Type 0
 LacksFile m places = ¬ AllByRecursion (λ p. AllByRecursion (HasFile m) p.files) places
 
--- There is a root file that is no root, or one that names such a file, or has a length that isn't
--- its file's.
+-- The root file exists but is not a root, or it names such a file, or a length in it differs from its file's.
 pub data IsDamaged (m : Contents) : Type 0 where
   no_root : (image : List ℕ) → get m root_name ≡ Some image → IsNoRoot image → IsDamaged m
   no_file : (image : List ℕ) (root : RootView) → get m root_name ≡ Some image → IsRoot root image
@@ -35,7 +34,7 @@ pub data IsDamaged (m : Contents) : Type 0 where
 
 -- ---- the parts of an opening
 
--- what a root says, with the lengths of its files
+-- a root's content, with the lengths of its files
 abbrev pub told_of : Root → RootView × List ℕ
 told_of root = (root_of root, lengths_of root)
 
@@ -43,24 +42,24 @@ told_of root = (root_of root, lengths_of root)
 abbrev pub AreCounted : List PlaceView → List ℕ → Type 0
 AreCounted places lengths = (lengths ≡ []) ⊎ (length lengths ≡ length (file_names places))
 
--- nothing if there is no file, and else what the file says
+-- `None` without a file, else the file's root
 abbrev pub FindsRoot : Option (List ℕ) → Option (RootView × List ℕ) → Type 0
 FindsRoot None None = ⊤
 FindsRoot (Some image) (Some found) = IsRootWith found.0 found.1 image
 FindsRoot _ _ = ⊥
 
--- The tablet has the rows after this one, up to the place's end, and the files of the place.
+-- The tablet has the rows after `before`, up to the place's end, and the files of the place.
 pub record FitsPlace (before : Option (List ℕ)) (p : PlaceView) (t : Tablet) : Type 0 where
   pub range : range_of t ≡ record { after = before; end = p.end }
   pub names : names_of t ≡ p.files
 
--- so it is with the place at the index, if the rows of the first place begin after this one
+-- the tablet fits the place at the index, if the rows of the first place begin after `before`
 abbrev pub FitsAt : Option (List ℕ) → List PlaceView → ℕ → Tablet → Type 0
 FitsAt before [] i t = ⊥
 FitsAt before (p ∷ ps) zero t = FitsPlace before p t
 FitsAt before (p ∷ ps) (suc i) t = FitsAt p.end ps i t
 
--- each tablet is at its number less 1, with the rows and files of its place, and no entries
+-- each tablet is at the index of its number less 1, with the rows and files of its place, and no entries in memory
 pub record AreLoaded (places : List PlaceView) (tablets : List Tablet) : Type 0 where
   pub placed : ArePlaced tablets None places
   pub as_many : length tablets ≡ length places
@@ -68,7 +67,7 @@ pub record AreLoaded (places : List PlaceView) (tablets : List Tablet) : Type 0 
 
 -- ---- opening
 
--- a new store: tablet 1 with all rows and no files, and no stamps
+-- a new store: tablet 1 with all rows and no files, and both stamps 0
 pub record IsNewStore {F : Type 0} (top floor : ℕ) (state : ClusterState F) : Type 0 where
   pub no_top : top ≡ 0
   pub no_floor : floor ≡ 0
@@ -76,7 +75,7 @@ pub record IsNewStore {F : Type 0} (top floor : ℕ) (state : ClusterState F) : 
   pub places : state.places ≡ first_place ∷ []
   pub tablet : IsFirstTablet state.tablets
 
--- what the root file says was opened
+-- the cluster of the root file was opened
 pub record IsOpenedOf {F : Type 0} (m : Contents) (top floor : ℕ) (image : List ℕ)
     (state : ClusterState F) : Type 0 where
   pub form : IsRoot (root_at top floor state) image
@@ -88,8 +87,7 @@ abbrev pub IsStore : {F : Type 0} → Contents → Option (List ℕ) → ℕ →
 IsStore m None top floor state = IsNewStore top floor state
 IsStore m (Some image) top floor state = IsOpenedOf m top floor image state
 
--- A cluster in order that agrees with what the root says, and shows these cells with empty
--- memtables. Its files keep both.
+-- A cluster in order that agrees with the root, and shows these cells with empty memtables. Its files keep both.
 pub record Reopens {F : Type 0} (contents : F → Option Contents) (root : RootView) (cells : Cells)
     (top floor : ℕ) (state : ClusterState F) : Type 0 where
   pub tells : root_at top floor state ≡ root
@@ -98,6 +96,6 @@ pub record Reopens {F : Type 0} (contents : F → Option Contents) (root : RootV
   pub emptied : AllByRecursion IsEmptied state.tablets
   pub keeps : KeepsRoot contents root cells state
 
--- a refusal by itself, without the files that come back with it
+-- a refusal alone, without the files handed back with it
 abbrev pub refused_by : Refusal → Result (Unit {0}) Refusal
 refused_by refusal = Err refusal

@@ -1,5 +1,4 @@
--- Proofs that a ghost member cites; nothing is promised here.
--- If tablets are in order, each row is readable.
+-- Lemmas used by a ghost member; no promise is made here. If tablets are in order, every row can be read.
 use Rattle.std.proofs.Common.{◌≡◌, ℕ, zero, suc, List, [], ◌∷◌, Option, Some, slice_get, subst, sym}
 use Rattle.std.specs.Prelude.{IsSomeAnd}
 use Rattle.std.specs.List.{AllByRecursion}

@@ -1,4 +1,4 @@
--- A cluster whose edits are written down: what these are to what its files keep and to what it shows.
+-- Clusters with a journal: its edits lead from the cells in the files to the cells shown.
 use Rattle.std.specs.Prelude.{◌≡◌, ◌≢◌, ◌⊎◌, ℕ, ◌+◌, List, [], length, Option, None, Some, IsSome, ⊤}
 use Rattle.std.specs.FinMap.{get}
 use Rattle.std.specs.List.{AllByRecursion}
@@ -21,9 +21,9 @@ use Rattle.row_atomic.specs.declared.commands.Outcome.{Outcome}
 use Rattle.row_atomic.specs.declared.fill.FlushLimits.{FlushLimits}
 use Rattle.row_atomic.specs.declared.recorded.Recorded.{Recorded}
 
--- ---- what is written down follows what is shown
+-- ---- the journal leads to the cells shown
 
--- The files keep a root and cells, and these edits make of them what the cluster shows.
+-- The files keep a root and cells, and these edits turn those cells into the ones that the cluster shows.
 pub record Tracks {F : Type 0} (contents : F → Option Contents) (state : ClusterState F)
     (edits : List Edit) : Type 0 where
   pub root : RootView
@@ -31,28 +31,28 @@ pub record Tracks {F : Type 0} (contents : F → Option Contents) (state : Clust
   pub has : HasRoot contents root base state
   pub replay : after_edits base edits ≡ cells_shown contents state
 
--- So it is with a root of which the tablets have every file that it lists: no sweep removes one.
+-- The same, with a root whose files all belong to tablets, so that no sweep removes one.
 pub record TracksListed {F : Type 0} (contents : F → Option Contents) (state : ClusterState F)
     (edits : List Edit) : Type 0 where
   pub tracks : Tracks contents state edits
   pub lists : ListsAll tracks.root.places state.places
 
--- if there is a journal, the edits that are written down in it are such
+-- the edits of the journal, if there is one, have the property
 abbrev pub IfWritten : (List Edit → Type 0) → Option JournalView → Type 0
 IfWritten Such None = ⊤
 IfWritten Such (Some journal) = HasWritten Such journal
 
--- The edits that are written down make what the cluster shows of what its files keep.
+-- The journal's edits turn the cells in the files into the cells that the cluster shows.
 abbrev pub Follows : {F : Type 0} → (F → Option Contents) → ClusterState F → Option JournalView
     → Type 0
 Follows contents state journal = IfWritten (Tracks contents state) journal
 
--- So it is, and no sweep removes a file of the root.
+-- The same, and no sweep removes a file of the root.
 abbrev pub FollowsListed : {F : Type 0} → (F → Option Contents) → ClusterState F
     → Option JournalView → Type 0
 FollowsListed contents state journal = IfWritten (TracksListed contents state) journal
 
--- the bytes of the edits that the log has, and of those that wait for it
+-- the journal's bytes that are in the log, and those waiting for it
 abbrev pub logged_of : Option JournalView → List ℕ
 logged_of None = []
 logged_of (Some journal) = journal.logged
@@ -61,7 +61,7 @@ abbrev pub waiting_of : Option JournalView → List ℕ
 waiting_of None = []
 waiting_of (Some journal) = journal.waiting
 
--- how many edits and bytes are written down
+-- the number of edits, and of bytes, in the journal
 abbrev pub edits_written : Option JournalView → ℕ
 edits_written None = 0
 edits_written (Some journal) = journal.count
@@ -70,20 +70,20 @@ abbrev pub bytes_written : Option JournalView → ℕ
 bytes_written None = 0
 bytes_written (Some journal) = length journal.logged + length journal.waiting
 
--- ---- rows that are written down
+-- ---- rows with a journal
 
 -- if there is a journal, it has no room for these edits
 abbrev pub OverfillsJournal : Option JournalView → List Edit → Type 0
 OverfillsJournal None edits = ⊥
 OverfillsJournal (Some journal) edits = ¬ HasRoomFor journal edits
 
--- Edits of a row would pass a limit of the row's memtable, or of the journal.
+-- Edits of a row would exceed a limit of the row's memtable, or of the journal.
 abbrev pub OverfillsRecorded : {F : Type 0} → Recorded F → List ℕ → List Edit → Type 0
 OverfillsRecorded rows row edits =
     OverfillsCluster rows.cluster row edits ⊎ OverfillsJournal rows.journal edits
 
--- What is seen of them is what is seen of the cluster, with the journal's limit and the bytes that
--- the log has. They hold if the cluster does, and what is written down follows what is shown.
+-- The view of the cluster, with the journal's limit and the logged bytes. It holds if the cluster is in order and the
+-- journal leads to the cells shown.
 abbrev pub seen_recorded : {F : Type 0} → (F → Option Contents) → View (Recorded F)
 seen_recorded contents = record {
   holds = λ rows. Holds contents rows.cluster × Follows contents rows.cluster rows.journal;
@@ -94,21 +94,20 @@ seen_recorded contents = record {
   storage = λ rows. record (storage_of contents rows.cluster) { logged = logged_of rows.journal };
 }
 
--- Edits for which the journal has room pass no limit of a memtable: what is written down has all
--- that the memtables have.
+-- Edits that fit the journal exceed no limit of a memtable: the journal has everything that the memtables have.
 abbrev pub FitsMemtables : {F : Type 0} → Recorded F → Type 0
 FitsMemtables rows =
     (row : List ℕ) (edits : List Edit) → OverfillsCluster rows.cluster row edits
     → OverfillsJournal rows.journal edits
 
--- ---- what leaves it so
+-- ---- calls that keep this
 
 -- a command that makes no edit
 abbrev pub IsOfUpkeep : Command → Type 0
 IsOfUpkeep (command.Apply row edits) = ⊥
 IsOfUpkeep _ = ⊤
 
--- What is written down follows what is shown through all that a cluster does but an apply.
+-- The journal still leads to the cells shown after every call of a cluster but an apply.
 pub record KeepsFollowing {F : Type 0} (contents : F → Option Contents) (faults : F → ℕ)
     : Type 0 where
   -- commands, whatever their outcomes
@@ -120,29 +119,29 @@ pub record KeepsFollowing {F : Type 0} (contents : F → Option Contents) (fault
   pub sweeps : (result : Outcome) (journal : Option JournalView) (old new : ClusterState F)
       → IsOutcome contents faults command.Sweep result old new → Holds contents old
       → FollowsListed contents old journal → FollowsListed contents new journal
-  -- what comes by itself between two requests
+  -- automatic compactions between two requests
   pub flushes : (limits : FlushLimits) (journal : Option JournalView) (old new : ClusterState F)
       → CompactsFull contents faults limits old new → KeepsShown contents faults old new
       → Holds contents old → Follows contents old journal → Follows contents new journal
   pub merges : (most : ℕ) (journal : Option JournalView) (old new : ClusterState F)
       → MergesMany contents faults most old new → KeepsShown contents faults old new
       → Holds contents old → Follows contents old journal → Follows contents new journal
-  -- A checkpoint that is done: from its root all edits lead to what is shown, and so do none.
+  -- An accepted checkpoint: from its root both the journal's edits and the empty list of edits lead to the cells shown.
   pub checkpoints : (top floor : ℕ) (journal : Option JournalView) (old new : ClusterState F)
       → Rests contents top floor old new → KeepsShown contents faults old new
       → Holds contents old → Follows contents old journal → FollowsListed contents new journal
   pub rests : (top floor : ℕ) (old new : ClusterState F)
       → Rests contents top floor old new → KeepsShown contents faults old new
       → Holds contents old → TracksListed contents new []
-  -- One that is refused: from the old root or from the new one all edits lead to what is shown.
+  -- A refused checkpoint: from the old root or from the new one the journal's edits lead to the cells shown.
   pub refused : (top floor : ℕ) (journal : Option JournalView) (old new : ClusterState F)
       → StaysOrRests contents top floor old new → KeepsShown contents faults old new
       → Holds contents old → Follows contents old journal → Follows contents new journal
   pub lists : (journal : Option JournalView) (state : ClusterState F)
       → FollowsListed contents state journal → Follows contents state journal
 
--- A store that was opened from a root shows what its files keep, with no edit. If all memtables
--- are empty, they have nothing that isn't written down.
+-- A store that was opened from a root shows the cells in its files, without an edit. If all memtables are empty, any
+-- journal has everything that they have.
 pub record OpensFollowing {F : Type 0} (contents : F → Option Contents) : Type 0 where
   pub reopened : (root : RootView) (cells : Cells) (top floor : ℕ) (state : ClusterState F)
       → Reopens contents root cells top floor state → TracksListed contents state []

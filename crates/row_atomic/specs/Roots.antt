@@ -1,4 +1,4 @@
--- What the files keep of a cluster, and the checkpoint that leaves it there.
+-- Roots: the state of a cluster kept in its files, and the checkpoint that writes it.
 use Rattle.std.specs.Prelude.{◌≡◌, ◌≤◌, ◌⊎◌, ℕ, List, [], ◌∷◌, length, replicate, Option, None, Some, IfSome}
 use Rattle.std.specs.List.{AllByRecursion}
 use Rattle.std.specs.FinMap.{get}
@@ -26,35 +26,34 @@ use Rattle.row_atomic.specs.declared.fill.FlushLimits.{FlushLimits}
 abbrev pub root_name : ℕ
 root_name = 0
 
--- what a cluster's root says: two stamps, the next file's name and the places
+-- the content of a cluster's root: two stamps, the next file's name and the places
 abbrev pub root_at : {F : Type 0} → ℕ → ℕ → ClusterState F → RootView
 root_at top floor state =
     record { top = top; floor = floor; next_name = state.next_name; places = state.places }
 
--- The checksum of what a root says: that of its bytes in format 2, where the length of each file is 0.
+-- The checksum of a root: the CRC-32 of its bytes in format 2, with the length of each file written as 0.
 unfoldable pub root_sum : RootView → ℕ
 root_sum root = crc32 (root_bytes Two root (replicate (length (file_names root.places)) 0))
 
 -- ---- files that keep cells
 
--- These tablets have the rows and the files of the places, each at its number less 1. Their
--- memtables are empty, and their files are open.
+-- These tablets have the rows and the files of the places, each at the index of its number less 1. Their memtables are
+-- empty, and their files are open.
 pub record AreOpened (m : Contents) (places : List PlaceView) (tablets : List Tablet) : Type 0 where
   pub placed : ArePlaced tablets None places
   pub as_many : length tablets ≡ length places
   pub emptied : AllByRecursion IsEmptied tablets
   pub each_open : AllByRecursion (HoldsAt m) tablets
 
--- Each file that is there has the length that stands at the place of its name, as far as there are
--- lengths.
+-- Each existing file has the length listed for its name, as far as there are lengths.
 abbrev pub AreMeasured : Contents → List ℕ → List ℕ → Type 0
 AreMeasured m [] lengths = Unit {0}
 AreMeasured m (name ∷ names) [] = Unit {0}
 AreMeasured m (name ∷ names) (n ∷ lengths) =
     IfSome (get m name) (λ image. length image ≡ n) × AreMeasured m names lengths
 
--- The root file is there and says this, its lengths are those of the files, and the tablets that
--- are opened of it show these cells.
+-- The root file exists and has this root, its lengths are those of the files, and the tablets opened from it show these
+-- cells.
 pub record KeepsCells (m : Contents) (root : RootView) (cells : Cells) : Type 0 where
   pub image : List ℕ
   pub there : get m root_name ≡ Some image
@@ -66,7 +65,7 @@ pub record KeepsCells (m : Contents) (root : RootView) (cells : Cells) : Type 0 
 
 -- ---- a checkpoint
 
--- Minor compactions of these tablets were done one after the other, up to one that was refused.
+-- Minor compactions of these tablets were done in order, until one was refused.
 pub data FlushesEach {F : Type 0} (contents : F → Option Contents) (faults : F → ℕ)
     : ClusterState F → List ℕ → Outcome → ClusterState F → Type 0 where
   flushes_none : {now : ClusterState F} → FlushesEach contents faults now [] outcome.Done now
@@ -78,9 +77,9 @@ pub data FlushesEach {F : Type 0} (contents : F → Option Contents) (faults : F
       → IsOutcome contents faults (command.Minor n) (outcome.Refused refusal) old new
       → FlushesEach contents faults old (n ∷ ns) (outcome.Refused refusal) new
 
--- The root file that names these stamps was put, in format 2. Or a device failed or memory was
--- refused, and all files are as before, or a device failed and the root's bytes are open, and all
--- other files are as before. Nothing else changed.
+-- The root file with these stamps was put in format 2; or a device failed or memory was refused, and all files are
+-- unchanged; or a device failed, the root's bytes are unspecified and all other files are unchanged. Nothing else
+-- changed.
 abbrev pub PutsRoot : {F : Type 0} → (F → Option Contents) → ℕ → ℕ → ClusterState F → Outcome
     → F → Type 0
 PutsRoot contents top floor old outcome.Done files =
@@ -92,7 +91,7 @@ PutsRoot contents top floor old (outcome.Refused refusal) files =
     ⊎ ((refusal ≡ refused.Device) × KeepsOthers root_name (contents old.files) (contents files)))
 PutsRoot contents top floor old _ files = ⊥
 
--- A checkpoint flushed every tablet, and put the root last, or it was refused on the way.
+-- A checkpoint flushed every tablet and put the root last, or was refused on the way.
 pub data Checkpoints {F : Type 0} (contents : F → Option Contents) (faults : F → ℕ) (top floor : ℕ)
     (old : ClusterState F) : Outcome → ClusterState F → Type 0 where
   unflushed : (refusal : Refusal) {new : ClusterState F}
@@ -109,10 +108,10 @@ abbrev pub AreFlushed : {F : Type 0} → ClusterState F → Type 0
 AreFlushed state =
     AllByRecursion (λ n. Numbered IsEmptied n state.tablets) (numbers_of state.places)
 
--- ---- what stays in the files
+-- ---- roots in the files
 
--- The files' bytes are known, and keep a root and cells. Files to come have other names than the
--- root's.
+-- The files' bytes are known and keep a root and cells. New files can't overwrite the root's files: its next name is
+-- not above the cluster's.
 pub record HasRoot {F : Type 0} (contents : F → Option Contents) (root : RootView) (cells : Cells)
     (state : ClusterState F) : Type 0 where
   pub kept : Contents
@@ -120,22 +119,22 @@ pub record HasRoot {F : Type 0} (contents : F → Option Contents) (root : RootV
   pub keeps : KeepsCells kept root cells
   pub below : root.next_name ≤ state.next_name
 
--- They keep them, and the tablets have every file that the root lists: no sweep removes one.
+-- The same, and the tablets have every file that the root lists, so that no sweep removes one.
 pub record KeepsRoot {F : Type 0} (contents : F → Option Contents) (root : RootView) (cells : Cells)
     (state : ClusterState F) : Type 0 where
   pub has : HasRoot contents root cells state
   pub lists : ListsAll root.places state.places
 
--- Its files keep the cells that the cluster showed, and name these stamps.
+-- Its files keep the cells that the cluster showed, in a root with these stamps.
 abbrev pub Rests : {F : Type 0} → (F → Option Contents) → ℕ → ℕ → ClusterState F → ClusterState F
     → Type 0
 Rests contents top floor old new =
     Holds contents old → KeepsRoot contents (root_at top floor new) (cells_shown contents old) new
 
--- ---- how long it stays
+-- ---- how long a root is kept
 
--- A command leaves a root and its cells in the files, whatever its outcome. A sweep does so if the
--- tablets have every file that the root lists. They have them still, unless files were taken.
+-- A command leaves a root and its cells in the files, whatever its outcome. A sweep does if the tablets have every file
+-- that the root lists. They still have them afterwards, unless a compaction replaced some.
 abbrev pub RootStays : {F : Type 0} → (F → Option Contents) → (F → ℕ) → Type 0
 RootStays {F} contents faults =
     (request : Command) (result : Outcome) (root : RootView) (cells : Cells)
@@ -145,34 +144,34 @@ RootStays {F} contents faults =
     × (¬ TakesFiles request result
     → KeepsRoot contents root cells old → KeepsRoot contents root cells new)
 
--- what the files keep of a root they keep after a change, and so do the tablets the root's files
+-- a change leaves a root and its cells in the files, and the tablets keep the root's files
 abbrev pub StayRooted : {F : Type 0} → (F → Option Contents) → RootView → Cells → ClusterState F
     → ClusterState F → Type 0
 StayRooted contents root cells old new =
     (HasRoot contents root cells old → HasRoot contents root cells new)
     × (KeepsRoot contents root cells old → KeepsRoot contents root cells new)
 
--- All files are as before, or they keep what a cluster shows whose memtables are empty.
+-- All files are unchanged, or, if the memtables are empty, they keep the cells that the cluster shows.
 abbrev pub PutsRootOrNone : {F : Type 0} → (F → Option Contents) → ℕ → ℕ → ClusterState F
     → ClusterState F → Type 0
 PutsRootOrNone contents top floor old new =
     (contents new.files ≡ contents old.files)
     ⊎ (AreFlushed old → Rests contents top floor old new)
 
--- The files keep each root that they kept, or what the cluster showed.
+-- The files keep each root that they kept before, or the cells that the cluster showed.
 abbrev pub StaysOrRests : {F : Type 0} → (F → Option Contents) → ℕ → ℕ → ClusterState F
     → ClusterState F → Type 0
 StaysOrRests contents top floor old new =
     ((root : RootView) (cells : Cells) → StayRooted contents root cells old new)
     ⊎ Rests contents top floor old new
 
--- this depends on what lies below the memtables alone
+-- whether a root is kept does not depend on the memtables
 abbrev pub RootIsStored : {F : Type 0} → (F → Option Contents) → Type 0
 RootIsStored {F} contents =
     (root : RootView) (cells : Cells) (old new : ClusterState F)
     → storage_of contents new ≡ storage_of contents old → StayRooted contents root cells old new
 
--- Minor compactions of many tablets leave it so, as far as they went.
+-- Minor compactions of many tablets, done or refused, keep a root and its cells.
 abbrev pub RootOutlastsFlushes : {F : Type 0} → (F → Option Contents) → (F → ℕ) → Type 0
 RootOutlastsFlushes {F} contents faults =
     (root : RootView) (cells : Cells) (old new : ClusterState F)
@@ -181,7 +180,7 @@ RootOutlastsFlushes {F} contents faults =
     × ((numbers : List ℕ) (result : Outcome) → FlushesEach contents faults old numbers result new
     → StayRooted contents root cells old new)
 
--- Merges of many tablets leave what the files keep. The tablets may then lack files of the root.
+-- Merges of many tablets keep a root and its cells in the files. The tablets may then lack files of the root.
 abbrev pub RootOutlastsMerges : {F : Type 0} → (F → Option Contents) → (F → ℕ) → Type 0
 RootOutlastsMerges {F} contents faults =
     (root : RootView) (cells : Cells) (old new : ClusterState F) (most : ℕ)

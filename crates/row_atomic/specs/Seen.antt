@@ -1,11 +1,11 @@
--- What is seen of a cluster.
+-- The view of a cluster.
 use Rattle.std.specs.Prelude.{Option}
 use Rattle.file_store.specs.Store.{Contents}
 use Rattle.rows.specs.Calls.{View}
 use Rattle.row_atomic.specs.Clusters.{ClusterState, InOrder, IsReadable, Overfills, cells_in, storage_of}
 use Rattle.row_atomic.specs.ReadableLaw.{all_readable}
 
--- what is seen of a cluster, over the bytes of its files
+-- the view of a cluster over the bytes of its files
 abbrev pub seen_of : {F : Type 0} → (F → Option Contents) → View (ClusterState F)
 seen_of contents = record {
   holds = λ state. InOrder (contents state.files) state.next_name state.tablets;

@@ -1,6 +1,6 @@
-//! A cluster of tablets over one store of files. What it does lies in the files of `cluster/`.
+//! Clusters of tablets over one store of files: the type. Its calls are in the files of `cluster/`.
 
-ghost use Rattle.std.specs.Prelude.{◌≡◌, ◌≤◌, ◌∷◌, [], IfErr, IfOk, IsSome};
+ghost use Rattle.std.specs.Prelude.{◌≡◌, ◌≤◌, ◌∷◌, [], IfErr, IfOk, IsSome, IsOkUnless};
 ghost use Rattle.std.specs.FinMap.{empty};
 ghost use Rattle.metadata_table.specs.Table.{HasTablet, first_place};
 ghost use Rattle.sorted_file.specs.Limits.{IsFileLimit};
@@ -26,12 +26,12 @@ use std::alloc::Global;
 use std::marker::Model;
 use tablet::Tablet;
 
-/// Tablets that together have all rows, over one store of files (Bigtable: a table is a set of tablets, each of which has
-/// the data of a range of rows).
+/// Tablets that together have all rows, over one store of files (Bigtable: a table is a set of tablets, each of which
+/// has the data of a range of rows).
 ///
 /// A compaction changes a tablet's file list, its memtable and its place in the table last and together. Room for them
-/// is made before its file is put, and none of them grows after the first change. A split and a move begin with a minor
-/// compaction: what they change then has its room before that compaction, but for the files that they open.
+/// is reserved before its file is put, and none of them grows after the first change. A split and a move begin with a
+/// minor compaction. They reserve the room for their own changes before it, except for the files that they open.
 #[derive(Drop)]
 pub struct Cluster<F> {
     pub(crate) alloc: Global,
@@ -40,7 +40,8 @@ pub struct Cluster<F> {
     pub(crate) next_name: u64,
     pub(crate) table: MetadataTable,
     pub(crate) tablets: Vec<Tablet>,
-    /// No tablet's memtable has more entries or bytes. While this doesn't reach the limits, no tablet has to be asked.
+    /// An upper bound of the entries and of the bytes of every memtable. While it is below the limits, no tablet has to
+    /// be asked.
     pub(crate) most: Fill,
     pub(crate) place_cache: PlaceCache,
 }
@@ -71,7 +72,7 @@ impl<F> Model for Cluster<F> {
 fn first_tablet(alloc: Global) -> Result<(MetadataTable, Vec<Tablet>), Refusal>
     ensures table { IfOk result (λ first. first.0 ≡ first_place ∷ []) }
     ensures tablet { IfOk result (λ first. IsFirstTablet first.1.items) }
-    ensures refusal { IfErr result (λ refusal. refusal ≡ Refusal.NoMemory) }
+    ensures refusal { IsOkUnless result Refusal.NoMemory }
 {
     let table = MetadataTable::new(alloc)?;
     let mut tablets = Vec::new(alloc);
@@ -86,7 +87,7 @@ impl<F: Files> Cluster<F> {
     ///
     /// # Errors
     ///
-    /// `NoMemory` if a growth was refused. The files come back.
+    /// `NoMemory` if an allocation failed. The files are handed back.
     pub fn new(alloc: Global, files: F, file_limit: u64) -> Result<Cluster<F>, (Refusal, F)>
         requires limit { IsFileLimit file_limit }
         ensures files { IfOk result (λ cluster. cluster.files ≡ files) }
@@ -120,14 +121,14 @@ impl<F: Files> Cluster<F> {
         }
     }
 
-    /// The name of the next file: it rises whenever a tablet's file is written. Takes no memory.
+    /// The next file's name: it grows whenever a tablet writes a file. Allocates nothing.
     pub fn next_name(&self) -> u64
         ensures { result ≡ self.now.next_name }
     {
         self.next_name
     }
 
-    /// The index of the tablet of a number.
+    /// The index of the tablet with a number.
     pub(crate) fn position(&self, tablet: u32) -> usize
         requires known { HasTablet tablet self.now.places }
         ensures { IsAt tablet self.now.tablets result }

@@ -1,6 +1,6 @@
-//! The contract of the tablet store as one call, `Cluster::run`: a list of commands, done one after the other.
+//! Commands, and the contract of the tablet store as one call, `Cluster::run`: a list of commands, done in order.
 
-ghost use Rattle.std.specs.Prelude.{◌≡◌, IfErr, IfOk, OnErr, option_map};
+ghost use Rattle.std.specs.Prelude.{◌≡◌, IfOk, OnErr, option_map, IsOkUnless};
 ghost use Rattle.std.specs.List.{AllByRecursion};
 ghost use Rattle.cell_key.specs.Places.{place_named};
 ghost use Rattle.row_atomic.specs.Changes.{Holds};
@@ -11,7 +11,7 @@ use cell_key::{Edit, Family, Qualifier, Refusal, Row, Stamp};
 use file_store::Files;
 use rows::Rows;
 
-/// What a cluster may be asked for.
+/// A request to a cluster.
 #[derive(Drop)]
 pub enum Command {
     /// The version of a cell's column with the greatest stamp in `lo..=hi`.
@@ -22,11 +22,11 @@ pub enum Command {
         lo: Stamp,
         hi: Stamp,
     },
-    /// The next cell after this one, or the first one.
+    /// The next cell after this one, or the first cell.
     NextCell {
         after: Option<(Row, Family)>,
     },
-    /// Edits under one row, all of them or none.
+    /// Edits to one row, all of them or none.
     Apply {
         row: Row,
         edits: Vec<Edit>,
@@ -55,16 +55,16 @@ pub enum Command {
     },
     /// A sweep of the files that no tablet has.
     Sweep,
-    /// The emptying of all caches.
+    /// Emptying all caches.
     DropCaches,
 }
 
-/// What a command answered.
+/// The outcome of a command.
 #[derive(Drop)]
 pub enum Outcome {
-    /// The version that was asked for, if there is one: its stamp and its value.
+    /// The requested version, if there is one: its stamp and its value.
     Newest(Option<(Stamp, Vec<u8>)>),
-    /// The cell that was asked for, if there is one.
+    /// The requested cell, if there is one.
     NextCell(Option<(Row, Family)>),
     /// An apply, a compaction or a move was done, or the caches were emptied.
     Done,
@@ -76,7 +76,7 @@ pub enum Outcome {
     Refused(Refusal),
 }
 
-/// The outcome of a call that answers nothing.
+/// The outcome of a call without a result.
 fn done(call: Result<(), Refusal>) -> Outcome
     ensures { result ≡ done_of call }
 {
@@ -86,7 +86,7 @@ fn done(call: Result<(), Refusal>) -> Outcome
     }
 }
 
-/// A place as a scan takes it.
+/// The place as references, which a scan takes.
 fn lent(after: &Option<(Row, Family)>) -> Option<(&Row, &Family)>
     ensures { option_map place_named result ≡ after.now }
 {
@@ -97,7 +97,7 @@ fn lent(after: &Option<(Row, Family)>) -> Option<(&Row, &Family)>
 }
 
 impl<F: Files> Cluster<F> {
-    /// Does one command.
+    /// Runs one command.
     fn answer(&mut self, command: Command) -> Outcome
         requires { IsUnderRow command }
         ensures { IsOutcome F.contents F.faults command result self.old self.new }
@@ -137,21 +137,20 @@ impl<F: Files> Cluster<F> {
         }
     }
 
-    /// Does commands one after the other, and answers the outcome of each, by the one cell map that the cluster then
-    /// shows. One that is done does to tablets and files what it is for, and passes no limit. One that is refused
-    /// changes no cell, and has a cause for its refusal, and the next ones are done all the same. None writes more than
-    /// one file.
+    /// Runs commands in order and answers the outcome of each, all by the one cell map that the cluster shows. An
+    /// accepted command has its effect on tablets and files and exceeds no limit. A refused one changes no cell and has
+    /// a cause for its refusal; the commands after it still run. None writes more than one file.
     ///
     /// # Errors
     ///
-    /// `NoMemory` if the room for the outcomes was refused. Nothing is done then.
+    /// `NoMemory` if there is no memory for the outcomes. Nothing is done then.
     pub fn run(&mut self, commands: Vec<Command>) -> Result<Vec<Outcome>, Refusal>
         requires { AllByRecursion IsUnderRow commands.items }
         ensures still { Holds F.contents self.old → Holds F.contents self.new }
         ensures answers { IfOk result (λ outcomes.
             AnswersAll F.contents F.faults self.old commands.items outcomes.items self.new) }
         ensures err { OnErr result (self.new ≡ self.old) }
-        ensures refusal { IfErr result (λ refusal. refusal ≡ Refusal.NoMemory) }
+        ensures refusal { IsOkUnless result Refusal.NoMemory }
     {
         let mut outcomes = Vec::new(self.alloc);
         outcomes.reserve(commands.len())?;

@@ -1,4 +1,4 @@
-//! How full memtables are, and how full one is when it is compacted.
+//! How full memtables are, and the limits at which one is compacted.
 
 ghost use Rattle.std.specs.Prelude.{◌≡◌, length, max};
 ghost use Rattle.memtable.specs.Edits.{bytes_of};
@@ -7,16 +7,16 @@ ghost use Rattle.row_atomic.specs.Memtables.{has_bytes, reaches};
 
 use tablet::Tablet;
 
-/// How full a memtable is when it is compacted: it has as many entries or more, or as many bytes or more.
+/// The limits of a memtable: it is compacted once it has this many entries or this many bytes.
 #[derive(Clone, Copy, Debug, PartialEq, Eq)]
 pub struct FlushLimits {
     /// Entries, erasures among them.
     pub entries: u32,
-    /// Bytes of all entries together, as `Memtable::entry_bytes` counts them. Without a number bytes don't count.
+    /// Bytes of all entries together, as `Memtable::entry_bytes` counts them. `None` sets no limit of bytes.
     pub bytes: Option<u32>,
 }
 
-/// How many entries a memtable has, and how many bytes these have.
+/// A memtable's number of entries, and their bytes.
 #[derive(Clone, Copy)]
 pub(crate) struct Fill {
     pub(crate) entries: usize,
@@ -30,7 +30,7 @@ impl Fill {
         bytes: 0,
     };
 
-    /// That of a tablet's memtable.
+    /// How full a tablet's memtable is.
     pub(crate) fn of(tablet: &Tablet) -> Fill
         ensures entries { result.entries ≡ length (memory_of tablet.now) }
         ensures bytes { result.bytes ≡ bytes_of (memory_of tablet.now) }
@@ -41,7 +41,7 @@ impl Fill {
         }
     }
 
-    /// The greater number of entries of two, and the greater number of bytes.
+    /// The greater number of entries and the greater number of bytes of the two.
     pub(crate) fn joined(self, other: Fill) -> Fill
         ensures entries { result.entries ≡ max self.entries other.entries }
         ensures bytes { result.bytes ≡ max self.bytes other.bytes }
@@ -52,14 +52,14 @@ impl Fill {
         }
     }
 
-    /// Whether these are as many entries or bytes as a full memtable has.
+    /// Whether a memtable this full has reached the limits.
     pub(crate) fn reaches(self, limits: FlushLimits) -> bool
         ensures { result ≡ reaches limits self.entries self.bytes }
     {
         self.entries >= limits.entries as usize || self.has_bytes(limits.bytes)
     }
 
-    /// Whether a number of bytes is given, and these are as many.
+    /// Whether the limit of bytes, if there is one, is reached.
     fn has_bytes(self, bytes: Option<u32>) -> bool
         ensures { result ≡ has_bytes bytes self.bytes }
     {

@@ -1,4 +1,4 @@
-//! Journals: the edits that were made since a root was put, as bytes.
+//! Journals: the edits made since a root was put, as bytes.
 
 ghost use Rattle.std.specs.Prelude.{◌≡◌, ◌≤◌, ◌+◌, ◌-◌, length, take, IfErr, IsErrOf, OnErr, OnOk};
 ghost use Rattle.std.specs.List.{AllByRecursion};
@@ -12,21 +12,21 @@ use commit_log::push_edits;
 use std::alloc::Global;
 use std::marker::Model;
 
-/// The most edits that are written down.
+/// The most edits in a journal.
 const MOST_EDITS: usize = 100_000;
 
-/// The most bytes of all of them together.
+/// The most bytes of a journal.
 const MOST_BYTES: usize = 67_108_864;
 
-/// Edits that were made since a root was put, as the bytes of a log's records: those that the log has, and those that
-/// wait for it. They are at most 100,000, with at most 67,108,864 bytes, as many as a memtable may have. Those that the
-/// log has stay in memory, since what is promised speaks of all.
+/// The edits made since a root was put, as the bytes of log records: first those that the log already has, then those
+/// still waiting for it. At most 100,000 edits with at most 67,108,864 bytes, the limits of a memtable. The logged
+/// edits stay in memory, since the contracts speak of all edits.
 #[derive(Drop)]
 pub struct Journal {
     bytes: Vec<u8>,
-    /// How many of the bytes the log has.
+    /// How many of the bytes are already in the log.
     settled: usize,
-    /// How many edits are written down.
+    /// How many edits it has.
     count: usize,
 }
 
@@ -50,7 +50,7 @@ impl Model for Journal {
 }
 
 impl Journal {
-    /// A journal in which nothing is written down. Takes no memory.
+    /// An empty journal. Allocates nothing.
     pub(crate) fn new(alloc: Global) -> Journal
         ensures { result ≡ empty_journal }
     {
@@ -61,14 +61,14 @@ impl Journal {
         }
     }
 
-    /// How many edits are written down.
+    /// How many edits it has.
     pub(crate) fn count(&self) -> usize
         ensures { result ≡ self.now.count }
     {
         self.count
     }
 
-    /// How many bytes they have.
+    /// How many bytes it has.
     pub(crate) fn len(&self) -> usize
         ensures len { result ≡ length self.now.logged + length self.now.waiting }
         ensures within { IsWithin self.now }
@@ -84,14 +84,14 @@ impl Journal {
         &self.bytes[self.settled..]
     }
 
-    /// The log has all that is written down.
+    /// Marks all its edits as logged.
     pub(crate) fn settle(&mut self)
         ensures { self.new ≡ all_logged self.old }
     {
         self.settled = self.bytes.len();
     }
 
-    /// Forgets what is written down. The memory stays.
+    /// Removes all edits. The memory stays allocated.
     pub(crate) fn clear(&mut self)
         ensures { self.new ≡ empty_journal }
     {
@@ -100,11 +100,11 @@ impl Journal {
         self.count = 0;
     }
 
-    /// Writes edits of a row down, behind the others.
+    /// Appends edits of a row.
     ///
     /// # Errors
     ///
-    /// `MemtableFull` if they would pass a limit, and `NoMemory`. Nothing is written down then.
+    /// `MemtableFull` if they would exceed a limit, and `NoMemory`. The journal is then unchanged.
     pub(crate) fn push(&mut self, row: &Row, edits: &[Edit]) -> Result<(), Refusal>
         requires { AllByRecursion (IsEditOf row.now) edits.now }
         ensures ok { OnOk result (self.new ≡ with_waiting edits.now self.old) }
@@ -127,7 +127,7 @@ impl Journal {
         Ok(())
     }
 
-    /// Forgets what was written down behind the first `len` bytes, which have `count` edits.
+    /// Drops the edits after the first `len` bytes, which hold `count` edits.
     pub(crate) fn cut(&mut self, len: usize, count: usize)
         requires waiting { length self.old.logged ≤ len }
         requires few { count ≤ self.old.count }

@@ -1,6 +1,6 @@
-//! The tablets of the rows that were located last.
+//! The cache of places: the tablets of the rows located last.
 
-ghost use Rattle.std.specs.Prelude.{◌≡◌, ◌+◌, [], IfErr, IfOk, IfSome, option_map, slice_get};
+ghost use Rattle.std.specs.Prelude.{◌≡◌, ◌+◌, [], IfOk, IfSome, option_map, slice_get, IsOkUnless};
 ghost use Rattle.metadata_table.specs.Table.{IsTable};
 ghost use Rattle.lru.specs.LruCache.{promoted};
 ghost use Rattle.row_atomic.specs.PlaceCaches.{AddsOnly, AreHeld, IsLocatedLast, IsHeldBy, hits_after, is_key_of, number_kept};
@@ -11,11 +11,10 @@ use metadata_table::MetadataTable;
 use std::alloc::Global;
 use std::num::NonZeroUsize;
 
-/// How many rows are stored.
+/// How many rows it holds.
 const ROWS: usize = 128;
 
-/// The numbers of the tablets that hold the rows that were located last. A compaction changes the files of a tablet,
-/// and not its number.
+/// The tablets' numbers for the rows located last. A compaction changes a tablet's files, but not its number.
 #[derive(Drop)]
 pub(crate) struct PlaceCache {
     numbers: LruCache<Row, u32>,
@@ -23,26 +22,26 @@ pub(crate) struct PlaceCache {
 }
 
 impl PlaceCache {
-    /// A cache of no rows, without a hit. Answers `NoMemory` if there is no memory.
+    /// An empty cache with no hits. Answers `NoMemory` if there is no memory.
     pub(crate) fn new(alloc: Global) -> Result<PlaceCache, Refusal>
         ensures none { IfOk result (λ cache. cache.numbers.entries ≡ []) }
         ensures rows { IfOk result (λ cache. cache.numbers.cap ≡ 128) }
         ensures hits { IfOk result (λ cache. cache.hits ≡ 0) }
-        ensures refusal { IfErr result (λ refusal. refusal ≡ Refusal.NoMemory) }
+        ensures refusal { IsOkUnless result Refusal.NoMemory }
     {
         let rows = NonZeroUsize::new(ROWS).unwrap();
         let numbers = LruCache::new(alloc, rows)?;
         Ok(PlaceCache { numbers, hits: 0 })
     }
 
-    /// How many rows were found. A count of 2^64 - 1 stays.
+    /// How many rows were found. The count saturates at 2^64 - 1.
     pub(crate) fn hits(&self) -> u64
         ensures { result ≡ self.now.hits }
     {
         self.hits
     }
 
-    /// Forgets all rows. The hits stay.
+    /// Removes all rows. The hits are unchanged.
     pub(crate) fn clear(&mut self)
         ensures none { self.new.numbers.entries ≡ [] }
         ensures rows { self.new.numbers.cap ≡ self.old.numbers.cap }
@@ -51,7 +50,7 @@ impl PlaceCache {
         self.numbers.clear();
     }
 
-    /// The number that is stored with the row that was located last.
+    /// The number of the row located last.
     fn first(&self) -> Option<u32>
         ensures { result ≡ option_map (λ entry. entry.1) (slice_get self.now.numbers.entries 0) }
     {
@@ -59,7 +58,7 @@ impl PlaceCache {
         Some(*number)
     }
 
-    /// The number that is stored with a row, if the row is the one that was located last.
+    /// A row's number, if the row is the one located last.
     fn last(&self, row: &Row) -> Option<u32>
         ensures { IfSome result (IsLocatedLast row.now self.now.numbers.entries) }
     {
@@ -67,7 +66,7 @@ impl PlaceCache {
         if row == kept { Some(*number) } else { None }
     }
 
-    /// The number that is stored with a row. The row is then the one that was located last.
+    /// A row's number, if it is cached. The row then counts as the one located last.
     fn number_of(&mut self, row: &Row) -> Option<u32>
         ensures found { result ≡ number_kept row.now self.old.numbers.entries }
         ensures first { self.new.numbers.entries
@@ -85,7 +84,7 @@ impl PlaceCache {
         }
     }
 
-    /// The number that is stored with a row, which is a hit. The row is then the one that was located last.
+    /// A row's number, if it is cached, which is a hit. The row then counts as the one located last.
     fn find(&mut self, row: &Row) -> Option<u32>
         ensures found { result ≡ number_kept row.now self.old.numbers.entries }
         ensures first { self.new.numbers.entries
@@ -98,8 +97,8 @@ impl PlaceCache {
         Some(number)
     }
 
-    /// Keeps a number with a row, in place of the row that was located the longest ago if there are 128. If there is no
-    /// memory for it nothing is stored. The copy of a row of at most 32 bytes takes none.
+    /// Caches a row's number. If there are already 128 rows, the least recently located one is evicted. If there is no
+    /// memory, nothing is cached. Copying a row of at most 32 bytes allocates nothing.
     fn keep(&mut self, row: &Row, number: u32)
         ensures adds { AddsOnly row.now number self.old.numbers.entries self.new.numbers.entries }
         ensures rows { self.new.numbers.cap ≡ self.old.numbers.cap }
@@ -111,7 +110,7 @@ impl PlaceCache {
     }
 }
 
-/// The index of the tablet that holds a row, from the cache, or else from the table. It is then stored in the cache.
+/// The index of the tablet that holds a row, from the cache, or else from the table, and then it is cached.
 pub(crate) fn index_of(table: &MetadataTable, cache: &mut PlaceCache, row: &Row) -> usize
     requires { AreHeld table.now cache.old.numbers.entries }
     ensures holder { IsHeldBy table.now row.now (result + 1) }

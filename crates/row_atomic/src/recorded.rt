@@ -1,4 +1,4 @@
-//! A cluster whose edits are written down.
+//! A cluster whose edits are recorded in a journal.
 
 ghost use Rattle.std.specs.Prelude.{◌≡◌, OnErr, OnOk, option_map};
 
@@ -10,12 +10,11 @@ use file_store::Files;
 use rows::Rows;
 use tablet::{BatchLimits, VersionBatch};
 
-/// A cluster, and, if edits are recorded, the journal in which each is written down before an answer says that it was
-/// made. If none are, an edit costs a test of that more than the cluster's, and nothing is kept.
+/// A cluster and, if edits are recorded, the journal in which each is written before an answer says that it was made.
+/// Without a journal an edit costs one extra branch.
 ///
-/// While the journal is there, what is written down leads from what the files keep to what the cluster shows: that is
-/// part of what holds of these rows. All that a cluster does but `apply` leaves it so (`keeps_following`), and may be
-/// asked of the cluster itself.
+/// With a journal, its edits lead from the cells in the files to the cells that the cluster shows: an invariant of
+/// these rows. Every call of a cluster but `apply` keeps it (`keeps_following`) and may be made on the cluster itself.
 #[derive(Drop)]
 pub struct Recorded<F> {
     pub cluster: Cluster<F>,
@@ -27,7 +26,7 @@ impl<F: Files> Recorded<F> {
     ghost use Rattle.row_atomic.specs.Journals.{IsWithin, all_logged, empty_journal};
     ghost use Rattle.row_atomic.specs.Recorded.{bytes_written, edits_written, waiting_of};
 
-    /// Rows of a cluster. No edit is recorded.
+    /// The rows of a cluster, without a journal.
     pub fn new(cluster: Cluster<F>) -> Recorded<F>
         ensures { result ≡ record { cluster = cluster; journal = None } }
     {
@@ -37,14 +36,14 @@ impl<F: Files> Recorded<F> {
         }
     }
 
-    /// Records edits from now on. Nothing is written down yet. Takes no memory.
+    /// Records edits from now on, in an empty journal. Allocates nothing.
     pub fn record(&mut self)
         ensures { self.new ≡ record self.old { journal = Some empty_journal } }
     {
         self.journal = Some(Journal::new(self.cluster.alloc));
     }
 
-    /// Records edits no more: what was written down is forgotten.
+    /// Stops recording edits, and drops the journal.
     pub fn forget(&mut self)
         ensures { self.new ≡ record self.old { journal = None } }
     {
@@ -58,7 +57,7 @@ impl<F: Files> Recorded<F> {
         self.journal.is_some()
     }
 
-    /// The bytes of the edits that wait for the log: a record of it. None wait if edits aren't recorded.
+    /// The bytes of the edits that wait for the log, as a log record; empty without a journal.
     pub fn waiting(&self) -> &[u8]
         ensures bytes { result.now ≡ waiting_of self.now.journal }
         ensures within { IfSome self.now.journal IsWithin }
@@ -69,7 +68,7 @@ impl<F: Files> Recorded<F> {
         }
     }
 
-    /// The log has what waited for it.
+    /// Marks the waiting edits as logged.
     pub fn settled(&mut self)
         ensures { self.new ≡ record self.old { journal = option_map all_logged self.old.journal } }
     {
@@ -78,7 +77,7 @@ impl<F: Files> Recorded<F> {
         }
     }
 
-    /// A root was put that has all that is written down, and the log is empty: nothing is written down any more.
+    /// Empties the journal, after a root was put that has all its edits and the log was emptied.
     pub fn emptied(&mut self)
         ensures { self.new ≡ record self.old {
           journal = option_map (λ _. empty_journal) self.old.journal;
@@ -89,7 +88,7 @@ impl<F: Files> Recorded<F> {
         }
     }
 
-    /// How many edits are written down, of at most 100,000.
+    /// How many edits the journal has, at most 100,000.
     pub fn written_edits(&self) -> usize
         ensures { result ≡ edits_written self.now.journal }
     {
@@ -99,7 +98,7 @@ impl<F: Files> Recorded<F> {
         }
     }
 
-    /// How many bytes they have, of at most 67,108,864.
+    /// How many bytes they have, at most 67,108,864.
     pub fn written_bytes(&self) -> usize
         ensures { result ≡ bytes_written self.now.journal }
     {
@@ -210,7 +209,7 @@ impl<F: Files> Rows for Recorded<F> {
         ensures written { OnOk result (self.new.journal
             ≡ option_map (with_waiting edits.items) self.old.journal) }
         ensures unwritten { OnErr result (self.new.journal ≡ self.old.journal) }
-        // What is written down has still all that the memtables have, if it had.
+        // If the journal had all entries of the memtables, it still has.
         ensures fits { OnOk result (FitsMemtables self.old → FitsMemtables self.new) }
     {
         root_is_stored::<F>();

@@ -1,4 +1,4 @@
--- Calls of rows one after another.
+-- Calls of rows in sequence.
 use Rattle.std.proofs.Common.{◌≢◌, ◌∙◌, inl, inr, ℕ, List, ◌++◌, Result, Ok, Err, IfErr, OnOk, OnErr, refl, sym, ap, subst, ◌≡◌}
 use Rattle.std.specs.Result.{IsErrAnd}
 use Rattle.cell_key.specs.Cells.{Cells, after_edits}
@@ -13,11 +13,11 @@ module _ {R : Type 0} {seen : View R} where
   keeps_then first second = record { still = λ held. second.still (first.still held); readable = λ row whole. second.readable row (first.readable row whole); stays = second.stays ∙ first.stays }
 
 module _ {R : Type 0} {seen : View R} where
-  -- nothing is changed where nothing is called
+  -- no call changes nothing
   pub reads_none : {rows : R} → OnlyReads seen rows rows
   reads_none = record { still = λ held. held; readable = λ row whole. whole; kept = refl; room = λ row later full. full; stays = refl }
 
-  -- nor by a read after a read
+  -- two reads in sequence change nothing
   pub reads_then : {a b c : R} → OnlyReads seen a b → OnlyReads seen b c → OnlyReads seen a c
   reads_then first second = record {
     still = λ held. second.still (first.still held);
@@ -27,14 +27,14 @@ module _ {R : Type 0} {seen : View R} where
     stays = second.stays ∙ first.stays;
   }
 
-  -- what reads or applies keeps what lies below
+  -- a read keeps the state below
   pub reads_keep : {a b : R} → OnlyReads seen a b → KeepsBelow seen a b
   reads_keep reads = record { still = reads.still; readable = reads.readable; stays = reads.stays }
 
   pub applies_keep : {row : List ℕ} {edits : List Edit} {a b : R} → Applies seen row edits a b → KeepsBelow seen a b
   applies_keep applies = record { still = applies.still; readable = applies.readable; stays = applies.stays }
 
-  -- edits are made after a read
+  -- edits after a read
   pub applies_after : {row : List ℕ} {edits : List Edit} {a b c : R} → OnlyReads seen a b → Applies seen row edits b c → Applies seen row edits a c
   applies_after {row} {edits} reads applies = record {
     still = λ held. applies.still (reads.still held);
@@ -47,19 +47,19 @@ module _ {R : Type 0} {seen : View R} where
     stays = applies.stays ∙ reads.stays;
   }
 
-  -- what edits such as these are said to be
+  -- edits in one relation are in a weaker one
   pub such_so : {P Q : List ℕ → List Edit → Type 0} {a b : R} → ((row : List ℕ) (edits : List Edit) → P row edits → Q row edits) → AppliesSuch seen P a b → AppliesSuch seen Q a b
   such_so so made = record { row = made.row; edits = made.edits; such = so made.row made.edits made.such; applied = made.applied }
 
   pub such_after : {P : List ℕ → List Edit → Type 0} {a b c : R} → OnlyReads seen a b → AppliesSuch seen P b c → AppliesSuch seen P a c
   such_after reads made = record { row = made.row; edits = made.edits; such = made.such; applied = applies_after reads made.applied }
 
--- what is so whether edits were made or refused
+-- a fact that holds whether edits were made or refused
 pub either_way : {A : Type 0} {P : Type 0} (r : Result A Refusal) → OnOk r P → OnErr r P → P
 either_way (Ok x) ok err = ok
 either_way (Err e) ok err = err
 
--- ---- what a read may answer
+-- ---- refusals of reads
 
 pub is_read_refusal : (Holds : Type 0) (e : Refusal) → IsRefusalOfRead Holds e → IsReadRefusal e
 is_read_refusal H Device u = tt
@@ -67,12 +67,12 @@ is_read_refusal H NoMemory u = tt
 is_read_refusal H Damaged u = tt
 is_read_refusal H _ u = u
 
--- damage is not told where the rows hold
+-- damage is not answered if the rows hold
 pub read_undamaged : (Holds : Type 0) (e : Refusal) → IsRefusalOfRead Holds e → Holds → e ≢ Damaged
 read_undamaged H Damaged u held same = u held
 read_undamaged H _ u held same = cc
 
--- what a read after a read may answer
+-- the refusals of a read after a read
 pub refusal_after : (Before Now : Type 0) (e : Refusal) → (Before → Now) → IsRefusalOfRead Now e → IsRefusalOfRead Before e
 refusal_after H I Damaged so u = λ held. u (so held)
 refusal_after H I Device so u = tt

@@ -1,4 +1,4 @@
--- Halving the range of stamps in which the oldest version of a column stands.
+-- Binary search for the oldest version of a column in a range of stamps.
 use Rattle.std.proofs.Common.{◌≡◌, ℕ, ◌+◌, ◌-◌, ◌/◌, ◌<◌, ◌≤◌, List, Option, Some, None, inl, inr, Vec, option_map, subst, arith}
 use Rattle.std.proofs.lemmas.Bool.{cases_lt}
 use Rattle.std.specs.FinMap.{get}
@@ -7,12 +7,12 @@ use Rattle.cell_key.specs.Versions.{stamped}
 use Rattle.cell_key.specs.declared.keys.CellKey.{CellKey}
 use Rattle.rows.specs.Oldest.{IsOldest}
 
--- found is a version, and none stands from lo on and below low
+-- `found` is a version, and there is none from `lo` on and below `low`
 pub record IsRest (cells : Cells) (at : ℕ → CellKey) (lo low : ℕ) (found : ℕ × List ℕ) : Type 0 where
   pub there : get cells (at found.0) ≡ Some found.1
   pub none : (s : ℕ) → lo ≤ s → s < low → get cells (at s) ≡ None
 
--- what holds of what was found holds of the version that it is
+-- a fact about the answer holds for the version in it
 pub at_some : {Z : Type 0} (P : Option (ℕ × List ℕ) → Type 0) (found : Option (ℕ × Vec ℕ Z)) (version : ℕ × Vec ℕ Z) → found ≡ Some version → P (option_map stamped found) → P (Some (stamped version))
 at_some {Z} P found version is = subst (λ (f : Option (ℕ × Vec ℕ Z)). P (option_map stamped f)) is
 
@@ -31,11 +31,11 @@ nearer_above low top lt = omega arith
 pub rest_at_first : (cells : Cells) (at : ℕ → CellKey) (lo hi : ℕ) (found : ℕ × List ℕ) → IsNewest cells at lo hi (Some found) → IsRest cells at lo lo found
 rest_at_first cells at lo hi found is = record { there = is.2; none = λ s from to. absurd (omega (arith, from, to)) }
 
--- an older version stands in the lower half
+-- there is an older version in the lower half
 pub rest_with_older : (cells : Cells) (at : ℕ → CellKey) (lo low middle : ℕ) (found older : ℕ × List ℕ) → IsRest cells at lo low found → IsNewest cells at low middle (Some older) → IsRest cells at lo low older
 rest_with_older cells at lo low middle found older rest is = record { there = is.2; none = rest.none }
 
--- none stands there
+-- the lower half has none
 pub rest_above : (cells : Cells) (at : ℕ → CellKey) (lo low middle : ℕ) (found : ℕ × List ℕ) → IsRest cells at lo low found → IsNewest cells at low middle None → IsRest cells at lo (middle + 1) found
 rest_above cells at lo low middle found rest is = record {
   there = rest.there;

@@ -46,7 +46,7 @@ pub edits_keep : (row : List ℕ) (cells : Cells) (edits : List Edit) → AllByR
 edits_keep row cells [] all limits = limits
 edits_keep row cells (edit ∷ edits) all limits = edits_keep row (after_edit cells edit) edits all.1 (edit_keeps row cells edit all.0 limits)
 
--- a version that a cell map has is within the limits
+-- a version of a cell map is within the limits
 pub answered : (cells : Cells) (row family : List ℕ) (qualifier : Qualifier) (lo hi : ℕ) (found : Option (ℕ × List ℕ)) → HasLimits cells → IsNewest cells (version row family qualifier) lo hi found → IfSome found (IsVersionIn lo hi)
 answered cells row family qualifier lo hi None limits newest = tt
 answered cells row family qualifier lo hi (Some found) limits newest =

@@ -1,4 +1,4 @@
--- The newest versions of a column, as a search from above finds them.
+-- The newest versions of a column, found by a search from above.
 use Rattle.std.proofs.Common.{◌≡◌, ℕ, ◌-◌, ◌≤◌, List, [], ◌∷◌, ◌++◌, None, Some, append_assoc, sym, subst}
 use Rattle.std.proofs.lemmas.List.{append-nil}
 use Rattle.cell_key.specs.Cells.{Cells, IsNewest}
@@ -6,7 +6,7 @@ use Rattle.cell_key.specs.declared.keys.CellKey.{CellKey}
 use Rattle.rows.specs.Reads.{AreNewestFirst}
 
 module _ (cells : Cells) (at : ℕ → CellKey) (hi most : ℕ) where
-  -- these are the newest, if those that are left from a stamp down follow them
+  -- these are the newest versions, if the remaining ones from a stamp down are appended
   abbrev pub AreFollowed : ℕ → ℕ → List (ℕ × List ℕ) → Type 0
   AreFollowed last left found = (rest : List (ℕ × List ℕ)) → AreNewestFirst cells at last left rest → AreNewestFirst cells at hi most (found ++ rest)
 

@@ -1,4 +1,4 @@
--- The first key after a place is of the next cell.
+-- The first key after a place belongs to the next cell.
 use Rattle.std.proofs.Common.{◌≡◌, ◌≢◌, ◌<◌, ℕ, List, Option, Some, None, IsSome, refl, sym, ap, subst, ◌∙◌, arith}
 use Rattle.std.specs.declared.cmp.Ordering.{Ordering}
 use Rattle.std.specs.declared.cmp.Ordering.TheVariants.{Less, Equal, Greater}
@@ -20,7 +20,7 @@ use Rattle.rows.specs.Slots.{IsFirstKey, past}
 pub place_cmp_total : IsTotalOrder place_cmp
 place_cmp_total = then_total (on_total (λ (p : Place). p.0) nat_list_cmp_total) (on_total (λ (p : Place). p.1) nat_list_cmp_total)
 
--- places that are equal in the order are one
+-- places that compare equal are equal
 pub exact_places : (a b : Place) → place_cmp a b ≡ Equal → a ≡ b
 exact_places a b e =
     let both = both_Equal (byte_cmp a.0 b.0) (byte_cmp a.1 b.1) e in
@@ -42,7 +42,7 @@ only_two Equal Equal t n e = absurd (n e)
 only_two Equal Greater t n e = cc
 only_two Greater s t n e = cc
 
--- keys are in the order of their places first
+-- keys are ordered by their places first
 pub less_by_place : (a b : CellKey) → place_cmp (place_of a) (place_of b) ≡ Less → key_cmp a b ≡ Less
 less_by_place a b e = two_first (byte_cmp a.row b.row) (byte_cmp a.family b.family) _ e
 
@@ -88,7 +88,7 @@ module _ (cells : Cells) (after : Option Place) where
         no_value (get cells cell.key) (first.2 cell.key (past_from_after after cell.key at, tt) (less_by_place cell.key key less)) cell.some,
   )
 
-  -- the next cell is one
+  -- there is only one next cell
   pub one_next : (a b : Option Place) → IsNextCell cells after a → IsNextCell cells after b → a ≡ b
   one_next None None h k = refl
   one_next None (Some b) h k = absurd (h b k.0 k.1)

@@ -16,12 +16,12 @@ not_greater Greater y e is = cc
 turned : (x y : Ordering) → x ≡ ordering_reverse y → y ≡ Less → x ≡ Greater
 turned x y t is = t ∙ ap ordering_reverse is
 
--- the row of a place that comes after another one isn't below that of the other
+-- a later place's row is not below an earlier place's
 not_below : (before place : Place) → IsAfter (Some before) place → byte_cmp place.0 before.0 ≢ Less
 not_below before place after less =
     not_greater (byte_cmp before.0 place.0) (byte_cmp before.1 place.1) after (turned _ _ (nat_list_cmp_total.antisymm before.0 place.0) less)
 
--- rows are in order
+-- not being below is transitive
 not_below_both : (a b c : List ℕ) → byte_cmp a b ≢ Less → byte_cmp b c ≢ Less → byte_cmp a c ≢ Less
 not_below_both a b c above up less = by (byte_cmp b a) refl
   where
@@ -38,6 +38,6 @@ pub from_later : (after : Option Place) (place : Place) → IsAfter after place 
 from_later None place after row from = tt
 from_later (Some before) place after row from = not_below_both row place.0 before.0 from (not_below before place after)
 
--- if rows are readable from a place on, they are from a later one on
+-- rows that can be read from a place on can be read from a later one on
 pub readable_later : {R : Type 0} (seen : View R) (rows : R) (after : Option Place) (place : Place) → IsAfter after place → AreReadableFrom seen rows after → AreReadableFrom seen rows (Some place)
 readable_later seen rows after place later readable row from = readable row (from_later after place later row from)

@@ -1,4 +1,4 @@
--- What slots hold, key by key.
+-- The contents of slots, key by key.
 use Rattle.std.proofs.Common.{◌≡◌, ◌≢◌, ℕ, Bool, true, false, cond, List, [], ◌∷◌, Option, Some, None, IsSome, is_some, refl, sym, ap, subst, ◌∙◌, map, zero, suc, arith}
 use Rattle.std.specs.declared.vec.Vec.{Vec}
 use Rattle.std.specs.declared.cmp.Ordering.{Ordering}
@@ -14,7 +14,7 @@ use Rattle.cell_key.specs.declared.edits.Edit.{Edit}
 use Rattle.cell_key.proofs.KeyLaws.{exact_keys}
 use Rattle.rows.specs.Slots.{slot_cells, slot_at, HasSlot, HasEdited, KeepsSlots, EmptiesNone, AreFilled, IsFullBut}
 
--- what a slot holds
+-- the content of a slot
 abbrev pub content : {Z : Type 0} → Option (Option (Vec ℕ Z)) → Option (List ℕ)
 content None = None
 content (Some None) = None
@@ -24,7 +24,7 @@ content-cond : {Z : Type 0} (b : Bool) (w r : Option (Option (Vec ℕ Z))) → c
 content-cond true w r = refl
 content-cond false w r = refl
 
--- a cell is what its slot holds
+-- a cell's value is its slot's content
 pub get_cells : {Z : Type 0} (slots : List (CellKey × Option (Vec ℕ Z))) (q : CellKey) → get (slot_cells slots) q ≡ content (slot_at slots q)
 get_cells [] q = get-empty key_cmp q
 get_cells ((key, None) ∷ slots) q =
@@ -44,12 +44,12 @@ tied Less e = cc
 tied Equal e = refl
 tied Greater e = cc
 
--- keys that are equal in the order are one
+-- keys that compare equal are equal
 pub same_at : (k q : CellKey) → eq_by_cmp key_cmp k q ≡ true → k ≡ q
 same_at k q e = exact_keys k q (tied (key_cmp k q) e)
 
 module _ {Z : Type 0} (old new : List (CellKey × Option (Vec ℕ Z))) (k : CellKey) where
-  -- the slots after one of them is set or goes
+  -- the cells after one slot was set or removed
   at_all : (w : Option (Option (Vec ℕ Z))) → ((q : CellKey) → slot_at new q ≡ cond (eq_by_cmp key_cmp k q) w (slot_at old q)) → (q : CellKey) → get (slot_cells new) q ≡ cond (eq_by_cmp key_cmp q k) (content w) (get (slot_cells old) q)
   at_all w h q =
       get_cells new q ∙ ap content (h q) ∙ content-cond (eq_by_cmp key_cmp k q) w (slot_at old q)
@@ -59,7 +59,7 @@ module _ {Z : Type 0} (old new : List (CellKey × Option (Vec ℕ Z))) (k : Cell
   pub cells_after_fill : (v : Vec ℕ Z) → ((q : CellKey) → slot_at new q ≡ cond (eq_by_cmp key_cmp k q) (Some (Some v)) (slot_at old q)) → slot_cells new ≡ insert (slot_cells old) k v.items
   cells_after_fill v h = same_map key_cmp_total exact_keys (slot_cells new) (insert (slot_cells old) k v.items) (λ q. at_all (Some (Some v)) h q ∙ sym (get-insert key_cmp_total (slot_cells old) k v.items q))
 
-  -- an empty slot is no cell, and neither is none
+  -- an empty slot, like a missing one, is no cell
   pub cells_after_none : (w : Option (Option (Vec ℕ Z))) → content w ≡ None → ((q : CellKey) → slot_at new q ≡ cond (eq_by_cmp key_cmp k q) w (slot_at old q)) → slot_cells new ≡ remove (slot_cells old) k
   cells_after_none w none h =
       same_map key_cmp_total exact_keys (slot_cells new) (remove (slot_cells old) k)
@@ -69,7 +69,7 @@ pub absent_none : {X : Type 0} (o : Option X) → is_some o ≡ false → o ≡ 
 absent_none None e = refl
 absent_none (Some x) e = cc
 
--- to remove what isn't there changes nothing
+-- removing a missing key changes nothing
 remove_absent : (cells : Cells) (k : CellKey) → get cells k ≡ None → remove cells k ≡ cells
 remove_absent cells k none = same_map key_cmp_total exact_keys (remove cells k) cells (λ q. get-remove key_cmp_total cells k q ∙ go q (eq_by_cmp key_cmp q k) refl)
   where
@@ -77,11 +77,11 @@ remove_absent cells k none = same_map key_cmp_total exact_keys (remove cells k) 
     go q true e = sym (ap (get cells) (same_at q k e) ∙ none)
     go q false e = refl
 
--- if there was no cell, a slot that is empty or goes changes none
+-- if there was no cell, setting its slot to empty or removing it changes no cell
 pub cells_same : {Z : Type 0} (old new : List (CellKey × Option (Vec ℕ Z))) (k : CellKey) (w : Option (Option (Vec ℕ Z))) → content w ≡ None → content (slot_at old k) ≡ None → ((q : CellKey) → slot_at new q ≡ cond (eq_by_cmp key_cmp k q) w (slot_at old q)) → slot_cells new ≡ slot_cells old
 cells_same old new k w none before h = cells_after_none old new k w none h ∙ remove_absent (slot_cells old) k (get_cells old k ∙ before)
 
--- at other keys a slot that is set says nothing
+-- a slot that is set changes no other key
 pub elsewhere : {X : Type 0} (old new : List (CellKey × X)) (k : CellKey) (w : Option X) → ((q : CellKey) → slot_at new q ≡ cond (eq_by_cmp key_cmp k q) w (slot_at old q)) → (q : CellKey) → k ≢ q → slot_at new q ≡ slot_at old q
 elsewhere old new k w h q apart = h q ∙ go (eq_by_cmp key_cmp k q) refl
   where
@@ -89,7 +89,7 @@ elsewhere old new k w h q apart = h q ∙ go (eq_by_cmp key_cmp k q) refl
     go true e = absurd (apart (same_at k q e))
     go false e = refl
 
--- a slot that is set is there, and no other one goes
+-- a slot that is set exists, and no other one is removed
 pub set_keeps : {X : Type 0} (old new : List (CellKey × X)) (k : CellKey) (w : X) → ((q : CellKey) → slot_at new q ≡ cond (eq_by_cmp key_cmp k q) (Some w) (slot_at old q)) → KeepsSlots old new
 set_keeps {X} old new k w h q has = subst (λ (o : Option X). IsSome o) (sym (h q)) (go (eq_by_cmp key_cmp k q))
   where
@@ -100,7 +100,7 @@ set_keeps {X} old new k w h q has = subst (λ (o : Option X). IsSome o) (sym (h 
 pub set_has : {X : Type 0} (old new : List (CellKey × X)) (k : CellKey) (w : X) → ((q : CellKey) → slot_at new q ≡ cond (eq_by_cmp key_cmp k q) (Some w) (slot_at old q)) → HasSlot new k
 set_has {X} old new k w h = subst (λ (o : Option X). IsSome o) (sym (h k ∙ ap (λ (b : Bool). cond b (Some w) (slot_at old k)) (ap is_eq (tied_itself key_cmp_total k)))) refl
 
--- edits whose keys have slots keep them where no slot goes
+-- edits whose keys have slots still have them if no slot is removed
 pub slots_kept : {X : Type 0} (old new : List (CellKey × X)) → KeepsSlots old new → (edits : List Edit) → AllByRecursion (HasEdited old) edits → AllByRecursion (HasEdited new) edits
 slots_kept old new kept [] all = tt
 slots_kept old new kept (edit ∷ edits) all = (kept (edited_key edit) all.0, slots_kept old new kept edits all.1)
@@ -111,7 +111,7 @@ not_empty o none empty = cc
 pub clash : (b : Bool) → b ≡ true → b ≡ false → ⊥
 clash b e f = cc
 
--- once the slot of a key isn't empty, the key needs no naming
+-- once a key's slot is not empty, the key can be left out of the list
 pub full_but_rest : {X : Type 0} (old new : List (CellKey × Option X)) (k : CellKey) (keys : List CellKey) → slot_at new k ≢ Some None → ((q : CellKey) → k ≢ q → slot_at new q ≡ slot_at old q) → IsFullBut (k ∷ keys) old → IsFullBut keys new
 full_but_rest old new k keys filled same full q others empty = go (eq_by_cmp key_cmp k q) refl
   where
@@ -121,7 +121,7 @@ full_but_rest old new k keys filled same full q others empty = go (eq_by_cmp key
         let apart : k ≢ q = λ same_key. clash (eq_by_cmp key_cmp k q) (ap (eq_by_cmp key_cmp k) (sym same_key) ∙ ap is_eq (tied_itself key_cmp_total k)) e in
         full q (apart, others) (sym (same q apart) ∙ empty)
 
--- nor once the slot has gone
+-- so can a key whose slot was removed
 pub full_without : {X : Type 0} (old new : List (CellKey × Option X)) (k : CellKey) (keys : List CellKey) → ((q : CellKey) → slot_at new q ≡ cond (eq_by_cmp key_cmp k q) None (slot_at old q)) → IsFullBut (k ∷ keys) old → IsFullBut keys new
 full_without {X} old new k keys h full =
     let none : slot_at new k ≡ None = h k ∙ ap (λ (b : Bool). cond b None (slot_at old k)) (ap is_eq (tied_itself key_cmp_total k)) in
@@ -136,7 +136,7 @@ pub keys_differ : (key : CellKey) (edits : List Edit) → AllByRecursion (λ oth
 keys_differ key [] all = tt
 keys_differ key (edit ∷ edits) all = (all.0, keys_differ key edits all.1)
 
--- of all elements, one after the other and by their places
+-- a property of all elements, by recursion and by index
 pub in_turn : {X : Type 0} (P : X → Type 0) (xs : List X) → All P xs → AllByRecursion P xs
 in_turn P [] all = tt
 in_turn P (x ∷ xs) all = (all 0 x (omega arith), in_turn P xs (λ k d h. all (suc k) d (omega (arith, h))))

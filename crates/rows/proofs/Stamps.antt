@@ -1,4 +1,4 @@
--- Keys between two versions of a cell's column are its versions between their stamps.
+-- Keys between two versions of a cell's column are its versions with stamps in between.
 use Rattle.std.proofs.Common.{◌≡◌, ◌<◌, ◌≤◌, ℕ, false, List, Option, Some, None, refl, sym, ap, subst, ◌∙◌, arith}
 use Rattle.std.specs.declared.cmp.Ordering.{Ordering}
 use Rattle.std.specs.declared.cmp.Ordering.TheVariants.{Less, Equal, Greater}
@@ -15,7 +15,7 @@ use Rattle.cell_key.specs.declared.keys.Qualifier.{Qualifier}
 use Rattle.cell_key.proofs.KeyLaws.{exact_qualifiers, same_key}
 use Rattle.rows.specs.Slots.{IsFirstKey}
 
--- what is neither above the first nor below the second, where both begin with the same part
+-- a part bounded by the same part from both sides is equal to it
 both_level : (r u v : Ordering) → is_gt (ordering_then r u) ≡ false → is_gt (ordering_then (ordering_reverse r) v) ≡ false → (r ≡ Equal) × (is_gt u ≡ false) × (is_gt v ≡ false)
 both_level Less u v e h = cc
 both_level Equal u v e h = (refl, e, h)
@@ -65,7 +65,7 @@ module _ (row family : List ℕ) (qualifier : Qualifier) (lo hi : ℕ) where
         same = sym (same_key (at key.stamp) key (same_list row key.row one.0, (same_list family key.family two.0, (exact_qualifiers qualifier key.qualifier three.0, refl))));
       }
 
-  -- versions of one column are in falling order of their stamps
+  -- versions of one column are in descending order of their stamps
   pub same_column : (a b : ℕ) → key_cmp (at a) (at b) ≡ nat_cmp b a
   same_column a b = rw (tied_itself nat_list_cmp_total row, tied_itself nat_list_cmp_total family, tied_itself nat_list_cmp_total (qualifier_name qualifier)) refl
 

@@ -10,7 +10,7 @@ use Rattle.rows.specs.declared.batches.BatchLimits.{BatchLimits}
 use Rattle.rows.specs.declared.batches.CellVersions.{CellVersions}
 use Rattle.rows.specs.declared.batches.VersionBatch.{VersionBatch}
 
--- where the cell is
+-- the cell's place
 abbrev pub place_in : CellVersions → Place
 place_in found = (found.row, found.family)
 
@@ -29,7 +29,7 @@ HasNewest cells hi found =
     (qualifier : Qualifier)
     → IsNewest cells (version found.row found.family qualifier) 0 hi (of_column found qualifier)
 
--- how many bytes values have
+-- the bytes of values
 abbrev pub value_bytes : Option (ℕ × List ℕ) → ℕ
 value_bytes None = 0
 value_bytes (Some found) = length found.1
@@ -42,12 +42,12 @@ bytes_of found =
 abbrev pub bytes_in : List CellVersions → ℕ
 bytes_in found = sum_by bytes_of found
 
--- there are as many cells as may be, or their values have as many bytes
+-- the cells have reached the number, or their values the bytes, of the limits
 abbrev pub IsFull : BatchLimits → List CellVersions → Type 0
 IsFull limits found = (limits.cells ≤ length found) ⊎ (limits.bytes ≤ bytes_in found)
 
--- Its cells come one after the other, the first of them next after the given place, with their
--- newest versions at or below a stamp. If they are the last, no cell comes after them.
+-- Its cells are the next ones after the given place, in order, with their newest versions at or below a stamp. If
+-- `is_last`, no cell comes after them.
 pub record AreNextVersions (cells : Cells) (after : Option Place) (hi : ℕ)
     (batch : VersionBatch) : Type 0 where
   pub next : AreNextCells cells after (length batch.cells.items) (places_in batch.cells.items)
@@ -55,7 +55,7 @@ pub record AreNextVersions (cells : Cells) (after : Option Place) (hi : ℕ)
   pub last : batch.is_last ≡ true
       → IsNextCell cells (last_or after (places_in batch.cells.items)) None
 
--- a column keeps the version that it has, and else gets this one; other columns stay
+-- a column keeps the version that it has, or gets this one if it has none; other columns are unchanged
 pub record Keeps (qualifier : Qualifier) (found : ℕ × List ℕ) (old new : CellVersions) : Type 0 where
   pub place : place_in new ≡ place_in old
   pub column : of_column new qualifier ≡ or_else (of_column old qualifier) (Some found)

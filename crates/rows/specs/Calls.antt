@@ -1,4 +1,4 @@
--- What is seen of rows, and what a call of them leaves.
+-- Views of rows, and the effects of calls on them.
 use Rattle.std.specs.Prelude.{◌≡◌, ◌≢◌, ◌⊎◌, ℕ, List, ◌++◌, Option, None, Some, ⊤}
 use Rattle.std.specs.declared.cmp.Ordering.TheVariants.{Less}
 use Rattle.cell_key.specs.Cells.{Cells, after_edits}
@@ -8,37 +8,35 @@ use Rattle.cell_key.specs.declared.edits.Edit.{Edit}
 use Rattle.rows.specs.Room.{TakesNoRoom}
 use Rattle.rows.specs.Storage.{Storage}
 
--- What is seen of rows, however they are stored.
+-- A view of rows, however they are stored.
 pub record View (R : Type 0) : Type 1 where
-  -- the premise under which answers have a meaning, as that each file that is named is there and in
-  -- its form
+  -- the premise under which answers have a meaning, for instance that each named file exists and is well-formed
   pub holds : R → Type 0
-  -- what a read of a row reads is in order; under the premise that is so of each row
+  -- a row can be read; under the premise every row can
   pub readable : R → List ℕ → Type 0
   pub each_readable : (rows : R) → holds rows → (row : List ℕ) → readable rows row
-  -- what they hold
+  -- their cells
   pub cells : R → Cells
-  -- whether edits would pass a limit of the memory that keeps a row; edits of rows that are stored
-  -- elsewhere count for nothing
+  -- whether edits of a row would exceed a limit of the memory that holds it; edits of rows stored elsewhere don't count
   pub overfills : R → List ℕ → List Edit → Type 0
-  -- what lies below the rows that are in memory: files, names and the places of tablets
+  -- the state below the rows in memory: files, names and the places of tablets
   pub storage : R → Storage
 
--- a row is that of a place, or comes after it; so does each from the start on
+-- a row is at or after the row of a place; without a place, any row
 abbrev pub IsRowFrom : Option Place → List ℕ → Type 0
 IsRowFrom None row = ⊤
 IsRowFrom (Some place) row = byte_cmp row place.0 ≢ Less
 
--- what a scan from a place on reads is in order
+-- every row that a scan from a place may read can be read
 abbrev pub AreReadableFrom : {R : Type 0} → View R → R → Option Place → Type 0
 AreReadableFrom seen rows after = (row : List ℕ) → IsRowFrom after row → seen.readable rows row
 
--- each row that was readable still is
+-- every row that could be read still can
 abbrev pub StaysReadable : {R : Type 0} → View R → R → R → Type 0
 StaysReadable seen old new = (row : List ℕ) → seen.readable old row → seen.readable new row
 
--- Nothing is changed: if they held, they still do, and what was readable still is; their cells are the
--- same, whatever stands in the files; no room is taken, and what lies below stays.
+-- Nothing is changed: the premise still holds if it did, and rows that could be read still can; the cells are the same,
+-- whatever the files hold; no room is used, and the state below is unchanged.
 pub record OnlyReads {R : Type 0} (seen : View R) (old new : R) : Type 0 where
   pub still : seen.holds old → seen.holds new
   pub readable : StaysReadable seen old new
@@ -46,9 +44,8 @@ pub record OnlyReads {R : Type 0} (seen : View R) (old new : R) : Type 0 where
   pub room : TakesNoRoom seen.overfills old new
   pub stays : seen.storage new ≡ seen.storage old
 
--- Edits of a row are made: if they held, they still do, and what was readable still is; if the row
--- was, their cells are those after the edits; the room of the edits is taken and no other, and what
--- lies below stays.
+-- Edits of a row are made: the premise still holds if it did, and rows that could be read still can; if this row could,
+-- the cells are those after the edits; only the room of the edits is used, and the state below is unchanged.
 pub record Applies {R : Type 0} (seen : View R) (row : List ℕ) (edits : List Edit)
     (old new : R) : Type 0 where
   pub still : seen.holds old → seen.holds new
@@ -58,7 +55,7 @@ pub record Applies {R : Type 0} (seen : View R) (row : List ℕ) (edits : List E
       → seen.overfills old r later ⊎ seen.overfills old r (edits ++ later)
   pub stays : seen.storage new ≡ seen.storage old
 
--- such edits of a row are made
+-- edits of a row that are in the relation are made
 pub record AppliesSuch {R : Type 0} (seen : View R)
     (Such : List ℕ → List Edit → Type 0) (old new : R) : Type 0 where
   pub row : List ℕ
@@ -66,7 +63,8 @@ pub record AppliesSuch {R : Type 0} (seen : View R)
   pub such : Such row edits
   pub applied : Applies seen row edits old new
 
--- Cells may change: if they held, they still do, and what was readable still is; what lies below stays.
+-- Cells may change, but the premise still holds if it did, rows that could be read still can, and the state below is
+-- unchanged.
 pub record KeepsBelow {R : Type 0} (seen : View R) (old new : R) : Type 0 where
   pub still : seen.holds old → seen.holds new
   pub readable : StaysReadable seen old new

@@ -1,6 +1,6 @@
 //! Cells with the newest versions of their columns, and batches of them.
 
-ghost use Rattle.std.specs.Prelude.{◌≡◌, ◌-◌, length, OnOk, OnErr, IfErr, Some};
+ghost use Rattle.std.specs.Prelude.{◌≡◌, ◌-◌, length, OnOk, OnErr, Some, IsOkUnless};
 ghost use Rattle.cell_key.specs.Entries.{or_else};
 ghost use Rattle.rows.specs.Batches.{bytes_in, bytes_of, value_bytes, Keeps};
 
@@ -8,7 +8,7 @@ use crate::cell_version::CellVersion;
 use cell_key::{Family, Qualifier, Refusal, Row, Stamp};
 use std::alloc::Global;
 
-/// A cell and the newest version of each of its columns at or below a stamp, or `None` for a column that has none there.
+/// A cell with the newest version of each of its columns at or below a stamp; `None` for a column without one.
 #[derive(Drop)]
 pub struct CellVersions {
     pub row: Row,
@@ -18,14 +18,14 @@ pub struct CellVersions {
     pub write: Option<CellVersion>,
 }
 
-/// Cells in their order, and whether no cell is left after them.
+/// Cells in order, and whether no cell is left after them.
 #[derive(Drop)]
 pub struct VersionBatch {
     pub cells: Vec<CellVersions>,
     pub is_last: bool,
 }
 
-/// When a batch is full: with this number of cells, or with cells whose values have this number of bytes together.
+/// The limits of a batch: it is full once it has this many cells, or once its values have this many bytes together.
 #[derive(Clone, Copy, Debug)]
 pub struct BatchLimits {
     pub cells: usize,
@@ -33,7 +33,7 @@ pub struct BatchLimits {
 }
 
 impl BatchLimits {
-    /// What is left of them after these cells.
+    /// The limits left after these cells.
     pub fn after(self, cells: &[CellVersions]) -> BatchLimits
         ensures cells { result.cells ≡ self.cells - length cells.now }
         ensures bytes { result.bytes ≡ self.bytes - bytes_in cells.now }
@@ -49,7 +49,7 @@ impl BatchLimits {
     }
 }
 
-/// Takes a version for that of a column which has none.
+/// Keeps a version as a column's newest, if that has none yet.
 fn keep_newest(
     alloc: Global,
     newest: &mut Option<CellVersion>,
@@ -57,7 +57,7 @@ fn keep_newest(
     value: &[u8],
 ) -> Result<(), Refusal>
     ensures ok { OnOk result (newest.new ≡ or_else newest.old (Some (stamp, value.now))) }
-    ensures refusal { IfErr result (λ refusal. refusal ≡ Refusal.NoMemory) }
+    ensures refusal { IsOkUnless result Refusal.NoMemory }
 {
     if newest.is_none() {
         *newest = Some(CellVersion::new(alloc, stamp, value)?);
@@ -65,7 +65,7 @@ fn keep_newest(
     Ok(())
 }
 
-/// A number of bytes without those of a value, or 0 if the value has more.
+/// The bytes left after a value's, or 0 if the value has more.
 fn bytes_after(bytes: usize, found: &Option<CellVersion>) -> usize
     ensures { result ≡ bytes - value_bytes found.now }
 {
@@ -76,7 +76,7 @@ fn bytes_after(bytes: usize, found: &Option<CellVersion>) -> usize
 }
 
 impl CellVersions {
-    /// Takes a version for that of its column, if that has none yet. Answers `NoMemory` if there is no memory for the
+    /// Keeps a version as its column's newest, if that has none yet. Answers `NoMemory` if there is no memory for the
     /// value.
     pub fn keep(
         &mut self,
@@ -86,7 +86,7 @@ impl CellVersions {
         value: &[u8],
     ) -> Result<(), Refusal>
         ensures ok { OnOk result (Keeps qualifier (stamp, value.now) self.old self.new) }
-        ensures refusal { IfErr result (λ refusal. refusal ≡ Refusal.NoMemory) }
+        ensures refusal { IsOkUnless result Refusal.NoMemory }
     {
         match qualifier {
             Qualifier::Data => keep_newest(alloc, &mut self.data, stamp, value),
@@ -95,7 +95,7 @@ impl CellVersions {
         }
     }
 
-    /// A number of bytes without those of the cell's values, or 0 if these have more.
+    /// The bytes left after those of the cell's values, or 0 if these have more.
     pub fn bytes_after(&self, bytes: usize) -> usize
         ensures { result ≡ bytes - bytes_of self.now }
     {

@@ -1,14 +1,14 @@
-//! A version of a cell's column. A short value stands in it, and takes no memory of its own.
+//! Versions of a cell's column. A short value is stored inline and allocates nothing.
 
-ghost use Rattle.std.specs.Prelude.{◌≡◌, ◌≤◌, length, IfErr, IfOk, IsOk};
+ghost use Rattle.std.specs.Prelude.{◌≡◌, ◌≤◌, length, IfOk, IsOk, IsOkUnless};
 
 use cell_key::{Refusal, Stamp};
 use smallvec::SmallVec;
 use std::alloc::Global;
 use std::marker::Model;
 
-/// A version of a cell's column: its stamp and its value. A copy of at most 16 bytes, as of a write record, takes no memory
-/// beside its own.
+/// A version of a cell's column: its stamp and its value. A value of at most 16 bytes, like a write record's, is stored
+/// inline and allocates nothing.
 #[derive(Debug)]
 pub struct CellVersion {
     stamp: Stamp,
@@ -24,7 +24,7 @@ impl Model for CellVersion {
 }
 
 impl Drop for CellVersion {
-    /// A call of its own, so that what drops a version doesn't branch by where its value stands.
+    /// Separate, so that code that drops a version doesn't branch on where its value is stored.
     fn drop(self) {
         let CellVersion { stamp: _, value } = self;
         drop(value);
@@ -32,18 +32,18 @@ impl Drop for CellVersion {
 }
 
 impl CellVersion {
-    /// The version of this stamp and value. Answers `NoMemory` if there is no memory for a copy of the value.
+    /// A version with this stamp and a copy of the value. Answers `NoMemory` if there is no memory for the copy.
     pub(crate) fn new(alloc: Global, stamp: Stamp, value: &[u8]) -> Result<CellVersion, Refusal>
         ensures ok { IfOk result (λ version. version ≡ (stamp, value.now)) }
-        ensures refusal { IfErr result (λ refusal. refusal ≡ Refusal.NoMemory) }
-        // A short one takes no memory.
+        ensures refusal { IsOkUnless result Refusal.NoMemory }
+        // A short value allocates nothing.
         ensures short { length value.now ≤ 16 → IsOk result }
     {
         let value = SmallVec::from_slice(alloc, value)?;
         Ok(CellVersion { stamp, value })
     }
 
-    /// The version of this stamp and value. Takes no memory.
+    /// A version with this stamp and value. Allocates nothing.
     pub fn from_vec(stamp: Stamp, value: Vec<u8>) -> CellVersion
         ensures { result ≡ (stamp, value.items) }
     {
@@ -70,7 +70,7 @@ impl CellVersion {
     /// The value. Answers `NoMemory` if there is no memory for it.
     pub fn into_value(self) -> Result<Vec<u8>, Refusal>
         ensures ok { IfOk result (λ value. value.items ≡ self.1) }
-        ensures refusal { IfErr result (λ refusal. refusal ≡ Refusal.NoMemory) }
+        ensures refusal { IsOkUnless result Refusal.NoMemory }
     {
         let CellVersion { stamp: _, value } = self;
         Ok(value.into_vec()?)

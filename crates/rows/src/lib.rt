@@ -1,5 +1,5 @@
-//! Rows of cells: what every kind of them can do, however they are stored; the batches in which they answer a scan; and the
-//! oldest version in a range, found by their reads. A plain map of rows in memory is their measure in tests.
+//! Rows of cells: the contract of any rows, however they are stored; the batches in which they answer a scan; and the
+//! oldest version in a range, found by their reads. A plain map of rows in memory is the reference in tests.
 #![tactic(auto)]
 
 mod batches;

@@ -1,4 +1,4 @@
-//! The oldest version in a range of stamps, found among any number of versions by halving the range.
+//! The oldest version in a range of stamps, found by binary search.
 
 ghost use Rattle.std.specs.Prelude.{◌≡◌, IfErr, IfOk, IfSome, option_map};
 ghost use Rattle.cell_key.specs.Cells.{version};
@@ -11,9 +11,9 @@ ghost use Rattle.rows.specs.Refusals.{IsRefusalOfRead};
 use crate::rows::Rows;
 use cell_key::{Family, Qualifier, Refusal, Row, Stamp};
 
-/// The version of a cell's column with the least stamp in `lo..=hi`: its stamp and its value. `None` if there is
-/// none. Each read halves the range that is left, so it takes 65 reads of `Rows::newest` at the most, however many
-/// versions there are, and one if there is none.
+/// The version of a cell's column with the least stamp in `lo..=hi`: its stamp and its value; `None` without one. Each
+/// read halves the range left, so it takes at most 65 reads of `Rows::newest`, however many versions there are, and one
+/// if there is none.
 ///
 /// # Errors
 ///

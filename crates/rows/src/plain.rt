@@ -1,4 +1,4 @@
-//! A measure for tests, which the store doesn't use: rows in one ordered map in memory.
+//! A reference for tests, which the store doesn't use: rows in one ordered map in memory.
 
 ghost use Rattle.std.specs.Prelude.{◌≡◌, ⊤};
 ghost use Rattle.rows.specs.Storage.{no_storage};
@@ -12,9 +12,9 @@ use std::alloc::Global;
 use std::collections::BTreeMap;
 use std::marker::Model;
 
-/// Rows of cells in one ordered map in memory, which is never full and never damaged. A read looks
-/// at one entry of the map, and that of the next cells or versions at one for each of them. Edits first make room for each of their keys, and an erased key leaves
-/// the map.
+/// Rows of cells in one ordered map in memory, which is never full and never damaged. A read looks at one entry of the
+/// map, a read of several cells or versions at one for each. Edits first make room for each of their keys, and an
+/// erased key is removed from the map.
 #[derive(Drop)]
 pub struct PlainRows {
     alloc: Global,
@@ -35,7 +35,7 @@ impl Model for PlainRows {
 }
 
 impl PlainRows {
-    /// No rows. Takes no memory.
+    /// No rows. Allocates nothing.
     pub fn new(alloc: Global) -> PlainRows
         ensures { result ≡ empty }
     {

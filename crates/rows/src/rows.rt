@@ -1,4 +1,4 @@
-//! Rows of cells: what each kind of them can do, and what each call leaves.
+//! Rows of cells: the trait of their calls, and the contract of each.
 
 ghost use Rattle.std.specs.Prelude.{◌≡◌, ◌≤◌, ℕ, length, map, IfOk, OnOk, OnErr, IfErr, IsErrOf, IfSome, option_map};
 ghost use Rattle.std.specs.Bool.{OnFalse};
@@ -15,22 +15,22 @@ ghost use Rattle.rows.specs.Refusals.{IsApplyRefusal, IsRefusalOfRead};
 use crate::batches::{BatchLimits, VersionBatch};
 use cell_key::{Edit, Family, Qualifier, Refusal, Row, Stamp};
 
-/// Rows of cells. What is read or changed under one row is read or changed at once
-/// (Bigtable: reads and writes under a single row are atomic).
+/// Rows of cells. Reads and writes of a single row are atomic (Bigtable: reads and writes under a single row are
+/// atomic).
 ///
-/// A read changes no cell, even if it is refused. Its refusals are `Device` if a device
-/// failed during the call, `NoMemory` if a growth was refused, and `Damaged` if bytes that
-/// were read are outside their form. Damage elsewhere bars no read, and what a read answers then is right.
+/// A read changes no cell, even if it is refused. Its refusals are `Device` if a device failed during the call,
+/// `NoMemory` if an allocation failed, and `Damaged` if bytes that were read are malformed. Damage elsewhere does not
+/// block a read, and its answer is then right.
 pub trait Rows {
-    /// What is seen of them. Each call keeps the premise under which answers have a meaning. A read changes neither
-    /// the cells nor the room for edits, and no call changes what lies below the rows that are in memory.
+    /// The view of the rows. Each call keeps the premise under which answers have a meaning. A read changes neither the
+    /// cells nor the room for edits, and no call changes the state below the rows in memory.
     ghost seen: { View Self };
 
-    /// How often a device has failed, up to the greatest number of eight bytes.
+    /// How often a device has failed. The count saturates at 2^64 - 1.
     ghost faults: { Self → ℕ };
 
-    /// The version of a cell's column with the greatest stamp in `lo..=hi`: its stamp, from 1 to
-    /// 2^63 - 1, and its value of at most 65,536 bytes. `None` if there is none.
+    /// The version of a cell's column with the greatest stamp in `lo..=hi`: its stamp, from 1 to 2^63 - 1, and its
+    /// value of at most 65,536 bytes. `None` without one.
     ///
     /// # Errors
     ///
@@ -52,8 +52,8 @@ pub trait Rows {
         ensures refusal { IfErr result (IsRefusalOfRead (seen.readable self.old row.now)) }
         ensures reason { HasReason (faults self.old) (faults self.new) result };
 
-    /// The versions of a cell's column with stamps at or below `hi`, the newest first, as `newest` would find them one
-    /// by one: `most` of them, or fewer if no more are left. They cost one pass over what lies before the last of them.
+    /// The versions of a cell's column with stamps at or below `hi`, the newest first, as repeated calls of `newest`
+    /// would find them, `most` of them or all if there are fewer. They cost one pass up to the last of them.
     ///
     /// # Errors
     ///
@@ -76,8 +76,8 @@ pub trait Rows {
         ensures refusal { IfErr result (IsRefusalOfRead (seen.readable self.old row.now)) }
         ensures reason { HasReason (faults self.old) (faults self.new) result };
 
-    /// Whether a cell's column has a version with a stamp in `lo..=hi`: whether `newest` would find one. No value that
-    /// is in memory is copied.
+    /// Whether a cell's column has a version with a stamp in `lo..=hi`, that is, whether `newest` would find one. No
+    /// value in memory is copied.
     ///
     /// # Errors
     ///
@@ -96,8 +96,8 @@ pub trait Rows {
         ensures refusal { IfErr result (IsRefusalOfRead (seen.readable self.old row.now)) }
         ensures reason { HasReason (faults self.old) (faults self.new) result };
 
-    /// The next cell that has any key, in the order of rows and then of families, after the cell
-    /// of `after`, or from the start if that is `None`. `None` if no cell is left.
+    /// The next cell that has any version, in the order of rows and then of families, after the cell `after`, or from
+    /// the start without one. `None` if no cell is left.
     ///
     /// # Errors
     ///
@@ -113,9 +113,8 @@ pub trait Rows {
             (AreReadableFrom seen self.old (option_map place_named after.entry))) }
         ensures reason { HasReason (faults self.old) (faults self.new) result };
 
-    /// The next cells that have any key, in the order of rows and then of families, after the cell of `after`, or
-    /// from the start if that is `None`: `most` of them, or fewer if no more are left. They cost one pass over what
-    /// lies before the last of them.
+    /// The next cells that have any version, in the order of rows and then of families, after the cell `after`, or from
+    /// the start without one, `most` of them or all if there are fewer. They cost one pass up to the last of them.
     ///
     /// # Errors
     ///
@@ -134,9 +133,9 @@ pub trait Rows {
             (AreReadableFrom seen self.old (option_map place_named after.entry))) }
         ensures reason { HasReason (faults self.old) (faults self.new) result };
 
-    /// The next cells that have any key, as `next_cells` gives them, each with the newest versions at or below `hi` of its
-    /// columns: until they are as many as `limits` says or their values have as many bytes, or no more are left. They
-    /// cost one pass over what lies before the last of them, in which no other version is copied.
+    /// The next cells that have any version, as from `next_cells`, each with the newest versions of its columns at or
+    /// below `hi`. It stops when the cells reach the number or their values the bytes of `limits`, or no cell is left.
+    /// They cost one pass up to the last of them, in which no other version is copied.
     ///
     /// # Errors
     ///
@@ -158,13 +157,13 @@ pub trait Rows {
             (AreReadableFrom seen self.old (option_map place_named after.entry))) }
         ensures reason { HasReason (faults self.old) (faults self.new) result };
 
-    /// Makes edits under one row in order, all of them or none. No device is touched, and nothing below the rows in
-    /// memory changes.
+    /// Applies edits to one row in order, all of them or none. No device is used, and nothing below the rows in memory
+    /// changes.
     ///
     /// # Errors
     ///
-    /// `MemtableFull` if a limit of what is held in memory would be passed, and `NoMemory` if a
-    /// growth was refused. The cells are then as before, and edits would pass a limit only if they did before.
+    /// `MemtableFull` if a limit of the memory would be exceeded, and `NoMemory` if an allocation failed. The cells are
+    /// then unchanged, and edits would exceed a limit only if they would have before.
     fn apply(&mut self, row: &Row, edits: Vec<Edit>) -> Result<(), Refusal>
         requires { AllByRecursion (IsEditOf row.now) edits.items }
         ensures ok { OnOk result (Applies seen row.now edits.items self.old self.new) }
@@ -175,7 +174,7 @@ pub trait Rows {
         ensures within { OnOk result (¬ seen.overfills self.old row.now edits.items) }
         ensures untouched { faults self.new ≡ faults self.old };
 
-    /// How often a device has failed. A count of 2^64 - 1 stays.
+    /// How often a device has failed. The count saturates at 2^64 - 1.
     fn faults(&self) -> u64
         ensures { result ≡ faults self.now };
 }

@@ -1,5 +1,4 @@
-//! The slots of `PlainRows`, the measure for tests. A slot is empty only within `apply`, which makes room before it changes a
-//! cell.
+//! The slots of `PlainRows`. A slot is empty only within `apply`, which makes room before it changes a cell.
 
 ghost use Rattle.std.specs.Prelude.{◌≡◌, ◌≢◌, ◌≤◌, ℕ, length, IsSome, OnOk, OnErr, IfOk, option_map, map, List, ◌∷◌, Some, None};
 ghost use Rattle.std.specs.List.{All, AllByRecursion};
@@ -26,7 +25,7 @@ use std::ops::Bound;
 
 pub(crate) type Slots = BTreeMap<CellKey, Option<Vec<u8>>>;
 
-/// The first key from one bound to the other, with its value.
+/// The first key between two bounds, with its value.
 fn first(slots: &Slots, from: Bound<CellKey>, to: Bound<CellKey>) -> Option<(&CellKey, &Vec<u8>)>
     requires full { AreFilled slots.now.entries }
     requires forward { IsForward (IsLeBy key_cmp) (IsLtBy key_cmp) from to }
@@ -61,8 +60,8 @@ pub(crate) fn newest(
     }
 }
 
-/// The versions of a cell's column with stamps at or below `hi`, the newest first: `most` of them, or fewer if no more are
-/// left.
+/// The versions of a cell's column with stamps at or below `hi`, the newest first, `most` of them or all if there are
+/// fewer.
 pub(crate) fn versions(
     alloc: Global,
     slots: &Slots,
@@ -113,7 +112,7 @@ pub(crate) fn has_version(
     Ok(first(slots, Bound::Included(from), Bound::Included(to)).is_some())
 }
 
-/// Where the keys after a place begin.
+/// The bound at which the keys after a place begin.
 fn start_after(after: Option<(&Row, &Family)>) -> Result<Bound<CellKey>, AllocError>
     ensures { IfOk result (λ from. from ≡ past (option_map place_named after.entry)) }
 {
@@ -142,7 +141,7 @@ pub(crate) fn next_cell(
     }
 }
 
-/// The next cells after a place: `most` of them, or fewer if no more are left.
+/// The next cells after a place, `most` of them or all if there are fewer.
 pub(crate) fn next_cells(
     alloc: Global,
     slots: &Slots,
@@ -182,7 +181,7 @@ fn newest_version(
     }
 }
 
-/// A cell with the newest versions at or below `hi` of its columns.
+/// A cell with the newest versions of its columns at or below `hi`.
 fn versions_of(
     slots: &Slots,
     row: &Row,
@@ -202,8 +201,8 @@ fn versions_of(
     })
 }
 
-/// The next cells after a place, each with the newest versions at or below `hi` of its columns: as many as `limits` says,
-/// or fewer if no more are left.
+/// The next cells after a place, each with the newest versions of its columns at or below `hi`: `limits.cells` of them
+/// or all if there are fewer.
 pub(crate) fn next_versions(
     alloc: Global,
     slots: &Slots,
@@ -250,7 +249,7 @@ fn keys_of(alloc: Global, edits: &[Edit]) -> Result<Vec<CellKey>, AllocError>
     Ok(keys)
 }
 
-/// Makes a slot for the key, an empty one if it has none.
+/// Adds an empty slot for the key, if it has none.
 fn make_slot(slots: &mut Slots, key: &CellKey) -> Result<(), AllocError>
     ensures same { slot_cells slots.new.entries ≡ slot_cells slots.old.entries }
     ensures kept { KeepsSlots slots.old.entries slots.new.entries }
@@ -263,7 +262,7 @@ fn make_slot(slots: &mut Slots, key: &CellKey) -> Result<(), AllocError>
     Ok(())
 }
 
-/// Makes a slot for each key.
+/// Adds an empty slot for each key that has none.
 fn make_slots(slots: &mut Slots, keys: &[CellKey]) -> Result<(), AllocError>
     ensures same { slot_cells slots.new.entries ≡ slot_cells slots.old.entries }
     ensures slots { OnOk result (All (HasSlot slots.new.entries) keys.now) }
@@ -276,7 +275,7 @@ fn make_slots(slots: &mut Slots, keys: &[CellKey]) -> Result<(), AllocError>
     Ok(())
 }
 
-/// Fills or empties the slot of a key that has one.
+/// Sets the slot of a key, which must exist.
 fn set_slot(slots: &mut Slots, key: CellKey, content: Option<Vec<u8>>)
     requires { HasSlot slots.old.entries key }
     ensures set { Updates key_cmp slots.old slots.new key (Some content) }
@@ -285,7 +284,7 @@ fn set_slot(slots: &mut Slots, key: CellKey, content: Option<Vec<u8>>)
     let _before = written.unwrap();
 }
 
-/// Makes an edit, whose key has a slot.
+/// Applies an edit. Its key must have a slot.
 fn write(slots: &mut Slots, edit: Edit)
     requires { HasSlot slots.old.entries (edited_key edit) }
     ensures cells { slot_cells slots.new.entries
@@ -299,7 +298,7 @@ fn write(slots: &mut Slots, edit: Edit)
     }
 }
 
-/// Makes edits in order. Each of their keys has a slot.
+/// Applies edits in order. Each of their keys must have a slot.
 fn write_all(slots: &mut Slots, edits: Vec<Edit>)
     requires { AllByRecursion (HasEdited slots.old.entries) edits.items }
     ensures cells { slot_cells slots.new.entries
@@ -312,7 +311,7 @@ fn write_all(slots: &mut Slots, edits: Vec<Edit>)
     }
 }
 
-/// Frees the slot of a key, if it is empty.
+/// Removes the slot of a key, if it is empty.
 fn drop_empty(slots: &mut Slots, key: &CellKey)
     ensures same { slot_cells slots.new.entries ≡ slot_cells slots.old.entries }
     ensures empties { (keys : List Key) → IsFullBut (key.now ∷ keys) slots.old.entries
@@ -324,7 +323,7 @@ fn drop_empty(slots: &mut Slots, key: &CellKey)
     }
 }
 
-/// Frees the empty slots, all of which are at these keys.
+/// Removes the empty slots, all of which must be at these keys.
 fn drop_empties(slots: &mut Slots, keys: Vec<CellKey>)
     requires { IsFullBut keys.items slots.old.entries }
     ensures same { slot_cells slots.new.entries ≡ slot_cells slots.old.entries }
@@ -335,7 +334,7 @@ fn drop_empties(slots: &mut Slots, keys: Vec<CellKey>)
     }
 }
 
-/// Makes edits in order, all of them or none.
+/// Applies edits in order, all of them or none.
 pub(crate) fn apply(alloc: Global, slots: &mut Slots, edits: Vec<Edit>) -> Result<(), AllocError>
     requires { AreFilled slots.old.entries }
     ensures ok { OnOk result (slot_cells slots.new.entries

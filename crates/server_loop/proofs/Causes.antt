@@ -1,4 +1,4 @@
--- What a reply tells of a device's faults, where its command's outcome tells it.
+-- The causes of a device's fault in a reply, from its command's outcome.
 use Rattle.std.proofs.Common.{◌≡◌, ℕ, inl, Option, ap, refl, subst}
 use Rattle.cell_key.specs.declared.refusals.Refusal.{Refusal}
 use Rattle.cell_key.specs.declared.refusals.Refusal.TheVariants.{Damaged, Device, MemtableFull}
@@ -34,7 +34,7 @@ module _ {F M : Type 0} (contents : F → Option Contents) (file_faults : F → 
       (λ is. let that : e ≡ Device = subst (IfTold (λ (r : Refusal). e ≡ r)) is refl in ap (λ (r : Refusal). Refused r) that)
       (λ is. let that : e ≡ Device = cc in ap (λ (r : Refusal). codec.Refused r) that) told full damaged
 
-  -- no device was met
+  -- no device failed
   pub unmet_causes : (reply : CodecReply) (old new : Server F M) → new.rows.cluster ≡ old.rows.cluster → new.oracle ≡ old.oracle → ¬ (reply ≡ codec.Refused Device)
       → (reply ≡ codec.Refused MemtableFull → LacksRoom contents request old) → (reply ≡ codec.Refused Damaged → ReadsDamage contents request old new) → TellsCauses contents file_faults mark_faults request reply old new
   unmet_causes reply old new same_cluster same_oracle not full damaged = record {

@@ -1,4 +1,4 @@
--- What the steps of sessions and cleaners make of the cells, as collectors see it.
+-- The effects of sessions' and cleaners' steps on the cells, as collectors see them.
 use Rattle.std.proofs.Common.{◌≡◌, ◌∙◌, ℕ, List, inl, inr, Bool, true, false, refl, sym, subst}
 use Rattle.cell_key.specs.Cells.{Cells, after_edits}
 use Rattle.cell_key.specs.declared.edits.Edit.{Edit}

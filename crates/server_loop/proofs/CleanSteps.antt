@@ -1,4 +1,4 @@
--- A server's steps, by those of its cleaners.
+-- A server's steps, from its cleaners' steps.
 use Rattle.std.proofs.Common.{[], ◌≡◌, ◌≤◌, ℕ, List, map, ap, arith, refl}
 use Rattle.file_store.specs.Store.{Contents}
 use Rattle.row_atomic.specs.Recorded.{seen_recorded}
@@ -24,11 +24,11 @@ use Rattle.server_loop.proofs.SamePlaces.{KeepsPlaces}
 use Rattle.server_loop.proofs.OthersShown.{cleaners_not_collectors, cleaners_not_sessions, collectors_stay, not_kind, sessions_stay}
 use Rattle.server_loop.proofs.SplitSteps.{still_placed, still_next}
 
--- if the tablets are, by what lies below the memtables
+-- the spots of tablets, from the storage below the memtables
 abbrev pub spots_in : Storage → List Spot
 spots_in storage = map spot_of storage.places
 
--- what lies below without what the log has, and what the log has
+-- the storage without the log's contents, and the log's contents
 abbrev pub unlogged : Storage → Storage
 unlogged storage = record storage { logged = [] }
 
@@ -38,7 +38,7 @@ logged_in storage = storage.logged
 -- ---- whole steps
 
 module _ {F M : Type 0} (contents : F → Option Contents) (old new : Server F M) where
-  -- a step of a cleaner, which leaves the tablets where they are, the sessions and the collectors
+  -- a step of a cleaner, which leaves the tablets' places, the sessions and the collectors unchanged
   pub cleans_as : (request : Request) (reply : Reply) → KeepsPlaces request → kind_of request ≡ OfCleaners → new.clients ≡ old.clients → new.oracle.last ≡ old.oracle.last
       → new.collectors ≡ old.collectors → ((st : State) → IsReached st → Shows contents old st → ChangesCells (server_cells contents old) st (server_cells contents new))
       → (HoldsIn contents old → open_cleaners.Steps (cells_in (contents old.rows.cluster.files) old.rows.cluster.tablets) old.cleaners request reply (cells_in (contents new.rows.cluster.files) new.rows.cluster.tablets) new.cleaners)
@@ -65,7 +65,7 @@ module _ {F M : Type 0} (contents : F → Option Contents) (old new : Server F M
       no_higher : {top top' last last' : ℕ} → top' ≡ top → last' ≡ last → top ≤ last → top' ≤ last'
       no_higher {top = top} {top' = top'} {last = last} {last' = last'} same same' low = omega (arith, same, same', low)
 
--- ---- what is done is no refusal and no stamp
+-- ---- an accepted step is no refusal and draws no stamp
 
 pub started_told : (P : Refusal → Type 0) (found : CleanStart) → IfRefused P (clean_start_reply found)
 started_told P starts.NoLock = tt

@@ -1,4 +1,4 @@
--- A server's steps, by those of its collectors.
+-- A server's steps, from its collectors' steps.
 use Rattle.std.proofs.Common.{◌≡◌, ◌≤◌, ◌⊎◌, ℕ, inl, inr, Option, Result, Ok, Err, IsErrOf, ap, arith, refl}
 use Rattle.cell_key.specs.declared.refusals.Refusal.{Refusal}
 use Rattle.cell_key.specs.declared.refusals.Refusal.TheVariants.{Damaged}
@@ -26,7 +26,7 @@ use Rattle.server_loop.proofs.OthersShown.{cleaners_stay, collectors_not_cleaner
 -- ---- whole steps
 
 module _ {F M : Type 0} (contents : F → Option Contents) (old new : Server F M) where
-  -- a step of a collector, which leaves the tablets where they are, the sessions and the cleaners
+  -- a step of a collector, which leaves the tablets' places, the sessions and the cleaners unchanged
   pub collects_as : (request : Request) (reply : Reply) → KeepsPlaces request → kind_of request ≡ OfCollectors → new.clients ≡ old.clients → new.oracle.last ≡ old.oracle.last
       → new.cleaners ≡ old.cleaners
       → ((st : State) → IsReached st → Shows contents old st
@@ -54,7 +54,7 @@ module _ {F M : Type 0} (contents : F → Option Contents) (old new : Server F M
       no_higher : {top top' last last' : ℕ} → top' ≡ top → last' ≡ last → top ≤ last → top' ≤ last'
       no_higher {top = top} {top' = top'} {last = last} {last' = last'} same same' low = omega (arith, same, same', low)
 
--- ---- what is done is no refusal and no stamp
+-- ---- an accepted step is no refusal and draws no stamp
 
 pub collected_told : (P : Refusal → Type 0) (done : CollectReply) → IfRefused P (collect_reply done)
 collected_told P collects.More = tt
@@ -74,7 +74,7 @@ collected_stays collects.Collected last = refl
 pub begun_undamaged : (number floor : ℕ) → Collecting number floor ≡ Refused Damaged → ⊥
 begun_undamaged number floor e = cc
 
--- ---- what a number of visits is refused for
+-- ---- the refusals of a number of visits
 
 pub never_bad : {A : Type 0} (done : A) (a b : Refusal) → IsErrOf (Ok done) a ⊎ IsErrOf (Ok done) b → ⊥
 never_bad done a b (inl is) = ok_not done a is
@@ -85,7 +85,7 @@ pub bad_told : {A : Type 0} (result : Result A Refusal) (refusal : Refusal) {a b
 bad_told result refusal {a = a} {b = b} is (inl err) = inl (as_refused result refusal a is err)
 bad_told result refusal {a = a} {b = b} is (inr err) = inr (as_refused result refusal b is err)
 
--- ---- the cells of rows that are the same
+-- ---- the cells of unchanged rows
 
 pub same_cells : {F : Type 0} (contents : F → Option Contents) (old new : ClusterState F) → new ≡ old
     → cells_in (contents new.files) new.tablets ≡ cells_in (contents old.files) old.tablets

@@ -1,4 +1,4 @@
--- What is written down follows what is shown, where what lies below and the cells stay.
+-- The journal follows the shown cells, if the storage below and the cells are unchanged.
 use Rattle.std.proofs.Common.{◌≡◌, ◌∙◌, None, Option, Some, sym}
 use Rattle.file_store.specs.Store.{Contents}
 use Rattle.row_atomic.specs.Clusters.{ClusterState, storage_of}

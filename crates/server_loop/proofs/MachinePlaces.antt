@@ -1,4 +1,4 @@
--- The tablets' places as the machine has them, beside the places of a cluster.
+-- The tablets' places in the machine, compared with the places of a cluster.
 use Rattle.std.proofs.Common.{◌≡◌, ◌≢◌, ◌+◌, ℕ, zero, suc, Bool, true, false, cond, eqb, List, [], ◌∷◌, length, map, Option, None, Some, refl, sym, ap, subst, ◌∙◌, arith}
 use Rattle.std.proofs.lemmas.Bool.{eqb-true, eqb-false}
 use Rattle.std.proofs.lemmas.List.{length-map}
@@ -17,7 +17,7 @@ use Rattle.server_loop.specs.Server.{machine_place, machine_places}
 spot_named : (n : ℕ) (names : List ℕ) (p : PlaceView) → spot_of (naming n names p) ≡ spot_of p
 spot_named n names p = elim (eqb p.tablet n) as (λ b. spot_of (cond b (record p { files = names }) p) ≡ spot_of p) [ true ↦ refl | false ↦ refl ]
 
--- other files leave the spots
+-- other files leave the spots unchanged
 pub spots_named : (n : ℕ) (names : List ℕ) (ps : List PlaceView) → map spot_of (with_files n names ps) ≡ map spot_of ps
 spots_named n names [] = refl
 spots_named n names (p ∷ ps) = λ i. spot_named n names p i ∷ spots_named n names ps i
@@ -25,12 +25,12 @@ spots_named n names (p ∷ ps) = λ i. spot_named n names p i ∷ spots_named n 
 pub machine_named : (n : ℕ) (names : List ℕ) (ps : List PlaceView) → machine_places (with_files n names ps) ≡ machine_places ps
 machine_named n names ps = ap (map machine_place) (spots_named n names ps)
 
--- there are as many places
+-- the number of places is the same
 pub machine_length : (ps : List PlaceView) → length (machine_places ps) ≡ length ps
 machine_length [] = refl
 machine_length (p ∷ ps) = ap suc (machine_length ps)
 
--- ---- tablets and ends that are there
+-- ---- tablets and ends that exist
 
 module _ {X : Type 0} where
   is_in : (xs : List X) (x : X) → Contains xs x → x ∈ xs
@@ -42,7 +42,7 @@ in_machine : (p : PlaceView) (ps : List PlaceView) → p ∈ ps → machine_plac
 in_machine p _ here = here
 in_machine p _ (there {y = y} {xs = xs} h) = there (in_machine p xs h)
 
--- a place of the machine is that of a tablet
+-- a place of the machine is a tablet's place
 record IsPlaceOf (ps : List PlaceView) (q : machine.Place) : Type 0 where
   place : PlaceView
   is_there : Contains ps place
@@ -82,7 +82,7 @@ module _ (st : machine.State) (ps : List PlaceView) (same : st.places ≡ machin
   pub length_so : length st.places ≡ length ps
   length_so = ap length same ∙ machine_length ps
 
--- ---- cuts
+-- ---- splits
 
 module _ (row : List ℕ) (left : ℕ) where
   at_last : (end : Option (List ℕ)) (tablet server : ℕ) → end ≡ None
@@ -111,14 +111,14 @@ module _ (row : List ℕ) (left : ℕ) where
   cuts_places _ _ (cuts_later {p = p} {ps = ps} {ps' = ps'} before cut) =
       after_end p.end p.tablet p.server (machine_places ps) (machine_places ps') before (cuts_places ps ps' cut)
 
-  -- a cut of the places, after the files of one have changed, is one of the machine's
+  -- a split of the places, after the files of one have changed, is a split in the machine
   pub cuts_so : (n : ℕ) (names : List ℕ) (old new : List PlaceView) → Cuts row left (with_files n names old) new
       → machine.Cuts row left (machine_places old) (machine_places new)
   cuts_so n names old new cut =
       subst (λ (qs : List machine.Place). machine.Cuts row left qs (machine_places new)) (machine_named n names old)
       (cuts_places (with_files n names old) new cut)
 
-  -- there is one place more
+  -- there is one more place
   cuts_length : (ps ps' : List PlaceView) → Cuts row left ps ps' → length ps' ≡ length ps + 1
   cuts_length _ _ (cuts_last e) = omega arith
   cuts_length _ _ (cuts e less) = omega arith
@@ -157,7 +157,7 @@ module _ (n server : ℕ) where
   machine_moved : (names : List ℕ) (ps : List PlaceView) → machine_places (moved n server (with_files n names ps)) ≡ map machine_place (map on_spot (map spot_of ps))
   machine_moved names ps = ap (map machine_place) (spots_moved (with_files n names ps) ∙ ap (map on_spot) (spots_named n names ps))
 
-  -- a spot of another tablet stays
+  -- a spot of another tablet is unchanged
   other_spot : (p : PlaceView) → p.tablet ≢ n → on_spot (spot_of p) ≡ spot_of p
   other_spot p other = go (eqb p.tablet n) refl
     where
@@ -194,7 +194,7 @@ module _ (n server : ℕ) where
           let other = eqb-false p.tablet n e in
           machine.moves_later other (rest other)
 
-  -- a tablet of a table that was put on a server, after its files changed, has moved in the machine
+  -- a tablet of a table that is put on a server, after its files changed, has moved in the machine
   pub moves_so : (names : List ℕ) (old new : List PlaceView) → IsTable old → HasTablet n old → new ≡ moved n server (with_files n names old)
       → machine.Moves n server (machine_places old) (machine_places new)
   moves_so names old new table has e =

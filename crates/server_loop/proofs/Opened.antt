@@ -1,4 +1,4 @@
--- What is told of files and a mark that were opened.
+-- The answers about files and a mark that were opened.
 use Rattle.std.proofs.Common.{◌≡◌, ◌≤◌, ◌<◌, ℕ, List, Option, None, Some, IfSome, refl, ap, subst, arith}
 use Rattle.std.specs.Prelude.{IsSomeAnd}
 use Rattle.std.specs.FinMap.{get}
@@ -9,7 +9,7 @@ use Rattle.row_atomic.specs.Roots.{root_at, root_name}
 use Rattle.row_atomic.specs.Open.{IsDamaged, IsNewStore, IsStore}
 use Rattle.server_loop.specs.Opening.{IsLost, LacksRoot, below, damaged}
 
--- the mark that an oracle went on from
+-- the mark from which an oracle continued
 abbrev pub GoesOnFrom : Option ℕ → ℕ → Type 0
 GoesOnFrom mark last = IfSome mark (λ m. last ≡ m)
 

@@ -1,4 +1,4 @@
--- What sessions, cleaners and collectors show while others take steps.
+-- Sessions, cleaners and collectors show the same while others take steps.
 use Rattle.std.proofs.Common.{◌≡◌, ◌≢◌, ◌∙◌, sym, subst}
 use Rattle.cell_key.specs.Cells.{Cells}
 use Rattle.si_model.specs.Collection.{ChangesCells}
@@ -42,25 +42,25 @@ places_not_cleaners is = cc
 pub places_not_collectors : OfPlaces ≢ OfCollectors
 places_not_collectors is = cc
 
--- a request of one kind is of no other
+-- a request of one kind is of no other kind
 pub not_kind : {kind one other : Kind} → kind ≡ one → one ≢ other → kind ≢ other
 not_kind is differ same = differ (sym is ∙ same)
 
--- ---- what stays shown
+-- ---- unchanged by steps of others
 
 module _ (st next : State) (q : Request) (r : Reply) (step : Step st q r next) where
-  -- no step but a session's changes what sessions show
+  -- only a session's step changes what sessions show
   pub sessions_stay : (old new : Clients) → kind_of q ≢ OfSessions → new ≡ old → ShowsClients old st → ShowsClients new next
   sessions_stay old new other same shown =
       let left = (leaves_others st next q r step).sessions other in
       subst (λ (k : Clients). ShowsClients k next) (sym same) (shows_along old st next shown left.top left.begun left.active)
 
-  -- no step but a cleaner's changes what cleaners show
+  -- only a cleaner's step changes what cleaners show
   pub cleaners_stay : (old new : Cleaners) → IsReached st → kind_of q ≢ OfCleaners → new ≡ old → ShowsCleaners old st → ShowsCleaners new next
   cleaners_stay old new reached other same shown =
       subst (λ (k : Cleaners). ShowsCleaners k next) (sym same) (shows_on old st next q r reached step other shown)
 
-  -- no step but a collector's changes what collectors show, where it changes the cells as sessions and cleaners do
+  -- only a collector's step changes what collectors show, if it changes the cells as sessions and cleaners do
   pub collectors_stay : (cells cells' : Cells) (old new : Collectors) → IsReached st → ShowsCells cells st → kind_of q ≢ OfCollectors → ChangesCells cells st cells' → new ≡ old
       → ShowsCollectors cells old st → ShowsCollectors cells' new next
   collectors_stay cells cells' old new reached store other changes same shown =

@@ -1,4 +1,4 @@
--- Runs over what was taken lead from reached states to reached states, which obey the laws.
+-- Runs over the inputs lead from reached states to reached states, which obey the laws.
 use Rattle.std.proofs.Common.{List, [], ◌∷◌, ◌++◌, subst}
 use Rattle.si_model.specs.Machine.{State, Request, Reply, Step, rests, goes_on, IsReached, runs}
 use Rattle.si_model.proofs.Steps.{reached_sound}

@@ -1,4 +1,4 @@
--- What a server rests at after an answer, and between two requests.
+-- The state at which a server rests after an answer, and between two requests.
 use Rattle.std.proofs.Common.{◌≡◌, ◌≢◌, ◌≤◌, ◌⊎◌, inl, inr, ℕ, Bool, true, false, Option, None, Some, refl, ap, subst, sym, arith}
 use Rattle.std.specs.Prelude.{IsSome, IsSomeAnd}
 use Rattle.cell_key.specs.Cells.{Cells}
@@ -29,7 +29,7 @@ use Rattle.server_loop.specs.Sessions.{KeepsOracle, LeavesOracle}
 use Rattle.server_loop.specs.Tending.{MergesWhere}
 use Rattle.server_loop.specs.declared.server.Server.{Server}
 
--- ---- the machine's state stays
+-- ---- the machine's state is unchanged
 
 no_refusal : (st next : State) (q : machine.Request) (e : Refusal) → Acts st q (Refused e) next → ⊥
 no_refusal st next q e (tells t) = elim t [ ]
@@ -52,7 +52,7 @@ spared_same st next (lent.Raw row family qualifier lo hi) r is (refuses n) = ref
 spared_same st next (lent.Raw row family qualifier lo hi) r is (accepts ok (tells told)) = refl
 spared_same st next q r is step = absurd is
 
--- ---- the mark is told still
+-- ---- the mark is still told
 
 may_told : (n : ℕ) (old new : Option ℕ) → MayHold n old new → IsSome old → IsSome new
 may_told n old new (inl same) told = subst (λ (o : Option ℕ). IsSome o) (sym same) told
@@ -161,7 +161,7 @@ module _ {F M : Type 0} (files : Files F) (store : MarkStore M) where
           };
         }
 
-    -- what a refused checkpoint leaves there
+    -- the state that a refused checkpoint leaves in the files
     stores_after : (e : Refusal) → files.replaces → IsPlainAnswer files store old lent.Checkpoint (codec.Refused e) new → (kept st : State) → StoresState files.contents store.mark old kept → IsReached st → Shows files.contents old st
         → StoresState files.contents store.mark new kept ⊎ StoresState files.contents store.mark new st
     stores_after e replaces plain kept st stores reached shown =

@@ -1,4 +1,4 @@
--- Steps that leave the tablets where they are, and states that differ in their tablets alone.
+-- Steps that leave the tablets' places unchanged, and states that differ only in their tablets.
 use Rattle.std.proofs.Common.{◌≡◌, ◌⊎◌, ℕ, inl, inr, List, Option, Some, None, refl}
 use Rattle.std.specs.Prelude.{⊤}
 use Rattle.si_model.specs.Machine.{State, Commit, Place, Request, Reply, Split, Move}
@@ -49,7 +49,7 @@ module _ (st : State) where
   acts_keep _ _ _ (splits cut) keeps = absurd keeps
   acts_keep _ _ _ (moves_tablet is_moved) keeps = absurd keeps
 
-  -- a step that isn't asked to split or move a tablet leaves the places, and the next tablet's number
+  -- a step that isn't a split or a move leaves the places unchanged, and the next tablet's number
   pub keeps_places : (q : Request) (r : Reply) (next : State) → Step st q r next → KeepsPlaces q → (next.places ≡ st.places) × (next.next_tablet ≡ st.next_tablet)
   keeps_places q _ _ (refuses n) keeps = (refl, refl)
   keeps_places q r next (accepts ok a) keeps = acts_keep q r next a keeps
@@ -94,6 +94,6 @@ module _ (st : State) (ps : List Place) (n : ℕ) where
   clients_placed : (cl : Clients) → ShowsClients cl st → ShowsClients cl (placed st ps n)
   clients_placed cl shown = record { top = shown.top; sessions = λ t. at_placed _ t (shown.sessions t); count = shown.count }
 
-  -- what shows a state's transactions shows them wherever the tablets are
+  -- cells and sessions that show a state's transactions show them wherever the tablets are
   pub shows_placed : (cells : Cells) (cl : Clients) (last : ℕ) → clients.Shows cells cl last st → clients.Shows cells cl last (placed st ps n)
   shows_placed cells cl last shown = record { store = cells_placed cells shown.store; sessions = clients_placed cl shown.sessions; top = shown.top }

@@ -1,4 +1,4 @@
--- How what was served joins.
+-- How served parts join.
 use Rattle.std.proofs.Common.{◌≡◌, ℕ, ◌+◌, ◌-◌, min, ◌<◌, ◌≤◌, Bool, true, false, nat_le, List, [], ◌∷◌, ◌++◌, length, take, drop, map, Option, Result, Ok, Err, ◌⊎◌, inl, inr, refl, sym, ap, ◌∙◌, subst, arith, append_assoc, append-nil, length-append, length-drop, length-take, take-append-drop}
 use Rattle.std.specs.List.{AllByRecursion}
 use Rattle.std.specs.Io.KnownBytes.{Appends}
@@ -70,14 +70,14 @@ no_oversize rest p = let w = p.within in grind (arith, nat_tests)
 pub oversize : (rest : List ℕ) → IsTooLong rest → taken_of [] rest ≡ Oversize ∷ []
 oversize rest p = let w = p.past in let v = p.whole_length in grind (arith, nat_tests)
 
--- bodies alone are taken before less than a frame
+-- before less than a frame only bodies are taken
 pub taken-partial : (bodies : List (List ℕ)) (rest : List ℕ) → IsPartial rest → map Body bodies ≡ taken_of bodies rest
 taken-partial bodies rest p = sym (append-nil (map Body bodies)) ∙ ap (λ l. map Body bodies ++ l) (sym (no_oversize rest p))
 
 pub taken-large : (bodies : List (List ℕ)) (rest : List ℕ) → IsTooLong rest → map Body bodies ++ Oversize ∷ [] ≡ taken_of bodies rest
 taken-large bodies rest p = ap (λ l. map Body bodies ++ l) (sym (oversize rest p))
 
--- ---- runs, answers and what is written
+-- ---- runs, answers and written bytes
 
 pub frame-long : (body : List ℕ) → 0 < length (frame body)
 unfolding frame
@@ -102,7 +102,7 @@ module _ {S : Type 0} (shows : S → State → Type 0) where
         shows = two.shows;
       }
 
-  -- what is shown stays shown
+  -- a shown state is still shown
   pub RunsAs-kept : (a b c : S) (ts : List Taken) (rs : List Reply) → RunsAs shows a b ts rs → ((st : State) → shows b st → shows c st) → RunsAs shows a c ts rs
   RunsAs-kept a b c ts rs first keeps = λ before reached shown.
       let one = first before reached shown in
@@ -122,7 +122,7 @@ module _ {S : Type 0} (shows : S → State → Type 0) (says : S → Lent → Co
     said = SaysAll-append says between a b c ts us rs qs first.said second.said;
   }
 
-  -- a reply that was cut short, after more was written before it
+  -- a reply that was cut short, after complete ones
   cut_after : (a b c : S) (ts us : List Taken) (rs qs : List Reply) (written : List ℕ) → AnswersAs shows says between a b ts rs → IsCutShort says between b c us qs written
       → IsCutShort says between a c (ts ++ us) (rs ++ qs) (written_of rs ++ written)
   cut_after a b c ts us rs qs written p q = record {
@@ -170,7 +170,7 @@ module _ {S : Type 0} (shows : S → State → Type 0) (says : S → Lent → Co
   pub Answered-before : (a : S) (bytes : List ℕ) (h : Option (List ℕ)) → Answered shows says between a a (bytes ++ []) bytes h h
   Answered-before a bytes h = subst (λ (l : List ℕ). Answered shows says between a a l bytes h h) (sym (append-nil bytes)) (Answered-none a bytes h)
 
-  -- less than a frame stays
+  -- less than a frame is left alone
   pub Answered-part : (a : S) (bytes rest : List ℕ) (h : Option (List ℕ)) → IsPartial bytes → rest ≡ bytes → IsPartial rest × Answered shows says between a a bytes rest h h
   Answered-part a bytes rest h partial same =
       subst (λ l. IsPartial l × Answered shows says between a a bytes l h h) (sym same) (partial, Answered-none a bytes h)
@@ -195,7 +195,7 @@ module _ {S : Type 0} (shows : S → State → Type 0) (says : S → Lent → Co
     appended = p.appended;
   }
 
-  -- one frame, after which came what is between its reply and the next
+  -- one frame, with the upkeep after its reply
   pub Answered-one : (a b c : S) (body bytes rest : List ℕ) (reply : Reply) (h i : Option (List ℕ)) → IsBody body → bytes ≡ frame body ++ rest → RunsAs shows a b (Body body ∷ []) (reply ∷ []) → SaysOf says a (Body body) reply b
       → between b c → ((st : State) → shows b st → shows c st) → Appends h i (frame (reply_body reply)) → Answered shows says between a c bytes rest h i
   Answered-one a b c body bytes rest reply h i fits whole run says_of tends keeps appended = record {
@@ -223,7 +223,7 @@ module _ {S : Type 0} (shows : S → State → Type 0) (says : S → Lent → Co
     appended = Appends-trans h i j _ _ p.appended q.appended;
   }
 
-  -- bytes that were not looked at come after the rest
+  -- unread bytes are added to the rest
   pub Handles-more_cut : (a b : S) (bytes rest more : List ℕ) (h i : Option (List ℕ)) → Handles shows says between (Err faults.Write) a b bytes rest h i → Handles shows says between (Err faults.Write) a b (bytes ++ more) (rest ++ more) h i
   Handles-more_cut a b bytes rest more h i p = record {
     bodies = p.bodies;
@@ -335,7 +335,7 @@ module _ {S : Type 0} (shows : S → State → Type 0) (says : S → Lent → Co
   fewer_more bytes rest more (inl large) = inl (IsTooLong-more rest more large)
   fewer_more bytes rest more (inr fewer) = inr (omega (arith, fewer, length-append rest more, length-append bytes more))
 
-  -- bytes are handled to where those after some answered frames are
+  -- bytes are handled as their rest after some answered frames is
   pub HandlesTo-after : (result : Result Rest ServeFault) (a b c : S) (bytes mid rest : List ℕ) (h i j : Option (List ℕ)) → Answered shows says between a b bytes mid h i → HandlesTo shows says between result b c mid rest i j
       → HandlesTo shows says between result a c bytes rest h j
   HandlesTo-after (Ok rests.Partial) a b c bytes mid rest h i j p q = (q.0, Answered-then a b c bytes mid rest h i j p q.1)
@@ -368,7 +368,7 @@ module _ {S : Type 0} (shows : S → State → Type 0) (says : S → Lent → Co
 
   -- ---- a piece
 
-  -- some of a piece was taken, after those before it, and what was then at hand was handled
+  -- part of a piece was taken, after the bytes before it, and the bytes then at hand were handled
   pub fed : (result : Result Rest ServeFault) (a b c : S) (first piece part hand hand' rest : List ℕ) (at n : ℕ) (h i j : Option (List ℕ)) → Answered shows says between a b (first ++ take at piece) hand h i → hand' ≡ hand ++ take n part
       → take at piece ++ take n part ≡ take (at + n) piece → HandlesTo shows says between result b c hand' rest i j → HandlesTo shows says between result a c (first ++ take (at + n) piece) rest h j
   fed result a b c first piece part hand hand' rest at n h i j p grown more q =
@@ -380,7 +380,7 @@ module _ {S : Type 0} (shows : S → State → Type 0) (says : S → Lent → Co
   rest_of_piece : (first piece : List ℕ) (m : ℕ) → (first ++ take m piece) ++ drop m piece ≡ first ++ piece
   rest_of_piece first piece m = append_assoc first (take m piece) (drop m piece) ∙ ap (λ l. first ++ l) (take-append-drop m piece)
 
-  -- the piece was not taken to its end
+  -- the piece was not taken completely
   pub piece_fails : (result : Result Rest ServeFault) (fault : ServeFault) (a c : S) (first piece hand rest : List ℕ) (m : ℕ) (h i : Option (List ℕ)) → result ≡ Err fault → HandlesTo shows says between (Err fault) a c (first ++ take m piece) rest h i
       → (left : List ℕ) × IsRest result left hand × HandlesTo shows says between result a c (first ++ piece) left h i
   piece_fails result fault a c first piece hand rest m h i is p =
@@ -391,7 +391,7 @@ module _ {S : Type 0} (shows : S → State → Type 0) (says : S → Lent → Co
             (HandlesTo-more_error fault a c (first ++ take m piece) rest (drop m piece) h i p),
       )
 
-  -- Nothing was at hand, and the whole frames that the piece begins with were answered.
+  -- Nothing was at hand, and the whole frames at the front of the piece were answered.
   pub piece_after : (result : Result Rest ServeFault) (a b c : S) (hand piece behind hand' : List ℕ) (h i j : Option (List ℕ)) → hand ≡ [] → Answered shows says between a b piece behind h i
       → ((rest : List ℕ) × IsRest result rest hand' × HandlesTo shows says between result b c (hand ++ behind) rest i j)
       → (rest : List ℕ) × IsRest result rest hand' × HandlesTo shows says between result a c (hand ++ piece) rest h j
@@ -443,6 +443,6 @@ has_room hand p = if_few (nat_le 4 (length hand)) refl where
   if_few true is = let w = p.within in let s = p.short in grind (arith, nat_tests)
   if_few false is = grind (arith, nat_tests)
 
--- what was taken of the part of a piece from a place on
+-- the bytes taken from a place of a piece on
 pub fits_piece : (n at room : ℕ) (piece : List ℕ) → at ≤ length piece → n ≡ min (length (take (length piece - at) (drop at piece))) room → at + n ≤ length piece
 fits_piece n at room piece within is = omega (arith, is, length-take (length piece - at) (drop at piece), length-drop at piece, within)

@@ -1,6 +1,6 @@
--- A server's steps, by those of its sessions.
+-- A server's steps, from its sessions' steps.
 use Rattle.std.proofs.Common.{◌≡◌, ℕ, Option, Some, None, Result, Ok, Err, IsErrOf, refl, ap, ◌∙◌, ◌⊎◌, subst, sym, inl, inr}
-use Rattle.std.specs.Prelude.{⊤, ◌≢◌}
+use Rattle.std.specs.Prelude.{⊤}
 use Rattle.std.specs.FinMap.{empty, get-empty}
 use Rattle.cell_key.specs.Faults.{HasRisen}
 use Rattle.cell_key.specs.Keys.{key_cmp}
@@ -38,7 +38,7 @@ use Rattle.server_loop.proofs.SamePlaces.{KeepsPlaces}
 use Rattle.server_loop.proofs.SplitSteps.{still_placed, still_next}
 
 module _ {F M : Type 0} (contents : F → Option Contents) (old new : Server F M) where
-  -- a step of a session, which leaves the tablets where they are, the cleaners and the collectors
+  -- a step of a session, which leaves the tablets' places, the cleaners and the collectors unchanged
   pub steps_as : (request : Request) (reply : Reply) → KeepsPlaces request → kind_of request ≡ OfSessions → new.cleaners ≡ old.cleaners
       → new.collectors ≡ old.collectors → ((st : State) → IsReached st → Shows contents old st → ChangesCells (server_cells contents old) st (server_cells contents new))
       → (HoldsIn contents old → clients.Steps (cells_in (contents old.rows.cluster.files) old.rows.cluster.tablets) old.clients old.oracle.last request reply (cells_in (contents new.rows.cluster.files) new.rows.cluster.tablets) new.clients new.oracle.last)
@@ -57,21 +57,13 @@ module _ {F M : Type 0} (contents : F → Option Contents) (old new : Server F M
       } in
       (next, taken, after, whole before reached shown.in_order shown.shows)
 
--- nothing was drawn for a begin, by why it was refused
+-- nothing was drawn for a begin, by the reason of its refusal
 abbrev pub Undrawn : Refusal → Type 0
 Undrawn refusal =
     IsErrOf {T = ℕ} (Err refusal) TooManySessions
     ⊎ (IsErrOf {T = ℕ} (Err refusal) Exhausted ⊎ IsErrOf {T = ℕ} (Err refusal) NoMemory)
 
--- what a refused begin leaves, if no device failed
-pub begin_leaves : (refusal : Refusal) (P : Type 0) → IsBeginRefusal refusal → (Undrawn refusal → P) → refusal ≢ Device → P
-begin_leaves TooManySessions P is undrawn other = undrawn (inl refl)
-begin_leaves Exhausted P is undrawn other = undrawn (inr (inl refl))
-begin_leaves NoMemory P is undrawn other = undrawn (inr (inr refl))
-begin_leaves Device P is undrawn other = absurd (other refl)
-begin_leaves _ P is undrawn other = absurd is
-
--- and of the oracle
+-- the effects of a refused begin on the oracle
 pub begin_leaves_oracle : {F M : Type 0} (mark : M → Option ℕ) (refusal : Refusal) (old new : Server F M) → IsBeginRefusal refusal → (Undrawn refusal → new.oracle ≡ old.oracle)
     → LeavesMark mark old new × SameNumbers old.oracle new.oracle → LeavesOracle mark refusal old new
 begin_leaves_oracle mark TooManySessions old new is undrawn device = undrawn (inl refl)
@@ -80,7 +72,7 @@ begin_leaves_oracle mark NoMemory old new is undrawn device = undrawn (inr (inr 
 begin_leaves_oracle mark Device old new is undrawn device = device
 begin_leaves_oracle mark _ old new is undrawn device = absurd is
 
--- a refusal of another kind isn't that bytes are damaged
+-- a refusal of another kind isn't Damaged
 pub undamaged : (P : Refusal → Type 0) (refusal : Refusal) → P refusal → (P Damaged → ⊥) → Refused refusal ≡ Refused Damaged → ⊥
 undamaged P refusal holds none same = none (subst (IfRefused P) same holds)
 
@@ -106,7 +98,7 @@ abbrev pub IfTold : (Refusal → Type 0) → CodecReply → Type 0
 IfTold P (codec.Refused refusal) = P refusal
 IfTold P reply = ⊤
 
--- what is told of a call's refusal is told of the reply, and the other way round
+-- a call's refusal and its reply have the same properties
 pub as_err : {A : Type 0} (result : Result A Refusal) (refusal other : Refusal) → result ≡ Err refusal → codec.Refused refusal ≡ codec.Refused other → IsErrOf result other
 as_err result refusal other is same = subst (IfTold (λ (r : Refusal). IsErrOf result r)) same is
 
@@ -133,7 +125,7 @@ progress_undamaged (steps.Committed stamp) = λ e. cc
 progress_undamaged steps.Lost = λ e. cc
 progress_undamaged (steps.Finished place count) = λ e. cc
 
--- what is done is no refusal
+-- an accepted step is no refusal
 pub progress_told : (P : Refusal → Type 0) (progress : Progress) → IfRefused P (progress_reply progress)
 progress_told P (steps.Held place count) = tt
 progress_told P (steps.Conflict place) = tt
@@ -143,11 +135,11 @@ progress_told P steps.Lost = tt
 progress_told P (steps.Finished place count) = tt
 
 module _ {F M : Type 0} (contents : F → Option Contents) (old new : Server F M) where
-  -- a restart of the oracle, after which the same is shown
+  -- a restart of the oracle, after which the server shows the same
   pub restart_done : ((st : State) → Shows contents old st → Shows contents new st) → StepsAs (Shows contents) old new OracleRestart RestartDone
   restart_done still = λ before reached shown. (before, accepts (λ n applies. elim applies [ ]) (tells restarts), still before shown, λ same. cc)
 
-  -- a restart that a device's fault has kept back
+  -- a restart that was prevented by a device's fault
   pub restart_refused : (refusal : Refusal) → refusal ≡ Device → ((st : State) → Shows contents old st → Shows contents new st) → StepsAs (Shows contents) old new OracleRestart (Refused refusal)
   restart_refused refusal device still = λ before reached shown. (
     before,
@@ -156,7 +148,7 @@ module _ {F M : Type 0} (contents : F → Option Contents) (old new : Server F M
     undamaged (λ (r : Refusal). r ≡ Device) refusal device (λ h. cc),
   )
 
--- a reply is no refusal that the request can't have
+-- a reply is none of the refusals that the request can't have
 pub never : (P : Refusal → Type 0) (reply : CodecReply) (refusal : Refusal) → IfRefused P (replied reply) → (P refusal → ⊥) → reply ≡ codec.Refused refusal → ⊥
 never P reply refusal told none is = none (subst (λ (r : CodecReply). IfRefused P (replied r)) is told)
 
@@ -169,7 +161,7 @@ progress_goes (steps.Committed stamp) old new draws last = last
 progress_goes steps.Lost old new draws last = last
 progress_goes (steps.Finished place count) old new draws last = last
 
--- what is found is no refusal and no stamp
+-- the result of a read is no refusal and draws no stamp
 pub found_told : (P : Refusal → Type 0) (found : Found) → IfRefused P (found_reply found)
 found_told P (founds.Value value) = tt
 found_told P founds.Nothing = tt
@@ -180,7 +172,7 @@ found_stays (founds.Value value) last = refl
 found_stays founds.Nothing last = refl
 found_stays (founds.Pending start) last = refl
 
--- a value that is found is short
+-- a value in the answer is short
 pub short_found : (found : Found) → IsShort found → KeepsToLimits (codec.Get found)
 short_found (founds.Value value) short = short
 short_found founds.Nothing short = tt
@@ -197,7 +189,7 @@ not_done reply refusal done same = subst IsDone same done
 pub ok_not : {A E : Type 0} (value : A) (fault : E) → ¬ (Ok value ≡ Err fault)
 ok_not value fault e = cc
 
--- a name is refused for two reasons alone
+-- a name has only two refusals
 pub named_not : {bad memory : Refusal} (refusal other : Refusal) → (bad ≡ other → ⊥) → (memory ≡ other → ⊥) → (refusal ≡ bad) ⊎ (refusal ≡ memory)
     → codec.Refused refusal ≡ codec.Refused other → ⊥
 named_not refusal other bad memory which same =
@@ -214,7 +206,7 @@ refused_either e a b which = elim which [
   | inr is ↦ inr (ap (λ (r : Refusal). codec.Refused r) is)
 ]
 
--- one of two counts tells a device's fault, and the other stays
+-- one of two counts tells a device's fault, and the other is unchanged
 pub first_stays : {A : Type 0} {a b c d : ℕ} {r : Result A Refusal} → HasOneReason a b c d r → ¬ IsErrOf r Device → b ≡ a
 first_stays one none = elim one [
   | inl first ↦ first.0.told none
@@ -236,7 +228,7 @@ one_rose one is = elim one [
 never_some : {X P : Type 0} (x : X) → None ≡ Some x → P
 never_some x e = let none : ⊥ = cc in absurd none
 
--- no cells show the new machine
+-- an empty cell map shows the new machine
 pub new_cells : ShowsCells empty new_machine
 new_cells = record {
   marks = λ x t m. elim m [ ];

@@ -1,4 +1,4 @@
--- The machine's steps where the tablets of a cluster are split and moved.
+-- The machine's steps when the tablets of a cluster are split and moved.
 use Rattle.std.proofs.Common.{◌≡◌, ◌<◌, ◌≤◌, ◌+◌, ℕ, inl, inr, List, length, map, sym, ap, subst, ◌∙◌, arith}
 use Rattle.std.proofs.lemmas.Bool.{cases_lt}
 use Rattle.std.specs.List.{Contains}
@@ -38,12 +38,12 @@ module _ (st : State) (old : List PlaceView) (same : st.places ≡ machine_place
       let all : length (machine_places new) ≡ length new = machine_length new in
       omega arith
 
-  -- a split that isn't to be
+  -- a split that is barred
   pub split_barred : (row : List ℕ) → IsRow row → BarsSplit row old → Refuses st (Split row) BadSplit
   split_barred row is (inl end) = split_end_first is (is_end_so st old same row end)
   split_barred row is (inr full) = split_full_first is (subst (λ (k : ℕ). most_tablets ≤ k) (sym (length_so st old same)) full)
 
-  -- a tablet is put on another server
+  -- a tablet is moved to another server
   pub moves_step : (n server : ℕ) (names : List ℕ) (new : List PlaceView) → IsTable old → HasTablet n old → server < most_servers
       → new ≡ moved n server (with_files n names old) → Step st (Move n server) MoveDone (placed st (machine_places new) st.next_tablet)
   moves_step n server names new table has known e =
@@ -56,7 +56,7 @@ module _ (st : State) (old : List PlaceView) (same : st.places ≡ machine_place
       accepts (move_ok (has_tablet_so st old same n (p, h, e)) known)
       (moves_tablet (subst (λ (ps : List machine.Place). machine.Moves n server ps ps) (sym same) (stays_so n server old table p h e s)))
 
-  -- a move that isn't to be
+  -- a move that is refused
   pub move_unknown : (n server : ℕ) → ¬ HasTablet n old → Refuses st (Move n server) UnknownTablet
   move_unknown n server none = move_unknown_first (λ has. none (has_tablet_back st old same n has))
 
@@ -68,10 +68,10 @@ module _ (st : State) (old : List PlaceView) (same : st.places ≡ machine_place
   move_next n server names new next e =
       next ∙ ap (λ (k : ℕ). k + 1) (length_so st old same ∙ sym (move_length n server names old) ∙ ap length (sym e) ∙ sym (machine_length new))
 
--- ---- steps that leave the tablets where they are
+-- ---- steps that leave the tablets' places unchanged
 
 module _ (st next : State) (q : machine.Request) (r : machine.Reply) (step : Step st q r next) (keeps : KeepsPlaces q) where
-  -- if no tablet gets another spot, the machine has the new places after the step
+  -- if no tablet's spot changes, the machine has the new places after the step
   pub still_placed : (old new : List PlaceView) → map spot_of new ≡ map spot_of old → machine_places old ≡ st.places → machine_places new ≡ next.places
   still_placed old new spots same = ap (map machine_place) spots ∙ same ∙ sym (keeps_places st q r next step keeps).0
 

@@ -18,7 +18,7 @@ use Rattle.server_loop.specs.declared.serving.Rest.TheVariants as rests
 use Rattle.server_loop.proofs.FrameHeads.{hand_frame, hand_long}
 use Rattle.server_loop.proofs.ServingLemmas.{AnswersAs-none, Answered-more, Answered-none, Answered-then, Handles-after, BeginsNoFrame-from_large, BeginsNoFrame-from_partial, has_room, IsPartial-nil, taken-large, taken-partial}
 
--- ---- bytes that stay
+-- ---- unchanged bytes
 
 pub keeps_none : (h i : Option (List ℕ)) → Keeps h i → Appends h i []
 keeps_none None i p = tt
@@ -36,12 +36,12 @@ keeps_then (Some x) None j bs p q = absurd p
 keeps_then (Some x) (Some y) None bs p q = absurd q
 keeps_then (Some x) (Some y) (Some z) bs p q = q ∙ ap (λ l. l ++ bs) p
 
--- ---- what is left
+-- ---- the rest
 
 pub partial_within : (hand : List ℕ) → IsPartial hand → length hand ≤ most_left
 partial_within hand partial = let few : length hand < 1048580 = has_room hand partial in omega (arith, few)
 
--- of a part of a frame and one piece, of which a frame was answered
+-- the rest of a partial frame and one piece, of which a frame was answered
 after_frame : (hand read rest b : List ℕ) (bodies : List (List ℕ)) → IsPartial hand → IsBody b → length read ≤ 65536 → hand ++ read ≡ frames (b ∷ bodies) ++ rest → length rest ≤ most_dropped
 after_frame hand read rest b bodies partial fits within whole =
     let few = hand_frame hand read b (frames bodies ++ rest) partial fits (whole ∙ append_assoc (frame b) (frames bodies) rest) in
@@ -56,14 +56,14 @@ dropped_within hand read rest [] partial long each within whole =
     omega (arith, few, within, same, length-append hand read)
 dropped_within hand read rest (b ∷ bodies) partial long each within whole = after_frame hand read rest b bodies partial each.0 within whole
 
--- or of which fewer bytes are left
+-- or whose rest is shorter
 pub cut_within : (hand read rest : List ℕ) (bodies : List (List ℕ)) → IsPartial hand → AllByRecursion IsBody bodies → length read ≤ 65536 → hand ++ read ≡ frames bodies ++ rest → IsTooLong rest ⊎ (length rest < length (hand ++ read))
     → length rest ≤ most_left
 cut_within hand read rest bodies partial each within whole (inl large) = let few = dropped_within hand read rest bodies partial large each within whole in omega (arith, few)
 cut_within hand read rest [] partial each within whole (inr fewer) = let same : length (hand ++ read) ≡ length rest = ap length whole in absurd (omega (arith, fewer, same))
 cut_within hand read rest (b ∷ bodies) partial each within whole (inr fewer) = let few = after_frame hand read rest b bodies partial each.0 within whole in omega (arith, few)
 
--- what was read to the front of a piece
+-- the bytes read into the front of a piece
 pub taken_within : (n : ℕ) (buffer : List ℕ) → length buffer ≤ 65536 → length (take n buffer) ≤ 65536
 taken_within n buffer within = omega (arith, within, length-take n buffer)
 
@@ -80,14 +80,14 @@ EndsBy-after (Err faults.Write) r s front read rest left h i j k known counted p
 EndsBy-after (Err faults.NoMemory) r s front read rest left h i j k known counted p = absurd (known refl)
 EndsBy-after (Err faults.Log) r s front read rest left h i j k known counted p = absurd p
 
--- what an end takes is taken too where the last flush fails
+-- the inputs that an end takes are also taken if the last flush fails
 pub takes_so : (end : End) (bodies : List (List ℕ)) (r : ℕ) (read rest : List ℕ) (left h i : Option (List ℕ)) (taken : List Taken) → EndsBy (Ok end) r read rest left h i → taken ≡ taken_of bodies rest → TakesBodies (Err faults.Write) bodies rest taken
 takes_so ends.Clean bodies r read rest left h i taken p q = inl (q ∙ sym (taken-partial bodies rest (subst IsPartial (sym p.0) IsPartial-nil)))
 takes_so ends.Truncated bodies r read rest left h i taken p q = inl (q ∙ sym (taken-partial bodies rest p.1))
 takes_so ends.TooLarge bodies r read rest left h i taken p q = inr (p.0, q ∙ sym (taken-large bodies rest p.0))
 takes_so ends.ReadsUsedUp bodies r read rest left h i taken p q = inl (q ∙ sym (taken-partial bodies rest p.1))
 
--- and as much is left
+-- and the rest is the same
 pub left_so : (end : End) (r : ℕ) (read rest : List ℕ) (left h i : Option (List ℕ)) → EndsBy (Ok end) r read rest left h i → length rest ≤ most_left
 left_so ends.Clean r read rest left h i p = partial_within rest (subst IsPartial (sym p.0) IsPartial-nil)
 left_so ends.Truncated r read rest left h i p = partial_within rest p.1
@@ -109,7 +109,7 @@ module _ {S : Type 0} (shows : S → State → Type 0) (says : S → Lent → Co
   nothing_written (Err faults.NoMemory) a = (refl, refl)
   nothing_written (Err faults.Log) a = (refl, refl)
 
-  -- ---- a read that gave nothing
+  -- ---- a read without bytes
 
   pub ServesOn-none : (result : Result End ServeFault) (hand : List ℕ) (a : S) (l m h i : Option (List ℕ)) (r : ℕ) → Consumes l m [] → IsPartial hand → Keeps h i → EndsBy result r [] hand m h i
       → ServesOn shows says between hand a a l m h i r result
@@ -140,7 +140,7 @@ module _ {S : Type 0} (shows : S → State → Type 0) (says : S → Lent → Co
       subst (λ (x : Result (Option End) ServeFault). ReadsOn shows says between x hand hand' a a l l h i r s) (sym (is ∙ ap (λ f. Err f) write))
       (ServesOn-none (Err faults.Write) hand a l l h i r (Consumes-nil l) partial keeps (partial_within hand partial))
 
-  -- ---- a read that gave bytes
+  -- ---- a read with bytes
 
   kept_handled : (result : Result End ServeFault) (a b : S) (bytes rest : List ℕ) (h i j : Option (List ℕ)) → Keeps h i → Handles shows says between result a b bytes rest i j → Handles shows says between result a b bytes rest h j
   kept_handled result a b bytes rest h i j keeps p = record {
@@ -177,14 +177,14 @@ module _ {S : Type 0} (shows : S → State → Type 0) (says : S → Lent → Co
   fails_so faults.NoMemory a b hand hand' read rest l m h i j r s consumed partial within keeps p = absurd p
   fails_so faults.Log a b hand hand' read rest l m h i j r s consumed partial within keeps p = absurd p
 
-  -- the piece was not answered to its end
+  -- the piece was not answered completely
   pub read_fails : (result : Result (Option End) ServeFault) (fault : ServeFault) (a b : S) (hand hand' read : List ℕ) (l m h i j : Option (List ℕ)) (r s : ℕ) → result ≡ Err fault → Consumes l m read → IsPartial hand → length read ≤ 65536 → Keeps h i
       → ((rest : List ℕ) × IsRest (Err fault) rest hand' × HandlesTo shows says between (Err fault) a b (hand ++ read) rest i j) → ReadsOn shows says between result hand hand' a b l m h j r s
   read_fails result fault a b hand hand' read l m h i j r s is consumed partial within keeps p =
       subst (λ (x : Result (Option End) ServeFault). ReadsOn shows says between x hand hand' a b l m h j r s) (sym is)
       (fails_so fault a b hand hand' read p.0 l m h i j r s consumed partial within keeps p.2)
 
-  -- a length past the limit stands in it
+  -- it contains a length past the limit
   pub read_large : (a b : S) (hand hand' read : List ℕ) (l m h i j : Option (List ℕ)) (r : ℕ) → Consumes l m read → IsPartial hand → length read ≤ 65536 → Keeps h i
       → ((rest : List ℕ) × IsRest (Ok rests.TooLarge) rest hand' × HandlesTo shows says between (Ok rests.TooLarge) a b (hand ++ read) rest i j) → ServesOn shows says between hand a b l m h j r (Ok ends.TooLarge)
   read_large a b hand hand' read l m h i j r consumed partial within keeps p = record {
@@ -217,7 +217,7 @@ module _ {S : Type 0} (shows : S → State → Type 0) (says : S → Lent → Co
   pub Served-none : (a : S) (l h : Option (List ℕ)) (r : ℕ) → Served shows says between [] [] a a l l h h r r
   Served-none a l h r = record { read = []; consumed = Consumes-nil l; counted = omega arith; partial = IsPartial-nil; answered = Answered-none shows says between a [] h }
 
-  -- the same, of a framer that holds nothing
+  -- the same for an empty framer
   pub none_served : (a : S) (hand : List ℕ) (none : hand ≡ []) (l h : Option (List ℕ)) (r : ℕ) → Served shows says between [] hand a a l l h h r r
   none_served a hand none l h r = subst (λ (x : List ℕ). Served shows says between [] x a a l l h h r r) (sym none) (Served-none a l h r)
 
@@ -346,6 +346,6 @@ none_held b hand is told = none_long hand (grind (arith, nat_tests))
 pub some_held : (b : Bool) (hand : List ℕ) → b ≡ (length hand == 0) → b ≡ false → 0 < length hand
 some_held b hand is told = grind (arith, nat_tests)
 
--- a read that gave nothing was at the end
+-- a read without bytes was at the end
 pub at_its_end : (n : ℕ) (buffer : List ℕ) (l m : Option (List ℕ)) → n ≡ 0 → 0 < length buffer → Consumes l m (take n buffer) × (n ≡ 0 → 0 < length buffer → IsAtEnd m) → Consumes l m [] × IsAtEnd m
 at_its_end n buffer l m none room p = (subst (λ (k : ℕ). Consumes l m (take k buffer)) none p.0, p.1 none room)

@@ -1,4 +1,4 @@
--- A server that was tended shows what it showed, whether files were merged or not.
+-- A server shows the same after its upkeep, whether files were merged or not.
 use Rattle.std.proofs.Common.{◌≡◌, ℕ, List, map, None, Option, Some, refl, arith, ap, sym, subst, ◌∙◌}
 use Rattle.cell_key.specs.Cells.{Cells}
 use Rattle.file_store.specs.Store.{Contents}
@@ -53,7 +53,7 @@ module _ {F : Type 0} (contents : F → Option Contents) (faults : F → ℕ) wh
   merges_follow law None journal old new is keeps holds follows = subst (λ (state : ClusterState F). Follows contents state journal) (sym is) follows
   merges_follow law (Some most) journal old new is keeps holds follows = law.merges most journal old new is keeps holds follows
 
-  -- what is written down follows what is shown, after compactions and merges
+  -- the journal follows the shown cells, after compactions and merges
   pub tends_follow : KeepsFollowing contents faults → (limits : FlushLimits) (merge : Option ℕ) (journal : Option JournalView) (old mid new : ClusterState F) → CompactsFull contents faults limits old mid → KeepsShown contents faults old mid → Merges contents faults merge mid new → KeepsShown contents faults mid new
       → Holds contents old → Follows contents old journal → Follows contents new journal
   tends_follow law limits merge journal old mid new compacts first merges then holds follows =

@@ -1,4 +1,4 @@
--- Why the upkeep of tablets and raw reads are refused, and where they are not.
+-- The refusals of tablets' upkeep and of raw reads, and when they do not come.
 use Rattle.std.proofs.Common.{◌≡◌, ◌⊎◌, ◌<◌, ◌≤◌, ℕ, List, Bool, true, false, ltb, inl, inr, refl, arith, lit<}
 use Rattle.std.proofs.lemmas.Bool.{ltb-true, ltb-false}
 use Rattle.cell_key.specs.Names.{IsRow, IsFamily}
@@ -40,7 +40,7 @@ module _ (st : State) where
   merge_accepted k n has two m (merge_unknown none) = none has
   merge_accepted k n has two m (merge_few few) = omega (arith, few, two)
 
-  -- a count may be bad: it is below two, or there are fewer files, of which the machine knows nothing
+  -- a count may be bad: it is below two, or the tablet has fewer files, which the machine doesn't know
   pub merge_bad : (k n : ℕ) → HasTablet st k → Refuses st (Merge k n) BadCount
   merge_bad k n has = by_count (ltb n 2) refl
     where

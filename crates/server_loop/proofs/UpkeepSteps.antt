@@ -1,4 +1,4 @@
--- The machine's steps where a server keeps up its tablets, and where cells are read raw.
+-- The machine's steps for the upkeep of tablets, and for raw reads.
 use Rattle.std.proofs.Common.{◌≡◌, ◌<◌, ◌≤◌, ◌+◌, ◌⊎◌, ℕ, inl, inr, List, length, map, Option, refl, sym, ap, subst, ◌∙◌, arith}
 use Rattle.std.proofs.lemmas.Bool.{cases_lt}
 use Rattle.cell_key.specs.Cells.{Cells}
@@ -34,7 +34,7 @@ use Rattle.server_loop.proofs.CellChanges.{unchanged_if}
 use Rattle.server_loop.proofs.OthersShown.{cleaners_stay, collectors_stay, places_not_cleaners, places_not_collectors}
 use Rattle.server_loop.proofs.SamePlaces.{placed, shows_placed}
 
--- ---- refusals, and what is done
+-- ---- refusals, and accepted steps
 
 module _ (st : State) (ps : List PlaceView) (same : st.places ≡ machine_places ps) where
   pub minor_refuses : (k : ℕ) (e : Refusal) → IsNumberedRefusal compaction.minor e → (e ≡ UnknownTablet → ¬ HasTablet k ps) → Refuses st (Minor k) e
@@ -114,7 +114,7 @@ checkpoint_refuses st NoMemory u = gives_up tt
 checkpoint_refuses st Damaged u = gives_up tt
 checkpoint_refuses st _ u = absurd u
 
--- what a flush is refused for is a refusal of the store
+-- a flush's refusals are refusals of the store
 pub flush_stores : (e : Refusal) → IsFlushRefusal compaction.minor e → IsStorageRefusal e
 flush_stores TooManyFiles u = tt
 flush_stores FileTooLarge u = tt
@@ -136,21 +136,21 @@ raw_refuses st x q lo hi _ u = absurd u
 pub raw_done : (st : State) (x : Cell) (q : Qualifier) (lo hi : ℕ) (found : Option (ℕ × List ℕ)) → IsRow x.row → IsFamily x.family → Step st (Raw x q lo hi) (RawFound found) st
 raw_done st x q lo hi found row family = accepts (raw_accepted st x q lo hi row family) (tells finds_raw)
 
--- a count of which a merge was made is two or more
+-- a count with which a merge was made is two or more
 pub two_merged : (k n next : ℕ) (old new : List Tablet) → ¬ Numbered (IsBadCount n) k old → Remakes (IsMerged n next) k old new → 2 ≤ n
 two_merged k n next old new good made = elim (cases_lt n 2) [
   | inl few ↦ absurd (good (record { tablet = made.was; numbered = made.was_numbered; such = λ within. omega (arith, few, within.0) }))
   | inr two ↦ two
 ]
 
--- other files leave each tablet where it is
+-- other files leave each tablet's place unchanged
 pub same_spots : {F : Type 0} (old new : ClusterState F) (files : F) → new ≡ record old { files = files } → spots_of new ≡ spots_of old
 same_spots old new files e = ap (λ (cluster : ClusterState _). spots_of cluster) e
 
 -- ---- whole steps
 
 module _ {F M : Type 0} (contents : F → Option Contents) (old new : Server F M) (kept : KeepsMap contents old.rows.cluster new.rows.cluster) (follows : Holds contents old.rows.cluster → Follows contents old.rows.cluster old.rows.journal → Follows contents new.rows.cluster new.rows.journal) (same_clients : new.clients ≡ old.clients) (same_last : new.oracle.last ≡ old.oracle.last) (same_cleaners : new.cleaners ≡ old.cleaners) (same_collectors : new.collectors ≡ old.collectors) where
-  -- if cells, sessions and stamps are as before, they show the same
+  -- if cells, sessions and stamps are unchanged, they show the same
   shows_kept : (st : State) → Holds contents old.rows.cluster → clients.Shows (cells_in (contents old.rows.cluster.files) old.rows.cluster.tablets) old.clients old.oracle.last st
       → clients.Shows (cells_in (contents new.rows.cluster.files) new.rows.cluster.tablets) new.clients new.oracle.last st
   shows_kept st held shows =
@@ -158,7 +158,7 @@ module _ {F M : Type 0} (contents : F → Option Contents) (old new : Server F M
       (subst (λ (n : ℕ). clients.Shows (cells_in (contents old.rows.cluster.files) old.rows.cluster.tablets) new.clients n st) (sym same_last)
       (rw same_clients shows))
 
-  -- and where no tablet has gone anywhere
+  -- and if no tablet has moved
   pub still_shown : (st : State) → spots_of new.rows.cluster ≡ spots_of old.rows.cluster → Shows contents old st → Shows contents new st
   still_shown st spots shown = record {
     in_order = ((kept shown.in_order.0).0, follows shown.in_order.0 shown.in_order.1);
@@ -170,12 +170,12 @@ module _ {F M : Type 0} (contents : F → Option Contents) (old new : Server F M
     next = shown.next;
   }
 
-  -- what leaves the machine as it is
+  -- requests that leave the machine unchanged
   pub tells_as : (request : Request) (reply : Reply) → spots_of new.rows.cluster ≡ spots_of old.rows.cluster → ((st : State) → Shows contents old st → Step st request reply st)
       → (Holds contents old.rows.cluster → reply ≡ Refused Damaged → ⊥) → StepsAs (Shows contents) old new request reply
   tells_as request reply spots step whole = λ before reached shown. (before, step before shown, still_shown before spots shown, whole shown.in_order.0)
 
-  -- a tablet is cut
+  -- a tablet is split
   pub splits_as : (row : List ℕ) (left : ℕ) → IsRow row → ¬ BarsSplit row old.rows.cluster.places → left ≡ length old.rows.cluster.places + 1 → IsCut row left old.rows.cluster.places new.rows.cluster.places
       → StepsAs (Shows contents) old new (Split row) (SplitOff left)
   splits_as row left is free count cut = λ before reached shown.
@@ -193,7 +193,7 @@ module _ {F M : Type 0} (contents : F → Option Contents) (old new : Server F M
       } in
       (next, step, after, λ e. cc)
 
-  -- a tablet is put on a server
+  -- a tablet is moved to a server
   pub moves_as : (n server : ℕ) → IsTable old.rows.cluster.places → HasTablet n old.rows.cluster.places → server < most_servers → ComesTo n server old.rows.cluster new.rows.cluster
       → StepsAs (Shows contents) old new (Move n server) MoveDone
   moves_as n server table has near comes = λ before reached shown.
@@ -223,7 +223,7 @@ module _ {F M : Type 0} (contents : F → Option Contents) (old new : Server F M
             )
       ]
 
--- what a name is refused for
+-- the refusals of a name
 pub split_named : (st : State) (row : List ℕ) (e : Refusal) → (e ≡ BadRow) ⊎ (e ≡ NoMemory) → (e ≡ BadRow → ¬ IsRow row) → Refuses st (Split row) e
 split_named st row e which bad = elim which [
   | inl is ↦ subst (λ (r : Refusal). Refuses st (Split row) r) (sym is) (split_row_first st row (bad is))
@@ -242,7 +242,7 @@ raw_family_named st x q lo hi e row which bad = elim which [
   | inr is ↦ subst (λ (r : Refusal). Refuses st (Raw x q lo hi) r) (sym is) (gives_up tt)
 ]
 
--- no name is damage
+-- a refusal of a name is never Damaged
 pub row_whole : (e : Refusal) → (e ≡ BadRow) ⊎ (e ≡ NoMemory) → ¬ (e ≡ Damaged)
 row_whole e which same = elim which [
   | inl is ↦ let both = sym is ∙ same in cc
@@ -255,7 +255,7 @@ family_whole e which same = elim which [
   | inr is ↦ let both = sym is ∙ same in cc
 ]
 
--- a cut is refused as a name is, or as the split of a tablet
+-- a split is refused as a name is, or as the split of a tablet
 pub cut_named : (e : Refusal) → (e ≡ BadRow) ⊎ (e ≡ NoMemory) → IsCutRefusal e
 cut_named e which = elim which [
   | inl is ↦ subst IsCutRefusal (sym is) tt
@@ -278,7 +278,7 @@ raw_refused BadRow told = tt
 raw_refused BadColumn told = tt
 raw_refused refusal told = told
 
--- what is done is no damage
+-- an accepted step is not Damaged
 pub minor_whole : ¬ (MinorDone ≡ Refused Damaged)
 minor_whole e = cc
 

@@ -1,4 +1,4 @@
--- What `serve` did is said of the whole stream.
+-- The effects of `serve`, in terms of the whole stream.
 use Rattle.std.proofs.Common.{◌≡◌, ◌≢◌, ℕ, List, [], ◌++◌, Option, None, Some, IfSome, Result, Ok, Err, IfOk, refl, sym, ap, ◌∙◌, subst, append_assoc, append-nil}
 use Rattle.std.specs.Io.KnownBytes.{Appends}
 use Rattle.si_model.specs.Machine.{State}
@@ -29,7 +29,7 @@ module _ {S : Type 0} (shows : S → State → Type 0) (says : S → Lent → Co
         appended = subst (Appends h i) q.writes.1 q.appended;
       }
 
-  -- a length past the limit, whatever comes after it
+  -- a length past the limit, whatever follows it
   past : (a b : S) (stream rest' : List ℕ) (h i : Option (List ℕ)) (r : ℕ) (p : Serves shows says between a b (Some stream) (Some rest') h i r (Ok ends.TooLarge)) → ServesStream shows says between a b stream h i ends.TooLarge
   past a b stream rest' h i r p =
       let q = p.handled in

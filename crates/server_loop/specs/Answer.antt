@@ -1,4 +1,4 @@
--- All that is said of an answer to a request, in eight parts.
+-- The contract of an answer to a request, in eight parts.
 use Rattle.std.specs.Prelude.{◌≡◌, ℕ, Option, IfSome, ⊤}
 use Rattle.cell_key.specs.declared.refusals.Refusal.{Refusal}
 use Rattle.cell_key.specs.declared.refusals.Refusal.TheVariants.{Damaged, Device, Exhausted, MemtableFull}
@@ -39,8 +39,7 @@ use Rattle.version_collector.specs.Shows as collectors
 
 -- ---- the machine
 
--- The answer is a step of the machine. It is refused what such a request may be, and what it holds
--- keeps to the limits.
+-- The answer is a step of the machine. Its refusal is one of this request's, and its contents are within the limits.
 pub record IsMachineStep {F M : Type 0} (contents : F → Option Contents) (request : Request)
     (reply : Reply) (old new : Server F M) : Type 0 where
   pub step : StepsAs (Shows contents) old new (asked request) (replied reply)
@@ -49,13 +48,13 @@ pub record IsMachineStep {F M : Type 0} (contents : F → Option Contents) (requ
 
 -- ---- stamps
 
--- the oracle that was restarted goes on from its mark, if that is known
+-- a restarted oracle continues from its mark, if the mark is known
 abbrev pub FollowsMark : {F M : Type 0} → (M → Option ℕ) → Reply → Server F M → Server F M → Type 0
 FollowsMark mark codec.OracleRestart old new = IfSome (mark (marks_of old)) (λ n. last_of new ≡ n)
 FollowsMark mark reply old new = ⊤
 
--- What Exhausted means: no stamp is left, for a Begin and for a Step that comes to draw one; no
--- number, for a cleaner and for a collector. Of a command its outcome says what.
+-- When Exhausted is answered: no stamp is left, for a Begin and for a Step that draws one; no number is left, for a
+-- cleaner or a collector. For a command its outcome gives the reason.
 abbrev pub LacksStamp : {F M : Type 0} → (F → Option Contents) → Request → Server F M → Type 0
 LacksStamp contents Begin old = last_of old ≡ 9_223_372_036_854_775_807
 LacksStamp contents (Step start) old =
@@ -65,8 +64,7 @@ LacksStamp contents (CleanBegin row family) old = (st : State) → Shows content
 LacksStamp contents CollectBegin old = (st : State) → Shows contents old st → collectors.IsUsedUp st
 LacksStamp contents request old = ⊤
 
--- A stamp that is answered is the oracle's next one, and nothing else but a restart moves the last
--- one.
+-- A stamp in an answer is the oracle's next one, and otherwise only a restart moves the last stamp.
 pub record DrawsStamps {F M : Type 0} (contents : F → Option Contents) (mark : M → Option ℕ)
     (request : Request) (reply : Reply) (old new : Server F M) : Type 0 where
   pub last : StampsGoOn (replied reply) (last_of old) (last_of new)
@@ -75,9 +73,8 @@ pub record DrawsStamps {F M : Type 0} (contents : F → Option Contents) (mark :
 
 -- ---- cells and room
 
--- A step makes its session's next edits, or its cleaner's, or its collector's visits, and takes
--- their room in memory. Nothing else changes a cell, and what room a command takes its outcome
--- says.
+-- A step makes the next edits of its session or cleaner, or its collector's visits, and takes their room in memory.
+-- Nothing else changes a cell. The room that a command takes is given by its outcome.
 pub record MakesEdits {F M : Type 0} (contents : F → Option Contents) (request : Request)
     (reply : Reply) (old new : Server F M) : Type 0 where
   pub changes : ChangesCells contents request reply old new
@@ -85,8 +82,8 @@ pub record MakesEdits {F M : Type 0} (contents : F → Option Contents) (request
 
 -- ---- sessions
 
--- What is always answered if a state is shown, and what a request leaves of the sessions, of the
--- cleaners, of the collectors and of the oracle.
+-- The answers that are always given in a shown state, and the effects of a request on the sessions, the cleaners, the
+-- collectors and the oracle.
 pub record ServesSessions {F M : Type 0} (contents : F → Option Contents) (mark : M → Option ℕ)
     (request : Request) (reply : Reply) (old new : Server F M) : Type 0 where
   pub told : (st : State) → Shows contents old st → IsAlwaysTold request reply st
@@ -97,10 +94,9 @@ pub record ServesSessions {F M : Type 0} (contents : F → Option Contents) (mar
 
 -- ---- tablets and files
 
--- What a request did to tablets and files. A checkpoint writes the sessions' top and the
--- collectors' greatest floor, and once it is done the files keep what the tablets show. Over files
--- that a put replaces as a whole, a refused one leaves there what they kept, or what the tablets
--- show.
+-- The effects of a request on tablets and files. A checkpoint writes the sessions' top and the collectors' greatest
+-- floor, and once it is accepted, the files keep the tablets' cells. If a put replaces files as a whole, a refused
+-- checkpoint leaves in the files the cells that they kept before, or the tablets' cells.
 abbrev pub TendsTablets : {F M : Type 0} → Files F → Request → Reply → Server F M → Server F M
     → Type 0
 TendsTablets files Checkpoint reply old new =
@@ -116,9 +112,8 @@ TendsTablets files request reply old new =
 
 -- ---- faults and causes
 
--- A step comes to make the edits that its session or its cleaner names, and the memtable of their
--- row's tablet has no room for them. If a state is shown, they are those of the next step there.
--- A collector's step comes to make edits of its visits.
+-- When MemtableFull is answered: the edits of the session's or the cleaner's step, or of the collector's visits, have
+-- no room in the memtable of their row's tablet. If a state is shown, they are the machine's edits of the next step.
 abbrev pub LacksRoom : {F M : Type 0} → (F → Option Contents) → Request → Server F M → Type 0
 LacksRoom contents (Step start) old =
     HasNoRoom OverfillsRecorded (rows_of old)
@@ -135,9 +130,9 @@ LacksRoom contents (CollectStep collector n) old =
     HasNoRoom OverfillsRecorded (rows_of old) (AreOfVisitsIn n)
 LacksRoom contents request old = ⊤
 
--- What a request that is answered Damaged has met. A Get, a Scan, a beginning of a cleaner and its
--- steps: if what they read is in order, what stands there isn't. A step of a session: what it reads
--- isn't in order. So it is with the visits of a collector, if a state is shown.
+-- When Damaged is answered. For a Get, a Scan, and the beginning or a step of a cleaner: if the rows that it reads are
+-- readable, the cells are damaged. For a step of a session: its row is not readable. For a step of a collector: its
+-- rows are not readable, or no reached state is shown.
 abbrev pub ReadsDamage : {F M : Type 0} → (F → Option Contents) → Request → Server F M → Server F M
     → Type 0
 ReadsDamage contents (Get start row family) old new =
@@ -160,8 +155,8 @@ ReadsDamage contents (CollectStep collector n) old new =
     → collectors.InEachShown (server_cells contents old) old.collectors (λ st. ⊥)
 ReadsDamage contents request old new = ⊤
 
--- A device's fault is answered if a count of them rose, and only then. Of a command the outcome
--- says why it is refused.
+-- A device's fault is answered if and only if a count of faults rose. For a command the outcome gives the reason of a
+-- refusal.
 pub record TellsCauses {F M : Type 0} (contents : F → Option Contents) (file_faults : F → ℕ)
     (mark_faults : M → ℕ) (request : Request) (reply : Reply) (old new : Server F M) : Type 0 where
   pub device : reply ≡ codec.Refused Device → IsFaultSeen file_faults mark_faults old new
@@ -169,10 +164,10 @@ pub record TellsCauses {F M : Type 0} (contents : F → Option Contents) (file_f
   pub full : reply ≡ codec.Refused MemtableFull → LacksRoom contents request old
   pub damaged : reply ≡ codec.Refused Damaged → ReadsDamage contents request old new
 
--- ---- what is written down
+-- ---- the journal
 
--- What a server takes to be logged stays, and all that is written down if tablets move. A checkpoint
--- and a sweep end the recording.
+-- The logged part of the journal is kept, and the whole journal if tablets move. A checkpoint and a sweep end the
+-- recording.
 abbrev pub KeepsLogged : Request → Option JournalView → Option JournalView → Type 0
 KeepsLogged Checkpoint old new = ⊤
 KeepsLogged Sweep old new = ⊤
@@ -180,10 +175,10 @@ KeepsLogged (Split row) old new = new ≡ old
 KeepsLogged (Move tablet server) old new = new ≡ old
 KeepsLogged request old new = logged_of new ≡ logged_of old
 
--- ---- all of them
+-- ---- all parts
 
--- What is said of an answer, but for what the server rests at: by what its files and its mark store
--- show, which are the files' bytes, the mark and the counts of faults of both.
+-- The contract of an answer without the part on resting. It depends on the views of the files and the mark store: the
+-- files' bytes, the mark, and the counts of faults of both.
 pub record IsPlainAnswer {F M : Type 0} (files : Files F) (marks : MarkStore M)
     (old : Server F M) (request : Request) (reply : Reply) (new : Server F M) : Type 0 where
   pub step : IsMachineStep files.contents request reply old new
@@ -192,12 +187,12 @@ pub record IsPlainAnswer {F M : Type 0} (files : Files F) (marks : MarkStore M)
   pub sessions : ServesSessions files.contents marks.mark request reply old new
   pub tablets : TendsTablets files request reply old new
   pub causes : TellsCauses files.contents files.faults marks.faults request reply old new
-  -- no request changes when a server compacts and merges by itself
+  -- no request changes when a server compacts and merges on its own
   pub tending : tending_of new ≡ tending_of old
-  -- and none but a checkpoint and a sweep changes what it takes to be logged
+  -- and only a checkpoint and a sweep change the logged part of the journal
   pub logged : KeepsLogged request (journal_of old) (journal_of new)
 
--- What is said of an answer.
+-- The contract of an answer.
 pub record IsAnswer {F M : Type 0} (files : Files F) (marks : MarkStore M)
     (old : Server F M) (request : Request) (reply : Reply) (new : Server F M) : Type 0 where
   pub plain : IsPlainAnswer files marks old request reply new

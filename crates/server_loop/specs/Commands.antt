@@ -1,4 +1,4 @@
--- The command of a cluster that a request is, and what it did there.
+-- The cluster command of a request, and its outcome.
 use Rattle.std.specs.Prelude.{◌≡◌, ◌⊎◌, ℕ, Option, None, Some, Result, Ok, Err}
 use Rattle.cell_key.specs.declared.refusals.Refusal.{Refusal}
 use Rattle.cell_key.specs.declared.refusals.Refusal.TheVariants.{BadRow, BadColumn, NoMemory}
@@ -14,7 +14,7 @@ use Rattle.row_atomic.specs.declared.commands.Command.TheVariants as command
 use Rattle.row_atomic.specs.declared.commands.Outcome.{Outcome}
 use Rattle.row_atomic.specs.declared.commands.Outcome.TheVariants as outcome
 
--- the command that a request is: the upkeep of tablets and a raw read are one
+-- the command of a request: upkeep of tablets and raw reads are commands
 abbrev pub command_of : Request → Option Command
 command_of (Minor tablet) = Some (command.Minor tablet)
 command_of (Merge tablet count) = Some (command.Merge tablet count)
@@ -26,7 +26,7 @@ command_of (Raw row family qualifier lo hi) =
     Some (command.Newest row.now family.now qualifier lo hi)
 command_of request = None
 
--- the outcome of a command that a reply gives
+-- the outcome that a reply gives
 abbrev pub outcome_of : Reply → Outcome
 outcome_of (codec.Split left) = outcome.Split left
 outcome_of (codec.Sweep count) = outcome.Swept count
@@ -39,7 +39,7 @@ abbrev pub checkpointed : Result (Unit {0}) Refusal → Reply
 checkpointed (Ok done) = codec.Checkpoint
 checkpointed (Err refusal) = codec.Refused refusal
 
--- a name in a request is none, or there is no memory to copy it
+-- a name in a request is out of its limits, or cannot be copied for lack of memory
 abbrev pub RefusesName : Request → Reply → Type 0
 RefusesName (Split row) reply = (reply ≡ codec.Refused BadRow) ⊎ (reply ≡ codec.Refused NoMemory)
 RefusesName (Raw row family qualifier lo hi) reply =
@@ -47,8 +47,8 @@ RefusesName (Raw row family qualifier lo hi) reply =
     ⊎ ((reply ≡ codec.Refused BadColumn) ⊎ (reply ≡ codec.Refused NoMemory))
 RefusesName request reply = ⊥
 
--- A request that is a command has the outcome that its reply gives, or a name in it was refused and
--- nothing was done. Any other leaves what lies below the memtables.
+-- A request that is a command has the outcome that its reply gives, or a name in it was refused and nothing was done.
+-- Any other request leaves everything below the memtables unchanged.
 abbrev pub HasOutcome : {F : Type 0} → (F → Option Contents) → (F → ℕ) → Option Command → Request
     → Reply → ClusterState F → ClusterState F → Type 0
 HasOutcome contents faults None request reply old new =

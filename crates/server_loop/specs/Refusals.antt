@@ -1,4 +1,4 @@
--- Which refusals the server answers to a request that it has read.
+-- The refusals that the server answers to a request it has read.
 use Rattle.std.specs.Prelude.{◌≡◌, ◌⊎◌, ⊤}
 use Rattle.cell_key.specs.declared.refusals.Refusal.{Refusal}
 use Rattle.cell_key.specs.declared.refusals.Refusal.TheVariants.{UnknownSession, BadRow, BadColumn, Device, NoMemory}
@@ -12,7 +12,7 @@ use Rattle.version_collector.specs.Refusals as version_collector
 use Rattle.request_codec.specs.declared.requests.Request.{Request}
 use Rattle.request_codec.specs.declared.requests.Request.TheVariants.{Begin, Get, Set, Delete, Scan, Step, Stop, CleanBegin, CleanStep, CollectBegin, CollectStep, Minor, Merge, Major, Split, Move, Sweep, OracleRestart, Raw, Checkpoint}
 
--- a cut at a row that may be none
+-- a split at a row name that may be invalid
 abbrev pub IsCutRefusal : Refusal → Type 0
 IsCutRefusal BadRow = ⊤
 IsCutRefusal refusal = IsSplitRefusal refusal
@@ -21,7 +21,7 @@ IsCutRefusal refusal = IsSplitRefusal refusal
 abbrev pub IsSweepRefusal : Refusal → Type 0
 IsSweepRefusal refusal = (refusal ≡ Device) ⊎ (refusal ≡ NoMemory)
 
--- a read of a cell whose row and family may be none
+-- a read of a cell whose row or family name may be invalid
 abbrev pub IsRawRefusal : Refusal → Type 0
 IsRawRefusal BadRow = ⊤
 IsRawRefusal BadColumn = ⊤

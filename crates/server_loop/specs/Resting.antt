@@ -1,4 +1,4 @@
--- What a server rests at: the state of the machine that its files and its mark keep.
+-- When a server rests at a state: its files and its mark keep it.
 use Rattle.std.specs.Prelude.{◌≡◌, ◌≢◌, ◌+◌, ◌≤◌, ◌⊎◌, ℕ, false, length, Option, None, Some, IsSome, IsSomeAnd, ⊤}
 use Rattle.cell_key.specs.Cells.{Cells}
 use Rattle.cell_key.specs.declared.refusals.Refusal.{Refusal}
@@ -16,8 +16,8 @@ use Rattle.server_loop.specs.Server.{Shows, cluster_of, machine_places, marks_of
 use Rattle.server_loop.specs.Tending.{IsTended, is_due}
 use Rattle.server_loop.specs.declared.server.Server.{Server}
 
--- A root names the greatest stamp of a state, its greatest floor and the places of its tablets, a
--- mark isn't below that stamp, and cells show the state after a clean restart.
+-- A root names the greatest stamp of a state, its greatest floor and the places of its tablets. The mark is not below
+-- that stamp, and the cells show the state after a clean restart.
 pub record TellsState (root : RootView) (cells : Cells) (mark : Option ℕ)
     (st : State) : Type 0 where
   pub top : root.top ≡ st.top
@@ -27,7 +27,7 @@ pub record TellsState (root : RootView) (cells : Cells) (mark : Option ℕ)
   pub marked : IsSomeAnd mark (λ number. st.top ≤ number)
   pub shows : ShowsCells cells (reopened st)
 
--- Files and a mark keep a state: the files keep cells under a root, and these show the state.
+-- Files and a mark keep a state: the files keep cells under a root, and root, cells and mark show the state.
 pub record KeepsState {F M : Type 0} (contents : F → Option Contents) (mark : M → Option ℕ)
     (files : F) (marks : M) (st : State) : Type 0 where
   pub kept : Contents
@@ -37,8 +37,8 @@ pub record KeepsState {F M : Type 0} (contents : F → Option Contents) (mark : 
   pub keeps : KeepsCells kept root cells
   pub tells : TellsState root cells (mark marks) st
 
--- A server shows a state, and its files and its mark keep it. Its tablets have every file of the
--- root, and files to come have other names.
+-- A server shows a state, and its files and its mark keep it. Its tablets have every file of the root, and new files
+-- will get other names.
 pub record RestsAt {F M : Type 0} (contents : F → Option Contents) (mark : M → Option ℕ)
     (server : Server F M) (st : State) : Type 0 where
   pub shows : Shows contents server st
@@ -47,8 +47,8 @@ pub record RestsAt {F M : Type 0} (contents : F → Option Contents) (mark : M �
   pub keeps : KeepsRoot contents root cells (cluster_of server)
   pub tells : TellsState root cells (mark (marks_of server)) st
 
--- A server's files and its mark keep a state, whatever it shows itself by now. Files to come have
--- other names than the root's.
+-- A server's files and its mark keep a state, which may differ from the one it shows by now. New files will get other
+-- names than the root's.
 pub record StoresState {F M : Type 0} (contents : F → Option Contents) (mark : M → Option ℕ)
     (server : Server F M) (st : State) : Type 0 where
   pub root : RootView
@@ -56,7 +56,7 @@ pub record StoresState {F M : Type 0} (contents : F → Option Contents) (mark :
   pub has : HasRoot contents root cells (cluster_of server)
   pub tells : TellsState root cells (mark (marks_of server)) st
 
--- requests that leave the machine as it is, and to each tablet all its files
+-- requests that change no state of the machine and keep every tablet's files
 abbrev pub IsSparing : Request → Type 0
 IsSparing (Minor tablet) = ⊤
 IsSparing Sweep = ⊤
@@ -64,36 +64,34 @@ IsSparing OracleRestart = ⊤
 IsSparing (Raw row family qualifier lo hi) = ⊤
 IsSparing request = ⊥
 
--- What a server rests at after an answer.
+-- The effect of an answer on the state at which a server rests.
 pub record KeepsResting {F M : Type 0} (files : Files F) (mark : M → Option ℕ)
     (request : Request) (reply : Reply) (old new : Server F M) : Type 0 where
-  -- An accepted checkpoint leaves a server that shows a reached state resting at it, if the mark is
-  -- known.
+  -- After an accepted checkpoint a server that shows a reached state rests at it, if the mark is known.
   pub done : request ≡ Checkpoint → reply ≡ codec.Checkpoint → (st : State) → IsReached st
       → Shows files.contents old st → IsSome (mark (marks_of old))
       → RestsAt files.contents mark new st
-  -- Any other request that is refused leaves it resting where it did, and so does a sparing one.
+  -- After any other request that is refused, or a sparing one, it rests at the same state as before.
   pub refused : request ≢ Checkpoint → (refusal : Refusal) → reply ≡ codec.Refused refusal
       → (st : State) → IsReached st → RestsAt files.contents mark old st
       → RestsAt files.contents mark new st
   pub spared : IsSparing request → (st : State) → IsReached st → RestsAt files.contents mark old st
       → RestsAt files.contents mark new st
-  -- Over files that a put replaces as a whole, a refused checkpoint leaves the state that was stored
-  -- before, or the one that the server shows.
+  -- If a put replaces files as a whole, a refused checkpoint leaves the state that was stored before, or stores the one
+  -- that the server shows.
   pub unfinished : files.replaces → request ≡ Checkpoint → (refusal : Refusal)
       → reply ≡ codec.Refused refusal → (stored shown : State)
       → StoresState files.contents mark old stored → IsReached shown → Shows files.contents old shown
       → StoresState files.contents mark new stored ⊎ StoresState files.contents mark new shown
 
--- Between two requests a server goes on resting where it did, if it doesn't merge by itself, or if
--- no merge is due.
+-- Between two requests a server keeps resting at the same state, if it doesn't merge on its own, or if no merge is due.
 abbrev pub RestsBetween : {F M : Type 0} → (F → Option Contents) → (F → ℕ) → (M → Option ℕ) → Type 0
 RestsBetween {F} {M} contents faults mark =
     (old new : Server F M) (st : State) → IsTended contents faults old new
     → ((tending_of old).merge ≡ None) ⊎ (is_due (tending_of old) (cluster_of old) ≡ false)
     → RestsAt contents mark old st → RestsAt contents mark new st
 
--- A server that rests at a state leaves it in its files and its mark.
+-- The files and the mark of a server that rests at a state keep that state.
 abbrev pub RestingIsKept : {F M : Type 0} → (F → Option Contents) → (M → Option ℕ) → Type 0
 RestingIsKept {F} {M} contents mark =
     (server : Server F M) (st : State) → RestsAt contents mark server st

@@ -1,4 +1,4 @@
--- The machine's run over what a server takes from a stream.
+-- The machine's run over the stream that a server reads.
 use Rattle.std.specs.Prelude.{◌≡◌, ℕ, ◌+◌, ◌≤◌, List, [], ◌∷◌, length, map, Some, ◌⊎◌, ⊤}
 use Rattle.cell_key.specs.Names.{IsRow, IsFamily}
 use Rattle.cell_key.specs.declared.refusals.Refusal.{Refusal}
@@ -17,13 +17,12 @@ use Rattle.si_model.specs.declared.replies.Found.TheVariants.{Value}
 use Rattle.request_codec.specs.declared.replies.Reply.{Reply as CodecReply}
 use Rattle.request_codec.specs.declared.replies.Reply.TheVariants as codec
 
--- what the machine takes from a stream: a whole body, or a length past the limit
+-- an input of the machine: a whole body, or a length past the limit
 pub data Taken : Type 0 where
   Body : (body : List ℕ) → Taken
   Oversize : Taken
 
--- A body in the grammar is a step of the machine. Any other is refused, and so is a length past the
--- limit.
+-- A body in the grammar is a step of the machine. Any other body is refused, and so is a length past the limit.
 abbrev pub Answers : State → Taken → Reply → State → Type 0
 Answers old (Body body) reply new =
     ((request : machine.Request) × IsRequest request body × Step old request reply new)
@@ -40,11 +39,9 @@ RunOver old (taken ∷ more) [] new = ⊥
 
 -- the laws of snapshot isolation at a state
 pub record ObeysLaws (st : State) : Type 0 where
-  -- each answered value is the last one committed by its session's start, in the commits as they
-  -- are now
+  -- each value answered is the last one committed by its session's start, in the commits as they are now
   pub settled : IsSettled st
-  -- what each scan said of the cells that it went over, named or not, is so at its session's start,
-  -- in the commits as they are now
+  -- each scan's answer, for all cells that it covered, is right at its session's start, in the commits as they are now
   pub scans : ScansSettled st
   -- no two commits of one cell overlap
   pub first_committer : FirstCommitterWins st
@@ -53,7 +50,7 @@ pub record ObeysLaws (st : State) : Type 0 where
   -- a cell is held by at most one session
   pub one_mark : OneMark st
 
--- The machine went from a state by these answers to one that is shown and obeys the laws.
+-- With these answers the machine went from a state to one that is shown and obeys the laws.
 pub record RunsTo (before : State) (shown : State → Type 0) (taken : List Taken)
     (replies : List Reply) : Type 0 where
   pub after : State
@@ -62,14 +59,13 @@ pub record RunsTo (before : State) (shown : State → Type 0) (taken : List Take
   pub laws : ObeysLaws after
   pub shows : shown after
 
--- These replies are those of a run, from each reached state that is shown before to one that is
--- shown after.
+-- A run gives these replies, from each reached state that is shown before to one that is shown after.
 abbrev pub RunsAs : {S : Type 0} → (S → State → Type 0) → S → S → List Taken → List Reply → Type 0
 RunsAs shows old new taken replies =
     (before : State) → IsReached before → shows old before → RunsTo before (shows new) taken replies
 
--- A body in the grammar is answered as is said of its request. Any other, and a length past the
--- limit, is refused and changes nothing.
+-- A body in the grammar is answered by the contract of its request. Any other body, and a length past the limit, is
+-- refused and changes nothing.
 abbrev pub SaysOf : {S : Type 0} → (S → Lent → CodecReply → S → Type 0) → S → Taken → Reply → S
     → Type 0
 SaysOf says old (Body body) reply new =
@@ -79,7 +75,7 @@ SaysOf says old (Body body) reply new =
 SaysOf says old Oversize reply new = (reply ≡ Refused FrameTooLarge) × (new ≡ old)
 
 module _ {S : Type 0} (says : S → Lent → CodecReply → S → Type 0) (between : S → S → Type 0) where
-  -- One answer after the other. After each one comes what is between it and the next.
+  -- One answer after the other, each followed by the upkeep before the next.
   abbrev pub SaysAll : S → List Taken → List Reply → S → Type 0
   SaysAll old [] [] new = new ≡ old
   SaysAll old (taken ∷ more) (reply ∷ replies) new =
@@ -88,8 +84,8 @@ module _ {S : Type 0} (says : S → Lent → CodecReply → S → Type 0) (betwe
   SaysAll old [] (reply ∷ replies) new = ⊥
   SaysAll old (taken ∷ more) [] new = ⊥
 
--- These replies are those of a run of the machine. Each is what is said of one answer, from one
--- server to the next, and after it comes what is between the two.
+-- These replies are given by a run of the machine. Each fulfils the contract of an answer, and is followed by the
+-- upkeep.
 pub record AnswersAs {S : Type 0} (shows : S → State → Type 0)
     (says : S → Lent → CodecReply → S → Type 0)
     (between : S → S → Type 0) (old new : S) (taken : List Taken)
@@ -97,15 +93,15 @@ pub record AnswersAs {S : Type 0} (shows : S → State → Type 0)
   pub run : RunsAs shows old new taken replies
   pub said : SaysAll says between old taken replies new
 
--- This reply is a step of the machine, from each reached state that is shown before to one that is
--- shown after. It is never that bytes are damaged.
+-- This reply is a step of the machine, from each reached state that is shown before to one that is shown after. It is
+-- never Damaged.
 abbrev pub StepsAs : {S : Type 0} → (S → State → Type 0) → S → S → machine.Request → Reply → Type 0
 StepsAs shows old new request reply = (before : State) → IsReached before → shows old before
     → (after : State) × Step before request reply after × shows new after
     × (reply ≡ Refused Damaged → ⊥)
 
--- A value that is answered has at most 65,536 bytes, the items of a scan have at most 61,440, and a
--- cell that is named is within the limits of rows and families.
+-- A value in an answer has at most 65,536 bytes, the items of a scan have at most 61,440 bytes, and a named cell is
+-- within the limits of rows and families.
 abbrev pub KeepsToLimits : CodecReply → Type 0
 KeepsToLimits (codec.Get (Value value)) = length value.items ≤ 65536
 KeepsToLimits (codec.Scan reply) =
@@ -114,13 +110,13 @@ KeepsToLimits (codec.Raw (Some found)) = length found.1.items ≤ 65536
 KeepsToLimits (codec.CollectStep (Blocked cell start)) = IsRow cell.row × IsFamily cell.family
 KeepsToLimits other = ⊤
 
--- what holds of a reply's refusal, if it is one
+-- a property of a reply's refusal, if it is one
 abbrev pub IfRefused : (Refusal → Type 0) → Reply → Type 0
 IfRefused P (Refused refusal) = P refusal
 IfRefused P reply = ⊤
 
--- What a reply says of the oracle's last stamp: a stamp that is answered is the next one and
--- becomes the last, a restart never goes back, and all else leaves it.
+-- The oracle's last stamp after a reply: a stamp in the answer is the next one and becomes the last, a restart never
+-- goes back, and any other reply leaves it unchanged.
 abbrev pub StampsGoOn : Reply → ℕ → ℕ → Type 0
 StampsGoOn (machine.Begun start) old new = (start ≡ old + 1) × (new ≡ start)
 StampsGoOn (machine.Drawn stamp) old new = (stamp ≡ old + 1) × (new ≡ stamp)

@@ -1,4 +1,4 @@
--- What a call of `serve` does.
+-- The contract of a call of `serve`.
 use Rattle.std.specs.Prelude.{◌≡◌, ◌≢◌, ◌⊎◌, ℕ, ◌+◌, ◌<◌, ◌≤◌, List, [], ◌∷◌, ◌++◌, length, take, map, Bool, ◌&&◌, nat_lt, nat_le, if◌then◌else◌, Option, None, Some, Result, Ok, Err, ⊤}
 use Rattle.std.specs.List.{AllByRecursion}
 use Rattle.std.specs.Io.KnownBytes.{Consumes, Appends, IsAtEnd, Keeps}
@@ -15,12 +15,12 @@ use Rattle.server_loop.specs.declared.statuses.ServeFault.TheVariants as faults
 use Rattle.server_loop.specs.declared.serving.Rest.{Rest}
 use Rattle.server_loop.specs.declared.serving.Rest.TheVariants as rests
 
--- ---- what is taken and written
+-- ---- the bodies taken and the bytes written
 
 abbrev pub is_too_large : List ℕ → Bool
 is_too_large rest = nat_le 4 (length rest) && nat_lt longest (announced rest)
 
--- what the machine takes: each body, and then a length past the limit, if the rest has one
+-- the machine's inputs: each body, and then a length past the limit, if the rest has one
 abbrev pub taken_of : List (List ℕ) → List ℕ → List Taken
 taken_of bodies rest = map Body bodies ++ (if is_too_large rest then Oversize ∷ [] else [])
 
@@ -28,15 +28,15 @@ taken_of bodies rest = map Body bodies ++ (if is_too_large rest then Oversize �
 abbrev pub written_of : List Reply → List ℕ
 written_of replies = frames (map reply_body replies)
 
--- All of the bodies and of their rest was taken. If a write failed, a length past the limit may
--- not have been come to.
+-- The machine took all of the bodies and their rest. If a write failed, a length past the limit may not have been
+-- reached.
 abbrev pub TakesBodies : Result End ServeFault → List (List ℕ) → List ℕ → List Taken → Type 0
 TakesBodies (Err faults.Write) bodies rest taken =
     (taken ≡ map Body bodies) ⊎ (IsTooLong rest × (taken ≡ map Body bodies ++ Oversize ∷ []))
 TakesBodies result bodies rest taken = taken ≡ taken_of bodies rest
 
--- The last reply was not written to its end, and nothing came after it: the server is as after the
--- last request.
+-- The last reply was not written completely, and nothing followed it: the server is in the state after the last
+-- request.
 pub record IsCutShort {S : Type 0} (says : S → Lent → CodecReply → S → Type 0)
     (between : S → S → Type 0)
     (old new : S) (taken : List Taken) (replies : List Reply) (written : List ℕ) : Type 0 where
@@ -53,14 +53,13 @@ pub record IsCutShort {S : Type 0} (says : S → Lent → CodecReply → S → T
   pub short : count < length (frame (reply_body reply))
   pub wrote : written ≡ written_of earlier ++ take count (frame (reply_body reply))
 
--- every reply was written to its end
+-- every reply was written completely
 abbrev pub WritesAll : {S : Type 0} → (S → Lent → CodecReply → S → Type 0) → (S → S → Type 0) → S
     → S → List Taken → List Reply → List ℕ → Type 0
 WritesAll says between old new taken replies written =
     SaysAll says between old taken replies new × (written ≡ written_of replies)
 
--- What was written. Only a failed write cuts a reply short; after a failed flush all replies were
--- written.
+-- The bytes written. Only a failed write cuts a reply short; after a failed flush all replies were written.
 abbrev pub WritesReplies : {S : Type 0} → (S → Lent → CodecReply → S → Type 0) → (S → S → Type 0)
     → Result End ServeFault → S → S → List Taken → List Reply → List ℕ → Type 0
 WritesReplies says between (Err faults.Write) old new taken replies written =
@@ -71,16 +70,15 @@ WritesReplies says between result old new taken replies written =
 
 -- ---- how it ends
 
--- the most bytes that are taken and not answered: less than a frame
+-- the most bytes that are read but not answered: less than a frame
 abbrev pub most_left : ℕ
 most_left = longest + 3
 
--- and if a length past the limit comes: less than its four bytes, and one piece of the input
+-- the same, if a length past the limit comes: less than its four bytes, and one piece of the input
 abbrev pub most_dropped : ℕ
 most_dropped = 3 + 65536
 
--- How each end comes about, by the bytes that were read, their rest, what the reader has left and
--- what the writer holds.
+-- When each end comes, in terms of the bytes read, their rest, the reader's remaining bytes and the writer's contents.
 abbrev pub EndsBy : Result End ServeFault → ℕ → List ℕ → List ℕ → Option (List ℕ) → Option (List ℕ)
     → Option (List ℕ) → Type 0
 EndsBy (Ok ends.Clean) most_reads read rest left held held' = (rest ≡ []) × IsAtEnd left
@@ -95,11 +93,10 @@ EndsBy (Err faults.Write) most_reads read rest left held held' = length rest ≤
 EndsBy (Err faults.NoMemory) most_reads read rest left held held' = (read ≡ []) × Keeps held held'
 EndsBy (Err faults.Log) most_reads read rest left held held' = ⊥
 
--- ---- what was done with bytes
+-- ---- the effects of bytes
 
--- Bytes are the frames of bodies and a rest. The replies are those of a run of the machine over
--- what was taken of these, each is what is said of one answer, and what was written are the
--- replies' frames, the last one's in part if a write failed.
+-- The bytes are the frames of bodies and a rest. The replies are given by a run of the machine over these, each fulfils
+-- the contract of an answer, and the replies' frames were written, the last one only in part if a write failed.
 pub record Handles {S : Type 0} (shows : S → State → Type 0)
     (says : S → Lent → CodecReply → S → Type 0)
     (between : S → S → Type 0) (result : Result End ServeFault) (old new : S) (bytes rest : List ℕ)
@@ -115,7 +112,7 @@ pub record Handles {S : Type 0} (shows : S → State → Type 0)
   pub writes : WritesReplies says between result old new taken replies written
   pub appended : Appends held held' written
 
--- Whole frames of bytes were answered, and all the replies written.
+-- Whole frames of the bytes were answered, and all the replies written.
 pub record Answered {S : Type 0} (shows : S → State → Type 0)
     (says : S → Lent → CodecReply → S → Type 0)
     (between : S → S → Type 0) (old new : S) (bytes rest : List ℕ)
@@ -127,8 +124,8 @@ pub record Answered {S : Type 0} (shows : S → State → Type 0)
   pub run : AnswersAs shows says between old new (map Body bodies) replies
   pub appended : Appends held held' (written_of replies)
 
--- What bytes were handled to: less than a frame is left of them, or a length past the limit. If a
--- write failed, such a length is left, or fewer bytes.
+-- The rest of the bytes is less than a frame, or a length past the limit. If a write failed, the rest is such a length,
+-- or fewer bytes than there were.
 abbrev pub HandlesTo : {S : Type 0} → (S → State → Type 0) → (S → Lent → CodecReply → S → Type 0)
     → (S → S → Type 0) → Result Rest ServeFault → S → S → List ℕ → List ℕ → Option (List ℕ)
     → Option (List ℕ) → Type 0
@@ -143,7 +140,7 @@ HandlesTo shows says between (Err faults.Read) old new bytes rest held held' = �
 HandlesTo shows says between (Err faults.NoMemory) old new bytes rest held held' = ⊥
 HandlesTo shows says between (Err faults.Log) old new bytes rest held held' = ⊥
 
--- the same of the first frame alone: if it was whole, fewer bytes are left
+-- the same for the first frame alone: if it was whole, fewer bytes are left
 abbrev pub HandlesFirst : {S : Type 0} → (S → State → Type 0) → (S → Lent → CodecReply → S → Type 0)
     → (S → S → Type 0) → Result (Option Rest) ServeFault → S → S → List ℕ → List ℕ → Option (List ℕ)
     → Option (List ℕ) → Type 0
@@ -154,13 +151,12 @@ HandlesFirst shows says between (Ok (Some rest_is)) old new bytes rest held held
 HandlesFirst shows says between (Err fault) old new bytes rest held held' =
     HandlesTo shows says between (Err fault) old new bytes rest held held'
 
--- After a failed write, or a length past the limit, more may be left than is at hand.
+-- The rest is in the framer, unless a write failed or a length past the limit came.
 abbrev pub IsRest : Result Rest ServeFault → List ℕ → List ℕ → Type 0
 IsRest (Ok rests.Partial) rest hand = hand ≡ rest
 IsRest result rest hand = ⊤
 
--- One reply was written to its end, and then came what is between it and the next. Or it was not,
--- and nothing came.
+-- One reply was written completely, and the upkeep followed. Or it was not, and nothing followed.
 abbrev pub Delivers : {S : Type 0} → (S → State → Type 0) → (S → S → Type 0)
     → Result (Unit {0}) ServeFault → List ℕ → S → S → Option (List ℕ) → Option (List ℕ) → Type 0
 Delivers shows between (Ok done) body old new held held' =
@@ -174,7 +170,7 @@ Delivers shows between (Err faults.Log) body old new held held' = ⊥
 
 -- ---- a call
 
--- Bytes were read after those at hand. What was read and at hand was handled, and so it ended.
+-- Bytes were read after those at hand. All of them were handled, with this end.
 pub record ServesOn {S : Type 0} (shows : S → State → Type 0)
     (says : S → Lent → CodecReply → S → Type 0)
     (between : S → S → Type 0) (hand : List ℕ) (old new : S)
@@ -187,21 +183,21 @@ pub record ServesOn {S : Type 0} (shows : S → State → Type 0)
   pub handled : Handles shows says between result old new (hand ++ read) rest held held'
   pub ending : EndsBy result most_reads read rest left' held held'
 
--- What a call of `serve` did, which has nothing at hand when it begins.
+-- The contract of `serve`, which begins with nothing at hand.
 abbrev pub Serves : {S : Type 0} → (S → State → Type 0) → (S → Lent → CodecReply → S → Type 0)
     → (S → S → Type 0) → S → S → Option (List ℕ) → Option (List ℕ) → Option (List ℕ)
     → Option (List ℕ) → ℕ → Result End ServeFault → Type 0
 Serves shows says between old new left left' held held' most_reads result =
     ServesOn shows says between [] old new left left' held held' most_reads result
 
--- what an end says of the stream's rest
+-- the rest of the stream at this end
 abbrev pub RestIs : End → List ℕ → Type 0
 RestIs ends.Clean rest = rest ≡ []
 RestIs ends.Truncated rest = (0 < length rest) × IsPartial rest
 RestIs ends.TooLarge rest = IsTooLong rest
 RestIs ends.ReadsUsedUp rest = Unit {0}
 
--- The whole of a stream was served: its bodies, and its rest as the end says.
+-- A whole stream was served: its bodies, and its rest as the end says.
 pub record ServesStream {S : Type 0} (shows : S → State → Type 0)
     (says : S → Lent → CodecReply → S → Type 0) (between : S → S → Type 0) (old new : S)
     (stream : List ℕ)
@@ -214,8 +210,8 @@ pub record ServesStream {S : Type 0} (shows : S → State → Type 0)
   pub run : AnswersAs shows says between old new (taken_of bodies rest) replies
   pub appended : Appends held held' (written_of replies)
 
--- Bytes were read after those at hand. All that is whole was answered, all the replies were
--- written, and the rest is at hand.
+-- Bytes were read after those at hand. All whole frames were answered, all the replies were written, and the rest is at
+-- hand.
 pub record Served {S : Type 0} (shows : S → State → Type 0)
     (says : S → Lent → CodecReply → S → Type 0)
     (between : S → S → Type 0) (hand hand' : List ℕ) (old new : S)
@@ -226,7 +222,7 @@ pub record Served {S : Type 0} (shows : S → State → Type 0)
   pub partial : IsPartial hand'
   pub answered : Answered shows says between old new (hand ++ read) hand' held held'
 
--- what one read came to: the input goes on, or it ended
+-- the outcome of one read: the input goes on, or it ended
 abbrev pub ReadsOn : {S : Type 0} → (S → State → Type 0) → (S → Lent → CodecReply → S → Type 0)
     → (S → S → Type 0) → Result (Option End) ServeFault → List ℕ → List ℕ → S → S → Option (List ℕ)
     → Option (List ℕ) → Option (List ℕ) → Option (List ℕ) → ℕ → ℕ → Type 0

@@ -1,4 +1,4 @@
--- What it means that a server shows a state of the machine.
+-- When a server shows a state of the machine.
 use Rattle.std.specs.Prelude.{◌≡◌, ◌≤◌, ℕ, ◌+◌, ◌⊎◌, List, length, map, Option, None, IfSome}
 use Rattle.std.specs.FinMap.{empty}
 use Rattle.cell_key.specs.Cells.{Cells}
@@ -23,7 +23,7 @@ use Rattle.server_loop.specs.declared.server.Config.{Config}
 use Rattle.server_loop.specs.declared.server.Server.{Server}
 use Rattle.server_loop.specs.declared.server.Tending.{Tending}
 
--- limits that a store can have
+-- limits that a store may have
 pub record IsConfig (config : Config) : Type 0 where
   pub flush_least : 1 ≤ config.flush.entries
   pub flush_most : config.flush.entries ≤ 100000
@@ -41,12 +41,11 @@ rows_of server = server.rows
 abbrev pub journal_of : {F M : Type 0} → Server F M → Option JournalView
 journal_of server = server.rows.journal
 
--- the same server, whose edits are not recorded
+-- the same server, without a journal
 abbrev pub forgets : {F M : Type 0} → Server F M → Server F M
 forgets server = record server { rows = record (rows_of server) { journal = None } }
 
--- the files hold; and if edits are recorded, what is written down makes what the cluster shows of
--- what the files keep
+-- the files are intact; and if edits are recorded, the journal makes the cluster's cells from those that the files keep
 abbrev pub HoldsIn : {F M : Type 0} → (F → Option Contents) → Server F M → Type 0
 HoldsIn contents server = (seen_recorded contents).holds (rows_of server)
 
@@ -56,31 +55,30 @@ marks_of server = server.oracle.marks
 abbrev pub last_of : {F M : Type 0} → Server F M → ℕ
 last_of server = server.oracle.last
 
--- the greatest stamp that was answered, and the greatest floor that a collector began with
+-- the greatest stamp answered, and the greatest floor that a collector began with
 abbrev pub top_of : {F M : Type 0} → Server F M → ℕ
 top_of server = server.clients.top
 
 abbrev pub floor_of : {F M : Type 0} → Server F M → ℕ
 floor_of server = server.collectors.greatest_floor
 
--- what the root says that a checkpoint would put if all tablets were flushed
+-- the root that a checkpoint would put if all tablets were flushed
 abbrev pub next_root : {F M : Type 0} → Server F M → RootView
 next_root server = root_at (top_of server) (floor_of server) (cluster_of server)
 
--- when it compacts by itself
+-- when it compacts on its own
 abbrev pub tending_of : {F M : Type 0} → Server F M → Tending
 tending_of server = server.tending
 
--- where a tablet is, as the machine has it
+-- the place of a tablet, as the machine stores it
 abbrev pub machine_place : Spot → machine.Place
 machine_place spot = record { end = spot.0; tablet = spot.1.0; server = spot.1.1 }
 
 abbrev pub machine_places : List PlaceView → List machine.Place
 machine_places places = map machine_place (map spot_of places)
 
--- The tablets are in order over their files. Their cells, the sessions and the oracle show the
--- state, and so do the cleaners and the collectors; the tablets are where the state has them: the
--- next one gets the number after theirs.
+-- The tablets are in order over their files. Their cells, the sessions and the oracle show the state, and so do the
+-- cleaners and the collectors. The tablets are at the state's places, and the next tablet gets the number after theirs.
 pub record Shows {F M : Type 0} (contents : F → Option Contents) (server : Server F M)
     (st : State) : Type 0 where
   pub in_order : HoldsIn contents server
@@ -94,9 +92,8 @@ pub record Shows {F M : Type 0} (contents : F → Option Contents) (server : Ser
   pub places : machine_places server.rows.cluster.places ≡ st.places
   pub next : st.next_tablet ≡ length st.places + 1
 
--- Tablets in order, an oracle's last stamp, the greatest stamp that was answered and the greatest
--- floor show a state in which nothing is open: it has no session, and no cleaner or collector has
--- had a number yet.
+-- Tablets in order, an oracle's last stamp, the greatest stamp answered and the greatest floor show a state with no
+-- session, in which no cleaner or collector has been given a number yet.
 pub record ShowsNoSession {F : Type 0} (contents : F → Option Contents) (rows : Recorded F)
     (last top floor : ℕ) (st : State) : Type 0 where
   pub in_order : (seen_recorded contents).holds rows

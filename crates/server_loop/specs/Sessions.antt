@@ -1,6 +1,6 @@
--- What a request does to the cells, to the room in memory, to sessions, cleaners and collectors and
--- to the oracle, and what is always answered.
-use Rattle.std.specs.Prelude.{◌≡◌, ◌≢◌, ◌⊎◌, ℕ, Option, Result, Ok, Err, map, ⊤}
+-- The effects of a request on the cells, on the room in memory, on sessions, cleaners and collectors and on the oracle,
+-- and the answers that are always given.
+use Rattle.std.specs.Prelude.{◌≡◌, ◌⊎◌, ℕ, Option, Result, Ok, Err, map, ⊤}
 use Rattle.cell_key.specs.declared.refusals.Refusal.{Refusal}
 use Rattle.cell_key.specs.declared.refusals.Refusal.TheVariants.{Device, UnknownSession, UnknownCleaner, UnknownCollector, BadCount, EmptyCommit, TooManySessions}
 use Rattle.file_store.specs.Store.{Contents}
@@ -36,8 +36,8 @@ use Rattle.version_collector.specs.Shows.{ChangesOne, IsCount, IsEarlyRefusal, O
 use Rattle.version_collector.specs.Visits.{Thins}
 use Rattle.version_collector.specs.declared.collectors.Collectors.{Collectors}
 
--- What a collector's step for n visits made of the cells, and of its collector: visits, by the
--- rules of collection. All that sessions read, each lock and each fate stays.
+-- The effects of a collector's step for n visits on the cells and on its collector: visits, by the rules of collection.
+-- Every read of a session, each lock and each fate are unchanged.
 pub record MakesVisits {F M : Type 0} (contents : F → Option Contents) (collector n : ℕ)
     (result : Result CollectReply Refusal)
     (old new : Server F M) (st : State) : Type 0 where
@@ -46,31 +46,30 @@ pub record MakesVisits {F M : Type 0} (contents : F → Option Contents) (collec
       (server_cells contents new) new.collectors
   pub collects : Collects (server_cells contents old) (server_cells contents new) st
 
--- keys of n rows go at the most, and none joins, if the files hold
+-- if the rows are intact, keys of at most n rows are erased and none is added
 abbrev pub ThinsHeldCells : {F M : Type 0} → (F → Option Contents) → ℕ → Server F M → Server F M
     → Type 0
 ThinsHeldCells contents n old new =
     HoldsIn contents old
     → Thins n (server_cells contents old) (server_cells contents new)
 
--- files that hold keep the cells, though they are written anew
+-- intact files keep the cells, though they are rewritten
 abbrev pub KeepsHeldCells : {F M : Type 0} → (F → Option Contents) → Server F M → Server F M
     → Type 0
 KeepsHeldCells contents old new =
     Holds contents (cluster_of old) → server_cells contents new ≡ server_cells contents old
 
--- a refusal that comes before any visit of n, or by the only one
+-- a refusal before any visit of n, or of the only one
 abbrev pub ComesFirst : Refusal → ℕ → Type 0
 ComesFirst refusal n = IsEarlyRefusal refusal ⊎ (n ≡ 1)
 
--- A step that is done makes the edits of its session's next step, or of its cleaner's, or none if
--- that makes none: cells of one row at most, at the session's stamps. A collector's step makes
--- visits, and what it answers is true: if all is Collected, each cell is tidy; if it is Blocked,
--- the lock stands; and after More this much less is left. It alone may change cells and then be
--- refused, by its later visits; whatever the cells show, it only erases. What writes files changes
--- none if the files hold, and all else changes none, also if it is refused for what stands in the
--- files. A scan finds what reads of the cells find, sends each value that it may, and looks at as many
--- cells as it may, unless none is left or the next item does not fit.
+-- An accepted step makes the edits of the next step of its session or cleaner, or none if that step makes none: cells
+-- of one row at most, at the session's stamps. A collector's step makes visits, and its answer is true: after
+-- Collected, each cell is tidy; after Blocked, the lock is there; and after More, at least this much less is left. Only
+-- a collector's step may change cells and then be refused, by a later visit; whatever the cells are, it only erases. A
+-- command that writes files changes no cell if the files are intact, and any other request changes none, whatever the
+-- files contain. A scan agrees with reads of its cells, sends each value that it may, and looks at the full count of
+-- cells, unless none is left or the next item does not fit.
 abbrev pub ChangesCells : {F M : Type 0} → (F → Option Contents) → Request → Reply → Server F M
     → Server F M → Type 0
 ChangesCells contents (Step start) (codec.Step progress) old new =
@@ -109,8 +108,8 @@ ChangesCells contents Checkpoint reply old new = KeepsHeldCells contents old new
 ChangesCells contents request reply old new =
     server_cells contents new ≡ server_cells contents old
 
--- What is for sessions, cleaners, collectors and the oracle takes no room in memory, but a step
--- that of its edits. What a command or a checkpoint takes its outcome says.
+-- A request for sessions, cleaners, collectors or the oracle takes no room in memory, except a step, which takes the
+-- room of its edits. The room that a command or a checkpoint takes is given by its outcome.
 abbrev pub LeavesServerRoom : {F M : Type 0} → (F → Option Contents) → Request → Reply → Server F M
     → Server F M → Type 0
 LeavesServerRoom contents Begin reply old new =
@@ -146,9 +145,8 @@ LeavesServerRoom contents OracleRestart reply old new =
     TakesNoRoom OverfillsRecorded (rows_of old) (rows_of new)
 LeavesServerRoom contents request reply old new = ⊤
 
--- What takes no memory is answered exactly: that as many sessions are active as there may be, that
--- one isn't active, that a commit has no writes, why a step that draws is refused, that a cleaner
--- or a collector isn't open, and that a number of visits is bad.
+-- Refusals that need no memory are always answered: the most sessions are active, the session isn't active, a commit
+-- has no writes, the refusals of a step that draws, a cleaner or a collector isn't open, and a bad number of visits.
 abbrev pub IsAlwaysTold : Request → Reply → State → Type 0
 IsAlwaysTold Begin reply st = IsCrowded st → reply ≡ codec.Refused TooManySessions
 IsAlwaysTold (Get start row family) reply st =
@@ -171,19 +169,18 @@ IsAlwaysTold (CollectStep collector n) reply st =
     × (¬ IsCount n → (reply ≡ codec.Refused UnknownCollector) ⊎ (reply ≡ codec.Refused BadCount))
 IsAlwaysTold request reply st = ⊤
 
--- A begin, a write, a deletion, a step or an end that is done changes the sessions as the
--- machine's step says, and so does a begin that a device's fault refused. All else leaves them.
+-- An accepted begin, write, deletion, step or end changes the sessions as the machine's step says. Any other request
+-- leaves them unchanged.
 abbrev pub KeepsSessions : Request → Reply → Clients → Clients → Type 0
-KeepsSessions Begin reply old new =
-    IfRefused (λ refusal. refusal ≢ Device → SameClients old new) (replied reply)
+KeepsSessions Begin (codec.Begin start) old new = ⊤
 KeepsSessions (Set start row family value) codec.Set old new = ⊤
 KeepsSessions (Delete start row family) codec.Delete old new = ⊤
 KeepsSessions (Step start) (codec.Step progress) old new = ⊤
 KeepsSessions (Stop start) codec.Stop old new = ⊤
 KeepsSessions request reply old new = SameClients old new
 
--- A beginning, and a step that is done, change the cleaners as the machine's step says, each its
--- own alone. All else leaves them.
+-- An accepted beginning or step changes the cleaners as the machine's step says, and only its own cleaner. Any other
+-- request leaves them unchanged.
 abbrev pub KeepsCleaners : Request → Reply → Cleaners → Cleaners → Type 0
 KeepsCleaners (CleanBegin row family) (codec.CleanBegin found) old new =
     open_cleaners.Opens (cell_of row.now family.now) found old new
@@ -191,10 +188,9 @@ KeepsCleaners (CleanStep cleaner) (codec.CleanStep reply) old new =
     open_cleaners.ChangesOne cleaner old new
 KeepsCleaners request reply old new = SameCleaners old new
 
--- A beginning, and a step, change the collectors as the machine's step says, each its own alone. A
--- refused step keeps the visits that it made, and its collector stays open, with its floor. All
--- else leaves the collectors, and so does a step that is refused before its visits, or by its only
--- one.
+-- A beginning or a step changes the collectors as the machine's step says, and only its own collector. A refused step
+-- keeps the visits that it made, and its collector stays open, with its floor. A step that is refused before its
+-- visits, or in its only visit, leaves the collectors unchanged, and so does any other request.
 abbrev pub KeepsCollectors : Request → Reply → Collectors → Collectors → Type 0
 KeepsCollectors CollectBegin (codec.CollectBegin collector floor) old new =
     Opens floor collector old new
@@ -204,20 +200,20 @@ KeepsCollectors (CollectStep collector n) reply old new =
     × (ComesFirst refusal n → SameCollectors old new)) (replied reply)
 KeepsCollectors request reply old new = SameCollectors old new
 
--- the mark is as before, or it is the end of the oracle's next range
+-- the mark is unchanged, or it is the end of the oracle's next range
 abbrev pub LeavesMark : {F M : Type 0} → (M → Option ℕ) → Server F M → Server F M → Type 0
 LeavesMark mark old new =
     MayHold (next_range_end old.oracle.range_end) (mark (marks_of old)) (mark (marks_of new))
 
--- What a refused begin leaves of the oracle: all of it. If the mark could not be stored, the last
--- stamp and the range.
+-- The oracle is unchanged after a refused begin. If the mark could not be stored, only its last stamp and its range are
+-- unchanged.
 abbrev pub LeavesOracle : {F M : Type 0} → (M → Option ℕ) → Refusal → Server F M → Server F M
     → Type 0
 LeavesOracle mark Device old new = LeavesMark mark old new × SameNumbers old.oracle new.oracle
 LeavesOracle mark refusal old new = new.oracle ≡ old.oracle
 
--- Only a begin, a step that comes to draw a stamp, and a restart use the oracle. A restart leaves
--- the mark. If it or a step is refused, the last stamp and the range stay.
+-- Only a begin, a step that draws a stamp, and a restart use the oracle. A restart leaves the mark unchanged. If a
+-- restart or a step is refused, the last stamp and the range are unchanged.
 abbrev pub KeepsOracle : {F M : Type 0} → (F → Option Contents) → (M → Option ℕ) → Request → Reply
     → Server F M → Server F M → Type 0
 KeepsOracle contents mark Begin reply old new =

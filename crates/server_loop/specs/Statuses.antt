@@ -1,4 +1,4 @@
--- The program's exit statuses, and its lines on the standard error.
+-- The program's exit statuses, and its lines on standard error.
 use Rattle.std.specs.Prelude.{ℕ, List, [], Result, Ok, Err, codes}
 use Rattle.cell_key.specs.declared.refusals.Refusal.{Refusal}
 use Rattle.cell_key.specs.declared.refusals.Refusal.TheVariants.{Device, Damaged}

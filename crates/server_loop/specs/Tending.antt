@@ -1,4 +1,4 @@
--- What a server does between one request and the next.
+-- The upkeep of a server between two requests.
 use Rattle.std.specs.Prelude.{◌≡◌, ◌||◌, ℕ, Bool, true, false, nat_eq, not, Option, None, Some}
 use Rattle.file_store.specs.Store.{Contents}
 use Rattle.row_atomic.specs.Clusters.{ClusterState}
@@ -9,34 +9,33 @@ use Rattle.server_loop.specs.Server.{Shows, cluster_of, journal_of, tending_of}
 use Rattle.server_loop.specs.declared.server.Server.{Server}
 use Rattle.server_loop.specs.declared.server.Tending.{Tending}
 
--- whether files are to be merged: a memtable is full, so that one is written, or the next file's name
--- isn't what it was when files were last merged
+-- whether a merge is due: a memtable is full, so that a file will be written, or the next file's name has changed since
+-- the last merge
 abbrev pub is_due : {F : Type 0} → Tending → ClusterState F → Bool
 is_due tending state =
     is_any_full tending.flush state.tablets || not (nat_eq state.next_name tending.merged_to)
 
--- If a server is to merge files, newest ones of each tablet that had this many or more were merged,
--- or the merge was refused, and nothing else was done.
+-- If a server is to merge files, the newest files of each tablet that had this many or more were merged, or the merge
+-- was refused, and nothing else was done.
 abbrev pub Merges : {F : Type 0} → (F → Option Contents) → (F → ℕ) → Option ℕ → ClusterState F
     → ClusterState F → Type 0
 Merges contents faults None old new = new ≡ old
 Merges contents faults (Some most) old new = MergesMany contents faults most old new
 
--- so it was if merges were due, and else nothing was done
+-- the same if a merge was due; otherwise nothing was done
 abbrev pub MergesWhere : {F : Type 0} → Bool → (F → Option Contents) → (F → ℕ) → Option ℕ
     → ClusterState F → ClusterState F → Type 0
 MergesWhere true contents faults merge old new = Merges contents faults merge old new
 MergesWhere false contents faults merge old new = new ≡ old
 
--- if they were due, the name that the next file has then is kept
+-- if a merge was due, the name of the next file afterwards is noted
 abbrev pub merged_to : Bool → Tending → ℕ → Tending
 merged_to true tending name = record tending { merged_to = name }
 merged_to false tending name = tending
 
--- Minor compactions of the tablets whose memtables were full, by the server's limits, and of no
--- other, were done one after the other, or refused; and then merges, if they were due. The cells are
--- as before, and so are the tablets' places, the sessions, the cleaners, the collectors and the
--- oracle. No fault of a device was forgotten.
+-- Minor compactions of exactly the tablets whose memtables were full, by the server's limits, were done one after the
+-- other, or refused; and then merges, if they were due. The cells are unchanged, and so are the tablets' places, the
+-- sessions, the cleaners, the collectors and the oracle. No fault of a device was forgotten.
 pub record IsTended {F M : Type 0} (contents : F → Option Contents) (faults : F → ℕ)
     (old new : Server F M) : Type 0 where
   pub compacted : ClusterState F

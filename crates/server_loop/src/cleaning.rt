@@ -1,4 +1,4 @@
-//! What a server does for cleaners, one step of the snapshot machine each.
+//! The server's requests for cleaners, one step of the snapshot machine each.
 
 use crate::server::Server;
 use cell_key::Refusal;

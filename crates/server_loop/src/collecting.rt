@@ -1,4 +1,4 @@
-//! What a server does for collectors, one step of the snapshot machine each.
+//! The server's requests for collectors, one step of the snapshot machine each.
 
 ghost use Rattle.std.specs.Prelude.{◌≡◌};
 ghost use Rattle.server_loop.specs.Runs.{KeepsToLimits};
@@ -10,7 +10,7 @@ use oracle::MarkStore;
 use request_codec::{Reply, Request};
 use si_model::CollectReply;
 
-/// The reply to a collector's step that is done. A cell that it names is within its limits.
+/// The reply to a collector's accepted step. A cell that it names is within its limits.
 fn collected(done: CollectReply) -> Reply
     ensures reply { result ≡ Reply.CollectStep done }
     ensures limits { KeepsToLimits result }

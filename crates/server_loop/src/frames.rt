@@ -10,11 +10,11 @@ use crate::statuses::{End, ServeFault};
 use request_codec::{LONGEST_REPLY, Reply, push_reply, reply_length};
 use std::io::Write;
 
-/// A write failed or took no byte.
+/// A write failed or accepted no byte.
 #[derive(Clone, Copy)]
 pub struct WriteFailed;
 
-/// Writes all of the bytes, however few a write takes. After an `Err` not all of them were written.
+/// Writes all of the bytes, in several writes if needed. After an `Err` some of them were not written.
 pub fn write_whole<W: Write>(writer: &mut W, bytes: &[u8]) -> Result<(), WriteFailed>
     ensures ok { OnOk result (Appends (W.contents writer.old) (W.contents writer.new) bytes.now) }
     ensures err { OnErr result ((n : ℕ) × (n < length bytes.now)
@@ -31,7 +31,7 @@ pub fn write_whole<W: Write>(writer: &mut W, bytes: &[u8]) -> Result<(), WriteFa
     Ok(())
 }
 
-/// Appends the frame of a reply to what the buffer holds.
+/// Appends the frame of a reply to the buffer.
 #[tactic(auto, using(crate::proofs::Lengths::fits_frame), unfolding(request_codec::specs::Stream::frame))]
 pub fn push_frame(reply: &Reply, out: &mut Vec<u8>)
     requires room { length out.old.items + LONGEST_REPLY ≤ vec_capacity out.old }
@@ -44,7 +44,7 @@ pub fn push_frame(reply: &Reply, out: &mut Vec<u8>)
     push_reply(reply, out);
 }
 
-/// Puts the frame of a reply in place of what the buffer holds.
+/// Replaces the contents of the buffer by the frame of a reply.
 fn frame_reply(reply: &Reply, out: &mut Vec<u8>)
     requires room { LONGEST_REPLY ≤ vec_capacity out.old }
     requires limits { KeepsToLimits reply.now }
@@ -55,7 +55,7 @@ fn frame_reply(reply: &Reply, out: &mut Vec<u8>)
     push_frame(reply, out);
 }
 
-/// Writes the frame of a reply to its end. After an `Err` not all of it was written.
+/// Writes the whole frame of a reply. After an `Err` some of it was not written.
 pub(crate) fn send<W: Write>(
     writer: &mut W,
     reply: &Reply,
@@ -75,7 +75,7 @@ pub(crate) fn send<W: Write>(
     write_whole(writer, out)
 }
 
-/// Has what was written leave the writer.
+/// Flushes the writer.
 pub fn flush<W: Write>(writer: &mut W) -> Result<(), ServeFault>
     ensures kept { Keeps (W.contents writer.old) (W.contents writer.new) }
     ensures fault { IfErr result (λ fault. fault ≡ ServeFault.Write) }
@@ -86,7 +86,7 @@ pub fn flush<W: Write>(writer: &mut W) -> Result<(), ServeFault>
     }
 }
 
-/// The end, after what was written has left the writer.
+/// Flushes the writer, and returns the end.
 pub fn finish<W: Write>(writer: &mut W, end: End) -> Result<End, ServeFault>
     ensures kept { Keeps (W.contents writer.old) (W.contents writer.new) }
     ensures end { IfOk result (λ is. is ≡ end) }

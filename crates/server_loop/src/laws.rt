@@ -1,4 +1,4 @@
-//! Laws of what servers rest at. Each is the contract of a function that does nothing.
+//! Laws of servers at rest. Each is the contract of a function that does nothing.
 
 ghost use Rattle.server_loop.specs.Resting.{RestingIsKept, RestsBetween};
 
@@ -6,8 +6,8 @@ use file_store::Files;
 use oracle::MarkStore;
 use row_atomic::root_outlasts_flushes;
 
-/// What `serve` does between two requests leaves a server resting where it did, if it doesn't merge
-/// by itself, or if no memtable is full.
+/// The upkeep of `serve` between two requests leaves a server resting at the same state, if it doesn't merge by itself
+/// or if no merge is due.
 pub fn rests_between<F: Files, M: MarkStore>()
     ensures { RestsBetween F.contents F.faults M.mark }
 {

@@ -1,4 +1,4 @@
-//! The server: a stream of framed requests is answered, reply by reply, as a run of the snapshot machine.
+//! The server: it answers a stream of framed requests, reply by reply, as a run of the snapshot machine.
 #![tactic(auto)]
 
 mod cleaning;

@@ -1,4 +1,4 @@
-//! Opening a server on what a checkpoint left.
+//! Opening a server from a checkpoint.
 
 ghost use Rattle.std.specs.Prelude.{◌≡◌, ◌≢◌, ◌≤◌, ◌⊎◌, IfErr, IfOk, IfSome, MatchResult};
 ghost use Rattle.cell_key.specs.Faults.{HasRisen};
@@ -19,15 +19,14 @@ impl<F: Files + Drop, M: MarkStore + Drop> Server<F, M> {
     ghost use Rattle.server_loop.specs.Resting.{KeepsState, RestsAt};
     ghost use Rattle.server_loop.specs.Server.{IsConfig, Shows, cluster_of, tending_of, last_of, marks_of};
 
-    /// A server over what these files and this mark store keep. Without a root file it is a new
-    /// store. Sessions, cleaners and collectors are forgotten, and nothing else.
+    /// Opens the store in these files and this mark store. Without a root file it is a new store. Only sessions,
+    /// cleaners and collectors are forgotten.
     ///
     /// # Errors
     ///
-    /// `Damaged` if the root file is out of form, if a file that it names is missing or out of
-    /// form, or if the mark is below the greatest stamp that the root names; `NoMemory` if a
-    /// growth was refused, and `Device` if the files or the mark cannot be read. The files and the
-    /// mark store are given back.
+    /// `Damaged` if the root file is malformed, if a file that it names is missing or malformed, or if the mark is
+    /// below the root's greatest stamp; `NoMemory` if an allocation failed; `Device` if the files or the mark cannot be
+    /// read. On failure the files and the mark store are returned.
     pub fn open(
         alloc: Global,
         files: F,
@@ -35,13 +34,13 @@ impl<F: Files + Drop, M: MarkStore + Drop> Server<F, M> {
         config: Config,
     ) -> Result<Server<F, M>, (Refusal, F, M)>
         requires config { IsConfig config }
-        // A state that they keep is shown, after a clean restart, and they keep it still.
+        // If the files and the mark keep a state, the server shows that state after a clean restart, and rests at it.
         ensures kept { (st : State) → KeepsState F.contents M.mark files marks st
             → MatchResult result (λ server. RestsAt F.contents M.mark server (reopened st))
             (λ refused. refused.0 ≢ Refusal.Damaged) }
         ensures new { LacksRoot (F.contents files) → IfOk result (λ server.
             Shows F.contents server new_machine) }
-        // `Damaged` is answered if there is damage, as far as the files and the mark are known.
+        // A damaged store is never opened, and `Damaged` means damage, as far as the files and the mark are known.
         ensures whole { IfOk result (λ _. IfSome (F.contents files) (λ m.
             IfSome (M.mark marks) (λ mark. ¬ IsLost m mark))) }
         ensures damaged { IfErr result (λ refused. refused.0 ≡ Refusal.Damaged
@@ -49,13 +48,13 @@ impl<F: Files + Drop, M: MarkStore + Drop> Server<F, M> {
         ensures files { IfOk result (λ server.
             F.contents (cluster_of server).files ≡ F.contents files) }
         ensures limit { IfOk result (λ server. (cluster_of server).file_limit ≡ config.file_limit) }
-        // If the mark is known, the oracle goes on from it.
+        // If the mark is known, the oracle continues from it.
         ensures last { IfOk result (λ server.
             IfSome (M.mark marks) (λ mark. last_of server ≡ mark)) }
         ensures mark { IfOk result (λ server. M.mark (marks_of server) ≡ M.mark marks) }
         ensures tending { IfOk result (λ server.
             tending_of server ≡ record { flush = config.flush; merge = None; merged_to = 0 }) }
-        // If it is not refused with Device, both counts of faults are as before.
+        // Unless the refusal is Device, both counts of faults are unchanged.
         ensures told { MatchResult result
             (λ server. (F.faults (cluster_of server).files ≡ F.faults files)
             × (M.faults (marks_of server) ≡ M.faults marks))
@@ -86,7 +85,7 @@ impl<F: Files + Drop, M: MarkStore + Drop> Server<F, M> {
         Ok(Server::without_sessions(alloc, rows, oracle, top, floor, config))
     }
 
-    /// Its files and its mark store, as they are. No stamp that was drawn is above the mark.
+    /// Gives back the files and the mark store, unchanged. No stamp that was drawn is above the mark.
     pub fn into_devices(self) -> (F, M)
         ensures files { result.0 ≡ (cluster_of self).files }
         ensures marks { result.1 ≡ marks_of self }

@@ -1,4 +1,4 @@
-//! What a server does for a scan: one step of the snapshot machine.
+//! The server's scans: one step of the snapshot machine each.
 
 use crate::server::Server;
 use cell_key::Stamp;

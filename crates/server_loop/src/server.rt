@@ -1,4 +1,4 @@
-//! The server.
+//! The server: its state, its configuration, its answers and `serve`.
 
 ghost use Rattle.std.specs.Prelude.{◌≡◌, ◌≢◌, ◌≤◌, ◌<◌, ◌^◌, ◌⊎◌, IfErr, IfOk, IfSome, IsSome};
 ghost use Rattle.cell_key.specs.Faults.{HasRisen};
@@ -26,30 +26,28 @@ use version_collector::Collectors;
 /// The limits of a server's store.
 #[derive(Clone, Copy, Debug, PartialEq, Eq)]
 pub struct Config {
-    /// How full a memtable is when it is compacted, which `serve` does after a reply: it has as many entries, 1 to
-    /// 100,000, or as many bytes, 1,048,576 to 67,108,864 if they count.
+    /// The size at which `serve` compacts a memtable after a reply: a number of entries, 1 to 100,000, or of bytes,
+    /// 1,048,576 to 67,108,864 if bytes are limited.
     pub flush: FlushLimits,
-    /// The most bytes of a sorted file: 48 to 68,719,476,736.
+    /// The upper bound of a sorted file in bytes: 48 to 68,719,476,736.
     pub file_limit: u64,
 }
 
 /// When a server compacts by itself.
 #[derive(Clone, Copy)]
 pub(crate) struct Tending {
-    /// How full a memtable is when it is compacted.
+    /// The size at which a memtable is compacted.
     pub(crate) flush: FlushLimits,
-    /// How many files a tablet has before newest ones are merged, if they are to be.
+    /// The number of files of a tablet at which its newest files are merged, or `None` for no merges.
     pub(crate) merge: Option<u32>,
-    /// The name of the next file when files were last merged: while it is the same no file was written. 0 at first.
+    /// The name of the next file at the last merge: as long as it is the same, no file was written since. 0 at first.
     pub(crate) merged_to: u64,
 }
 
-/// A server: a cluster of tablets, an oracle of stamps, the sessions that are active, and the
-/// cleaners and collectors that are open.
+/// A server: a cluster of tablets, an oracle of stamps, the active sessions, and the open cleaners and collectors.
 ///
-/// It keeps nothing of the snapshot machine but the sessions, the cleaners, the collectors and the
-/// places of the tablets: what has committed, what is locked and what was rolled back stands in the
-/// cells alone.
+/// Of the snapshot machine's state it stores only the sessions, the cleaners, the collectors and the places of the
+/// tablets. Commits, locks and rollbacks are in the cells alone.
 #[derive(Drop)]
 pub struct Server<F, M: MarkStore> {
     pub(crate) alloc: Global,
@@ -69,8 +67,8 @@ impl<F: Files + Drop, M: MarkStore + Drop> Server<F, M> {
     ghost use Rattle.row_atomic.specs.Commands.{IsOutcome};
     ghost use Rattle.server_loop.specs.Tending.{IsTended, Merges, is_due};
 
-    /// A server with no session, cleaner or collector. `top` is the greatest stamp that was answered, and `floor` the
-    /// greatest floor that a collector began with.
+    /// A server with no session, cleaner or collector. `top` is the greatest stamp answered, and `floor` the greatest
+    /// floor that a collector began with.
     pub fn without_sessions(
         alloc: Global,
         rows: Recorded<F>,
@@ -103,12 +101,13 @@ impl<F: Files + Drop, M: MarkStore + Drop> Server<F, M> {
         }
     }
 
-    /// A server over these files and this mark store, with one tablet of no cells. It shows the new machine.
+    /// A server over these files and this mark store, with one tablet without cells. It shows the machine's first
+    /// state.
     ///
     /// # Errors
     ///
-    /// `NoMemory` if a growth was refused, and `Device` if the mark cannot be read. The files and the mark store
-    /// are given back.
+    /// `NoMemory` if an allocation failed, and `Device` if the mark cannot be read. On failure the files and the mark
+    /// store are returned.
     pub fn new(
         alloc: Global,
         files: F,
@@ -120,9 +119,9 @@ impl<F: Files + Drop, M: MarkStore + Drop> Server<F, M> {
             Shows F.contents server new_machine) }
         ensures kept { IfOk result (λ server. (cluster_of server).files ≡ files) }
         ensures name { IfOk result (λ server. (cluster_of server).next_name ≡ 1) }
-        // One tablet, whose memtable is empty.
+        // One tablet, with an empty memtable.
         ensures tablet { IfOk result (λ server. IsFirstTablet (cluster_of server).tablets) }
-        // If the mark is known, the oracle goes on from it.
+        // If the mark is known, the oracle continues from it.
         ensures last { IfOk result (λ server.
             IfSome (M.mark marks) (λ mark. last_of server ≡ mark)) }
         ensures mark { IfOk result (λ server. M.mark (marks_of server) ≡ M.mark marks) }
@@ -152,9 +151,9 @@ impl<F: Files + Drop, M: MarkStore + Drop> Server<F, M> {
         }
     }
 
-    /// From now on, after each reply of `serve` before which a file was written, and after the first, newest files are
-    /// merged of each tablet that has `most` files or more, so that it has fewer. A refusal is not reported. Without this
-    /// call files are merged only on request.
+    /// From now on `serve` merges the newest files of each tablet that has `most` files or more, so that it has fewer.
+    /// It does so after its first reply, and then after each reply if a file was written since the last merge. A
+    /// refusal is not reported. Without this call files are merged only on request.
     pub fn merge_at(&mut self, most: u32)
         ensures { self.new ≡ record self.old {
           tending = record (tending_of self.old) { merge = Some most; merged_to = 0 };
@@ -164,8 +163,8 @@ impl<F: Files + Drop, M: MarkStore + Drop> Server<F, M> {
         self.tending.merged_to = 0;
     }
 
-    /// Lets each open file cache this many blocks at most, from now on, and those too that will be opened. Without this
-    /// call it is 8. What the server shows stays.
+    /// Limits the cache of each open file, and of each file opened later, to this many blocks. Without this call it is
+    /// 8. The server shows the same state.
     pub fn cache_blocks(&mut self, most_blocks: NonZeroUsize)
         ensures outcome { IsOutcome F.contents F.faults Command.DropCaches Outcome.Done
             (cluster_of self.old) (cluster_of self.new) }
@@ -176,8 +175,8 @@ impl<F: Files + Drop, M: MarkStore + Drop> Server<F, M> {
         self.rows.cluster.resize_caches(most_blocks);
     }
 
-    /// Whether files are to be merged: a memtable is full, so that one is written, or one was since files were last
-    /// merged.
+    /// Whether a merge is due: a memtable is full, so that a file will be written, or a file was written since the last
+    /// merge.
     fn is_merge_due(&self) -> bool
         ensures { result ≡ is_due (tending_of self.now) (cluster_of self.now) }
     {
@@ -185,7 +184,7 @@ impl<F: Files + Drop, M: MarkStore + Drop> Server<F, M> {
             || self.rows.cluster.next_name() != self.tending.merged_to
     }
 
-    /// Merges newest files of the tablets that have many, if that is to be done at all.
+    /// Merges the newest files of the tablets that have too many, if merges are configured.
     fn merge_newest(&mut self)
         ensures merges { Merges F.contents F.faults (tending_of self.old).merge
             (cluster_of self.old) (cluster_of self.new) }
@@ -199,7 +198,7 @@ impl<F: Files + Drop, M: MarkStore + Drop> Server<F, M> {
         }
     }
 
-    /// Merges newest files as `merge_newest` does, and keeps the name that the next file has then.
+    /// Merges as `merge_newest` does, and notes the name of the next file afterwards.
     fn merge_files(&mut self)
         ensures merges { Merges F.contents F.faults (tending_of self.old).merge
             (cluster_of self.old) (cluster_of self.new) }
@@ -213,7 +212,7 @@ impl<F: Files + Drop, M: MarkStore + Drop> Server<F, M> {
         self.tending.merged_to = self.rows.cluster.next_name();
     }
 
-    /// Takes a request to the function that answers it.
+    /// Dispatches a request to the function that answers it.
     fn take(&mut self, request: Request<'_>) -> Reply
         ensures { IsPlainAnswer F.Files M.MarkStore self.old request.entry result self.new }
     {
@@ -258,7 +257,7 @@ impl<F: Files + Drop, M: MarkStore + Drop> Server<F, M> {
     }
 
     /// Answers a request: one step of the snapshot machine, from each reached state that is shown. It compacts nothing
-    /// that it isn't asked to. After a checkpoint that is done the files and the mark keep the state that is shown.
+    /// unless asked to. After an accepted checkpoint the files and the mark keep the state that is shown.
     pub fn answer(&mut self, request: Request<'_>) -> Reply
         ensures step { IsMachineStep F.contents request.entry result self.old self.new }
         ensures stamps { DrawsStamps F.contents M.mark request.entry result self.old self.new }
@@ -274,19 +273,20 @@ impl<F: Files + Drop, M: MarkStore + Drop> Server<F, M> {
         self.reply_to(request)
     }
 
-    /// Serves requests in frames until the input ends, and at most `most_reads` reads of it. It takes its buffers
-    /// first. It reads pieces of at most 65,536 bytes, and answers every whole frame before it reads again. Each reply is
-    /// written to its end before the next frame is taken, and then each memtable with as many entries or bytes as the
-    /// configuration says, or more, is compacted, and files are merged if `merge_at` says so.
+    /// Serves framed requests until the input ends, with at most `most_reads` reads. It allocates its buffers first. It
+    /// reads pieces of at most 65,536 bytes, and answers every whole frame before it reads again. Each reply is written
+    /// completely before the next frame is taken. After each reply, every memtable that has reached a limit of the
+    /// configuration is compacted, and files are merged as `merge_at` says.
     ///
-    /// What is read is cut into bodies and a rest, the replies are those of a run of the snapshot machine over these,
-    /// each is what `answer` says of its request, from one server to the next, with those compactions and nothing else
-    /// between the two, and what is written are the frames of these replies and nothing else. After a failed read all
-    /// replies to whole frames were written. After a failed write all replies but the last were, and a beginning of that
-    /// one; no frame was taken after it. Without memory nothing was read or written. The server is then as after the last
-    /// request that was taken.
+    /// The bytes read are cut into bodies and a rest, and the replies are given by a run of the snapshot machine over
+    /// them. Each reply fulfils the contract of `answer`, and between two replies only those compactions and merges
+    /// take place. Exactly the frames of these replies are written. After a failed read, the replies to all whole
+    /// frames were written. After a failed write, all replies but the last were written, and a prefix of the last; no
+    /// further frame was taken. If the buffers could not be allocated, nothing was read or written. The server is then
+    /// in the state after the last request taken.
     ///
-    /// The writer is flushed before each read and at every end, which tests show: no clause of a writer speaks of it.
+    /// The writer is flushed before each read and at every end. Only tests show this: no clause of a writer mentions
+    /// it.
     pub fn serve<I: Read, O: Write>(
         &mut self,
         reader: &mut I,
@@ -297,7 +297,7 @@ impl<F: Files + Drop, M: MarkStore + Drop> Server<F, M> {
             (IsTended F.contents F.faults) self.old self.new (I.remaining reader.old)
             (I.remaining reader.new)
             (O.contents writer.old) (O.contents writer.new) most_reads result }
-        // If the reader's bytes are known, the end is that of the whole stream.
+        // If the reader's bytes are known, the end is the whole stream's.
         ensures whole { IfSome (I.remaining reader.old) (λ stream.
             IfOk result (λ end. end ≢ End.ReadsUsedUp
             → ServesStream (Shows F.contents) (IsAnswer F.Files M.MarkStore)

@@ -1,4 +1,4 @@
-//! The loop of a server, over whatever answers as the snapshot machine does.
+//! The serving loop, over anything that answers as the snapshot machine does.
 
 ghost use Rattle.std.specs.Prelude.{◌≡◌, ◌≤◌, ◌<◌, ◌++◌, ◌∷◌, List, ℕ, [], length, Err, IfErr, IfOk, OnOk, vec_capacity};
 ghost use Rattle.si_model.specs.Machine.{State};
@@ -17,27 +17,27 @@ use request_codec::{Framer, LONGEST_REPLY, Next, Reply, Request, decode_request,
 use std::alloc::{AllocError, Global};
 use std::io::{Read, Write};
 
-/// The most bytes that one read asks for.
+/// The most bytes that one read requests.
 pub const LONGEST_PIECE: usize = 65_536;
 
-/// What is left of bytes whose whole frames were answered.
+/// The remainder of bytes whose whole frames were answered.
 #[derive(Clone, Copy)]
 pub enum Rest {
     /// Less than a frame.
     Partial,
-    /// A length past the limit. It was refused.
+    /// A length past the limit, which was refused.
     TooLarge,
 }
 
-/// What answers requests as the snapshot machine does.
+/// Answers requests as the snapshot machine does.
 pub trait Answering {
     /// It shows this state of the machine.
     ghost shows: { Self → State → Type 0 };
 
-    /// What is said of an answer, over what answers as it was and as it is.
+    /// The contract of an answer, from the state before to the state after.
     ghost says: { Self → Lent → CodecReply → Self → Type 0 };
 
-    /// What comes between one answer and the next, over what answers as it was and as it is.
+    /// The changes between one answer and the next, from the state before to the state after.
     ghost between: { Self → Self → Type 0 };
 
     /// One step of the machine, from each reached state that is shown.
@@ -46,7 +46,7 @@ pub trait Answering {
         ensures says { says self.old request.entry result self.new }
         ensures limits { KeepsToLimits result };
 
-    /// Does what is to be done between one answer and the next. The states that are shown stay so.
+    /// Does the upkeep between one answer and the next. It keeps showing each state that it shows.
     fn tend(&mut self)
         ensures between { between self.old self.new }
         ensures shown { (st : State) → shows self.old st → shows self.new st };
@@ -59,7 +59,7 @@ pub fn zeros(alloc: Global, size: usize) -> Result<Vec<u8>, AllocError>
     vec![in alloc; 0u8; size]
 }
 
-/// The reply to a body, whatever is in it.
+/// The reply to a body, well-formed or not.
 pub fn reply_to_body<A: Answering>(server: &mut A, body: &[u8]) -> Reply
     ensures run { RunsAs A.shows server.old server.new (Body body.now ∷ []) (replied result ∷ []) }
     ensures says { SaysOf A.says server.old (Body body.now) (replied result) server.new }
@@ -71,7 +71,7 @@ pub fn reply_to_body<A: Answering>(server: &mut A, body: &[u8]) -> Reply
     server.reply_to(request)
 }
 
-/// Writes a reply to its end, and lets the server do what comes after it.
+/// Writes a whole reply, and then lets the server do its upkeep.
 fn deliver<A: Answering, W: Write>(
     server: &mut A,
     writer: &mut W,
@@ -93,7 +93,7 @@ fn deliver<A: Answering, W: Write>(
     }
 }
 
-/// Answers the body of a frame, and writes the reply to its end.
+/// Answers the body of a frame, and writes the whole reply.
 fn answer_body<A: Answering, W: Write>(
     server: &mut A,
     body: &[u8],
@@ -114,7 +114,7 @@ fn answer_body<A: Answering, W: Write>(
     Ok(())
 }
 
-/// Answers what stands first among the bytes taken, and writes the reply to its end. `None` if that was a whole frame.
+/// Answers the first frame of the bytes at hand, and writes the whole reply. `None` if there was a whole frame.
 fn answer_first<A: Answering, W: Write>(
     server: &mut A,
     framer: &mut Framer,
@@ -139,7 +139,7 @@ fn answer_first<A: Answering, W: Write>(
     }
 }
 
-/// Answers each whole frame among the bytes taken, one after the other, and says what is left of them.
+/// Answers each whole frame of the bytes at hand in order, and says what is left of them.
 fn answer_frames<A: Answering, W: Write>(
     server: &mut A,
     framer: &mut Framer,
@@ -159,7 +159,7 @@ fn answer_frames<A: Answering, W: Write>(
     }
 }
 
-/// Takes a piece of the input into the framer, and answers each whole frame. Less than a frame may be at hand before it.
+/// Puts a piece of the input into the framer, and answers each whole frame. The framer may hold part of a frame before.
 fn feed_piece<A: Answering, W: Write>(
     server: &mut A,
     framer: &mut Framer,
@@ -185,7 +185,7 @@ fn feed_piece<A: Answering, W: Write>(
     Ok(Rest::Partial)
 }
 
-/// Answers the whole frames that a piece begins with, where they stand, and gives what follows them.
+/// Answers the whole frames at the front of a piece in place, and returns the bytes after them.
 fn answer_whole<'p, A: Answering, W: Write>(
     server: &mut A,
     piece: &'p [u8],
@@ -208,8 +208,8 @@ fn answer_whole<'p, A: Answering, W: Write>(
     Ok(rest)
 }
 
-/// Takes a piece of the input, and answers each whole frame. Less than a frame may be at hand before it. If nothing is,
-/// only what follows the piece's whole frames is taken into the framer.
+/// Takes a piece of the input, and answers each whole frame. The framer may hold part of a frame before. If it is
+/// empty, only the bytes after the piece's whole frames are put into it.
 fn serve_whole<A: Answering, W: Write>(
     server: &mut A,
     framer: &mut Framer,
@@ -231,8 +231,8 @@ fn serve_whole<A: Answering, W: Write>(
     feed_piece(server, framer, rest, writer, out)
 }
 
-/// Takes a piece of the input, and answers each whole frame. If less than a frame is at hand before it, what that one
-/// lacks is taken into the framer first.
+/// Takes a piece of the input, and answers each whole frame. If the framer holds part of a frame, the missing bytes of
+/// that frame are put into it first.
 fn serve_piece<A: Answering, W: Write>(
     server: &mut A,
     framer: &mut Framer,
@@ -257,7 +257,7 @@ fn serve_piece<A: Answering, W: Write>(
     }
 }
 
-/// Reads once, after what was written has left the writer, and answers each whole frame. `None` if the input goes on.
+/// Flushes the writer, reads once, and answers each whole frame. `None` if the input goes on.
 fn serve_read<A: Answering, R: Read, W: Write>(
     server: &mut A,
     framer: &mut Framer,
@@ -292,7 +292,7 @@ fn serve_read<A: Answering, R: Read, W: Write>(
     }
 }
 
-/// Serves requests in frames until the input ends, and at most `most_reads` reads of it. The buffers are taken first.
+/// Serves framed requests until the input ends, with at most `most_reads` reads. The buffers are allocated first.
 pub(crate) fn serve_all<A: Answering, R: Read, W: Write>(
     alloc: Global,
     server: &mut A,

@@ -1,4 +1,4 @@
-//! What a server does for sessions and for its oracle, one step of the snapshot machine each.
+//! The server's requests for sessions and the oracle, one step of the snapshot machine each.
 
 use crate::server::Server;
 use cell_key::{MOST_STAMP, Refusal, Stamp};

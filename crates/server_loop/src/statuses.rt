@@ -1,4 +1,4 @@
-//! How `serve` ends, and what the program says of it.
+//! The ends and faults of `serve`, and the program's exit statuses and messages.
 
 ghost use Rattle.std.specs.Prelude.{◌≡◌};
 ghost use Rattle.server_loop.specs.Statuses.{end_status_of, end_line_of, open_status_of, open_line_of};
@@ -13,10 +13,10 @@ pub enum End {
     Clean,
     /// Inside a frame.
     Truncated,
-    /// At a frame whose length is past the limit. It was refused, and no piece was read after the one in which its length
-    /// ends.
+    /// At a frame whose length is past the limit. The frame was refused, and nothing was read after the piece with the
+    /// end of that length.
     TooLarge,
-    /// After as many reads as were permitted.
+    /// After the permitted number of reads.
     ReadsUsedUp,
 }
 
@@ -26,19 +26,18 @@ pub enum ServeFault {
     /// A read failed.
     #[error("read failed")]
     Read,
-    /// A write or a flush failed, or a write took no byte.
+    /// A write or a flush failed, or a write accepted no byte.
     #[error("write failed")]
     Write,
-    /// There was no room for the buffers. Nothing was read or written.
+    /// The buffers could not be allocated. Nothing was read or written.
     #[error("no memory")]
     NoMemory,
-    /// The log failed. No reply whose edits it may lack was written.
+    /// The log failed. No reply was written whose edits may be missing from the log.
     #[error("log failed")]
     Log,
 }
 
-/// The exit status of the program after this end of `serve`, and its line on the standard error, which is empty
-/// for status 0.
+/// The program's exit status after this end of `serve`, and its line on standard error, which is empty for status 0.
 pub fn end_status(ended: &Result<End, ServeFault>) -> (u8, &'static str)
     ensures status { result.0 ≡ end_status_of ended.now }
     ensures line { result.1.now ≡ end_line_of ended.now }
@@ -54,7 +53,7 @@ pub fn end_status(ended: &Result<End, ServeFault>) -> (u8, &'static str)
     }
 }
 
-/// The exit status of the program if no server could be made or opened, and its line on the standard error.
+/// The program's exit status if no server could be made or opened, and its line on standard error.
 pub fn open_status(refusal: &Refusal) -> (u8, &'static str)
     ensures status { result.0 ≡ open_status_of refusal.now }
     ensures line { result.1.now ≡ open_line_of refusal.now }

@@ -1,4 +1,4 @@
-//! What a server does for the upkeep of its tablets, and raw reads, one step of the snapshot machine each.
+//! The server's upkeep of its tablets, and raw reads, one step of the snapshot machine each.
 
 ghost use Rattle.std.specs.Prelude.{◌≡◌, [], IfErr, IfOk, OnOk};
 ghost use Rattle.row_atomic.specs.Changes.{Holds};
@@ -15,10 +15,10 @@ use oracle::MarkStore;
 use request_codec::{Reply, Request};
 use row_atomic::{Rows, keeps_following, root_is_stored};
 
-/// The name of a root: its greatest stamp, and a checksum of what it says but for the lengths of files.
+/// The name of a root: its greatest stamp, and a checksum of its content without the lengths of files.
 #[derive(Clone, Copy, Debug, PartialEq, Eq)]
 pub struct RootName {
-    /// The greatest stamp that it has.
+    /// The root's greatest stamp.
     pub top: Stamp,
     /// The CRC-32 of `Cluster::root_sum`.
     pub sum: u32,
@@ -87,7 +87,7 @@ impl<F: Files + Drop, M: MarkStore + Drop> Server<F, M> {
         }
     }
 
-    /// Removes the files that no tablet has. What is written down stays: no root may name a file that no tablet has.
+    /// Removes the files that no tablet has. The journal is kept, so no root that it follows may name a removed file.
     pub fn sweep_files(&mut self) -> Reply
         ensures plain { IsPlainAnswer F.Files M.MarkStore self.old Request.Sweep result
             (forgets self.new) }
@@ -104,7 +104,7 @@ impl<F: Files + Drop, M: MarkStore + Drop> Server<F, M> {
         }
     }
 
-    /// The same. What was written down may need the files that are gone, and is forgotten.
+    /// The same, but drops the journal, which may need the removed files.
     pub(crate) fn sweep(&mut self) -> Reply
         ensures { IsPlainAnswer F.Files M.MarkStore self.old Request.Sweep result self.new }
     {
@@ -113,8 +113,8 @@ impl<F: Files + Drop, M: MarkStore + Drop> Server<F, M> {
         reply
     }
 
-    /// The name of the root that a checkpoint would put if all tablets were flushed: behind one that was done, of the root
-    /// that is there.
+    /// The name of the root that a checkpoint would put if all tablets were flushed. Right after an accepted checkpoint
+    /// it is the name of the root on disk.
     ///
     /// # Errors
     ///
@@ -130,11 +130,11 @@ impl<F: Files + Drop, M: MarkStore + Drop> Server<F, M> {
         Ok(RootName { top, sum })
     }
 
-    /// Puts a root that keeps what is shown. What is written down stays.
+    /// Puts a root that keeps the state that is shown. The journal is kept.
     ///
     /// # Errors
     ///
-    /// Those of a checkpoint.
+    /// The same as a checkpoint's.
     pub fn put_root(&mut self) -> Result<(), Refusal>
         ensures plain { IsPlainAnswer F.Files M.MarkStore self.old Request.Checkpoint
             (checkpointed result) (forgets self.new) }
@@ -158,8 +158,8 @@ impl<F: Files + Drop, M: MarkStore + Drop> Server<F, M> {
         }
     }
 
-    /// The same, as an answer. What was written down is forgotten: a refused put may leave a root from which it doesn't
-    /// lead on.
+    /// Answers a Checkpoint. The journal is dropped: after a failed put, the root on disk may be one that the journal
+    /// does not continue.
     pub(crate) fn checkpoint(&mut self) -> Reply
         ensures { IsPlainAnswer F.Files M.MarkStore self.old Request.Checkpoint result self.new }
     {

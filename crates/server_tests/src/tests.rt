@@ -1,4 +1,4 @@
-//! The store as its users meet it: streams of requests with the replies that they get.
+//! The store as its users meet it: streams of requests with their replies.
 
 mod checkpoint_faults;
 mod checkpoints;
@@ -29,7 +29,7 @@ type MemServer = Server<MemFiles, MemMark>;
 /// How a server ended.
 type Ended = Result<End, ServeFault>;
 
-/// How full a memtable is when it is compacted, if nothing else is said.
+/// The limits at which memtables are compacted, unless a test sets others.
 const FLUSH: FlushLimits = FlushLimits {
     entries: 10_000,
     bytes: None,
@@ -40,7 +40,7 @@ fn new_server(alloc: Global, file_limit: u64) -> Result<MemServer, Refusal> {
     flushing_server(alloc, FLUSH, file_limit)
 }
 
-/// Whether a number of bytes at which memtables are compacted, if there is one, is within its limits.
+/// Whether a size in bytes at which memtables are compacted, if there is one, is within its limits.
 fn are_flush_bytes(bytes: Option<u32>) -> bool
     ensures { IsTrue result → IfSome bytes (λ bytes. (1048576 ≤ bytes) × (bytes ≤ 67108864)) }
 {
@@ -50,7 +50,7 @@ fn are_flush_bytes(bytes: Option<u32>) -> bool
     }
 }
 
-/// The same, whose memtables are compacted when they are as full as this.
+/// The same, with memtables compacted at these limits.
 fn flushing_server(
     alloc: Global,
     flush: FlushLimits,
@@ -69,7 +69,7 @@ fn flushing_server(
     }
 }
 
-/// How a new server ends, with this many reads at most.
+/// How a new server ends after at most this many reads.
 fn served<I: Read, O: Write>(
     alloc: Global,
     reader: &mut I,
@@ -80,7 +80,7 @@ fn served<I: Read, O: Write>(
     Ok(server.serve(reader, writer, most_reads))
 }
 
-/// How a new server ends, with this many reads at most, and what it has written and flushed.
+/// How a new server ends after at most this many reads, and the bytes that it has written and flushed.
 fn outcome(alloc: Global, reader: Pieces, most_reads: u64) -> Result<(Ended, Vec<u8>), Refusal> {
     let mut reader = reader;
     let mut writer = Holding::new(alloc);
@@ -88,8 +88,8 @@ fn outcome(alloc: Global, reader: Pieces, most_reads: u64) -> Result<(Ended, Vec
     Ok((ended, writer.out))
 }
 
-/// Whether a new server ends cleanly, and writes the row's replies, both if each read gives a byte and if the stream is
-/// cut in two at each place.
+/// Whether a new server ends cleanly and writes the row's replies, both if each read gives one byte and if the stream
+/// is cut in two at any offset.
 fn is_met(alloc: Global, row: &Row) -> Result<bool, Refusal> {
     let (requests, replies) = streams_of(alloc, row)?;
     for cut in 0..=requests.len() {
@@ -138,8 +138,8 @@ fn collectors(rt: HostRuntime) -> Result<(), Fail> {
     Ok(())
 }
 
-/// Rows of deletions: with memtables that stay, and with memtables that are compacted after each reply and files that are
-/// merged at two.
+/// Rows of deletions: without automatic compactions, and with memtables compacted after each reply and files merged at
+/// two.
 #[test]
 fn deletions(rt: HostRuntime) -> Result<(), Fail> {
     for row in deleting::ROWS {
@@ -149,8 +149,7 @@ fn deletions(rt: HostRuntime) -> Result<(), Fail> {
     Ok(())
 }
 
-/// Rows of scans: with memtables that stay, and with memtables that are compacted after each reply and files that are merged at
-/// two.
+/// Rows of scans: without automatic compactions, and with memtables compacted after each reply and files merged at two.
 #[test]
 fn scans(rt: HostRuntime) -> Result<(), Fail> {
     for row in scanning::ROWS {
@@ -217,8 +216,8 @@ const ONE_REPLY: &[u8] = b"\0\0\0\x09\x81\0\0\0\0\0\0\0\x01";
 
 const TWO_REPLIES: &[u8] = b"\0\0\0\x09\x81\0\0\0\0\0\0\0\x01\0\0\0\x09\x81\0\0\0\0\0\0\0\x02";
 
-/// Whether a new server can't read what is behind a place of these bytes, of which a read gives this many at most, and
-/// has written these replies.
+/// Whether a new server ends with a read fault if the reader of these bytes, at most `most` of them a read, fails at
+/// offset `place`; and whether it has then written these replies.
 fn is_read_to(
     alloc: Global,
     bytes: &[u8],
@@ -233,7 +232,7 @@ fn is_read_to(
     Ok(matches!(ended, Err(ServeFault::Read)) && written.as_slice() == replies)
 }
 
-/// Whether a new server ends after this many reads of a byte of two requests, and has written these replies.
+/// Whether a new server that reads two requests byte by byte ends after this many reads, and has written these replies.
 fn is_used_up(alloc: Global, most_reads: u64, replies: &[u8]) -> Result<bool, Refusal> {
     let mut reader = Pieces::new(alloc, TWO_BEGINS)?;
     reader.most = 1;
@@ -241,8 +240,8 @@ fn is_used_up(alloc: Global, most_reads: u64, replies: &[u8]) -> Result<bool, Re
     Ok(matches!(ended, Ok(End::ReadsUsedUp)) && written.as_slice() == replies)
 }
 
-/// A reader that fails at each place of two requests, which it gives byte by byte or all at once: the requests before
-/// it are answered. So it is if the reads are used up there.
+/// A reader of two requests fails at each offset, after bytes that it gave one by one or all at once: the requests
+/// before the offset are answered. The same holds if the reads are used up there.
 #[test]
 fn a_read_fails_at_each_place(rt: HostRuntime) -> Result<(), Fail> {
     for place in 0..10 {
@@ -255,7 +254,7 @@ fn a_read_fails_at_each_place(rt: HostRuntime) -> Result<(), Fail> {
     Ok(())
 }
 
-/// Whether a writer that gives up after this many calls got just as many bytes of the first cell's replies.
+/// Whether a writer that gives up after this many calls got exactly this many bytes of the first cell's replies.
 fn is_cut_short(alloc: Global, calls_left: usize, stalls: bool) -> Result<bool, Refusal> {
     let (requests, replies) = streams_of(alloc, &rows::FIRST_CELL)?;
     let mut reader = Pieces::new(alloc, &requests)?;
@@ -283,15 +282,15 @@ fn a_write_fails_at_each_call(rt: HostRuntime) -> Result<(), Fail> {
     Ok(())
 }
 
-/// How many flushes there are before one that fails, what has left then, and the next session's start.
+/// The number of flushes before one that fails, the bytes flushed by then, and the next session's start.
 const FLUSHES: [(usize, &[u8], u64); 4] = [
     // before the first read
     (0, b"", 1),
     // before the second one
     (1, b"", 2),
-    // before that at the end
+    // before the read at the end
     (2, ONE_REPLY, 3),
-    // the last
+    // after the last read
     (3, TWO_REPLIES, 3),
 ];
 
@@ -330,7 +329,7 @@ fn flushing(alloc: Global, flush: u32, merge: Option<u32>, row: &Row) -> Result<
     Ok(matches!(ended, Ok(End::Clean)) && writer.out == replies)
 }
 
-/// At how many entries memtables are compacted, at how many files these are merged, and the row.
+/// The number of entries at which memtables are compacted, the number of files at which these are merged, and the row.
 const COMPACTIONS: [(u32, Option<u32>, Row); 9] = [
     (2, None, upkeep::COMPACTED),
     (2, Some(3), upkeep::COMPACTED),

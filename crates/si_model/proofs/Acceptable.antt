@@ -1,4 +1,4 @@
--- Where a request is acceptable: what suffices for it, and what follows from it.
+-- When a request is acceptable: sufficient conditions, and consequences.
 use Rattle.std.proofs.Common.{◌≡◌, ◌≢◌, ℕ, ◌<◌, ◌≤◌, Bool, List, length, Option, Some, None, ◌⊎◌, inl, inr, refl, sym, ap, subst, ◌∙◌, arith}
 use Rattle.std.specs.Ordering.{nat_cmp}
 use Rattle.std.specs.FinMap.{FinMap, get, len}
@@ -17,7 +17,7 @@ use Rattle.si_model.proofs.Tools.{same_entry}
 pub no_entry : {X : Type 0} (m : FinMap nat_cmp X) (k : ℕ) (v : X) → get m k ≡ Some v → get m k ≡ None → ⊥
 no_entry m k v some none = none-some v (sym none ∙ some)
 
--- what suffices
+-- sufficient conditions
 
 pub begin_ok : {st : State} → len st.active < most_sessions → IsAcceptable st Begin
 begin_ok room n (begin_full full) = absurd (omega arith)
@@ -96,7 +96,7 @@ pub move_ok : {st : State} {k server : ℕ} → HasTablet st k → server < most
 move_ok has known n (move_unknown none) = none has
 move_ok has known n (move_server far) = absurd (omega arith)
 
--- what follows
+-- consequences
 
 cases_open : (p : Phase) → (p ≡ Open) ⊎ (p ≢ Open)
 cases_open Open = inl refl
@@ -104,7 +104,7 @@ cases_open (Holding k) = inr (λ e. cc)
 cases_open (Stamped c) = inr (λ e. cc)
 cases_open (Finishing c k) = inr (λ e. cc)
 
--- a session that is there, and in no other phase than open
+-- an active session that isn't in another phase than open
 opened : (st : State) (s : ℕ) → (get st.active s ≢ None) → ((p : Phase) → InPhase st s p → p ≢ Open → ⊥) → (o : Option Phase) → get st.active s ≡ o → InPhase st s Open
 opened st s known early None e = absurd (known e)
 opened st s known early (Some p) e = elim (cases_open p) [ inl is ↦ subst (λ (q : Phase). InPhase st s q) is e | inr not ↦ absurd (early p e not) ]
@@ -122,6 +122,6 @@ delete_is_open st s x ok = opened st s (λ e. ok UnknownSession (delete_unknown 
 pub scan_is_open : (st : State) (s : ℕ) (range : Range) (keys_only : Bool) (n : ℕ) → IsAcceptable st (ScanFrom s range keys_only n) → InPhase st s Open
 scan_is_open st s range keys_only n ok = opened st s (λ e. ok UnknownSession (scan_unknown e)) (λ p h late. ok WrongPhase (scan_late h late)) (get st.active s) refl
 
--- and a scan is of a cell at least
+-- and a scan's count is at least one cell
 pub scan_is_some : (st : State) (s : ℕ) (range : Range) (keys_only : Bool) (n : ℕ) → IsAcceptable st (ScanFrom s range keys_only n) → 1 ≤ n
 scan_is_some st s range keys_only n ok = elim (cases_lt n 1) [ inl none ↦ absurd (ok BadCount (scan_none none)) | inr some ↦ some ]

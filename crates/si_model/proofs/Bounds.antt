@@ -20,7 +20,7 @@ use Rattle.si_model.proofs.Invariant.{Sound}
 use Rattle.si_model.proofs.Kept.{held_phase}
 use Rattle.si_model.proofs.Steps.{acts_sound, step_sound, reached_sound}
 
--- a session goes on to a phase that fits
+-- a session moves to a phase that fits
 goes_fit : (st : State) (t : ℕ) (p : Phase) (ws : Writes) → Wrote st t ws → FitsPhase p (length ws) → Bounds st → (u : ℕ) (q : Phase) → get (insert st.active t p) u ≡ Some q → (vs : Writes) → Wrote st u vs → FitsPhase q (length vs)
 goes_fit st t p ws w fit b = each_insert st.active t (λ u q. (vs : Writes) → Wrote st u vs → FitsPhase q (length vs)) p
     (λ vs w'. subst (λ (vs : Writes). FitsPhase p (length vs)) (same_entry st.begun t ws vs w w') fit) (λ u q ne h. b.fits u q h)
@@ -74,7 +74,7 @@ commit_low st i top a m = let low = (i.fair a m).low in omega arith
 finishing_low : (st : State) → Sound st → st.top < end_of_stamps → (t c k : ℕ) → InPhase st t (Finishing c k) → c < end_of_stamps
 finishing_low st i top t c k h = let f = i.finishes t (Finishing c k) h c k refl in commit_low st i top (record { start = t; stamp = c; writes = f.0 }) f.1
 
--- a step that begins nothing and sets nothing
+-- a step that begins no session and sets nothing
 kept_bounds : {st st' : State} → Sound st' → Bounds st → st'.begun ≡ st.begun → st'.top < end_of_stamps → len st'.active ≤ most_sessions
     → ((t : ℕ) (p : Phase) → InPhase st' t p → (ws : Writes) → Wrote st t ws → FitsPhase p (length ws)) → Bounds st'
 kept_bounds {st} {st'} i b same top few fits = record {

@@ -1,4 +1,4 @@
--- What the kind of a change says of it.
+-- A change, from its kind.
 use Rattle.std.proofs.Common.{◌≡◌, ℕ, List, Some, None, refl}
 use Rattle.cell_key.specs.declared.columns.WriteKind.TheVariants as write
 use Rattle.si_model.specs.Machine.{Change}

@@ -91,7 +91,7 @@ commit_point = (
       rests))))))))),
 )
 
--- only k is there
+-- only k has an entry
 abbrev IsAlone : FinMap nat_cmp Phase → ℕ → Type 0
 IsAlone m k = (u : ℕ) (q : Phase) → u ≢ k → get m u ≡ Some q → ⊥
 

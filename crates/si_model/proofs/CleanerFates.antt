@@ -1,4 +1,4 @@
--- What a cleaner learns at the first cell of a start, and that it stays right.
+-- A cleaner's decision at the first cell of a start, and that it stays right.
 use Rattle.std.proofs.Common.{◌≡◌, ℕ, ◌<◌, ◌≤◌, ◌^◌, List, [], ◌∷◌, None, inl, inr, refl, sym, ap, subst, ◌∙◌, arith}
 use Rattle.std.proofs.lemmas.Bool.{cases_eq, cases_lt}
 use Rattle.std.proofs.lemmas.Option.{none-some}
@@ -71,7 +71,7 @@ module _ (cells : Cells) (st : State) (reached : IsReached st) (shown : ShowsCel
     | inr most ↦ omega arith
   ]
 
-  -- what the first cell of a start tells
+  -- the first cell of a start tells its fate
   pub first_tells : FirstTells cells st
   first_tells t first is = record {
     locked = λ there. let m = shown.locks first t there.0 there.1 in ((λ c. fate.committed c m), (λ d. fate.dead d m));

@@ -1,4 +1,4 @@
--- What a collection keeps, and what a collector may erase.
+-- The effects of a collection, and the versions that a collector may erase.
 use Rattle.std.proofs.Common.{◌≡◌, ◌≢◌, ℕ, ◌<◌, ◌≤◌, ◌^◌, List, [], ◌∷◌, Option, Some, None, ◌⊎◌, inl, inr, refl, sym, ap, subst, ◌∙◌, arith}
 use Rattle.std.specs.Prelude.{IsSome, is_some}
 use Rattle.std.proofs.lemmas.Option.{none-some, same_Some}
@@ -36,7 +36,7 @@ module _ (cells cells' : Cells) (st : State) (shown : ShowsCells cells st) (gone
     | inr left ↦ absurd (none-some b (sym left.0 ∙ h))
   ]
 
-  -- the data of a mark stays, and that of each record that stays
+  -- the data of a mark is kept, and the data of each remaining record
   mark_value : (x : Cell) (t : ℕ) → Marked st x t → IsThere cells x Data t → IsThere cells' x Data t
   mark_value x t m was = elim (gone.values x t) [
     | inl same ↦ (was.0, same ∙ was.1)
@@ -90,7 +90,7 @@ module _ (cells cells' : Cells) (st : State) (shown : ShowsCells cells st) (gone
     given = λ x t b h. let k = shown.given x t b (value_was x t b h) in record { ws = k.ws; wrote = k.wrote; gives = k.gives; late = k.late };
   }
 
-  -- what was tidy stays so, for each floor
+  -- a tidy cell stays tidy, for each floor
   pub tidy_collected : (x : Cell) (floor : ℕ) → IsTidy cells x floor → IsTidy cells' x floor
   tidy_collected x floor tidy = record {
     one = λ c d lc ld hc hd. tidy.one c d lc ld (hc.0, record_was x c hc.0 hc.1) (hd.0, record_was x d hd.0 hd.1);
@@ -105,7 +105,7 @@ module _ (cells cells' : Cells) (st : State) (shown : ShowsCells cells st) (gone
   come_collected floor FirstPass after come = come
   come_collected floor SecondPass after come = (come.0, λ x passed. tidy_collected x floor (come.1 x passed))
 
--- what becomes of one key where records and their data are erased
+-- the fate of one key when records and their data are erased
 data Fate (cells cells' : Cells) (k : CellKey) (IsErased : Type 0) : Type 0 where
   stays : get cells' k ≡ get cells k → Fate cells cells' k IsErased
   goes : get cells' k ≡ None → IsErased → Fate cells cells' k IsErased
@@ -147,7 +147,8 @@ collected_fate x (v ∷ vs) cells k = elim (cases_key k (key_of x Write v.0)) [
   ]
 ]
 
--- Records of x older than one at or below the floor, and the data that they name, may go where no mark stands below the floor.
+-- Records of x older than one at or below the floor, and the data that they name, may be erased if no mark is below the
+-- floor.
 module _ (cells : Cells) (st : State) (reached : IsReached st) (shown : ShowsCells cells st) (x : Cell) (floor : ℕ) (below : floor ≤ st.floor) (clear : IsUnmarkedBelow st floor) where
   start_low : (a : Commit) → a ∈ st.commits → a.start < 2 ^ 64
   start_low a i =
@@ -168,7 +169,7 @@ module _ (cells : Cells) (st : State) (reached : IsReached st) (shown : ShowsCel
       let k = shown.records y c h.0 h.2 in
       (k.commit, k.is_in, k.stamp, (k.change, k.gives), same_start k.commit.start t (kind_of_change k.change) h.1 h.0 (start_low k.commit k.is_in) low k.is_text h.3)
 
-  -- two records of one start are one
+  -- two records of one start are the same
   one_record : (y : Cell) (c d t : ℕ) → t < 2 ^ 64 → NamesAt cells y c t → NamesAt cells y d t → c ≡ d
   one_record y c d t low h g =
       let a = named_commit y c t low h in
@@ -176,7 +177,7 @@ module _ (cells : Cells) (st : State) (reached : IsReached st) (shown : ShowsCel
       sym a.2 ∙ (ap (λ (m : Commit). m.stamp) (one_commit st.commits (reached_sound reached).starts_differ a.0 b.0 a.1 b.1 (a.4 ∙ sym b.4)) ∙ b.2)
 
   module _ (w : ℕ) (text : List ℕ) (newest : at cells x Write w ≡ Some text) (at_most : w ≤ floor) where
-    -- the commit at c lies below the one at w, which is cleared
+    -- the commit at c is older than the one at w, which is cleared
     replaced : (c : ℕ) → c < w → (a : Commit) → a ∈ st.commits → Names a.writes x → a.stamp ≡ c → IsReplaced st x a
     replaced c older a i names is =
         let k = shown.records x w text newest in
@@ -253,7 +254,7 @@ module _ (cells : Cells) (st : State) (reached : IsReached st) (shown : ShowsCel
             let e = same_start t v.1 h.1 o.there.1 o.there.0 low o.low (subst (λ (b : List ℕ). IsRecordText t h.1 b) text h.3) o.there.3 in
             ap (λ (p : Cell × ℕ). at (collected_cells cells x vs) p.0 Data p.1) (λ j. (ey j, e j)) ∙ (collected_gone x vs cells v i).1
 
-  -- The record of a deletion may go too, where it is the oldest.
+  -- The record of a deletion may be erased too, if it is the oldest.
   module _ (c : ℕ) (at_most : c ≤ floor) (oldest : IsOldestDeletion cells x c) where
     abbrev without : Cells
     without = forgotten_cells cells x c
@@ -307,7 +308,7 @@ module _ (cells : Cells) (st : State) (reached : IsReached st) (shown : ShowsCel
       ];
     }
 
--- one key where data was erased
+-- one key of erased data
 abbrev IsOfData : Cell → List ℕ → CellKey → Type 0
 IsOfData x ts k = (t : ℕ) × (t ∈ ts) × (k ≡ key_of x Data t)
 
@@ -328,7 +329,7 @@ dropped_fate x (t ∷ ts) cells k = elim (cases_key k (key_of x Data t)) [
   ]
 ]
 
--- data below the floor that no record names may go where no mark stands below the floor
+-- data below the floor that no record names may be erased if no mark is below the floor
 module _ (cells : Cells) (st : State) (x : Cell) (floor : ℕ) (clear : IsUnmarkedBelow st floor) where
   collects_unnamed : (ts : List ℕ) → ((t : ℕ) → t ∈ ts → (t < floor) × (¬ IsNamed cells x t)) → Collects cells (dropped_cells cells x ts) st
   collects_unnamed ts old = record {
@@ -361,7 +362,7 @@ may_erase cells st reached shown floor below clear = record {
 pub stays_shown : (cells : Cells) (st : State) → ShowsCells cells st → StaysShown cells st
 stays_shown cells st shown cells' collects = shows_collected cells cells' st shown collects
 
--- a collection puts no key
+-- a collection adds no key
 pub no_new_key : (cells cells' : Cells) (st : State) → Collects cells cells' st → HasNoNewKey cells cells'
 no_new_key cells cells' st gone k = by_column k.qualifier (record { row = k.row; family = k.family }) k.stamp
   where

@@ -1,4 +1,4 @@
--- How a collector goes on from cell to cell, and that it has come as far whoever takes a step.
+-- The progress of a collector from cell to cell, and that no step of anyone undoes it.
 use Rattle.std.proofs.Common.{◌≡◌, ◌≢◌, ℕ, ◌<◌, ◌≤◌, List, Option, Some, None, ◌⊎◌, inl, inr, refl, sym, ap, subst, ◌∙◌, arith}
 use Rattle.std.proofs.Math.Nat.{le_trans}
 use Rattle.std.proofs.lemmas.Bool.{cases_lt}
@@ -59,7 +59,7 @@ module _ (cells : Cells) (st : State) (shown : ShowsCells cells st) (floor : ℕ
   marked_cell : (x : Cell) (t : ℕ) → Marked st x t → HasCell cells (place_at x)
   marked_cell x t m = let k = shown.marks x t m in has_key cells x Lock t (k.text, k.lock)
 
-  -- the first pass goes past a cell with no lock below the floor
+  -- the first pass moves past a cell without a lock below the floor
   come_past : (x : Cell) → IsNextCell cells after (Some (place_at x)) → ((t : ℕ) → t < floor → at cells x Lock t ≡ None) → HasCome cells st floor FirstPass after → HasCome cells st floor FirstPass (Some (place_at x))
   come_past x next unlocked come y t passed m = elim (where_is after (place_at x) (place_at y) passed) [
     | before b ↦ come y t b m
@@ -81,7 +81,7 @@ module _ (cells : Cells) (st : State) (shown : ShowsCells cells st) (floor : ℕ
     lasting = λ c t low e. empty (has_key cells x Write c (_, e));
   }
 
-  -- the second pass goes past a tidy cell
+  -- the second pass moves past a tidy cell
   come_tidy : (x : Cell) → IsNextCell cells after (Some (place_at x)) → IsTidy cells x floor → HasCome cells st floor SecondPass after → HasCome cells st floor SecondPass (Some (place_at x))
   come_tidy x next tidy come = (
     come.0,
@@ -104,7 +104,7 @@ comes_further cells st shown floor after = record {
   ended = come_to_end cells st shown floor after;
 }
 
--- the record that takes a mark's place is new, and younger than the start
+-- the record that replaces a mark is new, and younger than the start
 module _ (cells : Cells) (st : State) (reached : IsReached st) (shown : ShowsCells cells st) (x : Cell) (t : ℕ) (m : Marked st x t) where
   absent : (c : ℕ) → ((b : List ℕ) → at cells x Write c ≡ Some b → ⊥) → at cells x Write c ≡ None
   absent c never = by_case (at cells x Write c) refl
@@ -127,7 +127,7 @@ module _ (cells : Cells) (st : State) (reached : IsReached st) (shown : ShowsCel
       let own = (reached_sound reached).drawn t (Stamped c) h c refl in
       (own.later, absent c (λ b g. let k = shown.records x c b g in own.no_commit k.commit k.is_in k.stamp))
 
--- How far a collector has come stays so where another one takes a step that changes the cells as a client or a cleaner does.
+-- The progress of a collector is kept by a step of another that changes the cells as a client or a cleaner does.
 module _ (cells : Cells) (st st' : State) (floor : ℕ) (low : floor ≤ st.floor) (keeps : Endures st st') where
   unmarked_stays : IsUnmarkedBelow st floor → IsUnmarkedBelow st' floor
   unmarked_stays clear x t m = elim (keeps.joins x t m) [ inl old ↦ clear x t old | inr up ↦ le_trans low up ]
@@ -157,7 +157,7 @@ module _ (cells : Cells) (st st' : State) (floor : ℕ) (low : floor ≤ st.floo
       data_off : (x : Cell) (u : ℕ) → key_of x Data u ≢ key_of y Data t → at (held_cells cells y t v first) x Data u ≡ at cells x Data u
       data_off x u ne = put_off (changed_cells cells y t v) (key_of y Lock t) (lock_text first.row first.family (kind_of_change v)) (key_of x Data u) (no_data_lock x y u t) ∙ changed_off cells y t v (key_of x Data u) ne
 
-  -- a lock gives way to its record, which is younger
+  -- a lock is replaced by its record, which is younger
   come_recorded : (y : Cell) (t c : ℕ) (kind : WriteKind) → Marked st y t → t < c → at cells y Write c ≡ None → (pass : Pass) (after : Option Place) → HasCome cells st floor pass after → HasCome (recorded_cells cells y t c kind) st' floor pass after
   come_recorded y t c kind mark later fresh = come_by (recorded_cells cells y t c kind) (λ clear x tidy. record {
     one = λ a b la lb ha hb. tidy.one a b la lb (ha.0, sym (write_off x a (old clear x a la)) ∙ ha.1) (hb.0, sym (write_off x b (old clear x b lb)) ∙ hb.1);
@@ -188,7 +188,7 @@ module _ (cells : Cells) (st st' : State) (floor : ℕ) (low : floor ≤ st.floo
       off : (x : Cell) (q : Qualifier) (a : ℕ) → key_of x q a ≢ key_of y Lock t → at (erased_cells cells y t) x q a ≡ at cells x q a
       off x q a ne = erased_off cells (key_of y Lock t) (key_of x q a) ne
 
--- whoever takes a step, a collector has come as far
+-- no step of anyone undoes a collector's progress
 pub come_stays : (cells : Cells) (st : State) → IsReached st → ShowsCells cells st → ComeStays cells st
 come_stays cells st reached shown next q r step cells' changes floor low pass after come = by_change cells' changes
   where

@@ -1,4 +1,4 @@
--- What the edits of a row transaction make of the cells.
+-- The effect of a row transaction's edits on the cells.
 use Rattle.std.proofs.Common.{◌≡◌, ◌∙◌, ℕ, List, [], ◌∷◌, ap}
 use Rattle.std.specs.FinMap.{insert, remove}
 use Rattle.cell_key.specs.Cells.{Cells, after_edits}

@@ -1,4 +1,4 @@
--- What the mark of a start's first cell says of its fate: it is gone once the start is dead or committed, and else it stands.
+-- The mark of a start's first cell tells its fate: it is gone once the start is dead or committed, and is there before.
 use Rattle.std.proofs.Common.{◌≡◌, ◌≢◌, ℕ, zero, suc, ◌<◌, true, false, List, [], ◌∷◌, Option, Some, ◌⊎◌, inl, inr, refl, sym, ap, subst, ◌∙◌, arith}
 use Rattle.std.specs.Prelude.{slice_get}
 use Rattle.std.specs.Ordering.{nat_cmp}
@@ -26,7 +26,7 @@ pub record Primary (st : State) (t : ℕ) : Type 0 where
   pub puts : Puts ws 0 x v
   pub placed : HasTried st x t
 
--- the mark of the first cell stands, or the fate of t is decided
+-- the mark of the first cell is there, or the fate of t is decided
 pub record IsKnown (st : State) (t : ℕ) : Type 0 where
   pub first : Primary st t
   pub fate : Marked st first.x t ⊎ (IsCommitted st t ⊎ IsDead st t)
@@ -42,7 +42,7 @@ pub record Fates (st : State) : Type 0 where
   pub of_dead : (t : ℕ) → IsDead st t → IsOver st t
   pub of_commit : (a : Commit) → a ∈ st.commits → IsOver st a.start
 
--- the writes of a start that has held a cell stay
+-- the writes of a start that has held a cell are unchanged
 acts_wrote : {st st' : State} {q : Request} {r : Reply} → Sound st → Acts st q r st' → (y : Cell) (u : ℕ) → HasTried st y u → (ws : Writes) → Wrote st u ws → Wrote st' u ws
 acts_wrote i (tells t) y u p ws w = w
 acts_wrote {st} i (begins {s = s} d) y u p ws w = let low = i.start_low u ws w in let new = d.0 in let ne : u ≢ s = omega arith in get_other st.begun s [] u ne ∙ w
@@ -77,7 +77,7 @@ acts_wrote i (moves_tablet is_moved) y u p ws w = w
 abbrev still_primary : {st st' : State} {q : Request} {r : Reply} → Sound st → Acts st q r st' → (u : ℕ) → Primary st u → Primary st' u
 still_primary i s u p = record { x = p.x; ws = p.ws; v = p.v; wrote = acts_wrote i s p.x u p.placed p.ws p.wrote; puts = p.puts; placed = acts_placed i s p.x u p.placed }
 
--- if the mark of t on x leaves, and t is committed or dead by then
+-- if the mark of t on x is removed, and t is committed or dead by then
 left_known : (st st' : State) (x : Cell) (t : ℕ) → IsWithout st.marks (x, t) st'.marks → (IsCommitted st' t ⊎ IsDead st' t) → ((u : ℕ) → IsCommitted st u ⊎ IsDead st u → IsCommitted st' u ⊎ IsDead st' u)
     → (y : Cell) (u : ℕ) → Marked st y u ⊎ (IsCommitted st u ⊎ IsDead st u) → Marked st' y u ⊎ (IsCommitted st' u ⊎ IsDead st' u)
 left_known st st' x t less fate later y u (inr f) = inr (later u f)
@@ -131,7 +131,7 @@ first_put : (ws : Writes) (k : ℕ) (x : Cell) (v : Change) → Puts ws k x v �
 first_put [] k x v puts = absurd (none-some (x, v) puts)
 first_put (q ∷ ws) k x v puts = (q, refl)
 
--- a start that holds a further cell is known: its first mark stands, unless it is dead
+-- the fate of a start that holds a further cell is known: its first mark is there, unless it is dead
 known_before : (st : State) (t k : ℕ) (ws : Writes) (x : Cell) (v : Change) → Sound st → HasHeld st t k → Wrote st t ws → Puts ws k x v → 0 < k → IsKnown st t
 known_before st t k ws x v i h w puts more = record {
   first = record {

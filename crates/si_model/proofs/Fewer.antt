@@ -1,4 +1,4 @@
--- A map that has no key but those of another has at most as many.
+-- A map with only keys of another map has at most as many keys.
 use Rattle.std.proofs.Common.{◌≡◌, ℕ, zero, suc, ◌+◌, ◌-◌, ◌≤◌, Bool, true, false, cond, ◌||◌, List, [], ◌∷◌, length, map, Option, None, refl, sym, ap, ◌∙◌, arith}
 use Rattle.std.specs.declared.cmp.Ordering.{Ordering}
 use Rattle.std.specs.declared.cmp.Ordering.TheVariants.{Less, Equal, Greater}
@@ -56,7 +56,7 @@ module _ {K : Type 0} {R : K → K → Ordering} (o : IsTotalOrder R) where
     pub few : (a : FinMap R X) (b : FinMap R Y) → IsWithin a b → len a ≤ len b
     few a b within = few_by (len a) a b refl within
 
-    -- and fewer where one of them is missing
+    -- and fewer if one of them is missing
     pub fewer : (a : FinMap R X) (b : FinMap R Y) (k : K) → IsWithin a b → contains_key b k ≡ true → contains_key a k ≡ false → len a + 1 ≤ len b
     fewer a b k within there missing =
         let lb = less_one b k there in

@@ -1,4 +1,4 @@
--- How each refusal comes to be the first that applies.
+-- When each refusal is the first that applies.
 use Rattle.std.proofs.Common.{◌≡◌, ◌≢◌, ℕ, ◌<◌, ◌≤◌, Bool, List, [], length, Some, None, ◌⊎◌, inl, inr, refl, arith, lit<}
 use Rattle.std.specs.FinMap.{get, len}
 use Rattle.cell_key.specs.Names.{IsRow, IsFamily}

@@ -1,4 +1,4 @@
--- Every active start is at least the floor, so what is cleared stays so.
+-- Every active start is at least the floor, so a cleared stamp stays cleared.
 use Rattle.std.proofs.Common.{◌≡◌, ℕ, ◌+◌, ◌≤◌, max, true, false, cond, List, length, Some, sym, subst, ◌∙◌, arith}
 use Rattle.std.specs.Prelude.{nat_eq}
 use Rattle.std.specs.Ordering.{nat_cmp}
@@ -16,7 +16,7 @@ use Rattle.si_model.proofs.Invariant.{Sound}
 use Rattle.si_model.proofs.Kept.{held_phase}
 use Rattle.si_model.proofs.Steps.{step_sound, reached_sound}
 
--- a session that was active goes on
+-- an active session continues
 goes : (st : State) (t : ℕ) (p p' : Phase) → InPhase st t p → FloorStaysLow st → (u : ℕ) (q : Phase) → get (insert st.active t p') u ≡ Some q → st.floor ≤ u
 goes st t p p' h f = each_insert st.active t (λ u q. st.floor ≤ u) p' (f.above t p h) (λ u q ne g. f.above u q g)
 

@@ -1,4 +1,4 @@
--- What a step of the machine keeps of the starts that have held a cell, and of what is cleared.
+-- Effects of a step on the starts that have held a cell, and on cleared stamps.
 use Rattle.std.proofs.Common.{◌≡◌, ◌≢◌, ℕ, true, false, cond, [], ◌∷◌, ◌+◌, length, Some, sym, ap, subst, ◌∙◌, arith, refl}
 use Rattle.std.specs.Prelude.{nat_eq}
 use Rattle.std.specs.FinMap.{get, insert, remove}
@@ -11,7 +11,7 @@ use Rattle.si_model.proofs.Steps.{reached_sound}
 use Rattle.si_model.proofs.Floors.{stays_cleared}
 use Rattle.si_model.proofs.LastingMarks.{have_tried}
 
--- the writes of a start that isn't open stay, and it doesn't get open again
+-- the writes of a start that isn't open are unchanged, and it doesn't become open again
 record OpenStays (st st' : State) : Type 0 where
   wrote : (u : ℕ) (ws : Writes) → Wrote st u ws → ¬ InPhase st u Open → Wrote st' u ws
   late : (u : ℕ) (ws : Writes) → Wrote st u ws → ¬ InPhase st u Open → ¬ InPhase st' u Open

@@ -1,4 +1,4 @@
--- A start that has had its chance to mark a cell never marks it again; and the laws that are no field of the invariant.
+-- A start that has had its chance to mark a cell never marks it again; and the laws that aren't part of the invariant.
 use Rattle.std.proofs.Common.{◌≡◌, ℕ, zero, suc, ◌+◌, ◌<◌, Bool, true, false, cond, List, [], ◌∷◌, length, Some, refl, sym, ap, subst, ◌∙◌, arith}
 use Rattle.std.specs.Prelude.{slice_get, nat_eq}
 use Rattle.std.specs.FinMap.{get, insert, remove}
@@ -28,7 +28,7 @@ same_placed st st' e f x t p = record {
 pub ended_placed : (st : State) (u : ℕ) (x : Cell) (t : ℕ) → HasTried st x t → HasTried (record st { active = remove st.active u }) x t
 ended_placed st u x t p = Kept.receded_placed st (remove st.active u) (Kept.ends st u) x t p
 
--- finishing, whatever joins and leaves beside it
+-- a session that finishes, whatever is added and removed beside it
 finishing_placed : (st : State) (u c k n : ℕ) (x : Cell) (t : ℕ) → HasTried st x t → HasTried (record st { active = finishing st.active u c k n }) x t
 finishing_placed st u c k n x t p = record {
   ws = p.ws;
@@ -126,7 +126,7 @@ gone st reached mid end qs qs' rs rs' first second x t m left back =
     let i = reached_sound reached in
     left (run_no_return (run_sound i first) second x t (run_placed i first x t (i.placed x t m)) back)
 
--- the index form of what the invariant says of starts
+-- the invariant's property of starts, by index
 at_in : (cs : List Commit) (i : ℕ) (a : Commit) → slice_get cs i ≡ Some a → a ∈ cs
 at_in [] i a h = absurd (none-some a h)
 at_in (c ∷ cs) zero a h = subst (λ b. b ∈ (c ∷ cs)) (same_Some c a h) here

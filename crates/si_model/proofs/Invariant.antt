@@ -1,4 +1,4 @@
--- What holds of every reached state.
+-- The invariant of every reached state.
 use Rattle.std.proofs.Common.{◌≡◌, ◌≢◌, ℕ, ◌<◌, ◌≤◌, true, List, [], ◌∷◌, Option, Some, ◌⊎◌}
 use Rattle.std.specs.FinMap.{get}
 use Rattle.si_model.specs.Sets.{◌∈◌}
@@ -32,13 +32,13 @@ abbrev pub StartsDiffer : List Commit → Type 0
 StartsDiffer [] = Unit {0}
 StartsDiffer (a ∷ rest) = ((b : Commit) → b ∈ rest → b.start ≢ a.start) × StartsDiffer rest
 
--- a scan says something of x, which no mark kept back
+-- a scan answers for x, which no mark blocked
 pub record SaysThere (scan : Scan) (x : Cell) : Type 0 where
   pub said : Option Item
   pub is : SaysOf scan x said
   pub free : (t : ℕ) → said ≢ Some (Locked t)
 
--- a Get of this start and cell was answered, or a scan said something there
+-- a Get with this start and cell was answered, or a scan gave an unblocked answer for the cell
 abbrev pub Told : State → Read → Type 0
 Told st r =
     (r ∈ st.reads) ⊎ ((scan : Scan) × (scan ∈ st.scans) × SaysThere scan r.cell × (r.start ≡ scan.start))
@@ -50,7 +50,7 @@ pub record Sound (st : State) : Type 0 where
   -- sessions
   pub has_begun : (t : ℕ) (p : Phase) → InPhase st t p → (ws : Writes) × Wrote st t ws
   pub uncommitted : (t : ℕ) (p : Phase) → InPhase st t p → IsLive p → (a : Commit) → a ∈ st.commits → a.start ≢ t
-  -- the marks of a live session stand, unless it is dead
+  -- the marks of a live session are there, unless it is dead
   pub stands : (t : ℕ) (p : Phase) → InPhase st t p → IsLive p → (ws : Writes) → Wrote st t ws
       → IsDead st t ⊎ ((k : ℕ) (x : Cell) (v : Change) → Puts ws k x v → IsPast p k → Marked st x t)
   pub drawn : (t : ℕ) (p : Phase) → InPhase st t p → (c : ℕ) → p ≡ Stamped c → IsOwn st t c
@@ -58,7 +58,7 @@ pub record Sound (st : State) : Type 0 where
   -- marks
   pub placed : (x : Cell) (t : ℕ) → Marked st x t → HasTried st x t
   pub one_mark : OneMark st
-  -- a mark is younger than each commit of its cell, its own aside
+  -- a mark is younger than each commit of its cell other than its own
   pub younger : (x : Cell) (t : ℕ) → Marked st x t → (a : Commit) → a ∈ st.commits → a.start ≢ t → Names a.writes x → a.stamp < t
   -- commits
   pub fair : (a : Commit) → a ∈ st.commits → IsFair st a
@@ -70,7 +70,7 @@ pub record Sound (st : State) : Type 0 where
   pub read_low : (r : Read) → Told st r → r.start ≤ st.top
   pub settled : IsSettled st
   pub scans_settled : ScansSettled st
-  -- what has drawn its stamp below a read and writes its cell never commits
+  -- a session that has drawn its stamp below a read and writes its cell never commits
   pub unread : (r : Read) → Told st r → (t : ℕ) (p : Phase) → InPhase st t p → (c : ℕ) → p ≡ Stamped c → (ws : Writes) → Wrote st t ws
       → Names ws r.cell → c ≤ r.start → IsDead st t
   -- cleaners

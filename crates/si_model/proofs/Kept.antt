@@ -83,7 +83,7 @@ module _ (st : State) (s : ℕ) (x : Cell) (v : Option Value) where
   told_more P new old r (inl m) = each_cons P new (λ r m. old r (inl m)) r m
   told_more P new old r (inr by) = old r (inr by)
 
-  -- what has drawn its stamp below s and writes x is dead: else its mark would have kept the answer back
+  -- a session that has drawn its stamp below s and writes x is dead: otherwise its mark would have blocked the answer
   pub no_answer : ((t : ℕ) → Marked st x t → s < t) → Sound st → (t : ℕ) (p : Phase) → InPhase st t p → (c : ℕ) → p ≡ Stamped c → (ws : Writes) → Wrote st t ws → Names ws x → c ≤ s → IsDead st t
   no_answer none i t p h c e ws w names low = elim (i.stands t p h (subst IsLive (sym e) tt) ws w) [
     | inl d ↦ d
@@ -117,7 +117,7 @@ module _ (st : State) (s : ℕ) (x : Cell) (v : Option Value) where
     decided = i.decided;
   }
 
--- what a scan says is so as of its start, and where it says something nothing kept it back
+-- a scan's answers are right as of its start, and no mark blocked a cell that isn't named as locked
 pub record IsRight (st : State) (scan : Scan) : Type 0 where
   pub so : (x : Cell) (said : Option Item) → SaysOf scan x said → IsSo st.commits scan.start x said
   pub free : (x : Cell) → SaysThere scan x → IsFreeAt st scan.start x
@@ -212,7 +212,7 @@ module _ (st : State) (s : ℕ) (ws' : Writes) where
     decided = i.decided;
   }
 
--- a session goes on to a phase that is past more
+-- a session moves to a phase that has passed more cells
 module _ (st : State) (t : ℕ) (p' : Phase) where
   pub phase_placed : (p : Phase) → InPhase st t p → ((j : ℕ) → IsPast p j → IsPast p' j) → (x : Cell) (u : ℕ) → HasTried st x u → HasTried (record st { active = insert st.active t p' }) x u
   phase_placed p h more x u pl = record {
@@ -225,7 +225,7 @@ module _ (st : State) (t : ℕ) (p' : Phase) where
         (λ v q ne g e. pl.past q (subst (λ v. InPhase st v q) e g)) u q g refl;
   }
 
--- where a session stands that has held k cells
+-- the phase of a session that has held k cells
 pub record HeldPhase (st : State) (t k : ℕ) : Type 0 where
   pub p : Phase
   pub is : InPhase st t p
@@ -248,7 +248,7 @@ module _ (st : State) (t k : ℕ) (x : Cell) where
       let p = phase_placed st t (Holding (k + 1)) hp.p hp.is (λ j g. let below = hp.below j g in omega arith) y u pl in
       record { ws = p.ws; k = p.k; v = p.v; wrote = p.wrote; puts = p.puts; past = p.past }
 
-  -- the marks of the session stand after it
+  -- the marks of the session are there after it
   stands_on : (i : Sound st) → HasHeld st t k → (ws : Writes) (v : Change) → Wrote st t ws → Puts ws k x v → (us : Writes) → Wrote st t us
       → IsDead st t ⊎ ((j : ℕ) (y : Cell) (w : Change) → Puts us j y w → IsPast (Holding (k + 1)) j → Marked held y t)
   stands_on i h ws v w puts us g = elim (i.stands t hp.p hp.is hp.live us g) [
@@ -315,7 +315,7 @@ module _ (st : State) (t k : ℕ) (x : Cell) where
       placed_in : (y : Cell) (u : ℕ) → (y, u) ∈ ((x, t) ∷ st.marks) → HasTried held y u
       placed_in y u m = each_cons (λ (q : Cell × ℕ). HasTried held q.0 q.1) new_placed (λ q n. held_placed h q.0 q.1 (i.placed q.0 q.1 n)) (y, u) m
 
-      -- no mark stands on x yet
+      -- x has no mark yet
       unmarked : (u : ℕ) → ¬ Marked st x u
       unmarked u m = free (inl (u, m))
 
@@ -410,7 +410,7 @@ pub record IsFinishing (st : State) (t : ℕ) (p : Phase) : Type 0 where
   pub ws : Writes
   pub wrote : Wrote st t ws
 
--- sessions end, or go on finishing
+-- sessions end, or continue finishing
 abbrev pub Recedes : State → FinMap nat_cmp Phase → Type 0
 Recedes st active' = (u : ℕ) (p : Phase) → get active' u ≡ Some p → InPhase st u p ⊎ IsFinishing st u p
 
@@ -468,7 +468,7 @@ module _ (st : State) (active' : FinMap nat_cmp Phase) (less : Recedes st active
 pub ends : (st : State) (t : ℕ) → Recedes st (remove st.active t)
 ends st t u p h = inl (each_remove st.active t (λ u p. InPhase st u p) (λ u p ne g. g) u p h)
 
--- also if active is more than what the state has, by t alone
+-- also if only t's entry in active is new
 pub ends_or_finishes : (st : State) (active : FinMap nat_cmp Phase) (t c k n : ℕ) → ((u : ℕ) (p : Phase) → u ≢ t → get active u ≡ Some p → InPhase st u p)
     → CommittedAt st t c → (ws : Writes) → Wrote st t ws → Recedes st (finishing active t c k n)
 ends_or_finishes st active t c k n others m ws w u p h = by_test (nat_eq k n) h
@@ -478,7 +478,7 @@ ends_or_finishes st active t c k n others m ws w u p h = by_test (nat_eq k n) h
     by_test false g = each_insert active t (λ u p. InPhase st u p ⊎ IsFinishing st u p) (Finishing c k)
         (inr (record { c = c; k = k; is = refl; committed = m; ws = ws; wrote = w })) (λ u p ne g. inl (others u p ne g)) u p g
 
--- a commit joins; its session is none of the active ones
+-- a commit is added; its session is not active
 pub record Joins (st : State) (t c : ℕ) (ws : Writes) : Type 0 where
   pub wrote : Wrote st t ws
   pub own : IsOwn st t c
@@ -515,7 +515,7 @@ module _ (st : State) (t c : ℕ) (ws : Writes) where
   shown_still j scan m x said says free v =
       settled_still j (record { start = scan.start; cell = x; answer = v }) (inr (scan, m, record { said = said; is = says; free = free }, refl)) v
 
-  -- what a scan said is so still
+  -- a scan's answers are still right
   says_still : Joins st t c ws → Sound st → (scan : Scan) → scan ∈ st.scans → (x : Cell) (said : Option Item) → SaysOf scan x said → IsSo joined.commits scan.start x said
   says_still j i scan m x None says = shown_still j scan m x None says (λ t e. cc) None (i.scans_settled scan m x None says)
   says_still j i scan m x (Some (Valued v)) says = shown_still j scan m x (Some (Valued v)) says (λ t e. cc) (Some v) (i.scans_settled scan m x (Some (Valued v)) says)
@@ -559,7 +559,7 @@ module _ (st : State) (t c : ℕ) (ws : Writes) where
     decided = λ n k h e. elim (i.decided n k h e) [ inl f ↦ inl (f.0, (f.1.0, there f.1.1)) | inr d ↦ inr d ];
   }
 
--- a mark leaves, of a start that is dead or committed
+-- a mark of a dead or committed start is removed
 module _ (st : State) (x : Cell) (t : ℕ) (marks' : List (Cell × ℕ)) (less : IsWithout st.marks (x, t) marks') where
   abbrev pub unmarked : State
   unmarked = record st { marks = marks' }
@@ -634,7 +634,7 @@ module _ (st : State) (t : ℕ) where
     decided = λ n k h e. elim (i.decided n k h e) [ inl f ↦ inl f | inr d ↦ inr (there d) ];
   }
 
--- the parts change that say nothing of sessions, marks and commits
+-- only parts change that do not concern sessions, marks and commits
 module _ (st : State) (cleaners' : FinMap nat_cmp Cleaner) (next : ℕ) (collectors' : FinMap nat_cmp ℕ) (next_collector' floor' : ℕ) (places' : List Place) (next_tablet' : ℕ) where
   abbrev pub aside : State
   aside = record st { cleaners = cleaners'; next_cleaner = next; collectors = collectors'; next_collector = next_collector'; floor = floor'; places = places'; next_tablet = next_tablet' }
@@ -667,7 +667,7 @@ module _ (st : State) (cleaners' : FinMap nat_cmp Cleaner) (next : ℕ) (collect
 pub cleaning_sound : (st : State) (cleaners' : FinMap nat_cmp Cleaner) (next : ℕ) → ((n : ℕ) (k : Cleaner) → get cleaners' n ≡ Some k → k.decided ≡ true → IsCommitted st k.start ⊎ IsDead st k.start) → Sound st → Sound (record st { cleaners = cleaners'; next_cleaner = next })
 cleaning_sound st cleaners' next = aside_sound st cleaners' next st.collectors st.next_collector st.floor st.places st.next_tablet
 
--- only what is beside the transactions changes
+-- only parts beside the transactions change
 pub beside_sound : (st : State) (collectors' : FinMap nat_cmp ℕ) (next_collector' floor' : ℕ) (places' : List Place) (next_tablet' : ℕ) → Sound st
     → Sound (record st { collectors = collectors'; next_collector = next_collector'; floor = floor'; places = places'; next_tablet = next_tablet' })
 beside_sound st collectors' next_collector' floor' places' next_tablet' i = aside_sound st st.cleaners st.next_cleaner collectors' next_collector' floor' places' next_tablet' i.decided i

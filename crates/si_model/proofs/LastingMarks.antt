@@ -1,4 +1,4 @@
--- What each step keeps of the marks and fates that a cleaner or a collector goes by, whoever takes it.
+-- Effects of steps on the marks and fates on which a cleaner or a collector relies, whoever takes the step.
 use Rattle.std.proofs.Common.{◌≡◌, ℕ, ◌≤◌, true, false, List, Some, ◌⊎◌, inl, inr, sym, ◌∙◌}
 use Rattle.std.specs.Ordering.{nat_cmp}
 use Rattle.std.specs.FinMap.{get, get-empty}
@@ -17,7 +17,7 @@ use Rattle.si_model.proofs.Steps.{step_sound, reached_sound}
 use Rattle.si_model.proofs.Floors.{reached_floors}
 use Rattle.si_model.proofs.Gone.{acts_placed, acts_no_return}
 
--- a mark that joins is at or above the floor
+-- an added mark is at or above the floor
 acts_marks : {st st' : State} {q : Request} {r : Reply} → FloorStaysLow st → Acts st q r st' → (y : Cell) (u : ℕ) → Marked st' y u → Marked st y u ⊎ (st.floor ≤ u)
 acts_marks {st} f (holds {t = t} {k = k} {x = x} h w puts free) y u m =
     let hp = held_phase st t k h in
@@ -45,7 +45,7 @@ acts_marks f (kills is nc alive w puts less) y u m = inl ((less.same (y, u)).0 m
 acts_marks f (rolls_forward is n committed less) y u m = inl ((less.same (y, u)).0 m).0
 acts_marks f (rolls_back is n nc less) y u m = inl ((less.same (y, u)).0 m).0
 
--- a commit stays
+-- a commit is kept
 acts_commits : {st st' : State} {q : Request} {r : Reply} → Acts st q r st' → (a : Commit) → a ∈ st.commits → a ∈ st'.commits
 acts_commits (commits h alive w puts less) a i = there i
 acts_commits (tells t) a i = i
@@ -71,7 +71,7 @@ acts_commits (has_collected h none) a i = i
 acts_commits (splits cut) a i = i
 acts_commits (moves_tablet is_moved) a i = i
 
--- and so does a death
+-- and so is a rollback
 acts_dead : {st st' : State} {q : Request} {r : Reply} → Acts st q r st' → (u : ℕ) → IsDead st u → IsDead st' u
 acts_dead (kills is nc alive w puts less) u d = there d
 acts_dead (tells t) u d = d

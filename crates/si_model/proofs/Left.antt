@@ -1,4 +1,4 @@
--- What a visit takes off what a collector has left.
+-- The effect of a visit on a collector's remaining work.
 use Rattle.std.proofs.Common.{◌≡◌, ℕ, ◌+◌, ◌≤◌, Bool, true, false, cond, ◌||◌, ◌&&◌, List, [], ◌∷◌, map, Option, Some, None, ◌⊎◌, inl, inr, refl, sym, ap, subst, ◌∙◌, arith}
 use Rattle.std.specs.declared.cmp.Ordering.{Ordering}
 use Rattle.std.specs.declared.cmp.Ordering.TheVariants.{Less, Equal, Greater}
@@ -74,7 +74,7 @@ key_among (e ∷ es) p h = elim (either (eq_by_cmp place_cmp p (place_of e.0)) (
 in_places : (cells : Cells) (p : Place) → contains_key (places_of cells) p ≡ place_in (entries cells) p
 in_places cells p = ap is_some (get-from_entries place_cmp_total (map keyed (entries cells)) p) ∙ is_some-find place_cmp p (map keyed (entries cells))
 
--- a cell has a key exactly where its place is among them
+-- a cell has a key exactly if its place is among the places
 has_place : (cells : Cells) (k : CellKey) → contains_key cells k ≡ true → contains_key (places_of cells) (place_of k) ≡ true
 has_place cells k h = in_places cells (place_of k) ∙ place_among (entries cells) k (sym (contains_key-keys cells k) ∙ h)
 
@@ -100,14 +100,14 @@ and_false : (a b : Bool) → a ≡ false → (a && b) ≡ false
 and_false true b e = cc
 and_false false b e = refl
 
--- if keys go and none joins, no cell joins
+-- if keys are only erased, no cell is added
 few_after : (cells cells' : Cells) → IsWithin key_cmp_total cells' cells → (after : Option Place) → cells_after cells' after ≤ cells_after cells after
 few_after cells cells' within after = few place_cmp_total (retain_keys (places_of cells') (comes_after after)) (retain_keys (places_of cells) (comes_after after)) (λ p h.
     let b = both (comes_after after p) (contains_key (places_of cells') p) (sym (after_at cells' after p) ∙ h) in
     let k = place_has cells' p b.1 in
     after_at cells after p ∙ and_true (comes_after after p) (contains_key (places_of cells) p) b.0 (subst (λ (q : Place). contains_key (places_of cells) q ≡ true) k.1 (has_place cells k.0 (within k.0 k.2))))
 
--- an erasure takes one off at least
+-- an erasure reduces it by at least one
 left_erased : (cells cells' : Cells) (k : CellKey) → IsWithin key_cmp_total cells' cells → contains_key cells k ≡ true → contains_key cells' k ≡ false
     → (after : Option Place) → left_of cells' SecondPass after + 1 ≤ left_of cells SecondPass after
 left_erased cells cells' k within was gone after =

@@ -29,6 +29,7 @@ pub mod NextCells
 pub mod Numbers
 pub mod Recovered
 pub mod Refusals
+pub mod Pages
 pub mod ScanLaws
 pub mod Scannable
 pub mod Scanned

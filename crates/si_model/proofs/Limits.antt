@@ -1,4 +1,4 @@
--- What sessions write keeps to the limits of rows, families and values.
+-- The writes of sessions are within the limits of rows, families and values.
 use Rattle.std.proofs.Common.{◌≡◌, ◌≤◌, ℕ, zero, suc, List, [], ◌∷◌, length, Some, None, ◌⊎◌, inl, inr, sym, subst, ◌∙◌, arith}
 use Rattle.std.specs.List.{AllByRecursion}
 use Rattle.std.specs.Ordering.{nat_cmp}
@@ -57,7 +57,7 @@ family_or family = elim (cases_lt 0 (length family)) [
   | inr none ↦ inr (λ is. let some = is.some in omega arith)
 ]
 
--- what an accepted Set or Delete writes
+-- the write of an accepted Set or Delete
 set_writable : (st : State) (s : ℕ) (x : Cell) (v : Value) → IsAcceptable st (Set s x v) → IsWritable x (Some v)
 set_writable st s x v ok = record {
   row = elim (row_or x.row) [ inl is ↦ is | inr bad ↦ absurd (ok BadRow (set_row bad)) ];
@@ -73,7 +73,7 @@ delete_writable st s x ok = record {
   value = λ given e. absurd (none-some given e);
 }
 
--- what the writes after a Set or a Delete make, it made, or they made before
+-- each change in the writes after a Set or a Delete is the new one, or was there before
 set_puts : {x : Cell} {v : Change} {ws ws' : Writes} → Sets x v ws ws' → (k : ℕ) (y : Cell) (w : Change) → Puts ws' k y w → (◌≡◌ {A = Cell × Change} (x, v) (y, w)) ⊎ Gives ws y w
 set_puts {x} {v} appends zero y w h = inl (same_Some (x, v) (y, w) h)
 set_puts appends (suc k) y w h = absurd (none-some (y, w) h)

@@ -1,4 +1,4 @@
--- The cell that comes right after another one, or first of all.
+-- The cell right after another one, or the first of all cells.
 use Rattle.std.proofs.Common.{◌≡◌, ◌≢◌, ℕ, zero, suc, List, [], ◌∷◌, ◌++◌, Option, Some, None, ◌⊎◌, inl, inr, refl, sym, ap, subst, ◌∙◌, arith}
 use Rattle.std.specs.declared.cmp.Ordering.{Ordering}
 use Rattle.std.specs.declared.cmp.Ordering.TheVariants.{Less, Equal, Greater}
@@ -12,7 +12,7 @@ use Rattle.si_model.specs.Reads.{cell_of}
 use Rattle.si_model.specs.Scans.{place_at, IsAfterCell, IsUpToRow}
 use Rattle.si_model.specs.declared.replies.Cell.{Cell}
 
--- bytes with a 0 at their end come right after them
+-- bytes followed by a 0 are right after them
 
 next_bytes : (xs ys : List ℕ) → byte_cmp xs ys ≡ Less → (byte_cmp (xs ++ 0 ∷ []) ys ≢ Less) → ys ≡ xs ++ 0 ∷ []
 next_bytes [] [] less passed = cc
@@ -58,7 +58,7 @@ pub only_next : (after : Option Cell) (x : Cell) → IsAfterCell after x → ¬ 
 only_next None x later passed = first_place x.row x.family passed
 only_next (Some b) x later passed = next_place b x.row x.family (byte_cmp b.row x.row) refl later passed
 
--- the row of the next cell comes up to the end, or no cell is left
+-- the row of the next cell is at or before the end, or no cell is left
 
 cases_less : (r : Ordering) → (r ≡ Less) ⊎ (r ≢ Less)
 cases_less Less = inl refl

@@ -1,4 +1,4 @@
--- The numbers of cleaners and collectors, and how many there are of them and of tablets.
+-- The numbers of cleaners and collectors, and how many cleaners, collectors and tablets there are.
 use Rattle.std.proofs.Common.{◌≡◌, ℕ, ◌+◌, ◌<◌, ◌≤◌, true, false, List, length, Some, inl, inr, sym, subst, ◌∙◌, arith}
 use Rattle.std.specs.Ordering.{nat_cmp}
 use Rattle.std.specs.FinMap.{FinMap, get, insert, remove, len, empty, get-empty, len-empty}
@@ -25,7 +25,7 @@ module _ {X : Type 0} (m : FinMap nat_cmp X) (next most : ℕ) (n : AreNumbered 
     few = (let more = len_grows m next x in omega arith);
   }
 
-  -- one goes on
+  -- one continues
   changed : (k : ℕ) (old x : X) → get m k ≡ Some old → AreNumbered (insert m k x) next most
   changed k old x h = record {
     first = n.first;

@@ -1,4 +1,4 @@
--- Worked scripts of two sessions that run side by side.
+-- Worked scripts of two concurrent sessions.
 use Rattle.std.proofs.Common.{ℕ, ap, ◌≤◌, [], ◌∷◌, Some, codes, inl, inr, refl, lit<, lit≤}
 use Rattle.std.specs.FinMap.{gets}
 use Rattle.si_model.specs.Sets.{here}

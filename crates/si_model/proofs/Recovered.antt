@@ -1,4 +1,4 @@
--- From each reached state the machine comes to one as after a kill.
+-- From each reached state the machine can go to a state as after a kill.
 use Rattle.std.proofs.Common.{◌≡◌, ◌≤◌, ◌<◌, ◌+◌, ℕ, [], max, ◌⊎◌, inl, inr, refl, sym, ap, subst, ◌∙◌, arith, lit<}
 use Rattle.std.specs.Ordering.{nat_cmp}
 use Rattle.std.specs.FinMap.{get-empty, insert, len, len-empty}
@@ -37,7 +37,7 @@ collects_step st = accepts
     (collects (none_active (λ u q h. none-some q (sym (get-empty nat_cmp u) ∙ h))) (lit< tt))
 
 module _ (cells : Cells) where
-  -- what the cells show
+  -- the state that the cells show
   record Shown (st : State) : Type 0 where
     reached : IsReached st
     shows : ShowsCells cells st

@@ -1,10 +1,10 @@
--- Where a refusal is the first that applies, the reply is that one or one of the store, and the state stays.
+-- If a refusal is the first that applies, the reply is that refusal or one of the store, and the state is unchanged.
 use Rattle.std.proofs.Common.{◌≡◌, ◌⊎◌, inl, inr, refl, sym, arith}
 use Rattle.cell_key.specs.declared.refusals.Refusal.{Refusal}
 use Rattle.si_model.specs.Machine.{State, Request, Reply, Refused, IsFirstRefusal, IsStorageRefusal, Refuses, Step, refuses, accepts}
 use Rattle.si_model.specs.Refusing.Refuses.{applies_first, gives_up, merges_too_many}
 
--- one refusal is the first
+-- only one refusal is the first
 pub one_first : {st : State} {q : Request} {n m : Refusal} → IsFirstRefusal st q n → IsFirstRefusal st q m → m ≡ n
 one_first {n = n} {m = m} f g = elim (f.first m g.applies) [
   | inl e ↦ e

@@ -1,4 +1,4 @@
--- What scans say goes together, and is what a Get would answer; what a cell map without a key of a cell says.
+-- Scans agree with each other and with Gets; and a cell without a key has no value.
 use Rattle.std.proofs.Common.{◌≡◌, ℕ, ◌≤◌, Option, Some, None, inl, inr, refl, ap, subst, arith}
 use Rattle.std.proofs.Math.Nat.{le_trans}
 use Rattle.std.specs.Prelude.{is_some}

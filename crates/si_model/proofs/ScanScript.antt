@@ -55,18 +55,18 @@ of_bob = newest [] _ 4 0 bob (Some (codes "10")) refl (lit≤ tt) (λ b h. elim 
 of_joe : IsSnapshot (first ∷ []) 4 joe (Some (codes "2"))
 of_joe = newest [] _ 4 1 joe (Some (codes "2")) refl (lit≤ tt) (λ b h. elim h [ ])
 
--- what holds of two items' cells holds of each that is named
+-- a property of two items' cells holds for each named cell
 each_of : (P : Cell → Item → Type 0) (a b : Cell × Item) → P a.0 a.1 → P b.0 b.1 → (x : Cell) (item : Item) → ◌∈◌ {A = Cell × Item} (x, item) (a ∷ b ∷ []) → P x item
 each_of P a b of_a of_b x item m = each_cons (λ (n : Cell × Item). P n.0 n.1) of_a (each_cons (λ (n : Cell × Item). P n.0 n.1) of_b (λ n k. elim k [ ])) (x, item) m
 
 only_of : (P : Cell → Item → Type 0) (a : Cell × Item) → P a.0 a.1 → (x : Cell) (item : Item) → ◌∈◌ {A = Cell × Item} (x, item) (a ∷ []) → P x item
 only_of P a of_a x item m = each_cons (λ (n : Cell × Item). P n.0 n.1) of_a (λ n k. elim k [ ]) (x, item) m
 
--- a cell that isn't named is none of those that are
+-- a cell that isn't named differs from the named ones
 other_than : (items : List (Cell × Item)) (x y : Cell) (item : Item) → ◌∈◌ {A = Cell × Item} (y, item) items → Says items x None → y ≢ x
 other_than items x y item m says e = says item (subst (λ (z : Cell). ◌∈◌ {A = Cell × Item} (z, item) items) e m)
 
--- while Eve's mark stands
+-- while Eve's mark is there
 module _ (st : State) (commits : st.commits ≡ first ∷ []) (marks : st.marks ≡ (eve, 3) ∷ []) where
   abbrev two : List (Cell × Item)
   two = (bob, Valued (codes "10")) ∷ (eve, Locked 3) ∷ []

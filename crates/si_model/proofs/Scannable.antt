@@ -1,4 +1,4 @@
--- A scan that no refusal meets has an answer: of the next cell alone.
+-- A scan to which no refusal applies has an answer: for the next cell alone.
 use Rattle.std.proofs.Common.{◌≡◌, ◌≢◌, ℕ, ◌<◌, ◌≤◌, Bool, true, false, List, [], ◌∷◌, length, Option, Some, None, inl, inr, refl, sym, ap, subst, arith}
 use Rattle.std.proofs.lemmas.Bool.{cases_lt}
 use Rattle.cell_key.specs.Places.{IsAfter}
@@ -14,7 +14,7 @@ use Rattle.si_model.proofs.Decided.{mark_of, snapshot_of}
 use Rattle.si_model.proofs.Without.{cases_bytes}
 use Rattle.si_model.proofs.NextCells.{next_cell, comes_next, only_next, cases_row, none_left}
 
--- what may be said of a cell: a value is sent unless keys only are asked for
+-- a possible answer for a cell: a value is sent unless only keys are asked for
 pub record Sayable (st : State) (s : ℕ) (keys_only : Bool) (x : Cell) : Type 0 where
   pub said : Option Item
   pub is : IsSaid st s x said
@@ -38,12 +38,12 @@ sayable st s keys_only x one = let shown = snapshot_of st.commits s x in elim (m
   ]
 ]
 
--- the cells that are named if this is said of one alone
+-- the named cells, if this is the answer for the only cell
 abbrev named : Cell → Option Item → List (Cell × Item)
 named x None = []
 named x (Some item) = (x, item) ∷ []
 
--- it is said of that one, and nothing else is
+-- it is the answer for that cell, and there is no other
 says_one : (x : Cell) (said other : Option Item) → Says (named x said) x other → other ≡ said
 says_one x None None by = refl
 says_one x None (Some item) by = elim by [ ]

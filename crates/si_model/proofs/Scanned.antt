@@ -1,4 +1,4 @@
--- What the rule of scans says of what is remembered of one.
+-- The rule of scans, applied to a recorded scan.
 use Rattle.std.proofs.Common.{◌≡◌, ℕ, Bool, List, Option, Some, None, refl}
 use Rattle.si_model.specs.declared.replies.Cell.{Cell}
 use Rattle.si_model.specs.Machine.{State, Range, Item, Valued, Locked, Unsent, Reach}

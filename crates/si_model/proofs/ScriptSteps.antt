@@ -85,7 +85,7 @@ module _ (st : State) where
 pub leaves_only : {A : Type 0} (m : A) → IsWithout (m ∷ []) m []
 leaves_only m = record { same = λ n. (λ h. elim h [ ], λ p. absurd (each_cons (λ n. n ≢ m → ⊥) (λ ne. ne refl) (λ k h. elim h [ ]) n p.0 p.1)) }
 
--- the first of two leaves, which stands last in the list
+-- the first of two marks, the last in the list, is removed
 pub leaves_last : {A : Type 0} (k m : A) → k ≢ m → IsWithout (k ∷ m ∷ []) m (k ∷ [])
 leaves_last k m ne = record {
   same = λ n. (
@@ -94,7 +94,7 @@ leaves_last k m ne = record {
   );
 }
 
--- no cell of no mark
+-- an empty list has no mark of a cell
 pub no_marks : (x : Cell) (u : ℕ) → ¬ (◌∈◌ {A = Cell × ℕ} (x, u) [])
 no_marks x u h = elim h [ ]
 
@@ -112,11 +112,11 @@ joe_not_bob e = bob_not_joe (sym e)
 pub other_commit : (a : Commit) (t : ℕ) → a.start ≢ t → (c : ℕ) (ws : Writes) → ¬ (record { start = t; stamp = c; writes = ws } ∈ (a ∷ []))
 other_commit a t ne c ws m = each_cons (λ (b : Commit). b.start ≡ t → ⊥) ne (λ b h. elim h [ ]) (record { start = t; stamp = c; writes = ws }) m refl
 
--- one write names its own cell alone
+-- a single write names only its own cell
 pub unnamed : (y x : Cell) (w : Change) → y ≢ x → ¬ Names ((y, w) ∷ []) x
 unnamed y x w ne (v, (k, puts)) = each_cons (λ (u : Cell × Change). u.0 ≡ x → ⊥) ne (λ u h. elim h [ ]) (x, v) (put_in ((y, w) ∷ []) k x v puts) refl
 
--- one run after the other
+-- two runs in sequence
 pub run_append : {st mid end : State} {qs qs' : List Request} {rs rs' : List Reply} → Run st qs rs mid → Run mid qs' rs' end → Run st (qs ++ qs') (rs ++ rs') end
 run_append rests more = more
 run_append (goes_on s run) more = goes_on s (run_append run more)
@@ -125,7 +125,7 @@ run_append (goes_on s run) more = goes_on s (run_append run more)
 pub ended_step : (st : State) (s : ℕ) → get st.active s ≡ None → Step st (Advance s) (Refused UnknownSession) st
 ended_step st s e = refuses (advance_unknown_first e)
 
--- two cells are written by one session, where no mark stands and no commit is later than its start
+-- one session writes two cells, which have no mark and no commit later than its start
 module _ (st : State) (s c : ℕ) (x y : Cell) (v w : Value) where
   abbrev pub first_of_two : Writes
   first_of_two = (x, Some v) ∷ []
@@ -142,7 +142,7 @@ module _ (st : State) (s c : ℕ) (x y : Cell) (v w : Value) where
     marks = (y, s) ∷ (x, s) ∷ [];
   }
 
-  -- committed, and all cells clear
+  -- committed, and all cells finished
   abbrev pub written_two : State
   written_two = record stamped_two {
     commits = record { start = s; stamp = c; writes = both } ∷ st.commits;
@@ -189,7 +189,7 @@ pub newest : (older : List Commit) (a : Commit) (s k : ℕ) (x : Cell) (v : Chan
 newest older a s k x v puts low old =
     inl (a, here, (k, puts), low, each_cons (λ b. Names b.writes x → b.stamp ≤ s → b.stamp ≤ a.stamp) (λ n l. omega arith) (λ b m n l. old b m))
 
--- the newest of the commits writes another cell alone
+-- the newest of the commits writes only another cell
 pub skips : (older : List Commit) (t c : ℕ) (y : Cell) (w : Change) (s : ℕ) (x : Cell) (answer : Option Value) → y ≢ x → IsSnapshot older s x answer
     → IsSnapshot (record { start = t; stamp = c; writes = (y, w) ∷ [] } ∷ older) s x answer
 skips older t c y w s x answer ne (inl (a, m, gives, low, most)) =

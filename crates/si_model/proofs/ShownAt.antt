@@ -1,4 +1,4 @@
--- What stands at a key after one put or one erasure.
+-- The entry at a key after one put or one erasure.
 use Rattle.std.proofs.Common.{◌≡◌, ◌≢◌, ℕ, Bool, true, false, cond, List, Some, None, ◌⊎◌, inl, inr, refl, sym, ap, ◌∙◌}
 use Rattle.std.specs.declared.cmp.Ordering.{Ordering}
 use Rattle.std.specs.declared.cmp.Ordering.TheVariants.{Less, Equal, Greater}
@@ -50,7 +50,7 @@ module _ (cells : Cells) (k : CellKey) where
   pub erased_off : (q : CellKey) → q ≢ k → get (remove cells k) q ≡ get cells q
   erased_off q ne = get-remove key_cmp_total cells k q ∙ ap (λ (b : Bool). cond b None (get cells q)) (apart q k ne)
 
--- what stands at a key after a change put its data
+-- the entry at a key after a change put its data
 module _ (cells : Cells) (x : Cell) (t : ℕ) where
   pub changed_off : (v : Change) (q : CellKey) → q ≢ key_of x Data t → get (changed_cells cells x t v) q ≡ get cells q
   changed_off (Some given) q ne = put_off cells (key_of x Data t) given q ne
@@ -59,7 +59,7 @@ module _ (cells : Cells) (x : Cell) (t : ℕ) where
   pub changed_at : (v : Change) (given : List ℕ) → v ≡ Some given → get (changed_cells cells x t v) (key_of x Data t) ≡ Some given
   changed_at v given e = ap (λ (w : Change). get (changed_cells cells x t w) (key_of x Data t)) e ∙ put_at cells (key_of x Data t) given
 
-  -- what is there stays there
+  -- an entry that was there is still there
   pub changed_there : (v : Change) (q : CellKey) (b : List ℕ) → get cells q ≡ Some b → (c : List ℕ) × (get (changed_cells cells x t v) q ≡ Some c)
   changed_there None q b h = (b, h)
   changed_there (Some given) q b h = elim (cases_key q (key_of x Data t)) [
@@ -67,7 +67,7 @@ module _ (cells : Cells) (x : Cell) (t : ℕ) where
     | inr ne ↦ (b, put_off cells (key_of x Data t) given q ne ∙ h)
   ]
 
-  -- what is there was there, or is what the change gives
+  -- an entry was there before, or is the change's
   pub changed_was : (v : Change) (q : CellKey) (b : List ℕ) → get (changed_cells cells x t v) q ≡ Some b → (get cells q ≡ Some b) ⊎ ((q ≡ key_of x Data t) × (v ≡ Some b))
   changed_was None q b h = inl h
   changed_was (Some given) q b h = elim (cases_key q (key_of x Data t)) [

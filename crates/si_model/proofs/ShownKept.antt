@@ -1,4 +1,4 @@
--- A cell map that shows a state shows the next one, by what the step did to the marks and the commits.
+-- A cell map that shows a state shows the next one, by the step's effect on the marks and the commits.
 use Rattle.std.proofs.Common.{◌≡◌, ◌≢◌, ℕ, ◌<◌, List, Some, None, ◌⊎◌, inl, inr, refl, sym, ap, subst, ◌∙◌, arith}
 use Rattle.std.proofs.lemmas.Option.{none-some, same_Some}
 use Rattle.std.specs.FinMap.{get, insert, remove, get-empty}
@@ -15,7 +15,7 @@ use Rattle.si_model.proofs.Tools.{one_change, same_entry}
 use Rattle.si_model.proofs.Invariant.{Sound}
 use Rattle.si_model.proofs.ShownAt.{cases_key, put_at, put_off, erased_at, erased_off, changed_off, changed_at, changed_there, changed_was, key_cell, key_stamp, no_lock_data, no_lock_write, no_data_lock, no_data_write, no_write_lock, no_write_data}
 
--- a mark shows what its start makes of the cell
+-- a mark shows its start's change of the cell
 pub mark_change : (cells : Cells) (st : State) → Sound st → (x : Cell) (t : ℕ) → (k : ShowsMark cells st x t) → (v : Change) → IsChange st t x v → k.change ≡ v
 mark_change cells st i x t k v (ws, wrote, gives) =
     one_change ws x k.change v (i.cells_differ t ws wrote) (subst (λ (l : Writes). Gives l x k.change) (same_entry st.begun t k.is_change.0 ws k.is_change.1 wrote) k.is_change.2) gives
@@ -28,7 +28,7 @@ module _ (cells : Cells) (st st' : State) (go : Goes st st') (shown : ShowsCells
   given_stays : (y : Cell) (u : ℕ) (b : List ℕ) → at cells y Data u ≡ Some b → IsGiven st' y u b
   given_stays y u b h = let g = shown.given y u b h in record { ws = g.ws; wrote = go.wrote u g.ws g.wrote g.late; gives = g.gives; late = go.late u g.ws g.wrote g.late }
 
-  -- the same with other cells, where what is spoken of stays
+  -- the same with other cells, if the entries in question are unchanged
   module _ (cells' : Cells) where
     mark_stays : (y : Cell) (u : ℕ) → Marked st y u → at cells' y Lock u ≡ at cells y Lock u → (IsThere cells y Data u → IsThere cells' y Data u) → ShowsMark cells' st' y u
     mark_stays y u m same value = let k = shown.marks y u m in record {
@@ -55,13 +55,13 @@ module _ (cells : Cells) (st st' : State) (go : Goes st st') (shown : ShowsCells
       value = λ given e. value (k.value given e);
     }
 
-    -- below what is cleared no record joins
+    -- no record is added below a cleared stamp
     lack_stays : ((b : Commit) → b ∈ st.commits → b ∈ st'.commits) → (y : Cell) (a : Commit) → (IsCleared st a.stamp → (c : ℕ) → c < a.stamp → at cells y Write c ≡ None → at cells' y Write c ≡ None)
         → MayLack cells st y a → MayLack cells' st' y a
     lack_stays more y a none (inl r) = inl (r.0, more r.0 r.1, r.2, r.3, go.cleared r.0.stamp r.4)
     lack_stays more y a none (inr f) = inr (record { deletes = f.deletes; cleared = go.cleared a.stamp f.cleared; oldest = λ c less. none f.cleared c less (f.oldest c less) })
 
-  -- where the step changes no key
+  -- if the step changes no key
   pub shows_beside : ((y : Cell) (u : ℕ) → Marked st' y u → Marked st y u) → ((y : Cell) (u : ℕ) → Marked st y u → Marked st' y u) → st'.commits ≡ st.commits → ShowsCells cells st'
   shows_beside fewer more same = record {
     marks = λ y u m. mark_stays cells y u (fewer y u m) refl (λ there. there);
@@ -74,7 +74,7 @@ module _ (cells : Cells) (st st' : State) (go : Goes st st') (shown : ShowsCells
     given = given_stays;
   }
 
-  -- if t's mark on x joins, with its data, if it has any, and its lock
+  -- if t's mark on x is added, with its data, if it has any, and its lock
   module _ (x : Cell) (t : ℕ) (v : Change) (first : Cell) where
     abbrev pub with_data : Cells
     with_data = changed_cells cells x t v
@@ -136,7 +136,7 @@ module _ (cells : Cells) (st st' : State) (go : Goes st st') (shown : ShowsCells
         new_given : (y : Cell) (u : ℕ) (b : List ℕ) → y ≡ x → u ≡ t → v ≡ Some b → IsGiven st' y u b
         new_given y u b ey eu ev = subst (λ (p : Cell × ℕ). IsGiven st' p.0 p.1 b) (λ i. (sym ey i, sym eu i)) (record { ws = ws; wrote = wrote; gives = subst (λ (w : Change). Gives ws x w) ev gives; late = late })
 
-  -- if t's mark on x leaves, and its lock gives way to the record of t's commit
+  -- if t's mark on x is removed, and its lock is replaced by the record of t's commit
   module _ (x : Cell) (t : ℕ) (a : Commit) (v : Change) where
     abbrev pub with_record : Cells
     with_record = insert cells (key_of x Write a.stamp) (record_text t (kind_of_change v))
@@ -189,12 +189,12 @@ module _ (cells : Cells) (st st' : State) (go : Goes st st') (shown : ShowsCells
       given = λ y u b h. given_stays y u b (sym (same_value y u) ∙ h);
     }
       where
-        -- a mark of t that isn't on x stays
+        -- a mark of t on another cell than x is unchanged
         still : (b : Commit) (y : Cell) → b ≡ a → key_of y Write b.stamp ≢ key_of x Write a.stamp → Marked st y t → Marked st' y b.start
         still b y e ne m = subst (λ (u : ℕ). Marked st' y u) (sym (ap (λ (b : Commit). b.start) e ∙ start))
             ((less.same (y, t)).1 (m, λ f. ne (λ i. key_of ((ap (λ (p : Cell × ℕ). p.0) f) i) Write ((ap (λ (b : Commit). b.stamp) e) i))))
 
-        -- the new record lies above what is cleared, since its mark stood
+        -- the new record is above each cleared stamp, since its mark was there
         none_joins : (y : Cell) (n : ℕ) → IsCleared st n → (c : ℕ) → c < n → at cells y Write c ≡ None → at without_lock y Write c ≡ None
         none_joins y n cleared c under none = other_record y c (λ e. apart e) ∙ none
           where
@@ -223,7 +223,7 @@ module _ (cells : Cells) (st st' : State) (go : Goes st st') (shown : ShowsCells
           value = λ given e. value_rests x a.start (subst (λ (u : ℕ). IsThere cells x Data u) (sym start) (value given e));
         })
 
-  -- if t, which has not committed, has its mark on x removed, and its lock goes
+  -- if t, which has not committed, has its mark on x removed, and its lock is erased
   module _ (x : Cell) (t : ℕ) where
     abbrev pub with_none : Cells
     with_none = remove cells (key_of x Lock t)
@@ -260,7 +260,7 @@ module _ (cells : Cells) (st st' : State) (go : Goes st st') (shown : ShowsCells
       given = λ y u b h. given_stays y u b (sym (data_rests y u) ∙ h);
     }
 
--- a clean restart leaves the cells as they are
+-- a clean restart leaves the cells unchanged
 pub shows_reopened : (cells : Cells) (st : State) → ShowsCells cells st → ShowsCells cells (reopened st)
 shows_reopened cells st shown = record {
   marks = λ x t m. let k = shown.marks x t m in record { first = k.first; is_first = k.is_first; change = k.change; is_change = k.is_change; text = k.text; lock = k.lock; is_text = k.is_text; value = k.value };

@@ -1,4 +1,4 @@
--- What the row transactions of a client change.
+-- The changes of a client's row transactions.
 use Rattle.std.proofs.Common.{◌≡◌, ◌≢◌, ℕ, inl, inr, sym, ap, ◌∙◌}
 use Rattle.std.specs.FinMap.{get, insert}
 use Rattle.std.proofs.lemmas.Option.{none-some}

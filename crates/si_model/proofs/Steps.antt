@@ -1,4 +1,4 @@
--- Each step keeps the invariant, so each reached state has it, and its laws follow.
+-- Each step keeps the invariant, so each reached state has it and obeys the laws.
 use Rattle.std.proofs.Common.{◌≡◌, ℕ, ◌+◌, max, true, false, List, ◌∷◌, length, Some, ◌⊎◌, inl, inr, refl, sym, ◌∙◌}
 use Rattle.std.specs.Ordering.{nat_cmp}
 use Rattle.std.specs.FinMap.{empty, get, insert, remove, get-empty}

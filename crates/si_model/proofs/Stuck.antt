@@ -1,4 +1,4 @@
--- Where no refusal meets it, a request of a session or a cleaner can be accepted.
+-- A request of a session or a cleaner can be accepted, if no refusal applies to it.
 use Rattle.std.proofs.Common.{◌≡◌, ◌≢◌, ℕ, ◌+◌, ◌<◌, ◌≤◌, Bool, true, false, [], ◌∷◌, length, Option, Some, None, ◌⊎◌, inl, inr, refl, ap, subst, ◌∙◌, arith}
 use Rattle.std.specs.Ordering.{nat_cmp}
 use Rattle.std.specs.FinMap.{FinMap, get}
@@ -18,7 +18,7 @@ use Rattle.si_model.proofs.Acceptable.{get_is_open, set_is_open, delete_is_open,
 use Rattle.si_model.proofs.Scannable.{can_scan}
 use Rattle.si_model.proofs.Decided.{mark_of, clash_of, snapshot_of, sets_of, dead_of, committed_of, put_of}
 
--- something can be done
+-- some answer is possible
 abbrev Can : State → Request → Type 0
 Can st q = (r : Reply) × (next : State) × Acts st q r next
 
@@ -61,7 +61,7 @@ can_advance st t (Finishing c k) ws b h w some room =
     let next = put_of ws k (b.fits t (Finishing c k) h ws w).1 in
     (_, _, finishes h w next.1 (without st.marks (next.0.0, t)).1)
 
--- what is there
+-- an entry that exists
 found : {X : Type 0} (m : FinMap nat_cmp X) (k : ℕ) → (get m k ≢ None) → (o : Option X) → get m k ≡ o → (v : X) × (get m k ≡ Some v)
 found m k there None e = absurd (there e)
 found m k there (Some v) e = (v, e)
@@ -82,7 +82,7 @@ can_decide st i t x is p = elim (committed_of st t) [
   ]
 ]
 
--- the mark of t stands on x, or not
+-- x has the mark of t, or not
 marked_of : (st : State) (x : Cell) (t : ℕ) → OneMark st → Marked st x t ⊎ (¬ Marked st x t)
 marked_of st x t one = elim (mark_of st.marks x) [
   | inr none ↦ inr (none t)

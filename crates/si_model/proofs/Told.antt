@@ -1,4 +1,4 @@
--- What is told of a start's fate, and of marks, is so.
+-- Replies tell a start's fate, and marks, truthfully.
 use Rattle.std.proofs.Common.{◌≡◌, ℕ, ◌<◌, ◌≤◌, List, true, false, Some, ◌⊎◌, inl, inr, refl, subst}
 use Rattle.std.specs.FinMap.{get}
 use Rattle.si_model.specs.Sets.{◌∈◌, here, IsWithout}
@@ -24,7 +24,7 @@ decided_told {st} {i} {next} k g (accepts ok (kills {t = t} {x = x} is nc alive 
 decided_told {st} {i} {next} k g (accepts ok (learns {t = t} {x = x} is fate)) =
     subst (λ (k : Cleaner). IsCommitted next k.start ⊎ IsDead next k.start) (same_entry st.cleaners i (record { cell = x; start = t; decided = false }) k is g) fate
 
--- the mark has left
+-- the mark was removed
 left : (x : Cell) (t : ℕ) (old new : List (Cell × ℕ)) → IsWithout old (x, t) new → ¬ ((x, t) ∈ new)
 left x t old new less m = ((less.same (x, t)).0 m).1 refl
 

@@ -1,4 +1,4 @@
--- What is used of sets, maps and writes.
+-- Lemmas on sets, maps and writes.
 use Rattle.std.proofs.Common.{◌≡◌, ◌≢◌, ◌≤◌, ◌+◌, ◌-◌, length, Bool, ℕ, zero, suc, true, false, cond, List, [], ◌∷◌, Some, None, ◌⊎◌, inl, inr, refl, sym, ap, subst, ◌∙◌, arith}
 use Rattle.std.specs.Prelude.{is_some, slice_get}
 use Rattle.std.specs.Ordering.{nat_cmp, eq_by_cmp}
@@ -11,7 +11,7 @@ use Rattle.si_model.specs.Sets.{◌∈◌, here, there}
 use Rattle.si_model.specs.Machine.{Change, Writes, Puts, Gives, Names, Sets, appends, replaces, passes}
 use Rattle.si_model.specs.declared.replies.Cell.{Cell}
 
--- what holds of m and of each of ms holds of each of m ∷ ms
+-- a property of m and of each of ms holds for each of m ∷ ms
 pub each_cons : {A : Type 0} (P : A → Type 0) {m : A} {ms : List A} → P m → ((n : A) → n ∈ ms → P n) → (n : A) → n ∈ (m ∷ ms) → P n
 each_cons P base rest n here = base
 each_cons P base rest n (there h) = rest n h
@@ -35,7 +35,7 @@ module _ {X : Type 0} (m : FinMap nat_cmp X) (k : ℕ) where
   pub get_remains : (q : ℕ) → q ≢ k → get (remove m k) q ≡ get m q
   get_remains q ne = get-remove nat_cmp_total m k q ∙ ap (λ b. cond b None (get m q)) (ne_test q k ne)
 
-  -- what holds of the new entry and of each other one holds of each entry
+  -- a property of the new entry and of each other one holds for each entry
   pub each_insert : (P : ℕ → X → Type 0) (v : X) → P k v → ((q : ℕ) (w : X) → q ≢ k → get m q ≡ Some w → P q w) → (q : ℕ) (w : X) → get (insert m k v) q ≡ Some w → P q w
   each_insert P v base rest q w h = elim (cases_eq q k) [
     | inl e ↦ subst (λ (p : ℕ × X). P p.0 p.1) (both q w e (same_Some v w (sym (get_same v) ∙ (ap (get (insert m k v)) (sym e) ∙ h)))) base
@@ -102,7 +102,7 @@ one_place (u ∷ ws) zero (suc k) x v w d g h = absurd (d.0 (x, w) (put_in ws k 
 one_place (u ∷ ws) (suc j) zero x v w d g h = absurd (d.0 (x, v) (put_in ws j x v g) (ap (λ p. p.0) (sym (same_Some u (x, w) h))))
 one_place (u ∷ ws) (suc j) (suc k) x v w d g h = ap suc (one_place ws j k x v w d.1 g h)
 
--- writes make one change of a cell
+-- writes have one change of a cell
 pub one_change : (ws : Writes) (x : Cell) (v w : Change) → CellsDiffer ws → Gives ws x v → Gives ws x w → v ≡ w
 one_change ws x v w differ (j, g) (k, h) =
     let place : j ≡ k = one_place ws j k x v w differ g h in

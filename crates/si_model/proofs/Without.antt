@@ -1,4 +1,4 @@
--- What leaves a set of marks leaves some set.
+-- The rest of a set of marks without one of them.
 use Rattle.std.proofs.Common.{◌≡◌, ◌≢◌, ℕ, List, [], ◌∷◌, ◌⊎◌, inl, inr, ap}
 use Rattle.std.proofs.lemmas.Bool.{cases_eq, cases_Bool}
 use Rattle.std.proofs.lemmas.Slice.Eq.{bytes_eq-Decides}
@@ -50,7 +50,7 @@ without_more k ms m rest = elim (cases_mark k m) [
   )
 ]
 
--- the rest of the marks, where m leaves them
+-- the rest of the marks without m
 pub without : (ms : List (Cell × ℕ)) (m : Cell × ℕ) → (new : List (Cell × ℕ)) × IsWithout ms m new
 without [] m = ([], record { same = λ n. (λ h. elim h [ ], λ p. elim p.0 [ ]) })
 without (k ∷ ms) m = without_more k ms m (without ms m)

@@ -1,4 +1,4 @@
--- What stands at the first cell of a start shows its fate, and what a cleaner keeps of it.
+-- The fate of a start, as its first cell shows it, and a cleaner's knowledge of it.
 use Rattle.std.specs.Prelude.{◌≡◌, ℕ, ◌<◌, ◌⊎◌, Some, None}
 use Rattle.std.specs.FinMap.{get}
 use Rattle.cell_key.specs.Cells.{Cells}
@@ -7,18 +7,18 @@ use Rattle.si_model.specs.State.{State, Cleaner, Marked, IsDead, CommittedAt, Is
 use Rattle.si_model.specs.declared.replies.Cell.{Cell}
 use Rattle.si_model.specs.ShowsCells.{at, IsThere, IsFirstCell, NamesAt}
 
--- What the first cell of a start shows. (Percolator, clean-up of locks: the primary.)
+-- The first cell of a start tells its fate. (Percolator, clean-up of locks: the primary.)
 pub record TellsFirst (cells : Cells) (st : State) (t : ℕ) (first : Cell) : Type 0 where
-  -- its lock stands: it has no fate yet
+  -- its lock is there: it has no fate yet
   pub locked : IsThere cells first Lock t → (¬ IsCommitted st t) × (¬ IsDead st t)
-  -- its lock is gone: a start that a cleaner clears was committed or rolled back
+  -- its lock is gone: if a cleaner clears the start, it was committed or rolled back
   pub unlocked : at cells first Lock t ≡ None → (i : ℕ) (k : Cleaner) → get st.cleaners i ≡ Some k
       → k.start ≡ t → IsCommitted st t ⊎ IsDead st t
   -- a record names it: it was committed there
   pub forward : (c : ℕ) → NamesAt cells first c t → CommittedAt st t c
-  -- Its lock is gone and no record names it: it was rolled back, as long as any mark of it stands.
-  -- Its record may have been collected instead, but then none does:
-  -- a record goes only if it, or a later one, lies at or below each mark.
+  -- Its lock is gone and no record names it: it was rolled back, as long as any mark of it is left. (Its record could
+  -- have been collected, but not while a mark is left: a record is collected only if it, or a later one, is at or below
+  -- each mark.)
   pub back : at cells first Lock t ≡ None
       → ((c : ℕ) → t < c → ¬ NamesAt cells first c t)
       → (x : Cell) → Marked st x t → IsDead st t
@@ -26,8 +26,7 @@ pub record TellsFirst (cells : Cells) (st : State) (t : ℕ) (first : Cell) : Ty
 abbrev pub FirstTells : Cells → State → Type 0
 FirstTells cells st = (t : ℕ) (first : Cell) → IsFirstCell st t first → TellsFirst cells st t first
 
--- what a cleaner has found of a start's fate: nothing yet, its commit stamp,
--- or that it was rolled back
+-- a cleaner's verdict on a start's fate: none yet, its commit stamp, or that it was rolled back
 pub data Verdict : Type 0 where
   NotYet : Verdict
   Forward : (stamp : ℕ) → Verdict
@@ -39,13 +38,12 @@ IsRight st t NotYet = Unit {0}
 IsRight st t (Forward c) = CommittedAt st t c
 IsRight st t Back = IsDead st t
 
--- what a cleaner of t's mark on x knows: t's first cell,
--- and a verdict that is right as long as the mark stands
+-- a cleaner of t's mark on x knows t's first cell, and a verdict that is right as long as the mark is there
 pub record Knows (st : State) (x : Cell) (t : ℕ) (first : Cell) (verdict : Verdict) : Type 0 where
   pub is_first : IsFirstCell st t first
   pub right : Marked st x t → IsRight st t verdict
 
--- what each open cleaner knows stays so
+-- the knowledge of each open cleaner stays right
 abbrev pub CleanersKnow : State → State → Type 0
 CleanersKnow st next =
     (i : ℕ) (k : Cleaner) (first : Cell) (verdict : Verdict) → get st.cleaners i ≡ Some k

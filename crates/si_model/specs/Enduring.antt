@@ -1,4 +1,4 @@
--- What each step keeps of marks and of fates, whoever takes it: what cleaners and collectors go by.
+-- Effects of steps on marks and fates on which cleaners and collectors rely, whoever takes the step.
 use Rattle.std.specs.Prelude.{◌≡◌, ℕ, ◌<◌, ◌≤◌, ◌⊎◌, Some}
 use Rattle.std.specs.FinMap.{get}
 use Rattle.si_model.specs.Sets.{◌∈◌}
@@ -12,7 +12,7 @@ IsPast (Holding n) k = k < n
 IsPast (Stamped c) k = Unit {0}
 IsPast (Finishing c n) k = Unit {0}
 
--- t has had its chance to mark x: x is among its cells, and it has gone past it or has ended
+-- t has had its chance to mark x: x is among its cells, and t has passed it or has ended
 pub record HasTried (st : State) (x : Cell) (t : ℕ) : Type 0 where
   pub ws : Writes
   pub k : ℕ
@@ -21,17 +21,17 @@ pub record HasTried (st : State) (x : Cell) (t : ℕ) : Type 0 where
   pub puts : Puts ws k x v
   pub past : (p : Phase) → InPhase st t p → IsPast p k
 
--- the start of each mark has had its chance there, and so has that of each open cleaner
+-- the start of each mark has had its chance at the mark's cell, and the start of each open cleaner at the cleaner's
+-- cell
 pub record HaveTried (st : State) : Type 0 where
   pub marked : (x : Cell) (t : ℕ) → Marked st x t → HasTried st x t
   pub cleaned : (i : ℕ) (k : Cleaner) → get st.cleaners i ≡ Some k → HasTried st k.cell k.start
 
--- a mark that left never comes back, for its start has had its chance;
--- and what was decided stays so
+-- a mark that was removed never comes back, since its start has had its chance; and each fate is final
 pub record Endures (st next : State) : Type 0 where
   pub tried : (x : Cell) (t : ℕ) → HasTried st x t → HasTried next x t
   pub gone : (x : Cell) (t : ℕ) → HasTried st x t → Marked next x t → Marked st x t
-  -- a mark that joins is at or above the floor
+  -- an added mark is at or above the floor
   pub joins : (x : Cell) (t : ℕ) → Marked next x t → Marked st x t ⊎ (st.floor ≤ t)
   pub committed : (a : Commit) → a ∈ st.commits → a ∈ next.commits
   pub dead : (t : ℕ) → IsDead st t → IsDead next t

@@ -4,7 +4,7 @@ use Rattle.si_model.specs.State.{State}
 use Rattle.si_model.specs.Machine.{Step}
 use Rattle.si_model.specs.Messages.{Request, Reply, Begin, Get, Set, Delete, ScanFrom, Advance, Stop, CleanBegin, CleanStep, CollectBegin, CollectStep, Minor, Merge, Major, Split, Move, Sweep, OracleRestart, Raw, Checkpoint}
 
--- what a request is about: sessions, cleaners, collectors, the places of tablets, or none of these
+-- the subject of a request: sessions, cleaners, collectors, the places of tablets, or none of these
 pub data Kind : Type 0 where
   OfSessions : Kind
   OfCleaners : Kind
@@ -43,24 +43,24 @@ pub record SameSessions (st next : State) : Type 0 where
   pub reads : next.reads ≡ st.reads
   pub scans : next.scans ≡ st.scans
 
--- the same open cleaners, and starts that were rolled back
+-- the same open cleaners and rolled-back starts
 pub record SameCleaners (st next : State) : Type 0 where
   pub cleaners : next.cleaners ≡ st.cleaners
   pub next_cleaner : next.next_cleaner ≡ st.next_cleaner
   pub dead : next.dead ≡ st.dead
 
--- the same open collectors, and floor
+-- the same open collectors and floor
 pub record SameCollectors (st next : State) : Type 0 where
   pub collectors : next.collectors ≡ st.collectors
   pub next_collector : next.next_collector ≡ st.next_collector
   pub floor : next.floor ≡ st.floor
 
--- the same tablets, at the same places
+-- the same tablets at the same places
 pub record SamePlaces (st next : State) : Type 0 where
   pub places : next.places ≡ st.places
   pub next_tablet : next.next_tablet ≡ st.next_tablet
 
--- A request of one kind leaves the parts of all others. Marks are of sessions and of cleaners.
+-- A request of one kind leaves the parts of all other kinds unchanged. Marks belong to sessions and to cleaners.
 pub record LeavesOthers (kind : Kind) (st next : State) : Type 0 where
   pub sessions : kind ≢ OfSessions → SameSessions st next
   pub cleaners : kind ≢ OfCleaners → SameCleaners st next
@@ -68,7 +68,7 @@ pub record LeavesOthers (kind : Kind) (st next : State) : Type 0 where
   pub places : kind ≢ OfPlaces → SamePlaces st next
   pub marks : kind ≢ OfSessions → kind ≢ OfCleaners → next.marks ≡ st.marks
 
--- each request leaves the parts that are of other kinds
+-- each request leaves the parts of other kinds unchanged
 abbrev pub EachLeavesOthers : Type 0
 EachLeavesOthers =
     (st next : State) (q : Request) (r : Reply) → Step st q r next

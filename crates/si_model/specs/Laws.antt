@@ -13,8 +13,7 @@ abbrev pub AtEachStep : (State → State → Type 0) → Type 0
 AtEachStep Law =
     (st next : State) (q : Request) (r : Reply) → IsReached st → Step st q r next → Law st next
 
--- each answer is the snapshot at its session's start,
--- of the commits as they are now (snapshot isolation)
+-- each answer is the snapshot at its session's start, in the commits as they are now (snapshot isolation)
 abbrev pub IsSettled : State → Type 0
 IsSettled st = (r : Read) → r ∈ st.reads → IsSnapshot st.commits r.start r.cell r.answer
 
@@ -33,44 +32,44 @@ pub record OneFate (st : State) : Type 0 where
 abbrev pub OneMark : State → Type 0
 OneMark st = (x : Cell) (t u : ℕ) → Marked st x t → Marked st x u → t ≡ u
 
--- a mark that left doesn't come back in the same run
+-- a mark that was removed doesn't come back in the same run
 abbrev pub GoneForGood : State → Type 0
 GoneForGood st =
     (mid end : State) (qs qs' : List Request) (rs rs' : List Reply) → Run st qs rs mid
     → Run mid qs' rs' end
     → (x : Cell) (t : ℕ) → Marked st x t → ¬ Marked mid x t → ¬ Marked end x t
 
--- of each cell there is one snapshot at a stamp
+-- each cell has one snapshot at a stamp
 abbrev pub OneSnapshot : State → Type 0
 OneSnapshot st =
     (s : ℕ) (x : Cell) (v w : Option Value) → IsSnapshot st.commits s x v
     → IsSnapshot st.commits s x w → v ≡ w
 
--- c is at most the floor and each mark's start
+-- c is at or below the floor and each mark's start
 abbrev pub IsCleared : State → ℕ → Type 0
 IsCleared st c = (c ≤ st.floor) × ((x : Cell) (t : ℕ) → Marked st x t → c ≤ t)
 
--- what is cleared stays so
+-- a cleared stamp stays cleared
 abbrev pub StaysCleared : State → Type 0
 StaysCleared st =
     (end : State) (qs : List Request) (rs : List Reply) → Run st qs rs end
     → (c : ℕ) → IsCleared st c → IsCleared end c
 
--- where the floor lies
+-- bounds of the floor
 pub record FloorStaysLow (st : State) : Type 0 where
   -- no active session began below it
   pub above : (t : ℕ) (p : Phase) → InPhase st t p → st.floor ≤ t
   pub low : st.floor ≤ st.top + 1
-  -- no open collector has a greater one
+  -- no open collector has a higher one
   pub each : (i f : ℕ) → get st.collectors i ≡ Some f → f ≤ st.floor
 
--- a collector that ends has cleared all below its floor
+-- a collector that ends has cleared everything below its floor
 abbrev pub ClearsItsFloor : State → Type 0
 ClearsItsFloor st =
     (i n f : ℕ) (next : State) → get st.collectors i ≡ Some f
     → Step st (CollectStep i n) Collected next → IsCleared next f
 
--- what replies say of a start's fate is true, and after a cleaner's second step the mark is gone
+-- replies tell a start's fate truthfully, and after a cleaner's second step the mark is gone
 pub record TellsFate (st : State) : Type 0 where
   pub committed : (t c : ℕ) (next : State) → Step st (Advance t) (Committed c) next
       → CommittedAt next t c
@@ -94,7 +93,7 @@ ClashesAt st t place =
     (ws : Writes) × (k : ℕ) × (x : Cell)
     × (v : Change) × Wrote st t ws × Puts ws k x v × (place ≡ k + 1) × Clashes st x t
 
--- what replies say of marks is true, and a Conflict has its mark or its commit
+-- replies tell marks truthfully, and a Conflict has a mark or a commit as its cause
 pub record TellsMarks (st : State) : Type 0 where
   pub pending : (s t : ℕ) (x : Cell) (next : State) → Step st (Get s x) (Pending t) next
       → Marked st x t × (t ≤ s)
@@ -107,15 +106,14 @@ pub record TellsMarks (st : State) : Type 0 where
   pub blocked : (i n t : ℕ) (x : Cell) (next : State) → Step st (CollectStep i n) (Blocked x t) next
       → (f : ℕ) × (get st.collectors i ≡ Some f) × Marked st x t × (t < f)
 
--- if a refusal is the first that applies, the reply is that one or one of the store,
--- and the state stays
+-- if a refusal is the first that applies, the reply is that refusal or one of the store, and the state is unchanged
 abbrev pub RefusesFirst : State → Type 0
 RefusesFirst st =
     (q : Request) (r : Reply) (next : State) (n : Refusal) → IsFirstRefusal st q n
     → Step st q r next
     → (m : Refusal) × (r ≡ Refused m) × ((m ≡ n) ⊎ IsStorageRefusal m) × (next ≡ st)
 
--- the fate of a start is seen at the mark of its first cell
+-- the fate of a start shows in the mark of its first cell
 pub record FateOf (st : State) (t : ℕ) (x : Cell) : Type 0 where
   pub dead : IsDead st t → ¬ Marked st x t
   pub committed : IsCommitted st t → ¬ Marked st x t
@@ -131,29 +129,29 @@ FateSeen st =
 abbrev pub StartsLow : State → Type 0
 StartsLow st = (t : ℕ) (p : Phase) → InPhase st t p → t ≤ st.top
 
--- a session with its stamp may commit exactly if the mark of its first cell stands
+-- a session with a commit stamp may commit exactly if the mark of its first cell is there
 abbrev pub CommitSeen : State → Type 0
 CommitSeen st =
     (t c : ℕ) (ws : Writes) (x : Cell) (v : Change) → InPhase st t (Stamped c) → Wrote st t ws
     → Puts ws 0 x v
     → (Marked st x t → ¬ IsDead st t) × (¬ Marked st x t → IsDead st t)
 
--- What each step keeps, whatever it does: the writes of a start that isn't open stay, as do those of
--- one with a mark, it doesn't get open again, and what is cleared stays so.
+-- Each step leaves the writes of a start that isn't open or has a mark unchanged, such a start doesn't become open
+-- again, and a cleared stamp stays cleared.
 pub record Goes (st st' : State) : Type 0 where
   pub wrote : (u : ℕ) (ws : Writes) → Wrote st u ws → ¬ InPhase st u Open → Wrote st' u ws
   pub marked : (x : Cell) (u : ℕ) (ws : Writes) → Marked st x u → Wrote st u ws → Wrote st' u ws
   pub late : (u : ℕ) (ws : Writes) → Wrote st u ws → ¬ InPhase st u Open → ¬ InPhase st' u Open
   pub cleared : (n : ℕ) → IsCleared st n → IsCleared st' n
 
--- how many writes a session in this phase has
+-- the number of writes that a session in this phase may have
 abbrev pub FitsPhase : Phase → ℕ → Type 0
 FitsPhase Open n = Unit {0}
 FitsPhase (Holding k) n = (1 ≤ k) × (k ≤ n)
 FitsPhase (Stamped c) n = 1 ≤ n
 FitsPhase (Finishing c k) n = (1 ≤ k) × (k < n)
 
--- what each number of a state keeps to
+-- the bounds of a state's numbers
 pub record Bounds (st : State) : Type 0 where
   pub top : st.top < end_of_stamps
   -- starts
@@ -176,7 +174,7 @@ pub record IsWritable (x : Cell) (v : Change) : Type 0 where
   pub family : IsFamily x.family
   pub value : (given : Value) → v ≡ Some given → length given ≤ most_value
 
--- sessions write nothing else
+-- sessions write only these
 abbrev pub WritesWithinLimits : State → Type 0
 WritesWithinLimits st =
     (t : ℕ) (ws : Writes) → Wrote st t ws → (x : Cell) (v : Change) → Gives ws x v → IsWritable x v
@@ -189,7 +187,7 @@ pub record AreNumbered {X : Type 0} (open_ones : FinMap nat_cmp X) (next most : 
   pub last : next ≤ end_of_stamps
   pub few : len open_ones ≤ most
 
--- how cleaners, collectors and tablets keep to their limits
+-- the limits of cleaners, collectors and tablets
 pub record Numbers (st : State) : Type 0 where
   pub cleaners : AreNumbered st.cleaners st.next_cleaner most_cleaners
   pub collectors : AreNumbered st.collectors st.next_collector most_collectors
@@ -208,8 +206,8 @@ IsOfTransactions (CleanBegin x) = ⊤
 IsOfTransactions (CleanStep i) = ⊤
 IsOfTransactions _ = ⊥
 
--- a request of a session or cleaner that no refusal meets has an answer that is no refusal,
--- as long as there are stamps and numbers
+-- a request of a session or cleaner to which no refusal applies has an answer other than a refusal, as long as there
+-- are stamps and numbers
 abbrev pub IsNeverStuck : State → Type 0
 IsNeverStuck st =
     (q : Request) → IsOfTransactions q → IsAcceptable st q → st.top + 1 < end_of_stamps

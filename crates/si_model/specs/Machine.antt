@@ -1,4 +1,4 @@
--- The snapshot machine: what one request may do, and what the machine may become.
+-- The snapshot machine: its steps, its runs and its reached states.
 use Rattle.std.specs.Prelude.{◌≡◌, ◌≢◌, ℕ, ◌+◌, ◌<◌, ◌≤◌, Bool, true, false, ◌⊎◌, List, [], ◌∷◌, length, Option, None, Some, nat_eq, cond, max}
 use Rattle.std.specs.Ordering.{nat_cmp}
 use Rattle.std.specs.declared.cmp.Ordering.TheVariants.{Less}
@@ -14,12 +14,11 @@ pub use Rattle.si_model.specs.Refusing.{Applies, IsFirstRefusal, IsAcceptable, I
 pub use Rattle.si_model.specs.Snapshots.{IsSnapshot}
 use Rattle.si_model.specs.Scans.{IsScanned}
 
--- A stamp that may be drawn: any above the greatest that was answered, up to the limit.
--- (Percolator, timestamp oracle.)
+-- A stamp that may be drawn: any above the greatest one answered, up to the limit. (Percolator, timestamp oracle.)
 abbrev pub Draws : State → ℕ → Type 0
 Draws st s = (st.top < s) × (s < end_of_stamps)
 
--- t may not hold x: a mark stands on it, or it was written after t began. (Percolator, Prewrite.)
+-- t may not hold x: x has a mark, or was written after t began. (Percolator, Prewrite.)
 abbrev pub Clashes : State → Cell → ℕ → Type 0
 Clashes st x t =
     ((u : ℕ) × Marked st x u) ⊎ ((a : Commit) × (a ∈ st.commits) × Names a.writes x × (t < a.stamp))
@@ -28,27 +27,25 @@ Clashes st x t =
 abbrev pub HasHeld : State → ℕ → ℕ → Type 0
 HasHeld st t k = InPhase st t (Holding k) ⊎ (InPhase st t Open × (k ≡ 0))
 
--- the writes after a Set or a Delete: a cell that is there keeps its place and takes the new change;
--- otherwise it comes last
+-- the writes after a Set or a Delete: an earlier write of the cell keeps its place and gets the new change; otherwise
+-- the write comes last
 pub data Sets (x : Cell) (v : Change) : Writes → Writes → Type 0 where
   appends : Sets x v [] ((x, v) ∷ [])
   replaces : {old : Change} {ws : Writes} → Sets x v ((x, old) ∷ ws) ((x, v) ∷ ws)
   passes : {y : Cell} {w : Change} {ws ws' : Writes} → y ≢ x → Sets x v ws ws'
       → Sets x v ((y, w) ∷ ws) ((y, w) ∷ ws')
 
--- the sessions after one has finished k of its n cells: it ends with the last
+-- the active sessions after one has finished k of its n cells: it ends with the last
 abbrev pub finishing : FinMap nat_cmp Phase → ℕ → ℕ → ℕ → ℕ → FinMap nat_cmp Phase
 finishing active t c k n = cond (nat_eq k n) (remove active t) (insert active t (Finishing c k))
 
--- no session that is active, or will be, has a start below it: the least active start,
--- or one more than the top
+-- no session that is active now or later has a start below the floor: it is the least active start, or the top plus one
 pub data IsFloor (st : State) : ℕ → Type 0 where
   least : {t : ℕ} {p : Phase} → InPhase st t p → ((u : ℕ) (q : Phase) → InPhase st u q → t ≤ u)
       → IsFloor st t
   none_active : ((u : ℕ) (q : Phase) → ¬ InPhase st u q) → IsFloor st (st.top + 1)
 
--- the tablet that holds the row is cut there; the left part, which ends with the row,
--- is tablet n (Bigtable, tablets)
+-- the tablet with the row is split there; the left part, which ends with the row, is tablet n (Bigtable, tablets)
 pub data Cuts (row : List ℕ) (n : ℕ) : List Place → List Place → Type 0 where
   cuts_last : {k server : ℕ} → Cuts row n (record { end = None; tablet = k; server = server } ∷ [])
       (record { end = Some row; tablet = n; server = server }
@@ -62,7 +59,7 @@ pub data Cuts (row : List ℕ) (n : ℕ) : List Place → List Place → Type 0 
       → Cuts row n (record { end = Some end; tablet = k; server = server } ∷ ps)
       (record { end = Some end; tablet = k; server = server } ∷ ps')
 
--- the tablet gets this server
+-- the tablet is moved to this server
 pub data Moves (tablet server : ℕ) : List Place → List Place → Type 0 where
   moves : {end : Option (List ℕ)} {old : ℕ} {ps : List Place}
       → Moves tablet server (record { end = end; tablet = tablet; server = old } ∷ ps)
@@ -70,18 +67,17 @@ pub data Moves (tablet server : ℕ) : List Place → List Place → Type 0 wher
   moves_later : {p : Place} {ps ps' : List Place} → p.tablet ≢ tablet → Moves tablet server ps ps'
       → Moves tablet server (p ∷ ps) (p ∷ ps')
 
--- Accepted requests that change nothing at all.
+-- Accepted requests that change nothing.
 pub data Tells (st : State) : Request → Reply → Type 0 where
-  -- a mark at or below the session's start keeps its answer back (Percolator, Get)
+  -- a mark at or below the session's start blocks its read (Percolator, Get)
   waits : {s t : ℕ} {x : Cell} → InPhase st s Open
       → Marked st x t → t ≤ s → Tells st (Get s x) (Pending t)
   finds_none : {x : Cell} → ((t : ℕ) → ¬ Marked st x t) → Tells st (CleanBegin x) NoLock
-  -- a collector may stop at any mark below its floor, and go on at any time
+  -- a collector may stop at any mark below its floor, and continue at any time
   is_blocked : {i n f t : ℕ} {x : Cell} → get st.collectors i ≡ Some f → Marked st x t → t < f
       → Tells st (CollectStep i n) (Blocked x t)
   goes_further : {i n f : ℕ} → get st.collectors i ≡ Some f → Tells st (CollectStep i n) More
-  -- compactions, sweeps, raw reads, checkpoints and restarts of the oracle
-  -- are no transaction's matter
+  -- compactions, sweeps, raw reads, checkpoints and restarts of the oracle don't affect transactions
   minors : {k : ℕ} → Tells st (Minor k) MinorDone
   merges : {k n : ℕ} → Tells st (Merge k n) MergeDone
   majors : {k : ℕ} → Tells st (Major k) MajorDone
@@ -91,11 +87,11 @@ pub data Tells (st : State) : Request → Reply → Type 0 where
       → Tells st (Raw x q low high) (RawFound found)
   checkpoints : Tells st Checkpoint CheckpointDone
 
--- What an accepted request may do in st: its reply, and the state that it leads to.
+-- An accepted request in st: its reply and the next state.
 pub data Acts (st : State) : Request → Reply → State → Type 0 where
   tells : {q : Request} {r : Reply} → Tells st q r → Acts st q r st
-  -- sessions (Percolator, Get, Set, Prewrite and Commit; a Delete is buffered as a Set is, and a
-  -- scan answers as many Gets do)
+  -- sessions (Percolator, Get, Set, Prewrite and Commit; a Delete is buffered like a Set, and a scan answers like a
+  -- series of Gets)
   begins : {s : ℕ} → Draws st s
       → Acts st Begin (Begun s)
       (record st { top = s; begun = insert st.begun s []; active = insert st.active s Open })
@@ -127,7 +123,7 @@ pub data Acts (st : State) : Request → Reply → State → Type 0 where
       (record st { top = c; active = insert st.active t (Stamped c) })
   loses : {t c : ℕ} → InPhase st t (Stamped c) → IsDead st t
       → Acts st (Advance t) Lost (record st { active = remove st.active t })
-  -- the commit: all writes at once, and the mark of the first cell goes
+  -- the commit: it makes all writes at once, and removes the mark of the first cell
   commits : {t c : ℕ} {ws : Writes} {x : Cell} {v : Change} {marks' : List (Cell × ℕ)}
       → InPhase st t (Stamped c)
       → ¬ IsDead st t → Wrote st t ws → Puts ws 0 x v → IsWithout st.marks (x, t) marks'
@@ -150,7 +146,7 @@ pub data Acts (st : State) : Request → Reply → State → Type 0 where
             insert st.cleaners st.next_cleaner (record { cell = x; start = t; decided = false });
         next_cleaner = st.next_cleaner + 1;
       })
-  -- the first step decides the fate of the start at its first cell, if that is open
+  -- the first step decides the fate of the start at its first cell, if it is undecided
   kills : {i t : ℕ} {x y : Cell} {v : Change} {ws : Writes} {marks' : List (Cell × ℕ)}
       → get st.cleaners i ≡ Some (record { cell = x; start = t; decided = false })
       → ¬ IsCommitted st t → ¬ IsDead st t → Wrote st t ws → Puts ws 0 y v
@@ -166,7 +162,7 @@ pub data Acts (st : State) : Request → Reply → State → Type 0 where
       → Acts st (CleanStep i) Decided (record st {
         cleaners = insert st.cleaners i (record { cell = x; start = t; decided = true });
       })
-  -- the second step clears the cell, by that fate
+  -- the second step clears the cell, according to that fate
   rolls_forward : {i t c : ℕ} {x : Cell} {marks' : List (Cell × ℕ)}
       → get st.cleaners i ≡ Some (record { cell = x; start = t; decided = true })
       → Marked st x t → CommittedAt st t c → IsWithout st.marks (x, t) marks'
@@ -197,7 +193,7 @@ pub data Acts (st : State) : Request → Reply → State → Type 0 where
   moves_tablet : {k server : ℕ} {places' : List Place} → Moves k server st.places places'
       → Acts st (Move k server) MoveDone (record st { places = places' })
 
--- From st the machine may give this reply to the request, and go on to st'.
+-- From st the machine may give this reply to the request, and go to st'.
 pub data Step (st : State) : Request → Reply → State → Type 0 where
   -- a refusal changes nothing
   refuses : {q : Request} {n : Refusal} → Refuses st q n → Step st q (Refused n) st

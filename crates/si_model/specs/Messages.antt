@@ -1,4 +1,4 @@
--- What is asked of the machine, and what it answers.
+-- The requests and replies of the machine.
 use Rattle.std.specs.Prelude.{ℕ, Bool, List, Option}
 use Rattle.cell_key.specs.declared.keys.Qualifier.{Qualifier}
 use Rattle.cell_key.specs.declared.refusals.Refusal.{Refusal}
@@ -11,9 +11,9 @@ pub data Request : Type 0 where
   Get : (start : ℕ) (cell : Cell) → Request
   Set : (start : ℕ) (cell : Cell) (value : Value) → Request
   Delete : (start : ℕ) (cell : Cell) → Request
-  -- what the cells of the range have, at most this number of them; if keys only, no values
+  -- reads the cells of the range, at most this number of them; with keys_only, no values
   ScanFrom : (start : ℕ) (range : Range) (keys_only : Bool) (cells : ℕ) → Request
-  -- the session's next step
+  -- takes the session's next step
   Advance : (start : ℕ) → Request
   Stop : (start : ℕ) → Request
   CleanBegin : (cell : Cell) → Request

@@ -1,4 +1,4 @@
--- A cell by its names, and what a read of its columns finds in the cell map.
+-- A cell by its names, and reads of its columns in the cell map.
 use Rattle.std.specs.Prelude.{◌≡◌, ℕ, ◌<◌, ◌≤◌, ⊤, List, Some, None}
 use Rattle.cell_key.specs.Cells.{Cells}
 use Rattle.cell_key.specs.Names.{IsRow, IsFamily}
@@ -19,7 +19,7 @@ IsNameRefusal x BadColumn = IsRow x.row × ¬ IsFamily x.family
 IsNameRefusal x NoMemory = ⊤
 IsNameRefusal x _ = ⊥
 
--- nothing stands in the column from one stamp to another
+-- the column has no version from one stamp to another
 abbrev pub IsClear : Cells → Cell → Qualifier → ℕ → ℕ → Type 0
 IsClear cells x q lo hi = (s : ℕ) → lo ≤ s → s ≤ hi → at cells x q s ≡ None
 
@@ -27,7 +27,7 @@ IsClear cells x q lo hi = (s : ℕ) → lo ≤ s → s ≤ hi → at cells x q s
 abbrev pub IsGone : Cells → Cell → ℕ → Type 0
 IsGone cells x t = at cells x Lock t ≡ None
 
--- the write record of x of greatest stamp in 0..=s is this one
+-- of the write records of x with a stamp from 0 to s, this is the newest
 pub record IsLast (cells : Cells) (x : Cell) (s c : ℕ) (text : List ℕ) : Type 0 where
   pub low : c ≤ s
   pub there : at cells x Write c ≡ Some text

@@ -1,18 +1,18 @@
--- The machine after a kill: what an opening finds of it, and that it could have come there by itself.
+-- The machine after a kill: the state that is opened, which it could have reached without the kill.
 use Rattle.std.specs.Prelude.{◌≡◌, ◌≤◌, ◌<◌, ◌+◌, ◌⊎◌, ℕ, []}
 use Rattle.std.specs.FinMap.{empty, insert}
 use Rattle.cell_key.specs.Cells.{Cells}
 use Rattle.si_model.specs.Machine.{State, IsReached, end_of_stamps}
 use Rattle.si_model.specs.ShowsCells.{ShowsCells}
 
--- What has committed, was rolled back, is held, was answered, and where the tablets are, stays.
--- Sessions, cleaners and collectors are forgotten. Stamps up to the oracle's mark count as answered,
--- and a collector as begun above them: a client that is gone may have had such an answer.
--- (Percolator, timestamp oracle: after a failure stamps go on above the greatest allocated one.)
+-- Commits, rollbacks, marks, answers and the places of tablets are unchanged. Sessions, cleaners and collectors are
+-- forgotten. Stamps up to the oracle's mark count as answered, and a collector as begun above them: a client that is
+-- gone may have had such an answer. (Percolator, timestamp oracle: after a failure stamps continue above the greatest
+-- one allocated.)
 pub record IsRecovered (mark : ℕ) (st next : State) : Type 0 where
   pub top : next.top ≡ mark
   pub floor : next.floor ≡ mark + 1
-  -- a session may have begun at the mark, and wrote nothing
+  -- a session may have begun at the mark without writes
   pub begun : (next.begun ≡ st.begun)
       ⊎ ((st.top < mark) × (next.begun ≡ insert st.begun mark []))
   pub active : next.active ≡ empty
@@ -28,8 +28,7 @@ pub record IsRecovered (mark : ℕ) (st next : State) : Type 0 where
   pub places : next.places ≡ st.places
   pub next_tablet : next.next_tablet ≡ st.next_tablet
 
--- From each reached state that cells show, the machine can go to one that is so recovered, and that
--- the same cells show.
+-- From each reached state that cells show, the machine can go to such a recovered state, which the same cells show.
 abbrev pub Recovers : Type 0
 Recovers =
     (cells : Cells) (st : State) (mark : ℕ) → IsReached st → ShowsCells cells st → st.top ≤ mark

@@ -1,4 +1,4 @@
--- When a request is refused, and as what.
+-- When a request is refused, and with which refusal.
 use Rattle.std.specs.Prelude.{◌≡◌, ◌≢◌, ℕ, ◌<◌, ◌≤◌, ◌⊎◌, ⊤, Bool, List, [], length, None}
 use Rattle.std.specs.FinMap.{get, len}
 use Rattle.cell_key.specs.Names.{IsRow, IsFamily}
@@ -11,9 +11,8 @@ use Rattle.si_model.specs.Messages.{Request, Begin, Get, Set, Delete, ScanFrom, 
 use Rattle.si_model.specs.Scans.{HasRows, HasFamilies}
 use Rattle.si_model.specs.declared.replies.Cell.{Cell}
 
--- The refusal applies to the request: for each operation its refusals, in the order in which they
--- are looked for, which is the order of their numbers.
--- Sweep, Checkpoint and OracleRestart have none.
+-- The refusal applies to the request. For each operation, its refusals are in the order in which they are checked,
+-- which is the order of their numbers. Sweep, Checkpoint and OracleRestart have none.
 pub data Applies (st : State) : Request → Refusal → Type 0 where
   begin_full : most_sessions ≤ len st.active → Applies st Begin TooManySessions
   get_unknown : {s : ℕ} {x : Cell} → get st.active s ≡ None → Applies st (Get s x) UnknownSession
@@ -79,7 +78,7 @@ pub data Applies (st : State) : Request → Refusal → Type 0 where
   raw_family : {x : Cell} {q : Qualifier} {low high : ℕ} → ¬ IsFamily x.family
       → Applies st (Raw x q low high) BadColumn
 
--- the refusal applies, and none before it does
+-- the refusal applies, and no earlier one does
 pub record IsFirstRefusal (st : State) (q : Request) (n : Refusal) : Type 0 where
   pub applies : Applies st q n
   pub first : (m : Refusal) → Applies st q m → (m ≡ n) ⊎ (refusal_number n < refusal_number m)
@@ -88,8 +87,8 @@ pub record IsFirstRefusal (st : State) (q : Request) (n : Refusal) : Type 0 wher
 abbrev pub IsAcceptable : State → Request → Type 0
 IsAcceptable st q = (n : Refusal) → ¬ Applies st q n
 
--- refusals of the store, which may come at any time: a limit of the storage or of stamps,
--- a device's fault, want of memory, damage
+-- refusals of the store, which may come at any time: a limit of the storage or of stamps, a device's fault, lack of
+-- memory, damage
 abbrev pub IsStorageRefusal : Refusal → Type 0
 IsStorageRefusal MemtableFull = ⊤
 IsStorageRefusal TooManyFiles = ⊤
@@ -100,11 +99,11 @@ IsStorageRefusal NoMemory = ⊤
 IsStorageRefusal Damaged = ⊤
 IsStorageRefusal _ = ⊥
 
--- the request is refused so
+-- the request is answered with this refusal
 pub data Refuses (st : State) : Request → Refusal → Type 0 where
-  -- a refusal that applies is answered if it is the first that does
+  -- a refusal that applies is answered if it is the first
   applies_first : {q : Request} {n : Refusal} → IsFirstRefusal st q n → Refuses st q n
   -- a refusal of the store may come at any time
   gives_up : {q : Request} {n : Refusal} → IsStorageRefusal n → Refuses st q n
-  -- a merge may be of more files than the tablet has: how many it has, the machine doesn't know
+  -- a merge may ask for more files than the tablet has: the machine doesn't know their number
   merges_too_many : {k n : ℕ} → IsAcceptable st (Merge k n) → Refuses st (Merge k n) BadCount

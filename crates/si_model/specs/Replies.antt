@@ -1,4 +1,4 @@
--- What a call's answer is as a reply of the machine.
+-- The answers of calls, as replies of the machine.
 use Rattle.std.specs.Prelude.{Some, None, Result, Ok, Err, map, option_map}
 use Rattle.cell_key.specs.declared.refusals.Refusal.{Refusal}
 use Rattle.si_model.specs.Messages.{Range, Item, Valued, Locked, Unsent, Reach, ToEnd, UpTo, Reply, Answered, Pending, Scanned, Held, Conflict, Drawn, Committed, Lost, Finished, NoLock, Cleaning, Decided, RolledForward, RolledBack, Gone, More, Blocked, Collected, Refused}
@@ -28,7 +28,7 @@ found_reply (found.Value value) = Answered (Some value.items)
 found_reply found.Nothing = Answered None
 found_reply (found.Pending start) = Pending start
 
--- the range that is asked for
+-- the range of a scan
 abbrev pub range_of : ScanRange → Range
 range_of range = record {
   after = option_map (λ names. cell_of names.0.now names.1.now) range.after;

@@ -1,14 +1,14 @@
--- Scripts that the machine can follow, from a new machine on. Cells count from 1 in replies.
+-- Scripts that the machine can follow from its first state. Cells are counted from 1 in replies.
 use Rattle.std.specs.Prelude.{true, false, List, [], ◌∷◌, Some, None, codes}
 use Rattle.cell_key.specs.declared.refusals.Refusal.TheVariants.{UnknownSession, UnknownCollector, BadSplit}
 use Rattle.si_model.specs.declared.replies.Cell.{Cell}
 use Rattle.si_model.specs.Machine.{State, Request, Reply, Run, new_machine, reopened, Begin, Get, Range, Valued, Locked, Unsent, ToEnd, UpTo, Set, Delete, ScanFrom, Advance, Stop, CleanBegin, CleanStep, CollectBegin, CollectStep, Split, Move, Begun, Answered, Pending, SetDone, DeleteDone, Scanned, Held, Conflict, Drawn, Committed, Lost, Finished, StopDone, Cleaning, NoLock, Decided, Gone, RolledForward, RolledBack, Collecting, More, Blocked, Collected, SplitOff, MoveDone, Refused}
 
--- a new machine can answer the requests so
+-- a new machine can give these replies to the requests
 abbrev pub CanAnswer : List Request → List Reply → Type 0
 CanAnswer qs rs = (st : State) × Run new_machine qs rs st
 
--- and, after a clean restart, further ones
+-- and further ones after a clean restart
 abbrev pub CanAnswerAcross : List Request → List Reply → List Request → List Reply → Type 0
 CanAnswerAcross qs rs qs' rs' =
     (mid : State) × (st : State) × Run new_machine qs rs mid × Run (reopened mid) qs' rs' st
@@ -20,7 +20,7 @@ bob = record { row = codes "Bob"; family = codes "bal" }
 abbrev pub joe : Cell
 joe = record { row = codes "Joe"; family = codes "bal" }
 
--- that of Eve, who comes between them
+-- the balance of Eve, who comes between them
 abbrev pub eve : Cell
 eve = record { row = codes "Eve"; family = codes "bal" }
 
@@ -31,8 +31,8 @@ FirstCell = CanAnswer
     (Begun 1
     ∷ SetDone ∷ Held 1 1 ∷ Drawn 2 ∷ Committed 2 ∷ Begun 3 ∷ Answered (Some (codes "v")) ∷ [])
 
--- A cell that has a value is deleted. A session that began before the deletion's commit waits for it
--- while its mark stands, and reads the value then; one that began after it reads nothing.
+-- A cell that has a value is deleted. A session that began before the deletion's commit waits while the deletion's mark
+-- is there, and then reads the value; a session that began after it reads nothing.
 abbrev pub DeletedCell : Type 0
 DeletedCell = CanAnswer
     (Begin ∷ Set 1 bob (codes "v") ∷ Advance 1 ∷ Advance 1 ∷ Advance 1
@@ -50,9 +50,8 @@ all_cells = record { after = None; end = None; family = None }
 abbrev pub up_to_joe : Range
 up_to_joe = record { after = Some bob; end = Some (codes "Joe"); family = Some (codes "bal") }
 
--- Bob has 10 and Joe 2, and Eve gets 5. A session that begins before she has it scans two cells,
--- and meets her mark. After her commit it scans all cells: she isn't named. A scan of keys only
--- names Joe without his 2.
+-- Bob has 10 and Joe 2, and Eve gets 5. A session that begins before Eve's commit scans two cells, and meets her mark.
+-- After her commit it scans all cells, and she isn't named. A scan of keys only names Joe without his 2.
 abbrev pub ScannedCells : Type 0
 ScannedCells = CanAnswer
     (Begin ∷ Set 1 bob (codes "10")
@@ -66,8 +65,7 @@ ScannedCells = CanAnswer
     ∷ Scanned ((bob, Valued (codes "10")) ∷ (joe, Valued (codes "2")) ∷ []) ToEnd
     ∷ Scanned ((joe, Unsent) ∷ []) ToEnd ∷ [])
 
--- Bob has 10 and Joe 2. A second session reads both, moves 7 from Bob to Joe,
--- and a third reads what it wrote.
+-- Bob has 10 and Joe 2. A second session reads both and moves 7 from Bob to Joe, and a third reads the new balances.
 abbrev pub Transfer : Type 0
 Transfer = CanAnswer
     (Begin ∷ Set 1 bob (codes "10")
@@ -82,8 +80,7 @@ Transfer = CanAnswer
     ∷ Begun 5
     ∷ Answered (Some (codes "3")) ∷ Answered (Some (codes "9")) ∷ Refused UnknownSession ∷ [])
 
--- Of two sessions that run side by side one writes Bob's cell and the other Joe's:
--- both commit (snapshot isolation, write skew).
+-- Two concurrent sessions write Bob's cell and Joe's cell: both commit (snapshot isolation, write skew).
 abbrev pub WriteSkew : Type 0
 WriteSkew = CanAnswer
     (Begin ∷ Set 1 bob (codes "1")
@@ -96,7 +93,7 @@ WriteSkew = CanAnswer
     ∷ Held 1 1 ∷ Held 1 1 ∷ Drawn 5 ∷ Drawn 6 ∷ Committed 5 ∷ Committed 6
     ∷ Begun 7 ∷ Answered (Some (codes "0")) ∷ Answered (Some (codes "0")) ∷ [])
 
--- Two sessions write one cell. The one that holds it first goes on, and the other meets its mark.
+-- Two sessions write one cell. The first to hold it continues, and the other meets its mark.
 abbrev pub FirstHolder : Type 0
 FirstHolder = CanAnswer
     (Begin ∷ Begin
@@ -126,8 +123,7 @@ RolledBackTransfer = CanAnswer
     ∷ Begun 5 ∷ Cleaning 1 3
     ∷ Decided ∷ RolledBack ∷ Answered (Some (codes "10")) ∷ Answered (Some (codes "2")) ∷ [])
 
--- While the transfer is under way the next reader waits,
--- and at its commit Bob's new balance is there at once.
+-- While the transfer is under way the next reader waits, and at the commit it sees Bob's new balance at once.
 abbrev pub CommitPoint : Type 0
 CommitPoint = CanAnswer
     (Begin ∷ Set 1 bob (codes "10")
@@ -141,7 +137,7 @@ CommitPoint = CanAnswer
     ∷ Begun 5 ∷ Pending 3 ∷ Committed 4
     ∷ Answered (Some (codes "3")) ∷ Pending 3 ∷ Finished 2 2 ∷ Answered (Some (codes "9")) ∷ [])
 
--- A cleaner rolls the transfer back while it runs, and its next step answers that.
+-- A cleaner rolls the transfer back while it runs, and the transfer's next step reports this.
 abbrev pub LostTransfer : Type 0
 LostTransfer = CanAnswer
     (Begin ∷ Set 1 bob (codes "10")
@@ -154,8 +150,8 @@ LostTransfer = CanAnswer
     ∷ Answered (Some (codes "2")) ∷ SetDone ∷ SetDone ∷ Held 1 2 ∷ Held 2 2 ∷ Drawn 4
     ∷ Begun 5 ∷ Cleaning 1 3 ∷ Decided ∷ RolledBack ∷ Lost ∷ Refused UnknownSession ∷ [])
 
--- The transfer stops between its commit and Joe's cell.
--- A collector meets the mark there, a cleaner rolls it forward, and the collector ends.
+-- The transfer stops between its commit and Joe's cell. A collector meets the mark there, a cleaner rolls it forward,
+-- and the collector ends.
 abbrev pub StrandedMark : Type 0
 StrandedMark = CanAnswer
     (Begin ∷ Set 1 bob (codes "10")
@@ -176,7 +172,7 @@ SplitTablet = CanAnswer
     (Split (codes "Bob") ∷ Split (codes "Bob") ∷ Move 2 3 ∷ Move 1 4 ∷ [])
     (SplitOff 2 ∷ Refused BadSplit ∷ MoveDone ∷ MoveDone ∷ [])
 
--- A mark outlives a clean restart: it keeps answers back until a cleaner clears it.
+-- A mark outlives a clean restart: it blocks reads until a cleaner clears it.
 abbrev pub MarkStays : Type 0
 MarkStays = CanAnswerAcross
     (Begin ∷ Set 1 bob (codes "v") ∷ Advance 1 ∷ []) (Begun 1 ∷ SetDone ∷ Held 1 1 ∷ [])

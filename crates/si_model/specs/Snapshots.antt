@@ -4,9 +4,8 @@ use Rattle.si_model.specs.Sets.{◌∈◌}
 use Rattle.si_model.specs.State.{Value, Commit, Gives, Names}
 use Rattle.si_model.specs.declared.replies.Cell.{Cell}
 
--- The answer for x as of s: what the commit of greatest stamp at most s among those that write x
--- makes of it, its value or, if it deletes x, nothing; nothing if there is none.
--- (Snapshot isolation.)
+-- The answer for x as of s: the change of x by the newest commit with a stamp at most s that writes x, that is its
+-- value, or nothing if it deletes x; nothing if there is no such commit. (Snapshot isolation.)
 abbrev pub IsSnapshot : List Commit → ℕ → Cell → Option Value → Type 0
 IsSnapshot commits s x answer =
     ((a : Commit) × (a ∈ commits) × Gives a.writes x answer × (a.stamp ≤ s)

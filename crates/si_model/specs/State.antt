@@ -1,6 +1,5 @@
--- The state of the snapshot machine: what it remembers of transactions, cleaners,
--- collectors and tablets.
--- It forgets nothing. (Percolator, transactions: data, lock and write columns; Bigtable, tablets.)
+-- The state of the snapshot machine: its transactions, cleaners, collectors and tablets. Commits, answers and
+-- rollbacks are never forgotten. (Percolator, transactions: data, lock and write columns; Bigtable, tablets.)
 use Rattle.std.specs.Prelude.{◌≡◌, ℕ, ◌^◌, Bool, List, [], ◌∷◌, Option, None, Some, slice_get}
 use Rattle.std.specs.Ordering.{nat_cmp}
 use Rattle.std.specs.FinMap.{FinMap, empty, get}
@@ -10,7 +9,7 @@ use Rattle.si_model.specs.declared.replies.Cell.{Cell}
 abbrev pub Value : Type 0
 Value = List ℕ
 
--- what a write makes of its cell: it gives it a value, or deletes it
+-- a change of a cell by a write: a value, or None for a deletion
 abbrev pub Change : Type 0
 Change = Option Value
 
@@ -18,8 +17,8 @@ Change = Option Value
 abbrev pub Writes : Type 0
 Writes = List (Cell × Change)
 
--- how far a session is: it takes Sets and Deletes; it has marked this many of its cells; it has
--- drawn its commit stamp; it has committed, and this many of its cells are clear
+-- the phase of a session: it takes Sets and Deletes; or it has marked this many of its cells; or it has drawn its
+-- commit stamp; or it has committed, and has finished this many of its cells
 pub data Phase : Type 0 where
   Open : Phase
   Holding : (held : ℕ) → Phase
@@ -38,57 +37,55 @@ pub record Read : Type 0 where
   pub cell : Cell
   pub answer : Option Value
 
--- a range of cells: those after a cell or from the first on, up to and with a row or to the last,
--- of one family or of all
+-- a range of cells: after the cell `after` or from the first, up to and including the row `end` or to the last, of one
+-- family or of all
 pub record Range : Type 0 where
   pub after : Option Cell
   pub end : Option (List ℕ)
   pub family : Option (List ℕ)
 
--- what a scan names a cell with: its value; the start of the mark that keeps it back;
--- or that it has a value, which isn't sent
+-- the result for a cell that a scan names: its value; the start of the mark that blocks it; or that its value isn't
+-- sent
 pub data Item : Type 0 where
   Valued : (value : Value) → Item
   Locked : (start : ℕ) → Item
   Unsent : Item
 
--- how far a scan went: over all of its range, or up to and with a cell
+-- how far a scan went: to the end of its range, or up to and including a cell
 pub data Reach : Type 0 where
   ToEnd : Reach
   UpTo : (cell : Cell) → Reach
 
--- a scan that was answered: the start of its session, its range, how far it went,
--- and the cells that it named
+-- a scan that was answered: the start of its session, its range, how far it went, and its items
 pub record Scan : Type 0 where
   pub start : ℕ
   pub range : Range
   pub reach : Reach
   pub items : List (Cell × Item)
 
--- an open cleaner: the cell and the start of the mark that it clears,
--- and whether its first step was taken
+-- an open cleaner: the cell and the start of the mark that it clears, and whether its first step was taken
 pub record Cleaner : Type 0 where
   pub cell : Cell
   pub start : ℕ
   pub decided : Bool
 
--- a tablet: the rows after the one before, up to and with its end; no row is the infinite end
+-- a tablet: the rows after the previous tablet's end, up to and including its own end; None is the infinite end
 pub record Place : Type 0 where
   pub end : Option (List ℕ)
   pub tablet : ℕ
   pub server : ℕ
 
 pub record State : Type 0 where
-  -- the greatest stamp that was answered
+  -- the greatest stamp answered
   pub top : ℕ
-  -- each start that was ever drawn, and what its session writes
+  -- each start that was ever drawn, and its session's writes
   pub begun : FinMap nat_cmp Writes
   -- each session that has not ended
   pub active : FinMap nat_cmp Phase
   pub commits : List Commit
   -- the starts that were rolled back
   pub dead : List ℕ
-  -- the cells that are held, each with the start of its holder
+  -- the cells that are held, each with its holder's start
   pub marks : List (Cell × ℕ)
   pub reads : List Read
   pub scans : List Scan
@@ -123,8 +120,7 @@ new_machine = record {
   next_tablet = 2;
 }
 
--- the machine after a clean restart: sessions, cleaners and collectors are forgotten,
--- and nothing else
+-- the machine after a clean restart: only sessions, cleaners and collectors are forgotten
 abbrev pub reopened : State → State
 reopened st =
     record st {
@@ -161,15 +157,15 @@ most_value = 65536
 abbrev pub most_visits : ℕ
 most_visits = 1000
 
--- cells that one scan may look at
+-- the most cells that one scan may look at
 abbrev pub most_scanned : ℕ
 most_scanned = 1000
 
--- stamps, and the numbers of cleaners and collectors, lie below it
+-- the upper bound of stamps and of the numbers of cleaners and collectors, exclusive
 abbrev pub end_of_stamps : ℕ
 end_of_stamps = 2 ^ 63
 
--- words on a state
+-- relations on a state
 
 -- the session that began at t is in this phase
 abbrev pub InPhase : State → ℕ → Phase → Type 0
@@ -179,11 +175,11 @@ InPhase st t p = get st.active t ≡ Some p
 abbrev pub Wrote : State → ℕ → Writes → Type 0
 Wrote st t ws = get st.begun t ≡ Some ws
 
--- a mark of t stands on x
+-- x has a mark of t
 abbrev pub Marked : State → Cell → ℕ → Type 0
 Marked st x t = (x, t) ∈ st.marks
 
--- the k-th write, from 0 on, makes the change v of x
+-- the k-th write, counted from 0, makes the change v of x
 abbrev pub Puts : Writes → ℕ → Cell → Change → Type 0
 Puts ws k x v = slice_get ws k ≡ Some (x, v)
 

@@ -1,4 +1,4 @@
-//! The snapshot machine: its definitions, its laws over all that it can become, and what its calls answer.
+//! The snapshot machine: its definitions, its laws over all reached states, and the answers of its calls.
 #![tactic(auto)]
 
 mod laws;

@@ -1,4 +1,4 @@
-//! Cells, and what sessions, cleaners and collectors answer.
+//! Cells, and the answers to requests of sessions, cleaners and collectors.
 
 ghost use Rattle.std.specs.Prelude.{◌≡◌, IfErr, IfOk, OnOk};
 ghost use Rattle.cell_key.specs.Names.{IsFamily, IsRow};
@@ -15,8 +15,8 @@ pub struct Cell {
 }
 
 impl Cell {
-    /// The cell of a row and a family. Answers `BadRow` or `BadColumn` if a name is outside its
-    /// limits, and `NoMemory` if there is no memory for it.
+    /// The cell of a row and a family. Answers `BadRow` or `BadColumn` if a name is outside its limits, and `NoMemory`
+    /// if allocation fails.
     pub fn new(alloc: Global, row: &[u8], family: &[u8]) -> Result<Cell, Refusal>
         ensures ok { IfOk result (λ cell. cell ≡ cell_of row.now family.now) }
         ensures row { OnOk result (IsRow row.now) }
@@ -29,21 +29,21 @@ impl Cell {
     }
 }
 
-/// What a read of a cell finds (Percolator, Get).
+/// The result of a read of a cell (Percolator, Get).
 #[derive(Debug, PartialEq, Eq, Drop)]
 pub enum Found {
     /// The value that was committed last by the session's start.
     Value(Vec<u8>),
     /// No value was committed by then.
     Nothing,
-    /// A lock at this stamp, at or below the session's start, keeps the answer back.
+    /// A lock at this stamp, at or below the session's start, blocks the read.
     Pending(Stamp),
 }
 
-/// What a step of a session did (Percolator, Prewrite and Commit). Cells count from 1.
+/// The outcome of a session's step (Percolator, Prewrite and Commit). Cells are counted from 1.
 #[derive(Clone, Copy, Debug, PartialEq, Eq)]
 pub enum Progress {
-    /// This cell, of this many, is held.
+    /// The session holds this cell, out of this many.
     Held(u16, u16),
     /// This cell is locked, or was written since the session began. The session has ended.
     Conflict(u16),
@@ -53,25 +53,25 @@ pub enum Progress {
     Committed(Stamp),
     /// A cleaner has rolled the session back. It has ended.
     Lost,
-    /// This cell, of this many, is clear. With the last one the session has ended.
+    /// This cell, out of this many, is finished. With the last one the session has ended.
     Finished(u16, u16),
 }
 
-/// What the beginning of a clean-up finds (Percolator, clean-up of locks).
+/// The outcome of a cleaner's beginning (Percolator, clean-up of locks).
 #[derive(Clone, Copy, Debug, PartialEq, Eq)]
 pub enum CleanStart {
-    /// No lock stands on the cell.
+    /// The cell has no lock.
     NoLock,
     /// A cleaner was opened: its number, and the start of the lock's session.
     Cleaner(u64, Stamp),
 }
 
-/// What a step of a cleaner did.
+/// The outcome of a cleaner's step.
 #[derive(Clone, Copy, Debug, PartialEq, Eq)]
 pub enum CleanReply {
     /// The fate of the session is decided.
     Decided,
-    /// The lock gave way to a write record at this commit stamp.
+    /// The lock was replaced by a write record at this commit stamp.
     RolledForward(Stamp),
     /// The lock was erased.
     RolledBack,
@@ -79,12 +79,12 @@ pub enum CleanReply {
     Gone,
 }
 
-/// What a request of a collector came to.
+/// The outcome of a collector's step.
 #[derive(Debug, PartialEq, Eq, Drop)]
 pub enum CollectReply {
     /// There is more to do.
     More,
-    /// A lock below the floor, at this stamp, stands on the cell.
+    /// The cell has a lock below the floor, with this stamp.
     Blocked(Cell, Stamp),
     /// All cells are tidy, and the collector is closed.
     Collected,

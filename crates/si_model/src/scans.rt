@@ -1,4 +1,4 @@
-//! What is asked of a scan, and what it answers.
+//! The range of a scan, and its answer.
 
 use crate::replies::Cell;
 use cell_key::Stamp;
@@ -6,7 +6,7 @@ use cell_key::Stamp;
 /// The cells of a scan. Names may be outside their limits.
 #[derive(Clone, Copy, Debug)]
 pub struct ScanRange<'a> {
-    /// The row and the family of a cell: those after it. None: from the first cell on.
+    /// The scan starts after the cell of this row and family. None: at the first cell.
     pub after: Option<(&'a [u8], &'a [u8])>,
     /// The last row. None: to the last cell.
     pub end: Option<&'a [u8]>,
@@ -14,14 +14,14 @@ pub struct ScanRange<'a> {
     pub family: Option<&'a [u8]>,
 }
 
-/// What a scan finds at a cell that it names.
+/// The result of a scan for a cell that it names.
 #[derive(Debug, PartialEq, Eq, Drop)]
 pub enum ScanFound {
     /// The value that was committed last by the session's start.
     Value(Vec<u8>),
-    /// A lock at this stamp, at or below the session's start, keeps the answer back.
+    /// A lock at this stamp, at or below the session's start, blocks the read.
     Pending(Stamp),
-    /// There is a value, which isn't sent: only keys were asked for, or it is too long.
+    /// The cell has a value that isn't sent: only keys were asked for, or it is too long.
     Unsent,
 }
 
@@ -35,16 +35,16 @@ pub struct ScanItem {
 /// How far a scan went.
 #[derive(Debug, PartialEq, Eq, Drop)]
 pub enum ScanReach {
-    /// Over all cells of its range.
+    /// It covered all cells of its range.
     End,
-    /// Over the cells of its range up to and with this one.
+    /// It covered the cells of its range up to and including this one.
     More(Cell),
 }
 
-/// What a scan answers.
+/// The answer of a scan.
 #[derive(Debug, PartialEq, Eq, Drop)]
 pub struct ScanReply {
-    /// The cells that have a value or are locked, in the order of rows and then of families.
+    /// The cells that have a value or are locked, by row and then by family.
     pub items: Vec<ScanItem>,
     pub reach: ScanReach,
 }

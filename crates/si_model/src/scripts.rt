@@ -1,5 +1,5 @@
-//! Scripts that the machine can follow, which show that its rules are met by something.
-//! Each is a call that does nothing: its contract is the script.
+//! Scripts that the machine can follow, which show that its rules can be met. Each is a function that does nothing: its
+//! contract is the script.
 
 ghost use Rattle.si_model.specs.Scripts.{CommitPoint, DeletedCell, FirstCell, FirstHolder, LostTransfer, MarkStays, RolledBackTransfer, ScannedCells, SplitTablet, StrandedMark, Transfer, WriteSkew, YoungerFirst};
 
@@ -13,7 +13,7 @@ pub fn deleted_cell()
     ensures { DeletedCell }
 {}
 
-/// A scan names a locked cell, and one that is committed after the session's start isn't named.
+/// A scan names a locked cell, but not a cell that is committed after the session's start.
 pub fn scanned_cells()
     ensures { ScannedCells }
 {}
@@ -23,7 +23,7 @@ pub fn transfer()
     ensures { Transfer }
 {}
 
-/// Two sessions that write different cells side by side both commit.
+/// Two concurrent sessions that write different cells both commit.
 pub fn write_skew()
     ensures { WriteSkew }
 {}
@@ -48,12 +48,12 @@ pub fn commit_point()
     ensures { CommitPoint }
 {}
 
-/// A session that a cleaner has rolled back learns it at its next step.
+/// A session that a cleaner has rolled back is told so at its next step.
 pub fn lost()
     ensures { LostTransfer }
 {}
 
-/// A mark that is left behind stops a collector until a cleaner rolls it forward.
+/// An abandoned mark stops a collector until a cleaner rolls it forward.
 pub fn stranded_mark()
     ensures { StrandedMark }
 {}

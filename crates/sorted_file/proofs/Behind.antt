@@ -23,7 +23,7 @@ use Rattle.sorted_file.proofs.Searched.{rising_from}
 use Rattle.sorted_file.proofs.Bounded.{no_value}
 use Rattle.sorted_file.proofs.Stamps.{within}
 
--- from a text on entries have what they have at each text that isn't below it
+-- entries at or above a text have the same entry at each text at or above it
 find_above : (from name : List ℕ) (es : List Entry) → is_le (byte_cmp from name) ≡ true → entry_of_key (entries_from from es) name ≡ entry_of_key es name
 find_above from name [] le = refl
 find_above from name (e ∷ es) le = go (is_le (byte_cmp from e.0)) refl (find_above from name es le)
@@ -38,7 +38,7 @@ find_above from name (e ∷ es) le = go (is_le (byte_cmp from e.0)) refl (find_a
     go true p more = ap (λ (o : Option (Option (List ℕ))). cond (eq_by_cmp byte_cmp name e.0) (Some e.1) o) more
     go false p more = more ∙ other p (eq_by_cmp byte_cmp name e.0) refl
 
--- two parts of a rising list have no text in common
+-- two parts of a list in ascending order have no text in common
 apart : (xs ys : List Entry) (name : List ℕ) (v : Option (List ℕ)) → IsRising (xs ++ ys) → entry_of_key xs name ≡ Some v → entry_of_key ys name ≡ None
 apart [] ys name v r e = cc
 apart (x ∷ xs) ys name v r e = go (apart xs ys name v (second _ _ r)) (eq_by_cmp byte_cmp name x.0) refl e
@@ -63,7 +63,7 @@ met (x ∷ xs) ys name v e = go (met xs ys name v) (eq_by_cmp byte_cmp name x.0)
     go more true e = e
     go more false e = more e
 
--- where the first part has no value the second part's is that of both
+-- if the first part has no value at a text, the value of both parts is the second part's
 behind : (xs ys : List Entry) (name : List ℕ) → IsRising (xs ++ ys) → value_of (entry_of_key xs name) ≡ None → value_of (entry_of_key (xs ++ ys) name) ≡ value_of (entry_of_key ys name)
 behind xs ys name r none = go (entry_of_key xs name) refl none
   where
@@ -72,7 +72,7 @@ behind xs ys name r none = go (entry_of_key xs name) refl none
     go (Some None) e n = ap value_of (met xs ys name None e) ∙ sym (ap value_of (apart xs ys name None r e))
     go (Some (Some v)) e n = cc
 
--- an entry of the second part is one of both
+-- an entry of the second part is an entry of both
 pub kept_behind : (xs ys : List Entry) (name : List ℕ) (v : Option (List ℕ)) → IsRising (xs ++ ys) → entry_of_key ys name ≡ Some v → entry_of_key (xs ++ ys) name ≡ Some v
 kept_behind xs ys name v r there = go (entry_of_key xs name) refl
   where
@@ -163,14 +163,14 @@ module _ (m : Contents) (file : SortedFile) (o : IsOpen m file) (key : CellKey) 
             no_value there.0.bounds (at_stamp key s) stored (none there.0 (omega arith) at s a b) (block_of there.0) (of_row IsBoundedRow all_rows k there.0 there.1 o.bounded)) stamp h;
       }
 
-  -- the block before the place has it
+  -- the first value is in the block before the place
   pub first_in : (n : ℕ) (row : BlockRow) → IsRowPosition (text key) all_rows n → 0 < n → slice_get all_rows (n - 1) ≡ Some row → (t : List ℕ) → Some t ≡ option_map text_of (first_value (entries_from (text key) (block_of row))) → IsFirstIn (listed m file) key lo (Some t)
   first_in zero row p some at t e = absurd (omega (arith, some))
   first_in (suc k) row p some at t e =
       let one : suc k - 1 ≡ k = omega arith in
       whole (Some t) (sym (ap (λ (l : List Entry). option_map text_of (first_value l)) (cut k row p (ap (slice_get all_rows) (sym one) ∙ at)) ∙ text_and (entries_from (text key) (block_of row)) (after (suc k)) t (sym e)))
 
-  -- the block before the place has none, and those after it have it
+  -- else it is the first value of the later blocks
   pub first_past : (n : ℕ) (row : BlockRow) → IsRowPosition (text key) all_rows n → 0 < n → slice_get all_rows (n - 1) ≡ Some row → None ≡ option_map text_of (first_value (entries_from (text key) (block_of row)))
       → (found : Option (List ℕ)) → found ≡ option_map text_of (first_value (after n)) → IsFirstIn (listed m file) key lo found
   first_past zero row p some at none found e = absurd (omega (arith, some))
@@ -193,7 +193,7 @@ place_unique name (r ∷ rows) zero (suc j) p q = absurd (q.0 p)
 place_unique name (r ∷ rows) (suc i) zero p q = absurd (p.0 q)
 place_unique name (r ∷ rows) (suc i) (suc j) p q = ap suc (place_unique name rows i j p.1 q.1)
 
--- what an open file has at a text stands in the block before the text's place
+-- an open file's entry at a text is in the block before the text's place
 pub in_block : (m : Contents) (file : SortedFile) (o : IsOpen m file) (name : List ℕ) (n : ℕ) (row : BlockRow) → IsRowPosition name file.rows.items n → 0 < n → slice_get file.rows.items (n - 1) ≡ Some row → entry_of_key (listed m file) name ≡ entry_of_key (block_of row) name
 in_block m file o name zero row p some at = absurd (omega (arith, some))
 in_block m file o name (suc k) row p some at =

@@ -1,4 +1,4 @@
--- A text whose stamp isn't among those of the values has no value.
+-- A text whose stamp isn't within the bounds of the values has no value.
 use Rattle.std.proofs.Common.{◌≡◌, ℕ, Bool, true, false, cond, List, [], ◌∷◌, Option, Some, None, refl, sym}
 use Rattle.std.specs.List.{AllByRecursion}
 use Rattle.std.specs.Ordering.{eq_by_cmp}

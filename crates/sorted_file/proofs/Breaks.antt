@@ -1,4 +1,4 @@
--- Where the entries of a cursor break off.
+-- The place where the entries of a cursor break off.
 use Rattle.std.proofs.Common.{◌≡◌, ◌<◌, ◌≢◌, ℕ, List, [], ◌∷◌, length, sym, ap, subst, ◌∙◌, arith}
 use Rattle.std.specs.Prelude.{Option, IfSome}
 use Rattle.cell_key.specs.Entries.{Entry, IsRising}
@@ -13,7 +13,7 @@ short_block m name row short es list size e =
     let same = ap length e in
     omega (arith, short, size, same)
 
--- what was read is no entry list
+-- the bytes read are no entry list
 pub garbled_block : (m : Contents) (name : ℕ) (row : BlockRow) (block bytes : List ℕ) → block ≡ part (bytes_of m name) row.offset row.length → bytes ≡ block → ((es : List Entry) → IsRising es → bytes ≢ block_bytes es) → HasNoBlock m name row
 garbled_block m name row block bytes now same none es list size e = none es list.rising (same ∙ now ∙ e)
 

@@ -1,4 +1,4 @@
--- A file that is built, entry by entry.
+-- A file that is built entry by entry.
 use Rattle.std.proofs.Common.{◌≡◌, ◌≢◌, ◌+◌, ◌≤◌, ◌<◌, ℕ, List, [], ◌∷◌, ◌++◌, length, drop, Some, refl, sym, ap, subst, ◌∙◌, arith, length-append, append_assoc}
 use Rattle.std.proofs.Math.Seq.{drop-append_seam}
 use Rattle.std.specs.Prelude.{flat_map}
@@ -33,7 +33,7 @@ use Rattle.sorted_file.proofs.Starts.{last_on, rising_on, seam, some_text}
 pub is_list : (b : FileBuilder) → IsSound b → IsEntryList (built b)
 is_list b s = record { rising = s.rising; each = all_joined IsEntry (entries_in (blocks_of b.opening.rows.items)) (entries_of b.current.block) s.opening.list.each s.parsed.list.each }
 
--- how many bytes it has so far
+-- its length in bytes so far
 pub reached : (b : FileBuilder) → IsSound b → b.opening.end + length b.current.block.bytes.items ≡ 8 + length (flat_map spelled (built b))
 reached b s =
     let end = s.opening.reached in
@@ -44,7 +44,7 @@ reached b s =
 
 -- ---- its last key
 
--- where the open block has no entries there are none
+-- if the open block has no entries, there are none
 pub none_built : (blocks : List (List Entry)) (es : List Entry) → IsFollowed blocks es → es ≡ [] → entries_in blocks ++ es ≡ []
 none_built blocks es follows none = ap (λ (b : List (List Entry)). entries_in b ++ es) (alone blocks (subst (IsFollowed blocks) none follows)) ∙ none
   where
@@ -58,16 +58,16 @@ none_built blocks es follows none = ap (λ (b : List (List Entry)). entries_in b
         no (b ∷ []) n f = f
         no (b ∷ c ∷ blocks) n f = no (c ∷ blocks) (λ n. cc) f
 
--- and then the last text is that of the open block
+-- else the last text is the open block's
 pub last_of_both : (es fs : List Entry) (name : List ℕ) → fs ≢ [] → IsLastText fs name → IsLastText (es ++ fs) name
 last_of_both es [] name some h = absurd (some refl)
 last_of_both es (f ∷ fs) name some h = last_behind es f fs name h
 
--- an entry whose text comes after the last one is the next of a list
+-- an entry above the last text can be the next of a list
 pub goes_on : (es : List Entry) (e : Entry) (last : List ℕ) → IsEntryList es → IsLastText es last → IsEntry e → byte_cmp last e.0 ≡ Less → IsEntryList (es ++ e ∷ [])
 goes_on es e last list is one above = record { rising = rising_on es e last list.rising is above; each = all_joined IsEntry es (e ∷ []) list.each (one, tt) }
 
--- and no other is
+-- and no other can
 pub goes_not : (es : List Entry) (e : Entry) (last : List ℕ) → IsLastText es last → (IsEntry e → byte_cmp last e.0 ≢ Less) → IsEntryList (es ++ e ∷ []) → ⊥
 goes_not es e last is none list =
     let one = (all_back IsEntry es (e ∷ []) list.each).0 in
@@ -77,7 +77,7 @@ some_more : (es : List Entry) (e : Entry) → es ++ e ∷ [] ≢ []
 some_more [] e n = cc
 some_more (d ∷ es) e n = cc
 
--- the text of the last entry of a block stands behind the bytes of the others and its length
+-- the text of a block's last entry is behind the bytes of the others and its own length
 text_behind : (es : List Entry) (e : Entry) (old new : Block) (at : Extent) → IsParsed es old → IsParsed (es ++ e ∷ []) new → at.offset ≡ length old.bytes.items + 4 → at.length ≡ length e.0 → bytes_at new.bytes.items at ≡ e.0
 text_behind es e old new at before after offset size =
     let n = length old.bytes.items in
@@ -102,7 +102,7 @@ keeps_last es fs e old new key last before after more lent named offset size pla
       stamp = stamp ∙ lent.stamp;
     })
 
--- the open block goes on where all entries do
+-- the entries of the open block and an entry are a list, if all entries and it are
 pub next_list : (es fs all : List Entry) (e : Entry) → es ++ fs ≡ all → IsEntryList (all ++ e ∷ []) → IsEntryList (fs ++ e ∷ [])
 next_list es fs all e is list =
     let parts : all ++ e ∷ [] ≡ es ++ (fs ++ e ∷ []) = ap (λ (l : List Entry). l ++ e ∷ []) (sym is) ∙ append_assoc es fs (e ∷ []) in
@@ -124,14 +124,14 @@ no_room es more e limit h f =
     let within = f.within in
     omega (arith, all, one, size, within, h)
 
--- a block that has room goes on
+-- a block that has room takes an entry and still follows the others
 pub follows_on : (blocks : List (List Entry)) (es : List Entry) (e : Entry) → IsFollowed blocks es → IsFollowed blocks (es ++ e ∷ [])
 follows_on [] es e h = tt
 follows_on (b ∷ []) [] e h = absurd h
 follows_on (b ∷ []) (x ∷ es) e h = h
 follows_on (b ∷ c ∷ blocks) es e h = follows_on (c ∷ blocks) es e h
 
--- a block that has no room for an entry is followed by it
+-- a block with this entry first can follow one that has no room for it
 pub followed_by : (blocks : List (List Entry)) (es : List Entry) (e : Entry) → ¬ Fits (es ++ e ∷ []) → (small : length (block_bytes es) + length (spelled e) ≤ 4096 → Fits (es ++ e ∷ [])) → IsFollowed (blocks ++ es ∷ []) (e ∷ [])
 followed_by blocks es e full small =
     subst (λ (X : Type 0). X) (sym (followed_last blocks es (e ∷ []))) (larger (λ h. full (small h)))
@@ -139,7 +139,7 @@ followed_by blocks es e full small =
     larger : ¬ (length (block_bytes es) + length (spelled e) ≤ 4096) → 4096 < length (block_bytes es) + length (spelled e)
     larger n = omega (arith, n)
 
--- the same entries, with the open block closed
+-- closing the open block leaves the entries unchanged
 pub closed_built : (blocks new : List (List Entry)) (es next : List Entry) → new ≡ blocks ++ es ∷ [] → next ≡ [] → entries_in new ++ next ≡ entries_in blocks ++ es
 closed_built blocks new es next closed none =
     ap (λ (n : List Entry). entries_in new ++ n) none ∙ append-nil (entries_in new) ∙ ap entries_in closed ∙ flat-last blocks es

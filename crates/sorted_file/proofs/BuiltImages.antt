@@ -1,4 +1,4 @@
--- The bytes of a file that was built.
+-- The bytes of a built file.
 use Rattle.std.proofs.Common.{◌≡◌, ◌+◌, ◌≤◌, ◌<◌, ◌^◌, ℕ, List, [], ◌∷◌, ◌++◌, length, refl, sym, ap, subst, ◌∙◌, arith, length-append, append_assoc}
 use Rattle.std.specs.Prelude.{flat_map}
 use Rattle.std.specs.List.{AllByRecursion}
@@ -26,7 +26,7 @@ row_is at r (e ∷ es) offset size first fits =
     ∙ ap (λ (n : ℕ). number_bytes Two at ++ (number_bytes Two n ++ field r.first.items)) size
     ∙ ap (λ (b : List ℕ). number_bytes Two at ++ (number_bytes Two (length (block_bytes (e ∷ es))) ++ field b)) first
 
--- the rows that are kept are those of the index
+-- the bytes of the rows are the index
 pub rows_index : (at : ℕ) (rows : List BlockRow) → AreRows at rows → AreBlocks (blocks_of rows) → flat_map row_spelled rows ≡ index Two at (blocks_of rows)
 rows_index at [] h g = refl
 rows_index at (r ∷ rows) h g =
@@ -117,7 +117,7 @@ module _ (o : Opening) (opening : IsOpening o) (format : o.format ≡ Two) (out 
         image_small : o.size < 2 ^ 64 → length image < 2 ^ 64
         image_small h = omega (arith, h, image_size, small)
 
-    -- it is the file of its blocks
+    -- the image is the file of its blocks
     pub is_formed : IsFormed o image
     is_formed =
         let h = subst (λ (f : Format). HasBlocks f (entries_in blocks) image blocks) (sym format) has_blocks in

@@ -1,4 +1,4 @@
--- What is gathered of the columns of entries.
+-- The column data gathered from entries.
 use Rattle.std.proofs.Common.{◌≡◌, ◌<◌, ◌^◌, ℕ, Contains, List, [], ◌∷◌, ◌++◌, length, sym, ap, subst, ◌∙◌}
 use Rattle.std.proofs.lemmas.List.Elements.{Contains-append_left, Contains-append_right}
 use Rattle.cell_key.specs.Entries.{Entry, key_of_text}
@@ -20,11 +20,11 @@ use Rattle.sorted_file.proofs.NamedLocks.{named_joined}
 use Rattle.sorted_file.proofs.Numbered.{numbered_on}
 use Rattle.sorted_file.proofs.Parsed.{parsed_is}
 
--- a lent key is the key of its text
+-- a borrowed key is the key with its text
 pub lent_is : (lent : KeyRef) (k : IsLentKey lent) (key : CellKey) → IsStored key → lent.text.now ≡ text key → k.key ≡ key
 lent_is lent k key stored e = sym (key_of_text-text k.key k.stored) ∙ ap key_of_text (sym k.is ∙ e) ∙ key_of_text-text key stored
 
--- one entry more
+-- one more entry
 pub columns_on : (old new : Columns) (es : List Entry) (e : Entry) → AreWithin old.bounds new.bounds → IsBounded new.bounds e → IsAmong old.numbers.items new.numbers.items → IsNumbered new.numbers.items e
     → IsAmong old.lock_keys.items new.lock_keys.items → IsLockKeyNumbered new.lock_keys.items e
     → IsAmong old.lock_values.items new.lock_values.items → IsLockKept new.lock_values.items e
@@ -36,7 +36,7 @@ columns_on old new es e covers bounded among numbered has keyed keeps kept named
   locks_kept = record { values = all_joined (IsLockKept new.lock_values.items) es (e ∷ []) (kept_on old.lock_values.items new.lock_values.items keeps es k.locks_kept.values) (kept, tt); named = named };
 }
 
--- those of two lists
+-- the column data of two lists
 pub columns_joined : (old more new : Columns) (es fs : List Entry) → AreWithin old.bounds new.bounds → AreWithin more.bounds new.bounds → new.numbers.items ≡ old.numbers.items ++ more.numbers.items
     → new.lock_keys.items ≡ old.lock_keys.items ++ more.lock_keys.items → new.lock_values.items ≡ old.lock_values.items ++ more.lock_values.items
     → new.named_locks.items ≡ old.named_locks.items ++ more.named_locks.items
@@ -58,7 +58,7 @@ columns_joined old more new es fs first second numbers keys values named k m =
       };
     }
 
--- what was gathered of a block is so of its entries
+-- the data gathered from a block is right for its entries
 pub record IsReadAs (block : Block) (kept : Columns) : Type 0 where
   pub parsed : IsParsed (entries_of block) block
   pub columns : AreColumnsOf kept (entries_of block)

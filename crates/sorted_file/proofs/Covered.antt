@@ -1,4 +1,4 @@
--- What a filter of keys says of a file that it covers.
+-- A file that a filter of keys covers, by the filter's answers.
 use Rattle.std.proofs.Common.{◌≡◌, ◌↔◌, ◌∙◌, ℕ, T, Bool, false, List, Contains, ap, subst, sym}
 use Rattle.std.specs.Prelude.{All, IsTrue, None}
 use Rattle.std.proofs.lemmas.List.Elements.{All-contains}
@@ -16,13 +16,13 @@ use Rattle.sorted_file.specs.declared.bounds.ColumnBounds.{ColumnBounds}
 use Rattle.sorted_file.specs.declared.file.SortedFile.{SortedFile}
 use Rattle.sorted_file.proofs.Numbered.{no_entry}
 
--- a number that a filter hasn't isn't among those that it has
+-- a number that isn't in a filter isn't among the numbers that were added
 pub unset : (words numbers : List ℕ) (number other : ℕ) (has : Bool) → (IsTrue has ↔ HasBits words number) → has ≡ false → number ≡ other
     → All (HasBits words) numbers → ¬ Contains numbers other
 unset words numbers number other has says not same each there =
     subst T (sym (says.1 (subst (HasBits words) (sym same) (All-contains (HasBits words) numbers other each there))) ∙ not) tt
 
--- a file that is what it was but for its cache has the numbers that it had
+-- a file that is unchanged but for its cache has the same hashes
 pub stays_covered : StaysCovered
 stays_covered disk filter old new same covers = record {
   numbers = subst (All (HasBits filter.numbers.words.items)) (ap (λ (f : SortedFile). f.numbers) (sym (same.rest old.cache))) covers.numbers;

@@ -1,4 +1,4 @@
--- A cursor goes on from entry to entry, and from block to block.
+-- The steps of a cursor from entry to entry and from block to block.
 use Rattle.std.proofs.Common.{◌≡◌, ◌≤◌, ◌<◌, ◌-◌, ◌^◌, ℕ, List, [], ◌∷◌, ◌++◌, length, drop, Option, Some, None, refl, sym, ap, subst, ◌∙◌, arith, length-append, append_assoc}
 use Rattle.std.proofs.Math.ListN.{drop_of_length-le}
 use Rattle.std.proofs.lemmas.Bool.{le-leb, false_from_ne_true, leb-true}
@@ -27,7 +27,7 @@ end_length (f ∷ before) more =
     let rest = end_length before more in
     omega (arith, rest, length-append (spelled f) (block_bytes (before ++ more)))
 
--- those that have no more bytes than the end are the end
+-- the longest end with at most as many bytes as an end is that end
 last_end : (before more : List Entry) → last_within (length (block_bytes more)) (before ++ more) ≡ more
 last_end [] [] = refl
 last_end [] (e ∷ es) =
@@ -68,9 +68,9 @@ from_is_end text (e ∷ es) r = go (is_le (byte_cmp text e.0)) refl (from_is_end
 end_is_last : (more es : List Entry) → IsEnd more es → last_within (length (block_bytes more)) es ≡ more
 end_is_last more es h = ap (last_within (length (block_bytes more))) h.whole ∙ last_end h.before more
 
--- ---- what a cursor holds
+-- ---- the state of a cursor
 
--- the blocks that it has not come to, and what is left of its block
+-- the remaining blocks, and the rest of its block
 pub record IsHeld (told : Option Contents) (name : ℕ) (rows : List BlockRow) (row : Option BlockRow) (block : List ℕ) (at : ℕ) : Type 0 where
   pub later : IsSomeAnd told (λ m. AreBlocksIn m name rows)
   pub small : length block < 2 ^ 32
@@ -80,7 +80,7 @@ pub record IsHeld (told : Option Contents) (name : ℕ) (rows : List BlockRow) (
 pub used_up : (told : Option Contents) (name : ℕ) (rows : List BlockRow) (row : Option BlockRow) (block : List ℕ) (at : ℕ) → IsHeld told name rows row block at → length block ≤ at → last_of (length block - at) row ≡ []
 used_up told name rows row block at h l = no_more _ (sym (drop_of_length-le block l) ∙ h.ahead)
 
--- the entries from a text on of two lists are those of each
+-- the entries at or above a text of two lists are those of the first and those of the second
 pub from_both : (text : List ℕ) (xs ys : List Entry) → entries_from text (xs ++ ys) ≡ entries_from text xs ++ entries_from text ys
 from_both text [] ys = refl
 from_both text (x ∷ xs) ys = go (is_le (byte_cmp text x.0)) (from_both text xs ys)
@@ -90,7 +90,7 @@ from_both text (x ∷ xs) ys = go (is_le (byte_cmp text x.0)) (from_both text xs
     go true e = ap (λ (l : List Entry). x ∷ l) e
     go false e = e
 
--- the row that was first is read
+-- the first row is read
 pub block_step : (told : Option Contents) (name : ℕ) (row : BlockRow) (rows all : List BlockRow) (X : Type 0) → all ≡ row ∷ rows → IsSomeAnd told (λ m. AreBlocksIn m name all) → ((image : List ℕ) → Tells told name image → IsBlockIn image row → X) → IsSomeAnd told (λ m. AreBlocksIn m name rows) × X
 block_step None name row rows all X cut h f = absurd h
 block_step (Some m) name row rows all X cut h f =
@@ -102,13 +102,13 @@ pub block_ahead : (text block : List ℕ) (at : ℕ) (es : List Entry) → IsRis
 block_ahead text block at es r e =
     ap (λ (n : ℕ). last_within n es) (sym (length-drop at block) ∙ ap length e) ∙ end_is_last (entries_from text es) es (from_is_end text es r)
 
--- what stands in a block from a text on is its end
+-- the bytes of a block from a text on are its end
 pub rest_ahead : (text block rest : List ℕ) (es : List Entry) → IsRising es → block ≡ block_bytes es → rest ≡ block_bytes (entries_from text es) → drop (length block - length rest) block ≡ rest
 rest_ahead text block rest es r e q =
     let h = from_is_end text es r in
     drop_end block (block_bytes h.before) rest (e ∙ ap block_bytes h.whole ∙ flat_map-append spelled h.before (entries_from text es) ∙ ap (λ (l : List ℕ). block_bytes h.before ++ l) (sym q))
 
--- a block is read: what remains is the same
+-- reading a block leaves the remaining entries unchanged
 pub block_read : (text : List ℕ) (row : BlockRow) (rows all : List BlockRow) (old new : List Entry) → all ≡ row ∷ rows → old ≡ [] → new ≡ entries_from text (block_of row)
     → new ++ entries_from text (entries_in (blocks_of rows)) ≡ old ++ entries_from text (entries_in (blocks_of all))
 block_read text row rows all old new cut none read =

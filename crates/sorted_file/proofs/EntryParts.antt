@@ -8,7 +8,7 @@ use Rattle.sorted_file.specs.declared.format.Format.{Format}
 use Rattle.sorted_file.proofs.Widths.{head_length, one_head}
 use Rattle.sorted_file.proofs.Spelling.{number_split, one_short, IsCut, is_cut}
 
--- the foot begins with the place of the index
+-- the foot begins with the offset of the index
 pub index_cut : (f : Format) (es : List Entry) (image : List ℕ) (c : IsCut f es image) → drop (length image - foot_len f) image ≡ number_bytes f (8 + length (flat_map spelled es)) ++ c.numbers
 index_cut f es image c =
     let n : List ℕ = number_bytes f (8 + length (flat_map spelled es)) in
@@ -22,7 +22,7 @@ index_cut f es image c =
     let at : length image - foot_len f ≡ length front = omega (arith, l1, l2, h, s) in
     ap (λ (k : ℕ). drop k image) at ∙ ap (drop (length front)) whole ∙ drop-append_seam front (n ++ c.numbers)
 
--- the bytes from the head to the index are those of the entries
+-- the bytes from the head to the index are the entries' bytes
 pub entry_bytes : (f : Format) (es : List Entry) (image : List ℕ) → IsCut f es image → take (length (flat_map spelled es)) (drop 8 image) ≡ flat_map spelled es
 entry_bytes f es image c =
     ap (λ (k : ℕ). take (length (flat_map spelled es)) (drop k image)) (sym (head_length f))
@@ -34,7 +34,7 @@ entry_bytes f es image c =
 pub head_of : (f : Format) (es : List Entry) (image : List ℕ) → IsFile f es image → take 8 image ≡ head f
 head_of f es image is = ap (λ (k : ℕ). take k image) (sym (head_length f)) ∙ ap (take (length (head f))) is.bytes ∙ take-append_seam (head f) _
 
--- a file is in the format that its head tells
+-- a file is in the format of its head
 pub in_format : (f g : Format) (es : List Entry) (image : List ℕ) → take 8 image ≡ head f → IsFile g es image → IsFile f es image
 in_format f g es image h is = subst (λ (k : Format). IsFile k es image) (one_head g f (sym (head_of g es image is) ∙ h)) is
 

@@ -1,4 +1,4 @@
--- The bits of a word: what a test of one says, and what setting one leaves.
+-- The bits of a word: testing one and setting one.
 use Rattle.std.proofs.Common.{◌≡◌, ◌↔◌, ◌*◌, ◌%◌, ◌^◌, ◌<◌, ℕ, not, nat_eq, bit_and, bit_or, ap, ◌∙◌, ⊎_elim, arith, tests, w64}
 use Rattle.std.specs.Prelude.{IsTrue}
 use Rattle.std.specs.Int.{bit_at}
@@ -10,7 +10,7 @@ use Rattle.std.proofs.lemmas.Nat.Bits.{and_pow, bit_at_set_same, bit_at_set_othe
 pub is_bit : (word k : ℕ) → k < 64 → IsTrue (not (nat_eq (bit_and word (1 * 2 ^ k % 2 ^ 64)) 0)) ↔ (bit_at word k ≡ 1)
 is_bit word k below = grind (arith, tests, one_shl k 64 below, and_pow word k, pow_pos k)
 
--- a bit that was set is set after another one was
+-- setting a bit leaves the other set bits set
 pub bit_kept : (word k : ℕ) → k < 64 → (b : ℕ) → bit_at word b ≡ 1 → bit_at (bit_or word (1 * 2 ^ k % 2 ^ 64)) b ≡ 1
 bit_kept word k below b is = ⊎_elim
     (λ same. ap (bit_at (bit_or word (1 * 2 ^ k % 2 ^ 64))) same ∙ bit_at_set_same w64 word k below)

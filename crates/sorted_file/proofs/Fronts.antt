@@ -1,4 +1,4 @@
--- What the texts of a column's versions have before their stamps.
+-- The front of the texts of a column's versions, before their stamps.
 use Rattle.std.proofs.Common.{◌≡◌, ◌-◌, ℕ, List, ◌++◌, ◌+◌, length, take, drop, Option, Some, None, refl, sym, ap, ◌∙◌, arith, append_assoc, length-append}
 use Rattle.std.specs.Prelude.{false, IfSome, IsTrue}
 use Rattle.std.proofs.Math.Seq.{take-append_seam}
@@ -38,14 +38,14 @@ module _ (column bytes : List ℕ) (key : CellKey) (is : column ≡ text key) wh
   column_front : take (length column - 8) column ≡ front key
   column_front = ap (λ (xs : List ℕ). take (length xs - 8) xs) is ∙ before key key.stamp
 
-  -- what begins as the column's texts and ends in a stamp is the text of a version
+  -- bytes that begin like the column's texts and end in a stamp are the text of a version
   pub has_stamp : take (length column - 8) bytes ≡ take (length column - 8) column → (s : ℕ) → drop (length column - 8) bytes ≡ stamp_text s → bytes ≡ text (at_stamp key s)
   has_stamp same s ends =
       sym (take-append-drop (length column - 8) bytes)
       ∙ ap (λ (xs : List ℕ). xs ++ drop (length column - 8) bytes) (same ∙ column_front)
       ∙ ap (λ (xs : List ℕ). front key ++ xs) ends ∙ sym (in_parts key s)
 
-  -- the text of a version begins so, and has as many bytes
+  -- the text of a version begins like the column's texts, and has the same length
   pub same_front : (s : ℕ) → bytes ≡ text (at_stamp key s) → take (length column - 8) bytes ≡ take (length column - 8) column
   same_front s e =
       let l = ap length e ∙ one_length key s key.stamp ∙ sym (ap length is) in

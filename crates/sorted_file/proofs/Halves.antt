@@ -31,7 +31,7 @@ none_to text (d ∷ es) (suc i) e r g p =
     let before = below_at d.0 es i e (first _ _ r) g in
     passed text d es (below_text d.0 text e.0 before (λ q. two_orders (byte_cmp text e.0) q p)) ∙ none_to text es i e (second _ _ r) g p
 
--- entries from one on that isn't below the text aren't below it
+-- entries from one at or above the text on are at or above it
 pub all_from : (text : List ℕ) (es : List Entry) (i : ℕ) (e : Entry) → IsRising es → slice_get es i ≡ Some e → byte_cmp text e.0 ≢ Greater → entries_from text (drop i es) ≡ drop i es
 all_from text [] i e r g p = cc
 all_from text (d ∷ es) zero e r g p = let same : d ≡ e = cc in from_place text (d ∷ es) 0 r (subst (λ (x : Entry). byte_cmp text x.0 ≢ Greater) (sym same) p)

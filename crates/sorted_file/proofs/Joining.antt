@@ -1,4 +1,4 @@
--- Blocks and texts that go on.
+-- Appending to blocks and to texts.
 use Rattle.std.proofs.Common.{◌≡◌, ◌+◌, ℕ, Bool, true, false, T, ◌&&◌, List, [], ◌∷◌, ◌++◌, length, map, refl, sym, ap, subst, arith, length-append}
 use Rattle.std.specs.List.{AllByRecursion}
 use Rattle.std.specs.Ordering.{is_lt}
@@ -65,7 +65,7 @@ last_below : (name : List ℕ) (front : List Entry) (l : Entry) → T (below_all
 last_below name [] l h = less _ (first _ _ h)
 last_below name (x ∷ front) l h = last_below name front l (second _ _ h)
 
--- a list rises on where its last text is below the next one
+-- two lists in ascending order are one, if the first one's last text is below the second one
 pub rising_joined : (front : List Entry) (l e : Entry) (es : List Entry) → IsRising (front ++ l ∷ []) → IsRising (e ∷ es) → byte_cmp l.0 e.0 ≡ Less → IsRising ((front ++ l ∷ []) ++ e ∷ es)
 rising_joined [] l e es h k p = both _ _ (below_rest l.0 e es k p) k
 rising_joined (x ∷ front) l e es h k p =
@@ -134,13 +134,13 @@ last_row at (r ∷ rows) row h = last_row (at + length (block_bytes (block_of r)
 rise : (d e : Entry) (more : List Entry) → byte_cmp d.0 e.0 ≡ Less → IsRising (e ∷ more) → IsRising (d ∷ e ∷ more)
 rise d e more p h = both _ _ (below_rest d.0 e more h p) h
 
--- a list whose first entry comes after the last text of another goes on behind it
+-- two lists are one in ascending order, if the second one's first entry is above the first one's last text
 pub rises_behind : (es : List Entry) (e : Entry) (more : List Entry) (last : List ℕ) → IsLastText es last → IsRising es → IsRising (e ∷ more) → byte_cmp last e.0 ≡ Less → IsRising (es ++ e ∷ more)
 rises_behind [] e more last is r h p = h
 rises_behind (d ∷ []) e more last is r h p = rise d e more (subst (λ (t : List ℕ). byte_cmp t e.0 ≡ Less) is p) h
 rises_behind (d ∷ f ∷ es) e more last is r h p = rise d f (es ++ e ∷ more) (less _ (first _ _ (first _ _ r))) (rises_behind (f ∷ es) e more last is (second _ _ r) h p)
 
--- the last text of two lists is that of the second
+-- the last text of two lists is the second one's
 pub last_behind : (es : List Entry) (e : Entry) (more : List Entry) (last : List ℕ) → IsLastText (e ∷ more) last → IsLastText (es ++ e ∷ more) last
 last_behind [] e more last h = h
 last_behind (d ∷ []) e more last h = h

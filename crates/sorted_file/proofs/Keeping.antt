@@ -12,7 +12,7 @@ use Rattle.sorted_file.specs.Block.{IsParsed}
 use Rattle.sorted_file.specs.declared.block.BlockRow.{BlockRow}
 use Rattle.sorted_file.specs.declared.block.Block.{Block}
 
--- what is among the first ones is there
+-- an element of the first ones is an element of all
 pub among_taken : (n : ℕ) (es : List (ℕ × Block)) (e : ℕ × Block) → Contains (take n es) e → Contains es e
 among_taken n es e d = subst (λ (l : List (ℕ × Block)). Contains l e) (take-append-drop n es) (Contains-append_left (take n es) (drop n es) e d)
 
@@ -45,7 +45,7 @@ module _ (rows : List BlockRow) where
   pub none_kept : (cached : List (ℕ × Block)) → cached ≡ [] → AreCached rows cached
   none_kept cached is = subst (λ (l : List (ℕ × Block)). AreCached rows l) (sym is) (λ e h row at. let few = h.1 in absurd (omega (arith, few)))
 
--- each entry after a block is put was there or is that block's
+-- after a block is put, each cached block was cached before or is that block
 of_put : (c : LruCache ℕ Block) (k : ℕ) (v : Block) (e : ℕ × Block) → Contains (put_entries nat_eq c k v) e → Contains c.entries e ⊎ (e ≡ (k, v))
 of_put c k v (n, block) d = elim (Contains-put_entries nat_eq c k v (n, block) d) [
   | inl old ↦ inl old

@@ -1,4 +1,4 @@
--- Locks among keys, and the keys of those that are kept.
+-- Locks among keys, and the keys of kept locks.
 use Rattle.std.proofs.Common.{◌≡◌, ◌<◌, ◌+◌, ◌⊎◌, ⊎_elim, ℕ, zero, suc, true, List, [], ◌∷◌, ◌++◌, length, map, take, get_or, Contains, sym, ap, subst, arith}
 use Rattle.std.proofs.lemmas.List.{take_more}
 use Rattle.std.proofs.lemmas.List.Elements.{Contains-append_left, Contains-push_cases, Contains-append_right}
@@ -14,7 +14,7 @@ use Rattle.cell_key.specs.declared.keys.CellKey.{CellKey}
 use Rattle.cell_key.proofs.KeyLaws.{exact_keys}
 use Rattle.sorted_file.specs.Numbers.{IsAmong}
 
--- what a binary search finds is there
+-- a key found by binary search is among the keys
 pub found_among : (keys : List CellKey) (key : CellKey) (found : Result ℕ ℕ) → IsSearchInRange found (length keys) → IfOk found (HoldsAt (λ y. key_cmp y key ≡ Equal) keys) → is_ok found ≡ true → Contains keys key
 found_among keys key (Ok k) bound at is = (k, bound, exact_keys (get_or keys k key) key (at key))
 found_among keys key (Err k) bound at is = cc
@@ -26,7 +26,7 @@ module _ (named old new xs : List CellKey) (i : ℕ) (d : CellKey) (within : i <
   one_more : take (i + 1) xs ≡ take i xs ++ get_or xs i d ∷ []
   one_more = take_more xs i d within
 
-  -- one lock more, which is kept unless it is named
+  -- one more lock, which is kept unless it is named
   pub kept_more : ((key : CellKey) → Contains (take i xs) key → ¬ Contains named key → Contains old key) → IsAmong old new → (¬ Contains named (get_or xs i d) → Contains new (get_or xs i d))
       → (key : CellKey) → Contains (take (i + 1) xs) key → ¬ Contains named key → Contains new key
   kept_more before keeps has key there unnamed =
@@ -41,7 +41,7 @@ module _ (named old new xs : List CellKey) (i : ℕ) (d : CellKey) (within : i <
       (λ (is : get_or xs i d ≡ key). Contains-append_right (take i xs) (get_or xs i d ∷ []) key (0, omega arith, is))
       (only key there))
 
--- ---- what is made of each
+-- ---- an image of each lock
 
 contains_map_at : {A B : Type 0} (f : A → B) (xs : List A) (x : A) (i : ℕ) → i < length xs → get_or xs i x ≡ x → Contains (map f xs) (f x)
 contains_map_at f [] x i below is = absurd (omega (arith, below))

@@ -21,7 +21,7 @@ use Rattle.sorted_file.proofs.Bounded.{one_text}
 use Rattle.sorted_file.proofs.KeptLocks.{contains_map}
 use Rattle.sorted_file.proofs.Numbered.{one_number}
 
--- ---- what only caches change
+-- ---- only caches change
 
 told_before : (disk : Option Contents) (old new : SortedFile) → IsSameFile disk old new → IsTelling new → IsTelling old
 told_before disk old new same is = subst (λ (f : SortedFile). IsTelling f) (same.rest old.cache) is
@@ -50,7 +50,7 @@ not_some : {A : Type 0} (o : Option A) → o ≡ None → ¬ IsSome o
 not_some None e is = cc
 not_some (Some x) e is = cc
 
--- an entry that is the value of a lock has its key kept
+-- the key of a lock's value is kept
 kept_at : (locks : List CellKey) (es : List Entry) → AllByRecursion (IsLockKept locks) es → (key : CellKey) → IsStored key → key.qualifier ≡ Lock → IsSome (value_of (entry_of_key es (text key))) → Contains locks key
 kept_at locks [] all key stored lock some = cc
 kept_at locks ((name, value) ∷ es) all key stored lock some = go (eq_by_cmp byte_cmp (text key) name) refl some (kept_at locks es all.1 key stored lock)
@@ -69,7 +69,7 @@ index_over old new file keeps takes files is all key stored lock some = go (entr
 
 -- ---- the locks of a column
 
--- the latest of stamps is the latest of others if these are the same ones
+-- the latest of some stamps is the latest of the same stamps in another order
 pub latest_among : (xs ys : List LockStamp) (column lo hi : ℕ) (found : Option ℕ) → IsAmong xs ys → IsAmong ys xs → IsLatest xs column lo hi found → IsLatest ys column lo hi found
 latest_among xs ys column lo hi found to from latest = record {
   within = latest.within;
@@ -81,7 +81,7 @@ latest_among xs ys column lo hi found to from latest = record {
     there_too None is = tt
     there_too (Some stamp) is = to (lock_stamp column stamp) is
 
--- a key that is later than the latest isn't in the index
+-- a key above the latest stamp isn't in the index
 pub none_later : (index : List CellKey) (key : CellKey) (lo : ℕ) (found : Option ℕ) → IsLatest (map stamp_of index) (number_of (text key)) lo key.stamp found
     → (s : ℕ) → IsAfterStamp s lo found → s ≤ key.stamp → ¬ Contains index (at_stamp key s)
 none_later index key lo found latest s after up there =

@@ -1,4 +1,4 @@
--- The locks of one column among those in the order of their columns' numbers.
+-- The locks of one column, in locks sorted by the hashes of their columns.
 use Rattle.std.proofs.Common.{◌≡◌, ◌<◌, ◌≤◌, ◌+◌, ◌-◌, ◌++◌, ◌∷◌, [], ◌⊎◌, ⊎_elim, ℕ, Bool, true, false, nat_lt, not, List, length, take, drop, get_or, Contains, Option, Some, None, refl, sym, ap, subst, ◌∙◌, arith, tests}
 use Rattle.std.specs.Prelude.{IfSome}
 use Rattle.std.specs.List.Sorted.{IsNonDecreasingBy}
@@ -16,7 +16,7 @@ use Rattle.sorted_file.specs.declared.lock_stamps.LockStamp.{LockStamp}
 abbrev pub column_of : LockStamp → ℕ
 column_of lock = lock.column
 
--- whether a lock is of a column up to this one, and whether of one below it
+-- whether a lock's column is at most this one, and whether it is below this one
 abbrev pub is_up_to : ℕ → LockStamp → Bool
 is_up_to column lock = not (nat_lt column lock.column)
 
@@ -29,7 +29,7 @@ parted_up_to column xs sorted i j d le lt is = let s = sorted i j d le lt in gri
 pub parted_below : (column : ℕ) (xs : List LockStamp) → IsNonDecreasingBy column_of xs → (i j : ℕ) (d : LockStamp) → i ≤ j → j < length xs → is_below column (get_or xs j d) ≡ true → is_below column (get_or xs i d) ≡ true
 parted_below column xs sorted i j d le lt is = let s = sorted i j d le lt in grind (arith, tests, s, is)
 
--- the first of locks in order are in order
+-- the first ones of sorted locks are sorted
 pub sorted_take : (n : ℕ) (xs : List LockStamp) → n ≤ length xs → IsNonDecreasingBy column_of xs → IsNonDecreasingBy column_of (take n xs)
 sorted_take n xs fits sorted i j d le lt =
     let l = length-take-le n xs fits in
@@ -39,7 +39,7 @@ sorted_take n xs fits sorted i j d le lt =
     let s = sorted i j d le (omega (arith, below, fits)) in
     subst (λ (x : LockStamp). x.column ≤ (get_or (take n xs) j d).column) (sym first) (subst (λ (y : LockStamp). (get_or xs i d).column ≤ y.column) (sym last) s)
 
--- one lock more
+-- one more lock
 module _ (locks : List LockStamp) (i lo hi : ℕ) (d : LockStamp) (old new : Option ℕ) (within : i < length locks) (so : IsLatestOf (take i locks) lo hi old) where
   more : take (i + 1) locks ≡ take i locks ++ get_or locks i d ∷ []
   more = take_more locks i d within
@@ -65,7 +65,7 @@ module _ (locks : List LockStamp) (i lo hi : ℕ) (d : LockStamp) (old new : Opt
         (λ later. (after (get_or locks i d).stamp later).1 refl);
   }
 
--- the latest of those of a column is the latest of all that are its own
+-- the latest lock in the range of a column is the latest lock of the column
 module _ (xs : List LockStamp) (column lo hi from to : ℕ) (found : Option ℕ) (fits : to ≤ length xs)
     (up_to : (k : ℕ) (d : LockStamp) → 0 ≤ k → k < to → is_up_to column (get_or xs k d) ≡ true) (beyond : (k : ℕ) (d : LockStamp) → to ≤ k → k < length xs → is_up_to column (get_or xs k d) ≡ false)
     (below : (k : ℕ) (d : LockStamp) → 0 ≤ k → k < from → is_below column (get_or (take to xs) k d) ≡ true) (not_below : (k : ℕ) (d : LockStamp) → from ≤ k → k < length (take to xs) → is_below column (get_or (take to xs) k d) ≡ false)
@@ -73,7 +73,7 @@ module _ (xs : List LockStamp) (column lo hi from to : ℕ) (found : Option ℕ)
   size : length (take to xs) ≡ to
   size = length-take-le to xs fits
 
-  -- a lock of the column is among those
+  -- a lock of the column is in the range
   pub among : (lock : LockStamp) → lock.column ≡ column → Contains xs lock → Contains (drop from (take to xs)) lock
   among lock own there =
       let k = there.0 in
@@ -86,7 +86,7 @@ module _ (xs : List LockStamp) (column lo hi from to : ℕ) (found : Option ℕ)
       let l = length-drop from (take to xs) in
       (k - from, omega (arith, l, size, inside, after), get_or-drop from (take to xs) (k - from) lock ∙ ap (λ (n : ℕ). get_or (take to xs) n lock) at ∙ first ∙ named)
 
-  -- and they are of the column
+  -- and the locks in the range are of the column
   pub own : (lock : LockStamp) → Contains (drop from (take to xs)) lock → Contains xs lock × (lock.column ≡ column)
   own lock there =
       let k = there.0 in
@@ -113,13 +113,13 @@ module _ (xs : List LockStamp) (column lo hi from to : ℕ) (found : Option ℕ)
     none = λ s later below there. All-contains (λ (lock : LockStamp). IsAfterStamp lock.stamp lo found → ¬ (lock.stamp ≤ hi)) (drop from (take to xs)) (lock_stamp column s) so.none (among (lock_stamp column s) refl there) later below;
   }
 
--- it is the latest of the column of a key, up to the key's stamp
+-- it is the latest in the column of a key, up to the key's stamp
 pub latest_of_key : (locks : List LockStamp) (column lo : ℕ) (found : Option ℕ) (own key : CellKey) → own ≡ key → column ≡ number_of (text key) → IsLatest locks column lo own.stamp found
     → IsLatest locks (number_of (text key)) lo key.stamp found
 latest_of_key locks column lo found own key same number latest =
     subst (λ (k : CellKey). IsLatest locks (number_of (text key)) lo k.stamp found) same (subst (λ (n : ℕ). IsLatest locks n lo own.stamp found) number latest)
 
--- if there is none then no lock of the column has a stamp there
+-- if there is none, no lock of the column has a stamp in this range
 pub no_latest : (locks : List LockStamp) (column lo hi : ℕ) (found : Option ℕ) → IsLatest locks column lo hi found → is_some found ≡ false → (s : ℕ) → lo ≤ s → s ≤ hi → ¬ Contains locks (lock_stamp column s)
 no_latest locks column lo hi None latest none s low high = latest.none s low high
 no_latest locks column lo hi (Some last) latest none s low high = absurd (let e : true ≡ false = none in cc)

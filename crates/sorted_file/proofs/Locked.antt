@@ -1,4 +1,4 @@
--- A column or a lock's key whose number isn't among those of entries has none of them.
+-- If the hash of a column or of a lock's key isn't listed, there is no entry of it.
 use Rattle.std.proofs.Common.{◌≡◌, ℕ, Bool, true, false, cond, List, [], ◌∷◌, Contains, Option, Some, None, refl, sym, ap, subst}
 use Rattle.std.specs.List.{AllByRecursion}
 use Rattle.std.specs.Ordering.{eq_by_cmp}
@@ -22,7 +22,7 @@ pub kept_on : (old new : List CellKey) → IsAmong old new → (es : List Entry)
 kept_on old new keeps [] all = tt
 kept_on old new keeps (e ∷ es) all = ((λ key stored named lock some. keeps key (all.0 key stored named lock some)), kept_on old new keeps es all.1)
 
--- a lock whose text has no number has no entry
+-- a lock whose text's hash isn't listed has no entry
 module _ (numbers : List ℕ) (key : CellKey) (stored : IsStored key) (lock : key.qualifier ≡ Lock) (out : ¬ Contains numbers (text_number (text key))) where
   pub no_lock_entry : (es : List Entry) → AllByRecursion (IsLockKeyNumbered numbers) es → entry_of_key es (text key) ≡ None
   no_lock_entry [] all = refl

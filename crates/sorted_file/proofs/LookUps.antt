@@ -1,4 +1,4 @@
--- Blocks that are looked into.
+-- Blocks in look-ups.
 use Rattle.std.proofs.Common.{◌≡◌, ◌<◌, ◌⊎◌, ℕ, zero, suc, List, [], ◌∷◌, ◌++◌, length, take, slice_get, get_or, Contains, Option, Some, None, inl, inr, refl, sym, ap, subst, ◌∙◌, arith}
 use Rattle.std.proofs.lemmas.Option.{same_Some, slice_get_read}
 use Rattle.std.specs.Prelude.{IfSome}
@@ -34,13 +34,13 @@ module _ (m : Contents) (file : SortedFile) (o : IsOpen m file) (n : ℕ) (row :
   pub row_begins : BeginsWith row.first.items (block_of row)
   row_begins = begins row (of_row IsNamed file.rows.items n row at (open_named m file o))
 
-  -- a block that is read from an open file is the one that it was
+  -- a block read from an open file is unchanged since it was opened
   pub read_right : (block : Block) → IsReadNow (Some m) (name_of file) row block → IsParsed (block_of row) block
   read_right block r =
       let from = r.read o.image o.there in
       subst (λ (es : List Entry). IsParsed es block) (sym (parsed_as r.entries (block_of row) block r.parsed (sym block_in.bytes ∙ from.bytes))) r.parsed
 
--- with other blocks that are kept a file is the same
+-- a file with another cache is the same file
 pub same_file : (told : Option Contents) (file : SortedFile) (cache : LruCache ℕ Block) → IfSome told (λ m. IsOpen m file → AreCached file.rows.items cache.entries)
     → IsSameFile told file (record { alloc = file.alloc; name = file.name; rows = file.rows; heads = file.heads; skips = file.skips; count = file.count; bounds = file.bounds; numbers = file.numbers; lock_keys = file.lock_keys; lock_values = file.lock_values; named_locks = file.named_locks; cache = cache })
 same_file None file cache h = record { rest = λ c. refl; name = refl; lists = λ m. refl; still = tt }
@@ -52,7 +52,7 @@ same_file (Some m) file cache h = record {
       record { list = o.list; bounds = o.bounds; bounded = o.bounded; numbered = o.numbered; keyed = o.keyed; locks_kept = o.locks_kept; heads = o.heads; skips = o.skips; counted = o.counted; format = o.format; image = o.image; there = o.there; form = o.form; rows = o.rows; blocks = o.blocks; cached = h o };
 }
 
--- a block that is kept after one was read was kept before or is that one
+-- after a block was read, a cached block was cached before or is that block
 pub kept_or_read : (told : Option Contents) (file : SortedFile) (n : ℕ) (block : Block) (row : BlockRow) → slice_get file.rows.items n ≡ Some row → IsReadNow told (name_of file) row block
     → (e : ℕ × Block) → Contains file.cache.entries e ⊎ (e ≡ (n, block)) → Contains file.cache.entries e ⊎ WasRead told file e
 kept_or_read told file n block row at read e (inl old) = inl old

@@ -1,4 +1,4 @@
--- What the next block of a file is, after the blocks that were read.
+-- The next block of a file, after the blocks that were read.
 use Rattle.std.proofs.Common.{◌≡◌, ℕ, ◌+◌, ◌-◌, ◌≤◌, ◌<◌, ◌^◌, List, [], ◌∷◌, ◌++◌, length, take, drop, refl, sym, ap, subst, ◌∙◌, arith, length-append, length-drop, append_assoc}
 use Rattle.std.proofs.Math.Seq.{take-append_seam, drop-append_seam, drop-append-add}
 use Rattle.std.proofs.lemmas.List.{take-append-drop, drop-drop}
@@ -26,7 +26,7 @@ first_same x y xs ys e = cc
 
 -- ---- rows
 
--- a row, apart
+-- the parts of a row
 row_apart : (f : Format) (at : ℕ) (e : Entry) (es : List Entry) (x : List ℕ) → row f at (e ∷ es) ++ x ≡ number_bytes f at ++ (number_bytes f (length (block_bytes (e ∷ es))) ++ (field e.0 ++ x))
 row_apart f at e es x =
     let n = number_bytes f (length (block_bytes (e ∷ es))) in
@@ -38,7 +38,7 @@ pub record IsSameRow (r : RowRef) (rest : List ℕ) (at : ℕ) (e : Entry) (es :
   pub first : r.first.now ≡ e.0
   pub rest_is : rest ≡ after
 
--- two rows at the front are one
+-- two rows at the front of the same bytes are equal
 pub same_row : (f : Format) (r : RowRef) (rest : List ℕ) (at : ℕ) (e : Entry) (es : List Entry) (after tail : List ℕ) → r.offset < most f → r.length < most f → length r.first.now < 2 ^ 32 → at < most f → length e.0 < 2 ^ 32 → length (block_bytes (e ∷ es)) < most f
     → tail ≡ row_bytes f r ++ rest → tail ≡ row f at (e ∷ es) ++ after → IsSameRow r rest at e es after
 same_row f r rest at e es after tail so sl sf sa se sb p q =
@@ -49,7 +49,7 @@ same_row f r rest at e es after tail so sl sf sa se sb p q =
     let three = field_split r.first.now e.0 rest after sf se two.1 in
     record { offset = one.0; length_is = two.0; first = three.0; rest_is = three.1 }
 
--- ---- what remains of blocks after some of them were read, and of their bytes and rows
+-- ---- the blocks that remain after some were read, with their bytes and rows
 
 pub record Remains (f : Format) (done blocks : List (List Entry)) (bytes tail rows end : List ℕ) (at : ℕ) : Type 0 where
   pub more : List (List Entry)
@@ -100,7 +100,7 @@ remains f ((d ∷ ds) ∷ done) ((b ∷ bs) ∷ blocks) bytes tail rows end at s
       rows_are = rest.rows_are ∙ ap (λ (n : ℕ). index f n rest.more ++ end) (omega (arith, size, ld));
     }
 
--- ---- the same of a file that is being opened
+-- ---- the same for a file that is being opened
 
 module _ (o : Opening) (opening : IsOpening o) (told : Option Contents) (image all end rest : List ℕ) (reading : IsReading told o image all end rest) (es : List Entry) (f : IsFile o.format es image) where
   abbrev done : List (List Entry)
@@ -152,7 +152,7 @@ module _ (o : Opening) (opening : IsOpening o) (told : Option Contents) (image a
       ∙ ap (λ (n : ℕ). take n (rows_of ++ end_of)) (omega (arith, image_length))
       ∙ take-append_seam rows_of end_of
 
-  -- the foot is that of the file
+  -- the foot is right for the file
   pub end_is : end ≡ end_of
   end_is =
       reading.framed.last ∙ ap (λ (n : ℕ). drop n image) (omega (arith, image_length)) ∙ sym (drop-drop (length rows_of) (8 + length (body f.blocks)) image)
@@ -175,7 +175,7 @@ module _ (o : Opening) (opening : IsOpening o) (told : Option Contents) (image a
       remains o.format done f.blocks (drop (8 + length (body done)) image) (rows_of ++ end_of) rest [] 8 (blocks_small done opening.grammar opening.list.each) done_small (omega (arith, image_length, small)) (omega arith) opening.grammar f.grammar
       (sym reading.read.bytes ∙ behind_head) (sym reading.read.rows ∙ index_is ∙ sym (append-nil rows_of))
 
--- the block that comes next
+-- the next block
 pub record NextBlock (o : Opening) (image rest : List ℕ) : Type 0 where
   pub first : Entry
   pub others : List Entry
@@ -225,7 +225,7 @@ module _ (o : Opening) (opening : IsOpening o) (told : Option Contents) (image a
   pub next_block : NextBlock o image rest
   next_block = let x = left o opening told image all end rest reading es f in cut x.more x.list x.bytes_are x.rows_are
 
--- ---- what was read of the next block
+-- ---- the bytes read of the next block
 
 module _ (o : Opening) (image rest : List ℕ) (n : NextBlock o image rest) (small : length image < most o.format) where
   first_short : length n.first.0 < 2 ^ 32
@@ -240,12 +240,12 @@ module _ (o : Opening) (image rest : List ℕ) (n : NextBlock o image rest) (sma
     same : IsSameRow r more o.end n.first n.others n.after
     same = let w = n.within in same_row o.format r more o.end n.first n.others n.after rest so sl sf (omega (arith, w, small)) first_short (omega (arith, w, small)) read n.named
 
-    -- the block that the row names is there
+    -- the block of the row is there
     pub block_there : (none : (es : List Entry) → length (block_bytes es) ≡ r.length → ¬ IsBlock es (part image o.end r.length)) → ⊥
     block_there none =
         none (n.first ∷ n.others) (sym same.length_is) (record { list = n.list; fits = n.fits; spelled = ap (part image o.end) same.length_is ∙ n.there })
 
-    -- and what was read is this block, which is the next one
+    -- and the block read is this one, which is the next one
     pub block_next : (es : List Entry) → part image o.end r.length ≡ block_bytes es → IsNext o r es
     block_next es there =
         let b = block_small (n.first ∷ n.others) n.list.each n.fits in

@@ -1,4 +1,4 @@
--- A column whose number isn't among those of entries has none of them.
+-- If the hash of a column isn't listed, there is no entry in the column.
 use Rattle.std.proofs.Common.{◌≡◌, ℕ, T, IsTrue, Bool, true, false, cond, List, [], ◌∷◌, Contains, ◌⊎◌, inl, inr, Some, None, refl, sym, ap, subst, ◌∙◌}
 use Rattle.std.specs.List.{AllByRecursion}
 use Rattle.std.specs.Ordering.{eq_by_cmp}
@@ -35,11 +35,11 @@ pub numbered_on : (old new : List ℕ) → IsAmong old new → (es : List Entry)
 numbered_on old new keeps [] all = tt
 numbered_on old new keeps (e ∷ es) all = (keeps (number_of e.0) all.0, numbered_on old new keeps es all.1)
 
--- but for a lock's, an entry is asked for by the number of its column
+-- an entry is tested by the hash of its column, unless it is a lock's
 pub of_column : (q : Qualifier) (name : List ℕ) → (q ≡ Data) ⊎ (q ≡ Write) → entry_number q name ≡ number_of name
 of_column q name (inl e) = ap (λ (k : Qualifier). entry_number k name) e
 of_column q name (inr e) = ap (λ (k : Qualifier). entry_number k name) e
 
--- a number that isn't said to be there isn't
+-- a number isn't listed if the test answers no
 pub absent : (numbers : List ℕ) (number other : ℕ) (has : Bool) → (Contains numbers number → IsTrue has) → has ≡ false → number ≡ other → ¬ (Contains numbers other)
 absent numbers number other has says not same = λ there. subst T (sym (says (subst (Contains numbers) (sym same) there)) ∙ not) tt

@@ -48,7 +48,7 @@ module _ (m : Contents) (file : SortedFile) (o : IsOpen m file) where
   pub open_firsts : IsRising (map first_of file.rows.items)
   open_firsts = firsts_rise file.rows.items open_named o.list.rising
 
--- the row at the end of some rows, and the rows from a place on
+-- the last one of some rows, and the rows from an index on
 pub row_in : (P : BlockRow → Type 0) (rows : List BlockRow) (n : ℕ) (front : List BlockRow) (row : BlockRow) → take n rows ≡ front ++ row ∷ [] → AllByRecursion P rows → P row
 row_in P rows zero [] row t all = cc
 row_in P rows zero (f ∷ front) row t all = cc
@@ -77,7 +77,7 @@ value_and ((n, Some v) ∷ xs) ys x e = e
 abbrev pub text_of : Entry → List ℕ
 text_of e = e.0
 
--- the first head that is there is the text of the first value
+-- the first head that is present is the text of the first value
 pub heads_value : (rows : List BlockRow) → first_some (map row_head rows) ≡ option_map text_of (first_value (entries_in (blocks_of rows)))
 heads_value [] = refl
 heads_value (row ∷ rows) = go (first_value (block_of row)) refl (heads_value rows)
@@ -87,7 +87,7 @@ heads_value (row ∷ rows) = go (first_value (block_of row)) refl (heads_value r
     go None e more = more ∙ sym (ap (option_map text_of) (value_or (block_of row) (entries_in (blocks_of rows)) e))
     go (Some x) e more = sym (ap (option_map text_of) (value_and (block_of row) (entries_in (blocks_of rows)) x e))
 
--- the bytes of the first text that is there
+-- the bytes of the first text that is present
 first_text : (texts : List (Option (Vec ℕ))) → option_map (λ (v : Vec ℕ). v.items) (first_some texts) ≡ first_some (texts_of texts)
 first_text [] = refl
 first_text (None ∷ texts) = first_text texts
@@ -126,7 +126,7 @@ pub some_of : (o : Option Entry) (t : List ℕ) → Some t ≡ option_map text_o
 some_of None t e = cc
 some_of (Some x) t e = record { entry = x; is = refl; named = let same : t ≡ x.0 = cc in sym same }
 
--- entries of the rows from a place on
+-- entries of the rows from an index on
 pub list_behind : (n : ℕ) (rows : List BlockRow) → IsEntryList (entries_in (blocks_of rows)) → IsEntryList (entries_in (blocks_of (drop n rows)))
 list_behind zero rows h = h
 list_behind (suc n) [] h = h

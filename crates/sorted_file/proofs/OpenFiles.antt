@@ -1,4 +1,4 @@
--- What is open, and what is there.
+-- Open files, and files that are there.
 use Rattle.std.proofs.Common.{◌≡◌, ℕ, Option, refl, sym, subst, ◌∙◌}
 use Rattle.std.specs.Prelude.{Some}
 use Rattle.std.specs.FinMap as map

@@ -1,4 +1,4 @@
--- What stands behind entries with texts below one.
+-- The bytes behind entries with texts below a text.
 use Rattle.std.proofs.Common.{◌≡◌, ◌≢◌, true, false, List, ℕ, [], ◌∷◌, ◌++◌, refl, sym, ap, ◌∙◌, append_assoc, subst, length, Option, Some, None}
 use Rattle.std.specs.Prelude.{IfSome}
 use Rattle.std.specs.Ordering.{is_le}
@@ -14,7 +14,7 @@ use Rattle.sorted_file.specs.Cursor.{GoesOn, IsOpened, ends, opens, takes}
 use Rattle.sorted_file.specs.declared.block.BlockRow.{BlockRow}
 use Rattle.sorted_file.specs.Grammar.{block_bytes}
 
--- ---- what stands behind entries
+-- ---- the bytes behind entries
 
 greater : (o : Ordering) → is_le o ≡ false → o ≡ Greater
 greater Less p = cc
@@ -30,11 +30,11 @@ all_on : (P : Entry → Type 0) (es : List Entry) (e : Entry) → AllByRecursion
 all_on P [] e h p = (p, tt)
 all_on P (x ∷ es) e h p = (h.0, all_on P es e h.1 p)
 
--- nothing stands before them all
+-- no entries are before all bytes
 pub behind_none : (text bytes : List ℕ) → IsBehind text bytes bytes
 behind_none text bytes = record { before = []; below = tt; bytes_are = refl }
 
--- one entry more is passed
+-- one more entry is behind
 pub behind_next : (text bytes rest after : List ℕ) (e : Entry) → IsBehind text bytes rest → rest ≡ spelled e ++ after → is_le (byte_cmp text e.0) ≡ false → IsBehind text bytes after
 behind_next text bytes rest after e h r low =
     record {

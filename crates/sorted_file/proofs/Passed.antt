@@ -1,4 +1,4 @@
--- What a source has passed over, and what remains of its list.
+-- The entries that a source has passed, and the remaining ones of its list.
 use Rattle.std.proofs.Common.{◌≡◌, false, List, [], ◌∷◌, ◌++◌, refl, sym, ap, subst, ◌∙◌, append_assoc}
 use Rattle.std.specs.Prelude.{Option, Some, None, is_some, IsSome}
 use Rattle.cell_key.specs.Entries.{Entry, IsEntry, IsEntryList, Takes}
@@ -13,7 +13,7 @@ none_of None e = refl
 none_of (Some e) p = cc
 
 module _ {S : Type 0} (steps : Option Contents → S → S → Type 0) (lent : S → Option Entry) where
-  -- a step over files that hold the same
+  -- a step over equal contents
   over_same : (was disk : Option Contents) (s t : S) → was ≡ disk → steps was s t → steps disk s t
   over_same was disk s t same step = subst (λ (d : Option Contents). steps d s t) same step
 
@@ -21,7 +21,7 @@ module _ {S : Type 0} (steps : Option Contents → S → S → Type 0) (lent : S
   passes_on disk passes_none step is = passes_one step is passes_none
   passes_on disk (passes_one first here more) step is = passes_one first here (passes_on disk more step is)
 
-  -- an entry more
+  -- one more entry
   pub passed_one : (was disk : Option Contents) (s t u : S) (es : List Entry) (e : Entry) → was ≡ disk → steps was t u → lent u ≡ Some e → PassesOver (steps disk) lent s es t → PassesOver (steps disk) lent s (es ++ e ∷ []) u
   passed_one was disk s t u es e same step is h = passes_on disk h (over_same was disk t u same step) is
 
@@ -32,7 +32,7 @@ module _ {S : Type 0} (steps : Option Contents → S → S → Type 0) (lent : S
   pub comes_to_end : (disk : Option Contents) (s : S) (es : List Entry) → EndsAfter (steps disk) lent es s → ComesToEnd (steps disk) lent s
   comes_to_end disk s es h = come_to disk h.passes (ends h.step h.none)
 
--- ---- what remains
+-- ---- the remaining entries
 
 pub takes_some : (o : Option Entry) (e : Entry) (old new : List Entry) → o ≡ Some e → Takes o old new → old ≡ e ∷ new
 takes_some o e old new is t = subst (λ (q : Option Entry). Takes q old new) is t
@@ -45,7 +45,7 @@ takes_none (Some e) old new is t = cc
 pub taken : (done old new all : List Entry) (e : Entry) → old ≡ e ∷ new → done ++ old ≡ all → (done ++ e ∷ []) ++ new ≡ all
 taken done old new all e is parts = append_assoc done (e ∷ []) new ∙ ap (λ (l : List Entry). done ++ l) (sym is) ∙ parts
 
--- what was taken of an entry list is one
+-- the entries taken from an entry list are an entry list
 pub taken_list : (lent : Option Entry) (all done more : List Entry) → IsEntryList (pending lent all) → done ++ more ≡ all → IsEntryList done
 taken_list lent all done more list parts =
     let rest = subst IsEntryList (sym parts) (rest_list lent all list) in

@@ -1,4 +1,4 @@
--- The entries of a file from a place on.
+-- The entries of a file from an index on.
 use Rattle.std.proofs.Common.{List, Option, Some, None}
 use Rattle.cell_key.specs.Entries.{Entry, IsEntryList}
 use Rattle.cell_key.proofs.TextPlaces.{second}

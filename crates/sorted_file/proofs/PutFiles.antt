@@ -11,7 +11,7 @@ get_own m name image =
     let own : eq_by_cmp nat_cmp name name ≡ true = (eq_by_cmp_equiv nat_cmp_total).refl name in
     get-insert nat_cmp_total m name image name ∙ ap (λ b. cond b (Some image) (get m name)) own
 
--- what holds of all files that have its bytes
+-- a property of all contents with the file holds after a put
 pub where_put : (old new : Option Contents) (name : ℕ) (image : List ℕ) (P : Contents → Type 0) → new ≡ with_file name image old → ((m : Contents) → get m name ≡ Some image → P m) → IfSome new P
 where_put old new name image P is h = subst (λ (told : Option Contents). IfSome told P) (sym is) (go old)
   where

@@ -1,4 +1,4 @@
--- What the front of some bytes can be.
+-- The possible fronts of some bytes.
 use Rattle.std.proofs.Common.{◌≡◌, ◌≢◌, ℕ, zero, ◌+◌, ◌-◌, ◌≤◌, ◌<◌, ◌^◌, Bool, true, false, ◌&&◌, T, List, [], ◌∷◌, ◌++◌, length, drop, refl, sym, ap, subst, ◌∙◌, arith, length-append, append_assoc}
 use Rattle.std.specs.Prelude.{flat_map, Option, Some, None}
 use Rattle.std.specs.List.{AllByRecursion}
@@ -20,7 +20,7 @@ use Rattle.sorted_file.proofs.EntryParts.{index_cut}
 pub entry_front : (bytes key rest x : List ℕ) (v : Option (List ℕ)) → bytes ≡ field key ++ rest → rest ≡ spelled_value v ++ x → bytes ≡ spelled (key, v) ++ x
 entry_front bytes key rest x v f r = f ∙ ap (λ (l : List ℕ). field key ++ l) r ∙ sym (append_assoc (field key) (spelled_value v) x)
 
--- behind the first field stands the value
+-- the value is behind the first field
 pub value_front : (bytes key rest x : List ℕ) (e : Entry) → length bytes < 2 ^ 32 → bytes ≡ field key ++ rest → bytes ≡ spelled e ++ x → rest ≡ spelled_value e.1 ++ x
 value_front bytes key rest x e small f s =
     let l : length bytes ≡ 4 + length key + length rest = ap length f ∙ length-append (field key) rest ∙ ap (λ (n : ℕ). n + length rest) (field_length key) in
@@ -51,7 +51,7 @@ no_entry_value bytes key rest after x kind e small f n is h s =
     let sh = short e x bytes s small in
     values e.1 after x sh.value h (ap (λ (k : ℕ). k ∷ after) (sym is) ∙ sym n ∙ value_front bytes key rest x e small f s)
 
--- ---- entries, one after the other
+-- ---- entries, one after another
 
 all_at : (done more : List Entry) (e : Entry) → AllByRecursion IsEntry (done ++ e ∷ more) → IsEntry e
 all_at [] more e h = h.0
@@ -93,7 +93,7 @@ below_less x y (e ∷ es) p h =
 rise : (l n : Entry) (after : List Entry) → byte_cmp l.0 n.0 ≡ Less → IsRising (n ∷ after) → IsRising (l ∷ n ∷ after)
 rise l n after p h = both _ _ (both _ _ (subst (λ (o : Ordering). T (is_lt o)) (sym p) tt) (below_less l.0 n.0 after p (first _ _ h))) h
 
--- ---- the place of the index
+-- ---- the offset of the index
 
 pub record IsIndexPlace (f : Format) (n : ℕ) (es : List Entry) (image : List ℕ) : Type 0 where
   pub exact : n ≡ 8 + length (flat_map spelled es)

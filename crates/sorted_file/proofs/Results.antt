@@ -1,4 +1,4 @@
--- What holds of a result goes on to what follows from it.
+-- Results: consequences of a property of a result.
 use Rattle.std.proofs.Common.{◌≡◌, refl, subst}
 use Rattle.std.specs.Prelude.{Result, Ok, Err, IfOk, OnOk, Option, Some, None, IfSome, IfNone}
 
@@ -6,7 +6,7 @@ pub if_ok : {A E : Type 0} (r : Result A E) (P Q : A → Type 0) → ((a : A) �
 if_ok (Ok a) P Q f h = f a h
 if_ok (Err e) P Q f h = h
 
--- what holds anyway
+-- a property that holds for any result
 pub always_ok : {A E : Type 0} (r : Result A E) (P : Type 0) → P → OnOk r P
 always_ok (Ok x) P p = p
 always_ok (Err e) P p = tt

@@ -1,4 +1,4 @@
--- The front of a row is read from the text of a key.
+-- The first eight bytes of a row are read from the text of a key.
 use Rattle.std.proofs.Common.{◌≡◌, ◌≢◌, ◌+◌, ◌-◌, ◌≤◌, ◌<◌, ◌==◌, cond, ℕ, zero, suc, true, false, List, [], ◌∷◌, ◌++◌, length, get_or, ◌⊎◌, inl, inr, refl, sym, ap, ◌∙◌, arith, length-append}
 use Rattle.std.proofs.Math.Dec.{eqb, leb}
 use Rattle.std.proofs.Math.ListN.{set, length-set}
@@ -27,7 +27,7 @@ plain_byte c = let e : (suc c == 0) ≡ false = grind (arith, nat_tests) in ap (
 escaped_plain : (c : ℕ) (row : List ℕ) → escaped (suc c ∷ row) ≡ suc c ∷ escaped row
 escaped_plain c row = ap (λ (t : List ℕ). t ++ escaped row) (plain_byte c)
 
--- what was read of a row is its front
+-- the bytes read of a row are its first ones
 pub row_front : (done left row rest : List ℕ) → escaped done ++ left ≡ ended (escaped row) ++ rest → (more : List ℕ) × (row ≡ done ++ more)
 row_front [] left row rest e = (row, refl)
 row_front (zero ∷ done) left [] rest e = let h = seconds 0 0 255 0 _ _ e in absurd (omega (arith, h))
@@ -43,7 +43,7 @@ row_front (suc x ∷ done) left (suc y ∷ row) rest e =
     let head = heads (suc x) (suc y) _ _ f in
     (on.0, λ i. sym head i ∷ on.1 i)
 
--- bytes of a row were read up to this place, and stand in the buffer, before zeros
+-- the row's bytes up to this place were read, and are in the buffer, before zeros
 pub record IsFrontRead (bytes left buffer : List ℕ) (at : ℕ) : Type 0 where
   pub done : List ℕ
   pub count : length done ≡ at

@@ -1,4 +1,4 @@
--- Which block of an open file can have a text.
+-- The block of an open file that can have a text.
 use Rattle.std.proofs.Common.{◌≡◌, ◌≢◌, ◌<◌, ◌≤◌, ◌+◌, ◌-◌, ℕ, zero, suc, Bool, true, false, cond, T, List, [], ◌∷◌, ◌++◌, length, map, take, drop, get_or, Option, Some, None, refl, sym, ap, subst, ◌∙◌, arith}
 use Rattle.std.specs.List.{AllByRecursion}
 use Rattle.std.specs.declared.cmp.Ordering.{Ordering}
@@ -47,7 +47,7 @@ below_text name text e p n = go (byte_cmp text e) refl
     go Equal q = up (subst (λ (t : List ℕ). byte_cmp name t ≡ Less) (sym (one_text text e q)) p)
     go Greater q = up (nat_list_cmp_total.trans name e text p (nat_list_cmp_total.antisymm e text ∙ ap ordering_reverse q))
 
--- entries before one that isn't above a text are below the text
+-- entries before one at or below a text are below the text
 data AreBelow (text : List ℕ) : List Entry → Type 0 where
   none : AreBelow text []
   some : (e : Entry) (es : List Entry) → byte_cmp text e.0 ≡ Greater → AreBelow text es → AreBelow text (e ∷ es)
@@ -76,7 +76,7 @@ two_orders : (o : Ordering) → o ≡ Less → o ≡ Greater → ⊥
 two_orders o p q = cc
 
 module _ (text : List ℕ) where
-  -- the entries of the first row are below the text, if the next row's first text isn't above it
+  -- the entries of the first row are below the text, if the next row's first text is at or below it
   row_below : (row next : BlockRow) (rows : List BlockRow) → IsNamed next → IsRising (block_of row ++ entries_in (blocks_of (next ∷ rows))) → byte_cmp text next.first.items ≢ Less → AreBelow text (block_of row)
   row_below row next rows is r n =
       let cut : block_of row ++ entries_in (blocks_of (next ∷ rows)) ≡ block_of row ++ is.entry ∷ (is.more ++ entries_in (blocks_of rows)) = ap (λ (b : List Entry). block_of row ++ (b ++ entries_in (blocks_of rows))) is.block in
@@ -93,7 +93,7 @@ module _ (text : List ℕ) where
   pub none_before : (rows : List BlockRow) → AllByRecursion IsNamed rows → IsRising (entries_in (blocks_of rows)) → (n : ℕ) → IsRowPosition text rows n → n ≡ 0 → entry_of_key (entries_in (blocks_of rows)) text ≡ None
   none_before rows is r n p z = none_above rows is r (subst (IsRowPosition text rows) z p)
 
-  -- what a file has at a text its last block has whose first text isn't above it
+  -- a file's entry at a text is in the last block whose first text is at or below it
   pub in_row : (rows : List BlockRow) → AllByRecursion IsNamed rows → IsRising (entries_in (blocks_of rows)) → (n : ℕ) → IsRowPosition text rows n → (front : List BlockRow) (row : BlockRow) → take n rows ≡ front ++ row ∷ [] → entry_of_key (entries_in (blocks_of rows)) text ≡ entry_of_key (block_of row) text
   in_row rows is r zero p [] row t = cc
   in_row rows is r zero p (x ∷ front) row t = cc
@@ -110,7 +110,7 @@ module _ (text : List ℕ) where
       find_below text (block_of x) (entries_in (blocks_of (y ∷ rows))) (row_below x y rows is.1.0 r p.1.0)
       ∙ in_row (y ∷ rows) is.1 (rising_back (block_of x) _ r) (suc n) p.1 front row rest
 
-  -- blocks before that one have no entry from the text on
+  -- blocks before that one have no entry at or above the text
   pub from_row : (rows : List BlockRow) → AllByRecursion IsNamed rows → IsRising (entries_in (blocks_of rows)) → (n : ℕ) → IsRowPosition text rows n → entries_from text (entries_in (blocks_of rows)) ≡ entries_from text (entries_in (blocks_of (drop (n - 1) rows)))
   from_row rows is r zero p = refl
   from_row rows is r (suc zero) p = refl
@@ -122,7 +122,7 @@ module _ (text : List ℕ) where
       ∙ (let one : suc n - 1 ≡ n = omega arith in ap (λ (k : ℕ). entries_from text (entries_in (blocks_of (drop k (y ∷ rows))))) one)
       ∙ (let two : suc n ≡ suc (suc n) - 1 = omega arith in ap (λ (k : ℕ). entries_from text (entries_in (blocks_of (drop k (x ∷ y ∷ rows))))) two)
 
-  -- from the text on, that block has entries, and all blocks after it
+  -- if the text is below the first row's, all entries are at or above it
   above : (rows : List BlockRow) → AllByRecursion IsNamed rows → IsRising (entries_in (blocks_of rows)) → IsRowPosition text rows 0 → entries_from text (entries_in (blocks_of rows)) ≡ entries_in (blocks_of rows)
   above [] is r p = refl
   above (row ∷ rows) is r p =
@@ -192,7 +192,7 @@ module _ (text : List ℕ) where
     at_point xs i (omega arith) (λ k d a b. p (suc k) d (omega (arith, a)) (omega (arith, b))) (λ k d a b. q (suc k) d (omega (arith, a)) (omega (arith, b))),
   )
 
--- the first texts of blocks rise
+-- the first texts of blocks are in ascending order
 below_firsts : (name : List ℕ) (rows : List BlockRow) → AllByRecursion IsNamed rows → T (below_all byte_cmp name (entries_in (blocks_of rows))) → T (below_all byte_cmp name (map first_of rows))
 below_firsts name [] is h = tt
 below_firsts name (row ∷ rows) is h =

@@ -1,4 +1,4 @@
--- Parts of bytes, by what stands before and behind them.
+-- Parts of bytes, by the bytes before and behind them.
 use Rattle.std.proofs.Common.{◌≡◌, ◌≤◌, ◌+◌, ◌-◌, ℕ, List, ◌∷◌, ◌++◌, length, take, drop, sym, ap, ◌∙◌, arith, length-append, length-take, append_assoc}
 use Rattle.std.proofs.Math.Seq.{drop-append_seam, take-append_seam}
 use Rattle.std.proofs.lemmas.List.{take-append-drop}
@@ -7,7 +7,7 @@ use Rattle.std.specs.Int.{w32, to_be_bytes}
 use Rattle.cell_key.specs.Entries.{field, spelled, spelled_value}
 use Rattle.file_store.specs.Store.{part}
 
--- what stands at the end is what is left
+-- the bytes at the end are the rest
 pub drop_end : (bytes before rest : List ℕ) → bytes ≡ before ++ rest → drop (length bytes - length rest) bytes ≡ rest
 drop_end bytes before rest e =
     let l = ap length e ∙ length-append before rest in

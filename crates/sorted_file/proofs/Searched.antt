@@ -16,7 +16,7 @@ use Rattle.sorted_file.specs.Block.{first_value}
 use Rattle.sorted_file.proofs.Joining.{both}
 use Rattle.sorted_file.proofs.Spelling.{no_more, short, spelled_length, spelled_split}
 
--- the entry at the front of the bytes of entries is their first
+-- the entry at the front of entries' bytes is the first of them
 pub record IsFront (b : Entry) (after : List ℕ) (es : List Entry) : Type 0 where
   pub more : List Entry
   pub list : es ≡ b ∷ more
@@ -31,7 +31,7 @@ front rest after b (e ∷ es) small r q =
     let same = spelled_split b e after (block_bytes es) (short b after rest r small) (short e (block_bytes es) rest q small) (sym r ∙ q) in
     record { more = es; list = ap (λ (z : Entry). z ∷ es) (sym same.0); bytes = same.1 }
 
--- bytes that go on with no entry are those of no entries
+-- if no entry is at the front of bytes, they are not the bytes of entries
 pub no_front : (rest : List ℕ) (es : List Entry) → length rest ≢ 0 → ((e : Entry) (x : List ℕ) → rest ≢ spelled e ++ x) → rest ≡ block_bytes es → ⊥
 no_front rest [] some none q = some (ap length q)
 no_front rest (e ∷ es) some none q = none e (block_bytes es) q
@@ -42,7 +42,7 @@ as_empty (x ∷ rest) es z q = absurd (omega (arith, z))
 
 -- ---- entries from a text on
 
--- what is left has all entries whose texts aren't below this one
+-- the rest has all entries at or above this text
 pub record IsPast (text rest : List ℕ) (es : List Entry) : Type 0 where
   pub more : List Entry
   pub rising : IsRising more

@@ -21,7 +21,7 @@ parted (a ∷ as₁) (b ∷ bs) x y l e =
     let rest = parted as₁ bs x y (omega (arith, l)) tails in
     (ap (λ z. z ∷ as₁) heads ∙ ap (λ l. b ∷ l) rest.0, rest.1)
 
--- two numbers at the front are one
+-- two numbers at the front of the same bytes are equal
 pub number_split : (f : Format) (m n : ℕ) (x y : List ℕ) → m < most f → n < most f → number_bytes f m ++ x ≡ number_bytes f n ++ y → (m ≡ n) × (x ≡ y)
 number_split f m n x y p q e =
     let parts = parted (number_bytes f m) (number_bytes f n) x y (same_length f m n) e in
@@ -30,7 +30,7 @@ number_split f m n x y p q e =
 pub field_length : (bytes : List ℕ) → length (field bytes) ≡ 4 + length bytes
 field_length bytes = length-append (to_be_bytes w32 (length bytes)) bytes
 
--- two fields at the front are one
+-- two fields at the front of the same bytes are equal
 pub field_split : (a b x y : List ℕ) → length a < 2 ^ 32 → length b < 2 ^ 32 → field a ++ x ≡ field b ++ y → (a ≡ b) × (x ≡ y)
 field_split a b x y p q e =
     let whole : to_be_bytes w32 (length a) ++ (a ++ x) ≡ to_be_bytes w32 (length b) ++ (b ++ y) = sym (append_assoc (to_be_bytes w32 (length a)) a x) ∙ e ∙ append_assoc (to_be_bytes w32 (length b)) b y in
@@ -51,7 +51,7 @@ value_split (Some a) (Some b) x y p q e =
     let s = field_split a b x y (omega (arith, p, field_length a)) (omega (arith, q, field_length b)) t in
     (ap Some s.0, s.1)
 
--- two entries at the front are one
+-- two entries at the front of the same bytes are equal
 pub spelled_split : (e f : Entry) (x y : List ℕ) → IsShort e → IsShort f → spelled e ++ x ≡ spelled f ++ y → (e ≡ f) × (x ≡ y)
 spelled_split e f x y p q s =
     let whole : field e.0 ++ (spelled_value e.1 ++ x) ≡ field f.0 ++ (spelled_value f.1 ++ y) = sym (append_assoc (field e.0) (spelled_value e.1) x) ∙ s ∙ append_assoc (field f.0) (spelled_value f.1) y in
@@ -76,7 +76,7 @@ pub record GoesOn (done es : List Entry) (rest : List ℕ) : Type 0 where
   pub list : es ≡ done ++ more
   pub bytes : rest ≡ flat_map spelled more
 
--- what was read is the front of each list of these bytes
+-- the entries read are the first ones of each list with these bytes
 pub goes_on : (done es : List Entry) (bytes rest : List ℕ) → length bytes < 2 ^ 32 → bytes ≡ flat_map spelled done ++ rest → bytes ≡ flat_map spelled es → GoesOn done es rest
 goes_on [] es bytes rest p s t = record { more = es; list = refl; bytes = sym s ∙ t }
 goes_on (d ∷ done) [] bytes rest p s t =
@@ -101,13 +101,13 @@ append-nil : {A : Type 0} (xs : List A) → xs ++ [] ≡ xs
 append-nil [] = refl
 append-nil (x ∷ xs) = ap (λ (l : List _). x ∷ l) (append-nil xs)
 
--- one list has these bytes
+-- no other list has these bytes
 pub one_spelling : (es fs : List Entry) → length (flat_map spelled es) < 2 ^ 32 → flat_map spelled es ≡ flat_map spelled fs → fs ≡ es
 one_spelling es fs p s =
     let on = goes_on es fs (flat_map spelled es) [] p (sym (append-nil (flat_map spelled es))) s in
     on.list ∙ ap (λ (more : List Entry). es ++ more) (no_more on.more on.bytes) ∙ append-nil es
 
--- nor another list of short entries
+-- two lists of short entries with the same bytes are equal
 pub one_short : (es fs : List Entry) → AllByRecursion IsShortEntry es → AllByRecursion IsShortEntry fs → flat_map spelled es ≡ flat_map spelled fs → es ≡ fs
 one_short es [] p q s = no_more es (sym s)
 one_short [] (f ∷ fs) p q s = sym (no_more (f ∷ fs) s)
@@ -115,7 +115,7 @@ one_short (e ∷ es) (f ∷ fs) p q s =
     let split = spelled_split e f (flat_map spelled es) (flat_map spelled fs) (short e [] (spelled e) (sym (append-nil (spelled e))) p.0) (short f [] (spelled f) (sym (append-nil (spelled f))) q.0) s in
     ap (λ (x : Entry). x ∷ es) split.0 ∙ ap (λ (l : List Entry). f ∷ l) (one_short es fs p.1 q.1 split.1)
 
--- the bytes of the blocks are those of the entries
+-- the bytes of the blocks are the bytes of the entries
 pub body-whole : (blocks : List (List Entry)) → body blocks ≡ flat_map spelled (flat_map (λ es. es) blocks)
 body-whole [] = refl
 body-whole (es ∷ blocks) = ap (λ bytes. block_bytes es ++ bytes) (body-whole blocks) ∙ sym (flat_map-append spelled es (flat_map (λ es. es) blocks))

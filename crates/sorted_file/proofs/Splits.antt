@@ -1,4 +1,4 @@
--- One list of entries has one split into blocks.
+-- A list of entries can be split into blocks in one way only.
 use Rattle.std.proofs.Common.{◌≡◌, ◌+◌, ◌≤◌, ◌<◌, List, [], ◌∷◌, ◌++◌, length, refl, sym, ap, subst, ◌∙◌, arith, length-append}
 use Rattle.std.proofs.lemmas.Grind.{flat_map-append}
 use Rattle.std.proofs.lemmas.List.Concat.{flat_map-cons}
@@ -9,7 +9,7 @@ use Rattle.sorted_file.specs.Grammar.{block_bytes, Fits, IsFullBlock, AreBlocks,
 abbrev flat : List (List Entry) → List Entry
 flat blocks = flat_map (λ es. es) blocks
 
--- the first list goes on past the second, whose rest begins with what it goes on with
+-- the first list goes beyond the second, and `q` begins with the first entry beyond it
 record GoesPast (xs ys q : List Entry) : Type 0 where
   next : Entry
   more : List Entry
@@ -51,7 +51,7 @@ sizes ys more e =
     let all : length (block_bytes (ys ++ e ∷ more)) ≡ length (block_bytes ys) + (length (spelled e) + length (block_bytes more)) = ap length split ∙ length-append (block_bytes ys) (spelled e ++ block_bytes more) ∙ ap (λ n. length (block_bytes ys) + n) (length-append (spelled e) (block_bytes more)) in
     omega (arith, all)
 
--- a block takes what fits, so none goes on past another
+-- a block takes all that fits, so no block is another and more
 too_long : (xs ys : List Entry) (blocks : List (List Entry)) → Fits xs → Fits ys → IsFullBlock ys blocks → AreBlocks blocks → GoesPast xs ys (flat blocks) → ⊥
 too_long xs ys [] f g full b past = no_entry past.next past.after past.there
   where
@@ -64,7 +64,7 @@ too_long xs ys ((e ∷ es) ∷ blocks) f g full b past =
     let large : 4096 < length (block_bytes ys) + length (spelled past.next) = subst (λ e. 4096 < length (block_bytes ys) + length (spelled e)) same full in
     omega (arith, small, large, sizes ys past.more past.next)
 
--- two splits of one list are one
+-- two splits of one list are equal
 pub one_split : (xss yss : List (List Entry)) → AreBlocks xss → AreBlocks yss → flat_map (λ es. es) xss ≡ flat_map (λ es. es) yss → xss ≡ yss
 one_split [] [] a b e = refl
 one_split [] ([] ∷ yss) a b e = absurd b.0
@@ -78,6 +78,6 @@ one_split (xs ∷ xss) (ys ∷ yss) a b e =
       | second_longer g ↦ absurd (too_long ys xs xss b.0 a.0 a.1 a.2 g)
     ]
 
--- one list has one image
+-- a list has at most one image
 pub one_image : OneImage
 one_image format entries x y p q = p.bytes ∙ ap (λ (blocks : List (List Entry)). image_of format blocks (length entries)) (one_split p.blocks q.blocks p.grammar q.grammar (p.whole ∙ sym q.whole)) ∙ sym q.bytes

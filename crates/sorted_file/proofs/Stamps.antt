@@ -23,7 +23,7 @@ use Rattle.sorted_file.specs.Index.{first_some, missing_first, skips}
 
 -- ---- the first value from a text on
 
--- the first value of entries at a text that isn't below this one
+-- the first value at or above this text
 abbrev pub IsFirstValue : List ℕ → List Entry → Option Entry → Type 0
 IsFirstValue from es None =
     (name : List ℕ) → is_le (byte_cmp from name) ≡ true → value_of (entry_of_key es name) ≡ None
@@ -68,7 +68,7 @@ module _ (from : List ℕ) where
         λ k le less. ap value_of (find_lower k (n, Some v) es r less),
       )
 
--- ---- what is missing is passed by
+-- ---- skipping blocks without a value
 
 module _ {A : Type 0} where
   counted : (xs : List (Option A)) (i d : ℕ) → i < length xs → get_or (skips xs) i d ≡ missing_first (drop i xs)
@@ -201,7 +201,7 @@ module _ (sought : CellKey) (is_row : IsRow sought.row) (is_family : IsFamily so
     abbrev key : CellKey
     key = entry.key
 
-    -- the first value is none of the column's
+    -- the first value isn't in the column
     pub stamp_other : ((s : ℕ) → e.0 ≢ text (at s)) → IsNewestStamp es sought lo None
     stamp_other other s a b stored = go (byte_cmp (text (at s)) e.0) refl
       where

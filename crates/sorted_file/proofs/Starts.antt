@@ -1,4 +1,4 @@
--- Where the entries of a block begin, and the list that bytes are read as.
+-- The offsets of a block's entries, and the list that bytes are read as.
 use Rattle.std.proofs.Common.{◌≡◌, ◌≢◌, ◌+◌, ◌-◌, ◌≤◌, ◌<◌, ◌^◌, ℕ, zero, suc, T, List, [], ◌∷◌, ◌++◌, length, drop, slice_get, Option, Some, None, refl, sym, ap, subst, ◌∙◌, arith, length-append, length-drop, append_assoc}
 use Rattle.std.specs.Prelude.{IfSome}
 use Rattle.std.proofs.lemmas.List.{append-nil, nil_from_length}
@@ -19,7 +19,7 @@ use Rattle.sorted_file.specs.declared.block.Block.{Block}
 use Rattle.sorted_file.proofs.Joining.{all_joined, both}
 use Rattle.sorted_file.proofs.Spelling.{goes_on, one_spelling, short, spelled_split}
 
--- ---- the entry that begins at a place
+-- ---- the entry at an offset
 
 pub starts_length : (at : ℕ) (es : List Entry) → length (starts_from at es) ≡ length es
 starts_length at [] = refl
@@ -37,7 +37,7 @@ drop_past (x ∷ xs) ys k =
     let same : length (x ∷ xs) + k ≡ suc (length xs + k) = omega arith in
     ap (λ (n : ℕ). drop n (x ∷ (xs ++ ys))) same ∙ drop_past xs ys k
 
--- an entry of a list, and what its bytes are followed by
+-- an entry of a list, and the bytes behind it
 pub record IsEntryAt (es : List Entry) (i from start : ℕ) : Type 0 where
   pub entry : Entry
   pub more : List ℕ
@@ -80,7 +80,7 @@ no_entry_at (d ∷ es) (suc i) from e = no_entry_at es i (from + length (spelled
 
 -- ---- bytes that are read as a list
 
--- these bytes were read as entries, and this is left
+-- these bytes were read as entries, and these are left
 pub record IsDone (bytes rest last starts : List ℕ) : Type 0 where
   pub done : List Entry
   pub list : IsEntryList done
@@ -150,7 +150,7 @@ all_at [] more e h = h.0
 all_at (d ∷ done) more e h = all_at done more e h.1
 
 module _ (bytes rest last starts : List ℕ) (d : IsDone bytes rest last starts) (small : length bytes < 2 ^ 32) (es : List Entry) (list : IsEntryList es) (are : bytes ≡ block_bytes es) where
-  -- bytes that go on with no entry that can be the next are those of no list
+  -- if the rest doesn't begin with a possible next entry, the bytes are no entry list
   pub stuck_next : length rest ≢ 0 → ((e : Entry) (x : List ℕ) → IsEntry e → byte_cmp last e.0 ≡ Less → rest ≢ spelled e ++ x) → ⊥
   stuck_next some none = let on = goes_on d.done es bytes rest small d.read are in go on.more on.list on.bytes
     where
@@ -160,12 +160,12 @@ module _ (bytes rest last starts : List ℕ) (d : IsDone bytes rest last starts)
           let is = all_at d.done more f (subst (AllByRecursion IsEntry) l list.each) in
           none f (block_bytes more) is (seam d.done f more last (some_text f is) (subst (λ (l : List Entry). IsRising l) l list.rising) d.last_is) q
 
--- a text comes after the last key where it comes after its text
+-- a text is above the last key if it is above the key's text
 pub above_some : (last : Option KeyRef) (name : List ℕ) → byte_cmp (last_text last) name ≡ Less → IfSome last (λ before. byte_cmp before.text.now name ≡ Less)
 above_some None name p = tt
 above_some (Some key) name p = p
 
--- the same, by other names of what was read
+-- the same, with equal values
 unfoldable pub done_as : (bytes rest last starts last' starts' : List ℕ) → IsDone bytes rest last starts → last ≡ last' → starts ≡ starts' → IsDone bytes rest last' starts'
 done_as bytes rest last starts last' starts' d e f = record {
   done = d.done;
@@ -175,11 +175,11 @@ done_as bytes rest last starts last' starts' d e f = record {
   last_is = subst (IsLastText d.done) e d.last_is;
 }
 
--- where nothing is left all was read
+-- if nothing is left, all was read
 pub all_read : (bytes rest last starts : List ℕ) (d : IsDone bytes rest last starts) → length rest ≡ 0 → bytes ≡ block_bytes d.done
 all_read bytes rest last starts d e = d.read ∙ ap (λ (l : List ℕ). block_bytes d.done ++ l) (nil_from_length rest e) ∙ append-nil (block_bytes d.done)
 
--- the last text of a list is that of its last entry
+-- the last text of a list is its last entry's
 pub last_at : (es : List Entry) (n : ℕ) (e : Entry) → suc n ≡ length es → slice_get es n ≡ Some e → IsLastText es e.0
 last_at [] n e is g = cc
 last_at (d ∷ []) zero e is g = let same : d ≡ e = cc in ap (λ (x : Entry). x.0) (sym same)
@@ -203,11 +203,11 @@ some_last (d ∷ es) n e is g = last_at (d ∷ es) n e (omega (arith, is)) g
 unfoldable pub nothing_read : (bytes : List ℕ) → IsDone bytes bytes [] []
 nothing_read bytes = record { done = []; list = record { rising = tt; each = tt }; read = refl; starts_are = refl; last_is = refl }
 
--- a block that is that of one list is so of each list with these bytes
+-- a parsed block has only one list with its bytes
 pub parsed_as : (es fs : List Entry) (block : Block) → IsParsed es block → block_bytes fs ≡ block_bytes es → fs ≡ es
 parsed_as es fs block p e = one_spelling es fs p.small (sym e)
 
--- what stands in a block where an entry begins
+-- the bytes of a block at an entry's offset
 pub record IsReadAt (es : List Entry) (i : ℕ) (rest : List ℕ) : Type 0 where
   pub entry : Entry
   pub more : List ℕ

@@ -178,7 +178,7 @@ start_reading o told name image all end named empty tells size framed =
       read = subst (λ (rows : List BlockRow). IsRead o.format image all (blocks_of rows) all) (sym empty) (record { bytes = refl; rows = refl });
     }
 
--- ---- what files tell
+-- ---- known contents of files
 
 pub no_file : (told : Option Contents) (name : ℕ) → ((image : List ℕ) → Tells told name image → IsNoFile image) → IfSome told (λ m. ¬ HasFile m name)
 no_file None name f = tt

@@ -9,7 +9,7 @@ use Rattle.cell_key.specs.declared.keys.Qualifier.TheVariants.{Data, Lock, Write
 use Rattle.sorted_file.specs.declared.bounds.Bounds.{Bounds}
 use Rattle.sorted_file.specs.declared.bounds.ColumnBounds.{ColumnBounds}
 
--- the number of a row's first eight bytes, a row of fewer filled up with zeros
+-- the first eight bytes of a row as a number, padded with zeros if the row is shorter
 abbrev pub front : List ℕ → ℕ
 front row = from_be_bytes w64 (get_or row 0 0 ∷ get_or row 1 0 ∷ get_or row 2 0 ∷ get_or row 3 0
     ∷ get_or row 4 0 ∷ get_or row 5 0 ∷ get_or row 6 0 ∷ get_or row 7 0 ∷ [])
@@ -32,13 +32,13 @@ AreWithin old new =
     (q : Qualifier) (row : List ℕ) (stamp : ℕ) → IsWithin (column_bounds old q) row stamp
     → IsWithin (column_bounds new q) row stamp
 
--- the row and the stamp of an entry's key are within them, if the entry is a value
+-- the row and the stamp of an entry's key are within the bounds, if the entry is a value
 abbrev pub IsBounded : ColumnBounds → Entry → Type 0
 IsBounded bounds entry =
     (key : CellKey) → IsStored key → entry.0 ≡ text key → IsSome entry.1
     → IsWithin (column_bounds bounds key.qualifier) key.row key.stamp
 
--- entries have no value of a column of this kind at these stamps: erasures they may have
+-- entries have no value in columns of this kind at these stamps; they may have erasures
 abbrev pub HasNoValue : Qualifier → ℕ → ℕ → List Entry → Type 0
 HasNoValue qualifier lo hi es =
     (key : CellKey) → IsStored key → key.qualifier ≡ qualifier → lo ≤ key.stamp → key.stamp ≤ hi

@@ -1,4 +1,4 @@
--- A file that is built in memory.
+-- A file built in memory.
 use Rattle.std.specs.Prelude.{◌≡◌, ◌≢◌, ◌⊎◌, ◌+◌, ◌<◌, ◌≤◌, ◌^◌, List, ℕ, [], ◌∷◌, ◌++◌, length, Option, Some, None}
 use Rattle.cell_key.specs.Keys.{text, IsStored}
 use Rattle.cell_key.specs.Texts.{place_text}
@@ -14,13 +14,12 @@ use Rattle.sorted_file.specs.declared.builder.FileBuilder.{FileBuilder}
 use Rattle.sorted_file.specs.declared.builder.LastKey.{LastKey}
 use Rattle.sorted_file.specs.declared.format.Format.TheVariants.{Two}
 
--- the entries of a file so far: those of the blocks that are closed, and of the open one
+-- the entries of a file so far: of the closed blocks and the open one
 abbrev pub built : FileBuilder → List Entry
 built b = entries_in (blocks_of b.opening.rows.items) ++ entries_of b.current.block
 
--- A file so far has its head and the blocks that are closed, keeps of these what an open file keeps,
--- and has an open block behind them: all its entries rise, and without an index and a foot it keeps to
--- its limit.
+-- A file under construction has its head and the closed blocks, an open file's state of them, and an open block behind
+-- them. Its entries are in ascending order, and without index and foot it is within its limit.
 pub record IsSound (b : FileBuilder) : Type 0 where
   pub opening : IsOpening b.opening
   pub format : b.opening.format ≡ Two
@@ -30,8 +29,7 @@ pub record IsSound (b : FileBuilder) : Type 0 where
   pub rising : IsRising (built b)
   pub within : b.opening.end + length b.current.block.bytes.items ≤ b.opening.size
 
--- this is the last key of entries with these bytes: where its text stands, and what that says behind
--- its row and family
+-- the last key of entries with these bytes: the extent of its text, and the rest of the key behind row and family
 pub record IsLastKey (es : List Entry) (bytes : List ℕ) (last : LastKey) : Type 0 where
   pub some : es ≢ []
   pub named : IsLastText es (bytes_at bytes last.text)
@@ -42,12 +40,12 @@ pub record IsLastKey (es : List Entry) (bytes : List ℕ) (last : LastKey) : Typ
   pub qualifier : last.qualifier ≡ key.qualifier
   pub stamp : last.stamp ≡ key.stamp
 
--- the same, if there is one
+-- the same, if there is a last entry
 abbrev pub KeepsLast : List Entry → List ℕ → Option LastKey → Type 0
 KeepsLast es bytes None = es ≡ []
 KeepsLast es bytes (Some last) = IsLastKey es bytes last
 
--- the open block can be the next one, if it has entries, and its last key is kept
+-- the open block, if not empty, can be the next one, and its last key is kept
 pub record IsReady (b : FileBuilder) : Type 0 where
   pub sound : IsSound b
   pub fits : (entries_of b.current.block ≡ []) ⊎ Fits (entries_of b.current.block)
@@ -59,7 +57,7 @@ pub record HasRoom (b : FileBuilder) (e : Entry) : Type 0 where
   pub fits : Fits (entries_of b.current.block ++ e ∷ [])
   pub followed : IsFollowed (blocks_of b.opening.rows.items) (entries_of b.current.block ++ e ∷ [])
 
--- the bytes of a row of the index, and the length of its text fits its four bytes
+-- the bytes of a row of the index
 abbrev pub row_spelled : BlockRow → List ℕ
 row_spelled row =
     number_bytes Two row.offset ++ (number_bytes Two row.length ++ field row.first.items)

@@ -12,7 +12,7 @@ use Rattle.sorted_file.specs.declared.format.RowRef.{RowRef}
 use Rattle.sorted_file.specs.declared.format.Format.{Format}
 use Rattle.sorted_file.specs.declared.check.Opening.{Opening}
 
--- The head of a format is there, these are the foot and the index whose offset it has.
+-- The image begins with the format's head; `end` is its foot, and `rows` the index at the offset in the foot.
 pub record IsFramed (format : Format) (image rows end : List ℕ) : Type 0 where
   pub at : ℕ
   pub numbers : List ℕ
@@ -23,20 +23,20 @@ pub record IsFramed (format : Format) (image rows end : List ℕ) : Type 0 where
   pub to : at + foot_len format ≤ length image
   pub behind : rows ≡ part image at (length image - foot_len format - at)
 
--- these blocks were read from an image, and their rows from its index, of which this is left
+-- these blocks were read from an image, and their rows from its index, of which `rest` is left
 pub record IsRead
     (format : Format) (image all : List ℕ) (blocks : List (List Entry)) (rest : List ℕ)
     : Type 0 where
   pub bytes : drop 8 image ≡ body blocks ++ drop (8 + length (body blocks)) image
   pub rows : all ≡ index format 8 blocks ++ rest
 
--- a block can follow the last of these: with its first entry that one would have too many bytes
+-- a block can follow the last of these: with the next block's first entry the last one would be too long
 abbrev pub IsFollowed : List (List Entry) → List Entry → Type 0
 IsFollowed [] next = Unit {0}
 IsFollowed (es ∷ []) next = IsFullBlock es (next ∷ [])
 IsFollowed (es ∷ fs ∷ blocks) next = IsFollowed (fs ∷ blocks) next
 
--- an opening has blocks so far, and keeps of them what an open file keeps, and the last text
+-- an opening has an open file's state of the blocks so far, and the text of the last entry
 pub record IsOpening (o : Opening) : Type 0 where
   pub rows_are : AreRows 8 o.rows.items
   pub grammar : AreBlocks (blocks_of o.rows.items)
@@ -50,7 +50,7 @@ pub record IsOpening (o : Opening) : Type 0 where
   pub within : o.end ≤ o.size
   pub small : o.size < most o.format
 
--- what was read is the beginning of this image, of whose index this is left
+-- the blocks so far are the first ones of this image, of whose index `rest` is left
 pub record IsReading
     (disk : Option Contents) (o : Opening) (image all end rest : List ℕ) : Type 0 where
   pub tells : Tells disk o.name image
@@ -58,7 +58,7 @@ pub record IsReading
   pub framed : IsFramed o.format image all end
   pub read : IsRead o.format image all (blocks_of o.rows.items) rest
 
--- a block can be the next one, and this row names it
+-- a block can come next, and this row matches it
 pub record IsNext (o : Opening) (row : RowRef) (block : List Entry) : Type 0 where
   pub offset : row.offset ≡ o.end
   pub first : IsFirstText row.first.now block
@@ -70,7 +70,7 @@ pub record IsFormed (o : Opening) (image : List ℕ) : Type 0 where
   pub form : IsFile o.format (entries_in (blocks_of o.rows.items)) image
   pub blocks : form.blocks ≡ blocks_of o.rows.items
 
--- under this name there is the file of the blocks that were read
+-- under this name there is the file of these blocks
 pub record IsWhole (m : Contents) (name : ℕ) (o : Opening) : Type 0 where
   pub image : List ℕ
   pub there : map.get m name ≡ Some image

@@ -1,4 +1,4 @@
--- What an open file stands for, and the blocks that it caches.
+-- Open files: their entries, and the blocks that they cache.
 use Rattle.std.specs.Prelude.{◌≡◌, ℕ, nat_eq, List, Some, None, slice_get, Contains, ◌⊎◌, ◌+◌, ◌-◌, ◌≤◌, [], drop, length, map, Option, IfSome, option_map}
 use Rattle.std.specs.Map.{lookup}
 use Rattle.std.specs.FinMap as map
@@ -26,7 +26,7 @@ use Rattle.sorted_file.specs.declared.file.SortedFile.{SortedFile}
 abbrev pub name_of : SortedFile → ℕ
 name_of file = file.name
 
--- under this name there is the file of an entry list, in either format
+-- under this name there is an entry list's file, in either format
 pub record HasFile (m : Contents) (name : ℕ) : Type 0 where
   pub format : Format
   pub entries : List Entry
@@ -39,15 +39,15 @@ pub record HasFile (m : Contents) (name : ℕ) : Type 0 where
 abbrev pub listing : SortedFile → List Entry
 listing file = entries_in (blocks_of file.rows.items)
 
--- the entries that an open file stands for over these files
+-- the entries of an open file over these contents
 abbrev pub listed : Contents → SortedFile → List Entry
 listed m file = listing file
 
--- what a file keeps of locks is so of its entries
+-- the keys of locks that a file keeps are right for its entries
 abbrev pub IsTelling : SortedFile → Type 0
 IsTelling file = KeepsLocks file.lock_values.items file.named_locks.items (listing file)
 
--- each block that is cached is that of the row of its number
+-- each cached block is the block of the row with its number
 abbrev pub AreCached : List BlockRow → List (ℕ × Block) → Type 0
 AreCached rows cached =
     (e : ℕ × Block) → Contains cached e → (row : BlockRow) → slice_get rows e.0 ≡ Some row
@@ -57,8 +57,8 @@ AreCached rows cached =
 abbrev pub IsUncached : ℕ → List (ℕ × Block) → Type 0
 IsUncached number cached = lookup (nat_eq number) cached ≡ None
 
--- the file of its name is there and is that of an entry list, the one that it stands for,
--- its rows name the blocks of that file, and what it keeps of them is so
+-- The file of its name is there: it is the file of the entry list that the open file stands for, the rows name its
+-- blocks, and all that the open file keeps of them is right.
 pub record IsOpen (m : Contents) (file : SortedFile) : Type 0 where
   pub list : IsEntryList (listed m file)
   pub bounds : AllByRecursion (IsBounded file.bounds) (listed m file)
@@ -77,44 +77,43 @@ pub record IsOpen (m : Contents) (file : SortedFile) : Type 0 where
   pub blocks : form.blocks ≡ blocks_of file.rows.items
   pub cached : AreCached file.rows.items file.cache.entries
 
--- The block of a row was read from these bytes: at the row's offset they have, in its whole length,
--- those of an entry list that begins with the row's text.
+-- The block of a row was read from these bytes: at the row's offset and in its whole length they are an entry list that
+-- begins with the row's text.
 pub record IsReadFrom (image : List ℕ) (row : BlockRow) (es : List Entry) : Type 0 where
   pub list : IsEntryList es
   pub first : BeginsWith row.first.items es
   pub whole : length (part image row.offset row.length) ≡ row.length
   pub bytes : part image row.offset row.length ≡ block_bytes es
 
--- a block was read from what stands under a name now
+-- a block was read from the present bytes under a name
 pub record IsReadNow
     (disk : Option Contents) (name : ℕ) (row : BlockRow) (block : Block) : Type 0 where
   pub entries : List Entry
   pub parsed : IsParsed entries block
   pub read : (image : List ℕ) → Tells disk name image → IsReadFrom image row entries
 
--- An open file is what it was but for its cache: it has its name, and over any files it stands for
--- the same entries. If it was open over these files, it still is.
+-- An open file is unchanged but for its cache: it has the same name and, over any contents, the same entries. If it was
+-- open over these contents, it still is.
 pub record IsSameFile (disk : Option Contents) (old new : SortedFile) : Type 0 where
   pub rest : (cache : LruCache ℕ Block) → record new { cache = cache } ≡ record old { cache = cache }
   pub name : name_of new ≡ name_of old
   pub lists : (m : Contents) → listed m new ≡ listed m old
   pub still : IfSome disk (λ m. IsOpen m old → IsOpen m new)
 
--- the block of a number was read from what stands under a file's name now
+-- the block of a number was read from the present bytes under a file's name
 pub record WasRead (disk : Option Contents) (file : SortedFile) (e : ℕ × Block) : Type 0 where
   pub row : BlockRow
   pub named : slice_get file.rows.items e.0 ≡ Some row
   pub read : IsReadNow disk (name_of file) row e.1
 
--- each block that a file caches was cached before, or was read from what stands under its name now
+-- each block in a file's cache was cached before, or was read from the present bytes under its name
 abbrev pub KeepsWhatItRead : Option Contents → SortedFile → SortedFile → Type 0
 KeepsWhatItRead disk old new =
     (e : ℕ × Block) → Contains new.cache.entries e
     → Contains old.cache.entries e ⊎ WasRead disk old e
 
--- What was found at a text in a block that wasn't cached is what stands under the name of an open
--- file now: whatever that is, it has an entry list at the row's offset, and the entry of that list at
--- the text is this one.
+-- An entry found in a block that wasn't cached is in the present bytes under the file's name: they have an entry list
+-- at the row's offset, and this is the list's entry at the text.
 abbrev pub IsFoundNow : Option Contents → SortedFile → List ℕ → Option (Option (List ℕ)) → Type 0
 IsFoundNow disk file name found =
     (m : Contents) → IsOpen m file → (number : ℕ) (row : BlockRow) (image : List ℕ)
@@ -122,34 +121,33 @@ IsFoundNow disk file name found =
     → IsUncached number file.cache.entries → Tells disk (name_of file) image
     → (es : List Entry) × IsReadFrom image row es × (found ≡ entry_of_key es name)
 
--- The block of a number, if it wasn't cached, is what stands under the name of the file now: whatever
--- that is, it has an entry list at the row's offset.
+-- The block of a number, if it wasn't cached, is in the present bytes under the file's name: they have an entry list at
+-- the row's offset.
 abbrev pub HasBlockNow : Option Contents → SortedFile → ℕ → Type 0
 HasBlockNow disk file number =
     (row : BlockRow) (image : List ℕ) → slice_get file.rows.items number ≡ Some row
     → IsUncached number file.cache.entries → Tells disk (name_of file) image
     → (es : List Entry) × IsReadFrom image row es
 
--- by what an open file keeps, the column with this number may have an entry
+-- by its hashes, an open file may have an entry in the column with this hash
 abbrev pub MayHaveIn : SortedFile → ℕ → Type 0
 MayHaveIn file number = Contains file.numbers number
 
--- By what an open file knows without a read, the block of a row may have a value of the key's column
--- at this stamp.
+-- By its hashes and bounds, without a read, the block of a row may have a value in the key's column at this stamp.
 pub record MayHaveAt (file : SortedFile) (row : BlockRow) (key : CellKey) (stamp : ℕ) : Type 0 where
   pub in_column : MayHaveIn file (number_of (text key))
   pub in_file : IsWithin (column_bounds file.bounds key.qualifier) key.row stamp
   pub in_block : IsWithin (column_bounds row.bounds key.qualifier) key.row stamp
 
--- The block of a key, if it may have a value of the key's column from lo up to its stamp, was read from
--- what stands under the name of an open file now.
+-- The block of a key, if it may have a value in the key's column from lo to the key's stamp, was read from the present
+-- bytes under an open file's name.
 abbrev pub IsSearchedNow : Option Contents → SortedFile → CellKey → ℕ → Type 0
 IsSearchedNow disk file key lo =
     (m : Contents) → IsOpen m file → (number : ℕ) (row : BlockRow) (stamp : ℕ)
     → IsRowPosition (text key) file.rows.items (number + 1) → slice_get file.rows.items number ≡ Some row
     → lo ≤ stamp → stamp ≤ key.stamp → MayHaveAt file row key stamp → HasBlockNow disk file number
 
--- the bytes of a value that was found, or of an erasure none
+-- the bytes of a value; none for an erasure
 abbrev pub value_bytes : {Z : Type 0} → Option (Vec ℕ Z) → Option (List ℕ)
 value_bytes value = option_map (λ bytes. bytes.items) value
 
@@ -157,39 +155,39 @@ value_bytes value = option_map (λ bytes. bytes.items) value
 abbrev pub IsShortValue : {Z : Type 0} → Option (Vec ℕ Z) → Type 0
 IsShortValue value = IfSome value (λ bytes. length bytes.items ≤ 65536)
 
--- An open file stays open, and stands for the same entries, while the bytes under its name stay.
+-- An open file stays open and has the same entries, as long as the bytes under its name don't change.
 abbrev pub StaysOpen : Type 0
 StaysOpen =
     (m n : Contents) (file : SortedFile) → IsOpen m file
     → map.get n (name_of file) ≡ map.get m (name_of file)
     → IsOpen n file × (listed n file ≡ listed m file)
 
--- what is open under one name stands for one list of entries
+-- two open files with one name have the same entries
 abbrev pub OneListing : Type 0
 OneListing =
     (m : Contents) (f g : SortedFile) → IsOpen m f → IsOpen m g → name_of f ≡ name_of g
     → listed m f ≡ listed m g
 
--- what is open is there
+-- under the name of an open file there is an entry list's file
 abbrev pub OpenIsThere : Type 0
 OpenIsThere = (m : Contents) (file : SortedFile) → IsOpen m file → HasFile m (name_of file)
 
--- a file of an entry list that is there can be opened
+-- under the name of a written file there is an entry list's file
 abbrev pub WrittenIsThere : Type 0
 WrittenIsThere =
     (m : Contents) (name : ℕ) (format : Format) (entries : List Entry) (image : List ℕ)
     → IsEntryList entries → IsFile format entries image → map.get m name ≡ Some image
     → HasFile m name
 
--- what is opened of it stands for those entries
+-- a file that is open under the name of a written file has its entries
 abbrev pub WrittenIsListed : Type 0
 WrittenIsListed =
     (m : Contents) (file : SortedFile) (format : Format) (entries : List Entry) (image : List ℕ)
     → IsOpen m file → IsFile format entries image → map.get m (name_of file) ≡ Some image
     → listed m file ≡ entries
 
--- A cursor is one of a file, from a text on: it has come to nothing yet, and has the rows of the file
--- from the one on whose block may have the text.
+-- A cursor of a file before the first entry at or above a text: it has read nothing, and its rows are the file's from
+-- the block on that may have the text.
 pub record IsCursorOf (file : SortedFile) (text : List ℕ) (cursor : FileCursor) : Type 0 where
   pub name : cursor.name ≡ name_of file
   pub from : cursor.from.now ≡ text

@@ -6,13 +6,13 @@ use Rattle.cell_key.specs.Entries.{Entry, spelled, field, IsEntryList}
 use Rattle.sorted_file.specs.declared.format.Format.{Format}
 use Rattle.sorted_file.specs.declared.format.Format.TheVariants.{One, Two}
 
--- ---- what differs between the formats
+-- ---- the differences between the formats
 
 abbrev pub head : Format → List ℕ
 head One = codes "TABLET01"
 head Two = codes "TABLET02"
 
--- a number of an index or of a foot: how many bytes it has, which they are, and what it is below
+-- a number of an index or foot: its length, its bytes, and the bound that it is below
 abbrev pub number_len : Format → ℕ
 number_len One = 4
 number_len Two = 8
@@ -25,12 +25,12 @@ abbrev pub most : Format → ℕ
 most One = 2 ^ 32
 most Two = 2 ^ 64
 
--- how many bytes a foot has
+-- the length of a foot in bytes
 abbrev pub foot_len : Format → ℕ
 foot_len One = 24
 foot_len Two = 40
 
--- ---- what is common to both
+-- ---- common to both formats
 
 -- the bytes of a block: its entries, one after the other
 abbrev pub block_bytes : List Entry → List ℕ
@@ -42,7 +42,7 @@ Fits [] = ⊥
 Fits (e ∷ []) = Unit {0}
 Fits (e ∷ f ∷ es) = length (block_bytes (e ∷ f ∷ es)) ≤ 4096
 
--- with the first entry of the next block it would have more
+-- with the first entry of the next block it would be longer
 abbrev pub IsFullBlock : List Entry → List (List Entry) → Type 0
 IsFullBlock es [] = Unit {0}
 IsFullBlock es ([] ∷ blocks) = ⊥
@@ -53,14 +53,14 @@ abbrev pub AreBlocks : List (List Entry) → Type 0
 AreBlocks [] = Unit {0}
 AreBlocks (es ∷ blocks) = Fits es × IsFullBlock es blocks × AreBlocks blocks
 
--- the row of a block that begins at this offset: the offset, the block's length and its first key
+-- the row of a block at this offset: the offset, the block's length and its first key
 abbrev pub row : Format → ℕ → List Entry → List ℕ
 row format at [] = []
 row format at (e ∷ es) =
     number_bytes format at
     ++ (number_bytes format (length (block_bytes (e ∷ es))) ++ field e.0)
 
--- a row for each block, the first of which begins at this offset
+-- a row for each block; the first block is at this offset
 abbrev pub index : Format → ℕ → List (List Entry) → List ℕ
 index format at [] = []
 index format at (es ∷ blocks) =
@@ -69,7 +69,7 @@ index format at (es ∷ blocks) =
 abbrev pub body : List (List Entry) → List ℕ
 body blocks = flat_map block_bytes blocks
 
--- where the index begins, how many blocks and entries there are, and how long the file is
+-- the offset of the index, the numbers of blocks and entries, and the file's size
 abbrev pub foot : Format → ℕ → ℕ → ℕ → ℕ → List ℕ
 foot format index_at blocks entries size =
     number_bytes format index_at ++ (number_bytes format blocks
@@ -82,11 +82,11 @@ image_of format blocks entries =
     head format ++ (body blocks ++ (rows ++ foot format (8 + length (body blocks))
     (length blocks) entries (8 + foot_len format + length (body blocks) + length rows)))
 
--- the lengths of an entry fit their four bytes
+-- the length of an entry fits into four bytes
 abbrev pub IsShortEntry : Entry → Type 0
 IsShortEntry e = length (spelled e) < 2 ^ 32
 
--- the bytes are the file of these entries, in this format
+-- the bytes are these entries' file, in this format
 pub record IsFile (format : Format) (entries : List Entry) (image : List ℕ) : Type 0 where
   pub blocks : List (List Entry)
   pub grammar : AreBlocks blocks
@@ -95,24 +95,24 @@ pub record IsFile (format : Format) (entries : List Entry) (image : List ℕ) : 
   pub bytes : image ≡ image_of format blocks (length entries)
   pub small : length image < most format
 
--- one list of entries has one image a format
+-- a list of entries has at most one image in each format
 abbrev pub OneImage : Type 0
 OneImage =
     (format : Format) (entries : List Entry) (x y : List ℕ) → IsFile format entries x
     → IsFile format entries y → x ≡ y
 
--- an image is that of one list of entries, in one format
+-- an image is the image of one list of entries only, in one format only
 abbrev pub OneList : Type 0
 OneList =
     (f g : Format) (es fs : List Entry) (image : List ℕ) → IsFile f es image → IsFile g fs image
     → (f ≡ g) × (es ≡ fs)
 
--- a file of these entries that is written now has at most this many bytes
+-- the file of these entries in format 2 has at most this many bytes
 pub record FitsIn (limit : ℕ) (entries : List Entry) : Type 0 where
   pub image : List ℕ
   pub form : IsFile Two entries image
   pub within : length image ≤ limit
 
--- the bytes are the file of no entry list, in neither format
+-- the bytes are no entry list's file in any format
 abbrev pub IsNoFile : List ℕ → Type 0
 IsNoFile image = (format : Format) (es : List Entry) → IsEntryList es → ¬ IsFile format es image

@@ -35,22 +35,22 @@ abbrev pub IsFirstText : List ℕ → List Entry → Type 0
 IsFirstText name [] = Unit {0}
 IsFirstText name (e ∷ es) = name ≡ e.0
 
--- a row names the block that begins at this offset
+-- a row is right for its block, at this offset
 pub record IsRowAt (at : ℕ) (row : BlockRow) : Type 0 where
   pub offset : row.offset ≡ at
   pub length : row.length ≡ length (block_bytes (block_of row))
   pub first : IsFirstText row.first.items (block_of row)
 
--- each row names the block behind those of the rows before it, the first of which begins here
+-- the rows are right for their blocks, one behind another, the first of which is at this offset
 abbrev pub AreRows : ℕ → List BlockRow → Type 0
 AreRows at [] = Unit {0}
 AreRows at (row ∷ rows) = IsRowAt at row × AreRows (at + length (block_bytes (block_of row))) rows
 
--- the stamps that a row keeps are those of the values of its block
+-- the bounds of a row contain the values of its block
 abbrev pub IsBoundedRow : BlockRow → Type 0
 IsBoundedRow row = AllByRecursion (IsBounded row.bounds) (block_of row)
 
--- the first texts of the rows before this position aren't above a text, and that of the next is
+-- the number of rows with a first text at or below this text (the upper bound)
 abbrev pub IsRowPosition : List ℕ → List BlockRow → ℕ → Type 0
 IsRowPosition text [] zero = ⊤
 IsRowPosition text [] (suc i) = ⊥
@@ -58,7 +58,7 @@ IsRowPosition text (row ∷ rows) zero = byte_cmp text row.first.items ≡ Less
 IsRowPosition text (row ∷ rows) (suc i) =
     (byte_cmp text row.first.items ≢ Less) × IsRowPosition text rows i
 
--- the first texts rise
+-- a row's first text as an entry, so that IsRising says that first texts are in ascending order
 abbrev pub first_of : BlockRow → Entry
 first_of row = (row.first.items, None)
 
@@ -66,17 +66,17 @@ first_of row = (row.first.items, None)
 abbrev pub row_head : BlockRow → Option (List ℕ)
 row_head row = option_map (λ e. e.0) (first_value (block_of row))
 
--- the bytes of texts, as many as are there
+-- the bytes of the texts that are present
 abbrev pub texts_of : List (Option (Vec ℕ)) → List (Option (List ℕ))
 texts_of texts = map (option_map (λ text. text.items)) texts
 
--- the first of these that is there
+-- the first one that is present
 abbrev pub first_some : {A : Type 0} → List (Option A) → Option A
 first_some [] = None
 first_some (None ∷ xs) = first_some xs
 first_some (Some x ∷ xs) = Some x
 
--- how many are missing before the first that is there, and of each how many from it on
+-- how many are missing before the first that is present, and for each element how many from it on
 abbrev pub missing_first : {A : Type 0} → List (Option A) → ℕ
 missing_first [] = 0
 missing_first (None ∷ xs) = missing_first xs + 1
@@ -86,7 +86,7 @@ abbrev pub skips : {A : Type 0} → List (Option A) → List ℕ
 skips [] = []
 skips (x ∷ xs) = missing_first (x ∷ xs) ∷ skips xs
 
--- the files have these bytes under a name, and say so
+-- the contents are known and have these bytes under a name
 abbrev pub Tells : Option Contents → ℕ → List ℕ → Type 0
 Tells disk name image = IsSomeAnd disk (λ m. map.get m name ≡ Some image)
 

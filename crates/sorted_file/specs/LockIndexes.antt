@@ -1,4 +1,4 @@
--- The locks that may have a value in several files together.
+-- The locks that may have a value in any of several files.
 use Rattle.std.specs.Prelude.{◌≡◌, ℕ, List, Option, Contains, IsSome, map}
 use Rattle.std.specs.List.{AllByRecursion, AllZip}
 use Rattle.cell_key.specs.Keys.{text, IsStored}
@@ -12,22 +12,22 @@ use Rattle.sorted_file.specs.Numbers.{lock_stamp, number_of, text_number}
 use Rattle.sorted_file.specs.declared.file.SortedFile.{SortedFile}
 use Rattle.sorted_file.specs.declared.lock_stamps.LockStamp.{LockStamp}
 
--- the stamp of a lock with this key, by its column's number
+-- the stamp of a lock with this key, with the hash of its column
 abbrev pub stamp_of : CellKey → LockStamp
 stamp_of key = lock_stamp (number_of (text key)) key.stamp
 
--- the words of a filter have the number of a key's row
+-- a filter has the hash of a key's row
 abbrev pub HasRow : List ℕ → CellKey → Type 0
 HasRow words key = HasBits words (text_number key.row)
 
--- Keys are an index of the locks of files, the newest first, if each of these keeps of its locks what an
--- open file keeps: each lock that has a value in all of them together is among the keys.
+-- Keys are an index of the locks of files, newest first: if the lock keys that each file keeps are right, each lock
+-- that has a value in all files together is among the keys.
 abbrev pub IsIndexOf : List CellKey → List SortedFile → Type 0
 IsIndexOf index files =
     AllByRecursion IsTelling files → (key : CellKey) → IsStored key → key.qualifier ≡ Lock
     → IsSome (value_of (first_naming (map listing files) (text key))) → Contains index key
 
--- an index of files that are what they were but for their caches is still one
+-- an index of files that are unchanged but for their caches is still their index
 abbrev pub StaysIndexed : Type 0
 StaysIndexed =
     (disk : Option Contents) (index : List CellKey) (old new : List SortedFile)

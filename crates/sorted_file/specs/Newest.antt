@@ -14,18 +14,17 @@ at_stamp key stamp = version key.row key.family key.qualifier stamp
 abbrev pub HasNoneAt : List Entry → CellKey → Type 0
 HasNoneAt es key = IsStored key → value_of (entry_of_key es (text key)) ≡ None
 
--- a stamp that comes after one that was found, or from the least one on if none was
+-- a stamp above the one found, or at or above lo if none was found
 abbrev pub IsAfterStamp : ℕ → ℕ → Option ℕ → Type 0
 IsAfterStamp s lo None = lo ≤ s
 IsAfterStamp s lo (Some found) = found < s
 
--- at no stamp after the one found, up to that of the key, have entries a value of the key's column
+-- above the stamp found and up to the key's, entries have no value in the key's column
 abbrev pub HasNoneAfter : List Entry → CellKey → ℕ → Option ℕ → Type 0
 HasNoneAfter es key lo found =
     (s : ℕ) → IsAfterStamp s lo found → s ≤ key.stamp → HasNoneAt es (at_stamp key s)
 
--- found is the greatest stamp, from lo up to that of the key, at which entries have a value of the
--- key's column
+-- found is the greatest stamp, from lo to the key's, at which entries have a value in the key's column
 abbrev pub IsNewestStamp : List Entry → CellKey → ℕ → Option ℕ → Type 0
 IsNewestStamp es key lo None = (s : ℕ) → lo ≤ s → s ≤ key.stamp → HasNoneAt es (at_stamp key s)
 IsNewestStamp es key lo (Some found) =
@@ -33,8 +32,8 @@ IsNewestStamp es key lo (Some found) =
     × IsSome (value_of (entry_of_key es (text (at_stamp key found))))
     × ((s : ℕ) → found < s → s ≤ key.stamp → HasNoneAt es (at_stamp key s))
 
--- A part of entries has what they have of a column from the one stamp to the other, and this is the
--- text of its first value at a text that isn't below the key's.
+-- found is the text of the first value at or above the key's text in some part of the entries, and this part has the
+-- same newest stamp of the key's column from lo to the key's stamp
 pub record IsFirstIn (es : List Entry) (key : CellKey) (lo : ℕ) (found : Option (List ℕ))
     : Type 0 where
   pub part : List Entry

@@ -1,4 +1,4 @@
--- The numbers of the columns of which there are entries.
+-- The hashes of the columns of entries.
 use Rattle.std.specs.Prelude.{◌≡◌, ◌-◌, ℕ, List, length, take, Contains, IsSome}
 use Rattle.std.specs.Hash.FoldHasher as folding
 use Rattle.std.specs.List.{AllByRecursion}
@@ -12,23 +12,23 @@ use Rattle.sorted_file.specs.declared.lock_stamps.LockStamp.{LockStamp}
 abbrev pub column_of : List ℕ → List ℕ
 column_of name = take (length name - 8) name
 
--- the number of a text
+-- the hash of a text
 abbrev pub text_number : List ℕ → ℕ
 text_number name = folding.finish (folding.write folding.initial name)
 
--- the number of the column of a key with this text: keys of one column have one number
+-- the hash of the column of a key with this text: keys of one column have the same hash
 abbrev pub number_of : List ℕ → ℕ
 number_of name = text_number (column_of name)
 
--- the number of an entry's column is among these
+-- the hash of an entry's column is among these
 abbrev pub IsNumbered : List ℕ → Entry → Type 0
 IsNumbered numbers entry = Contains numbers (number_of entry.0)
 
--- a stamp of a lock's column with this number
+-- a stamp of a lock whose column has this hash
 abbrev pub lock_stamp : ℕ → ℕ → LockStamp
 lock_stamp column stamp = record { column = column; stamp = stamp }
 
--- if the entry is a lock's, a value or an erasure, the number of its text is among these
+-- if the entry is a lock's, a value or an erasure, the hash of its text is among these
 abbrev pub IsLockKeyNumbered : List ℕ → Entry → Type 0
 IsLockKeyNumbered numbers entry =
     (key : CellKey) → IsStored key → entry.0 ≡ text key → key.qualifier ≡ Lock
@@ -40,11 +40,11 @@ IsLockKept locks entry =
     (key : CellKey) → IsStored key → entry.0 ≡ text key → key.qualifier ≡ Lock → IsSome entry.1
     → Contains locks key
 
--- entries name each of these keys, by a value or an erasure
+-- entries have a value or an erasure of each of these keys
 abbrev pub AreNamed : List CellKey → List Entry → Type 0
 AreNamed keys es = (key : CellKey) → Contains keys key → IsSome (entry_of_key es (text key))
 
--- the first keys are those of all locks that have a value among entries, and the second are named by the entries
+-- `locks` has the keys of all locks that have a value in these entries; entries have each key of `names`
 pub record KeepsLocks (locks names : List CellKey) (es : List Entry) : Type 0 where
   pub values : AllByRecursion (IsLockKept locks) es
   pub named : AreNamed names es

@@ -1,7 +1,7 @@
-//! Blocks in memory: their bytes, and what is found there.
+//! Blocks in memory: their bytes, and look-ups in them.
 
 ghost use Rattle.std.specs.Option.{option_copied};
-ghost use Rattle.std.specs.Prelude.{◌≡◌, ◌↔◌, IsTrue, ◌≢◌, ◌<◌, ◌+◌, ◌^◌, List, length, IfOk, IfErr, IfSome, IfNone, true, false, drop, slice_get, option_map, IsSomeAnd, ◌≤◌, ◌⊎◌, IsErrOf, map, ◌++◌, ◌∷◌, [], ℕ};
+ghost use Rattle.std.specs.Prelude.{◌≡◌, ◌↔◌, IsTrue, ◌≢◌, ◌<◌, ◌+◌, ◌^◌, List, length, IfOk, IfErr, IfSome, IfNone, true, false, drop, slice_get, option_map, IsSomeAnd, ◌≤◌, ◌⊎◌, IsErrOf, map, ◌++◌, ◌∷◌, [], ℕ, IsOkUnless};
 ghost use Rattle.std.specs.declared.cmp.Ordering.TheVariants.{Less, Greater};
 ghost use Rattle.cell_key.specs.Entries.{IsEntry, lent_entry, Entry, IsEntryList, entries_from, entry_of_key, IsRising, spelled};
 ghost use Rattle.cell_key.specs.Keys.{byte_cmp};
@@ -19,15 +19,15 @@ use cell_key::{EntryRef, KeyRef, Refusal, are_same, compare_texts, next_key};
 use std::alloc::Global;
 use std::snapshot::Snapshot;
 
-/// A block in its bytes, whose form was checked.
+/// The bytes of a block, whose form was checked.
 #[derive(Drop)]
 pub(crate) struct Block {
     pub(crate) bytes: Vec<u8>,
-    /// Where each entry begins.
+    /// The offset of each entry.
     pub(crate) starts: Vec<u32>,
 }
 
-/// The key of an entry, if the entry can be the next of a list behind the one of the last key.
+/// The key of an entry, if a list whose last key is `last` can go on with the entry.
 #[inline(always)]
 pub(crate) fn key_behind<'a>(last: Option<KeyRef<'_>>, entry: EntryRef<'a>) -> Option<KeyRef<'a>>
     requires { IfSome last IsLentKey }
@@ -45,8 +45,8 @@ pub(crate) fn key_behind<'a>(last: Option<KeyRef<'_>>, entry: EntryRef<'a>) -> O
     next_key(last, entry.key)
 }
 
-/// The entry at the front, if it can be the next of a list behind the one of the last key, with its key, and what
-/// follows.
+/// The entry at the front, its key and the bytes behind it, if a list whose last key is `last` can go on with the
+/// entry.
 #[inline(always)]
 pub(crate) fn next_entry<'a>(
     last: Option<KeyRef<'_>>,
@@ -67,7 +67,7 @@ pub(crate) fn next_entry<'a>(
     Some((entry, key, rest))
 }
 
-/// Where the entries begin that have these bytes; `None` if no entry list has them. Answers `NoMemory` if there is no
+/// The offsets of the entries in these bytes; `None` if the bytes are no entry list. Answers `NoMemory` if there is no
 /// memory.
 fn starts_of(alloc: Global, bytes: &[u8]) -> Result<Option<Vec<u32>>, Refusal>
     requires { length bytes.now < 2 ^ 32 }
@@ -75,7 +75,7 @@ fn starts_of(alloc: Global, bytes: &[u8]) -> Result<Option<Vec<u32>>, Refusal>
         IfSome found (λ starts. IsSpelling bytes.now starts.items)) }
     ensures none { IfOk result (λ found. IfNone found ((es : List Entry) → IsEntryList es
         → bytes.now ≢ block_bytes es)) }
-    ensures refusal { IfErr result (λ refusal. refusal ≡ Refusal.NoMemory) }
+    ensures refusal { IsOkUnless result Refusal.NoMemory }
 {
     let mut starts = room_for_starts(alloc, bytes.len())?;
     let mut last = None;
@@ -91,24 +91,24 @@ fn starts_of(alloc: Global, bytes: &[u8]) -> Result<Option<Vec<u32>>, Refusal>
     Ok(Some(starts))
 }
 
-/// Room for the starts of the entries of a block of `len` bytes, if their values are short.
+/// An empty list with room for the entries' offsets of a block of `len` bytes, if their values are short.
 pub(crate) fn room_for_starts(alloc: Global, len: usize) -> Result<Vec<u32>, Refusal>
     ensures none { IfOk result (λ starts. starts.items ≡ []) }
-    ensures refusal { IfErr result (λ refusal. refusal ≡ Refusal.NoMemory) }
+    ensures refusal { IsOkUnless result Refusal.NoMemory }
 {
     let starts = Vec::with_capacity(alloc, (len / 32).min(128))?;
     Ok(starts)
 }
 
 impl Block {
-    /// The block of these bytes; `None` if they are those of no entry list. Answers `NoMemory` if there is no memory.
+    /// The block of these bytes; `None` if they are no entry list. Answers `NoMemory` if there is no memory.
     pub(crate) fn parse(alloc: Global, bytes: Vec<u8>) -> Result<Option<Block>, Refusal>
         requires { length bytes.items < 2 ^ 32 }
         ensures parsed { IfOk result (λ found. IfSome found (λ block. (es : List Entry)
             × IsParsed es block × (bytes.items ≡ block_bytes es))) }
         ensures none { IfOk result (λ found. IfNone found ((es : List Entry) → IsEntryList es
             → bytes.items ≢ block_bytes es)) }
-        ensures refusal { IfErr result (λ refusal. refusal ≡ Refusal.NoMemory) }
+        ensures refusal { IsOkUnless result Refusal.NoMemory }
     {
         let Some(starts) = starts_of(alloc, &bytes)? else {
             return Ok(None);
@@ -141,7 +141,7 @@ impl Block {
         }
     }
 
-    /// The entry of an index.
+    /// The entry at an index.
     pub(crate) fn entry(&self, at: usize) -> Option<EntryRef<'_>>
         ensures { (es : List Entry) → IsParsed es self.now
             → option_map lent_entry result ≡ slice_get es at }
@@ -152,7 +152,7 @@ impl Block {
         Some(entry)
     }
 
-    /// The text of the first entry, or no bytes if there is none.
+    /// The text of the first entry; empty if there is none.
     pub(crate) fn first_text(&self) -> &[u8]
         ensures { (es : List Entry) → IsParsed es self.now → IsFirstText result.now es }
     {
@@ -162,7 +162,7 @@ impl Block {
         }
     }
 
-    /// Whether the block fits with an entry more.
+    /// Whether the block has room for one more entry.
     pub(crate) fn has_room(&self, entry: EntryRef<'_>) -> bool
         ensures { (es : List Entry) → IsParsed es self.now
             → (IsTrue result ↔ Fits (es ++ lent_entry entry.entry ∷ [])) }
@@ -173,7 +173,7 @@ impl Block {
         self.bytes.len() as u128 + spelled_len(entry) <= BLOCK_LIMIT
     }
 
-    /// Where this text of an entry will stand, if the entry is added next.
+    /// The extent of this text in the block, if its entry is added next.
     pub(crate) fn next_text(&self, text: &[u8]) -> Extent
         ensures offset { result.offset ≡ length self.now.bytes.items + 4 }
         ensures length { result.length ≡ length text.now }
@@ -192,7 +192,7 @@ impl Block {
         self.entry(0).is_some_and(|entry| are_same(text, entry.key))
     }
 
-    /// Whether there is an entry of this index, and its text is below this one.
+    /// Whether there is an entry at this index and its text is below this one.
     fn is_before(&self, at: usize, text: &[u8]) -> bool
         ensures before { result ≡ true → (es : List Entry) → IsParsed es self.now
             → IsSomeAnd (slice_get es at) (λ e. byte_cmp text.now e.0 ≡ Greater) }
@@ -203,7 +203,7 @@ impl Block {
             .is_some_and(|entry| compare_texts(text, entry.key).is_gt())
     }
 
-    /// The index of the first entry whose text isn't below this one.
+    /// The index of the first entry at or above this text (the lower bound).
     fn position(&self, text: &[u8]) -> usize
         ensures { (es : List Entry) → IsParsed es self.now
             → entries_from text.now es ≡ drop result es }
@@ -221,7 +221,7 @@ impl Block {
         low
     }
 
-    /// The entry at a text.
+    /// The entry with this text.
     pub(crate) fn find(&self, text: &[u8]) -> Option<EntryRef<'_>>
         ensures { (es : List Entry) → IsParsed es self.now
             → option_map (λ entry. (lent_entry entry).1) result ≡ entry_of_key es text.now }
@@ -234,7 +234,7 @@ impl Block {
         }
     }
 
-    /// The first value at a text that isn't below this one.
+    /// The first value at or above this text.
     pub(crate) fn first_value(&self, text: &[u8]) -> Option<EntryRef<'_>>
         ensures { (es : List Entry) → IsParsed es self.now
             → option_map lent_entry result ≡ first_value (entries_from text.now es) }
@@ -242,7 +242,7 @@ impl Block {
         self.first_value_from(self.position(text))
     }
 
-    /// The text of the last entry, or no bytes if there is none.
+    /// The text of the last entry; empty if there is none.
     pub(crate) fn last_text(&self) -> &[u8]
         ensures { (es : List Entry) → IsParsed es self.now → IsLastText es result.now }
     {
@@ -291,7 +291,7 @@ fn copy_value(alloc: Global, value: Option<&[u8]>) -> Result<Option<Vec<u8>>, Re
     Ok(Some(copy))
 }
 
-/// What a block has at a text: a value, `Some(None)` if it is an erasure, `None` if it has no entry. Answers `Damaged`
+/// The block's entry at a text: `Some(Some(..))` a value, `Some(None)` an erasure, `None` no entry. Answers `Damaged`
 /// if the value is too long, and `NoMemory` if there is no memory for it.
 pub(crate) fn value_at(
     alloc: Global,
@@ -312,13 +312,12 @@ pub(crate) fn value_at(
     }
 }
 
-/// The text of the first value of a block at a text that isn't below this one. Answers `NoMemory` if there is no
-/// memory.
+/// The text of the block's first value at or above this text. Answers `NoMemory` if there is no memory.
 pub(crate) fn text_at(alloc: Global, block: &Block, text: &[u8]) -> Result<Option<Vec<u8>>, Refusal>
     ensures found { IfOk result (λ found. (es : List Entry) → IsParsed es block.now
         → option_map (λ bytes. bytes.items) found
         ≡ option_map (λ e. e.0) (first_value (entries_from text.now es))) }
-    ensures refusal { IfErr result (λ refusal. refusal ≡ Refusal.NoMemory) }
+    ensures refusal { IsOkUnless result Refusal.NoMemory }
 {
     match block.first_value(text) {
         Some(entry) => Ok(Some(Vec::from_slice(alloc, entry.key)?)),
@@ -326,7 +325,7 @@ pub(crate) fn text_at(alloc: Global, block: &Block, text: &[u8]) -> Result<Optio
     }
 }
 
-/// What an open file has of a block in memory: where it begins, how many bytes it has, and its first text.
+/// An open file's record of a block: its offset, its length in bytes and its first text.
 #[derive(Drop)]
 pub(crate) struct BlockRow {
     pub(crate) offset: u64,
@@ -334,11 +333,11 @@ pub(crate) struct BlockRow {
     pub(crate) first: Vec<u8>,
     /// The bounds of its values.
     pub(crate) bounds: ColumnBounds,
-    /// The block when the file was opened. It takes no room.
+    /// The block when the file was opened. A ghost: it takes no memory.
     pub(crate) was: Snapshot<Block>,
 }
 
-/// How many of the rows have a first text that isn't above this one.
+/// How many of the rows have a first text at or below this one (the upper bound).
 pub(crate) fn rows_to(rows: &[BlockRow], text: &[u8]) -> usize
     ensures bound { result ≤ length rows.now }
     ensures position { IsRising (map first_of rows.now) → IsRowPosition text.now rows.now result }
@@ -346,7 +345,7 @@ pub(crate) fn rows_to(rows: &[BlockRow], text: &[u8]) -> usize
     rows.partition_point(|row| compare_texts(text, &row.first).is_ge())
 }
 
-/// Whether a block with this first entry can follow the last of the blocks that rows name.
+/// Whether a block with this first entry can follow the last block of these rows.
 pub(crate) fn is_followed(rows: &[BlockRow], first: EntryRef<'_>) -> bool
     ensures { AreRows 8 rows.now → (es : List Entry)
         → (IsTrue result ↔ IsFollowed (blocks_of rows.now) (lent_entry first.entry ∷ es)) }
@@ -357,8 +356,7 @@ pub(crate) fn is_followed(rows: &[BlockRow], first: EntryRef<'_>) -> bool
     row.length as u128 + spelled_len(first) > BLOCK_LIMIT
 }
 
-/// What stands in a block from the first entry on whose text isn't below this one; `None` if the bytes are no
-/// block, as far as they were read.
+/// The bytes of a block from its first entry at or above this text on; `None` if the bytes up to there are no entries.
 pub(crate) fn bytes_from<'a>(bytes: &'a [u8], text: &[u8]) -> Option<&'a [u8]>
     requires { length bytes.now < 2 ^ 32 }
     ensures found { IfSome result (λ rest. (es : List Entry) → IsRising es
@@ -379,7 +377,7 @@ pub(crate) fn bytes_from<'a>(bytes: &'a [u8], text: &[u8]) -> Option<&'a [u8]>
     Some(rest)
 }
 
-/// A part of some bytes: its offset and its length.
+/// A range of bytes: its offset and its length.
 #[derive(Clone, Copy, Drop)]
 pub(crate) struct Extent {
     pub(crate) offset: usize,
@@ -387,7 +385,7 @@ pub(crate) struct Extent {
 }
 
 impl Extent {
-    /// What of the part there is.
+    /// The bytes of the range, cut off at the end of `bytes`.
     pub(crate) fn lend(self, bytes: &[u8]) -> &[u8]
         ensures { result.now ≡ bytes_at bytes.now self }
     {
@@ -396,7 +394,7 @@ impl Extent {
     }
 }
 
-/// The parts that are the text and the value of an entry; an erasure has no value.
+/// The extents of the text and the value of an entry; an erasure has no value.
 #[derive(Clone, Copy)]
 pub(crate) struct EntryExtent {
     key: Extent,
@@ -404,7 +402,7 @@ pub(crate) struct EntryExtent {
 }
 
 impl EntryExtent {
-    /// The entry that stands there.
+    /// The entry at these extents.
     pub(crate) fn lend(self, bytes: &[u8]) -> EntryRef<'_>
         ensures { lent_entry result ≡ entry_at bytes.now self }
     {
@@ -415,7 +413,7 @@ impl EntryExtent {
     }
 }
 
-/// The parts of the entry that begins at this offset, and the offset at which it ends; `None` if no entry begins there.
+/// The extents of the entry at this offset, and the offset of its end; `None` if there is no entry at this offset.
 pub(crate) fn entry_extent(bytes: &[u8], at: usize) -> Option<(EntryExtent, usize)>
     requires { at ≤ length bytes.now }
     ensures found { IfSome result (λ p.

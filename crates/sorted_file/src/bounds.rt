@@ -1,8 +1,8 @@
-//! Bounds of the values of a file and of its blocks, so that a read passes by what has none for it.
+//! Bounds of the values of a file and of its blocks, by which a read skips those without a value that it seeks.
 
 ghost use Rattle.std.specs.List.{AllByRecursion};
 ghost use Rattle.std.specs.Option.{option_copied};
-ghost use Rattle.std.specs.Prelude.{◌≡◌, get_or, ◌≤◌, ℕ, List, false, IfOk, IfErr, drop, option_map, ◌≢◌, ◌<◌, ◌^◌, length, IfSome, IfNone, ◌++◌, Option};
+ghost use Rattle.std.specs.Prelude.{◌≡◌, get_or, ◌≤◌, ℕ, List, false, IfOk, drop, option_map, ◌≢◌, ◌<◌, ◌^◌, length, IfSome, IfNone, ◌++◌, Option, IsOkUnless};
 ghost use Rattle.cell_key.specs.Keys.{text};
 ghost use Rattle.cell_key.specs.Texts.{escaped_byte, stamp_text};
 ghost use Rattle.cell_key.specs.Entries.{Entry};
@@ -17,14 +17,14 @@ use crate::block::Block;
 use cell_key::{CellKey, KeyRef, Qualifier, Refusal, Stamp, are_same, stamp_of};
 use std::alloc::Global;
 
-/// The byte of a row at an index, or 0 behind its end.
+/// The byte of a row at an index; 0 past its end.
 fn byte_at(row: &[u8], at: usize) -> u8
     ensures { result ≡ get_or row.now at 0 }
 {
     row.get(at).copied().unwrap_or(0)
 }
 
-/// The number of a row's first eight bytes, a row of fewer filled up with zeros.
+/// The first eight bytes of a row as a number, padded with zeros if the row is shorter.
 fn front_of(row: &[u8]) -> u64
     ensures { result ≡ front row.now }
 {
@@ -40,7 +40,7 @@ fn front_of(row: &[u8]) -> u64
     ])
 }
 
-/// The byte of a row at the front of a text, and what follows it; `None` if the row ends there.
+/// The first byte of the row at the front of a text, and the text behind it; `None` if the row ends there.
 fn split_byte(text: &[u8]) -> Option<(u8, &[u8])>
     ensures found { IfSome result (λ p. text.now ≡ escaped_byte p.0 ++ p.1.now) }
     ensures none { IfNone result ((byte : ℕ) (rest : List ℕ)
@@ -54,7 +54,8 @@ fn split_byte(text: &[u8]) -> Option<(u8, &[u8])>
     Some((0, rest))
 }
 
-/// The number of the first eight bytes, if there are as many and none is 0: the row of the key with this text has them.
+/// The first eight bytes as a number, if there are eight and none is 0: then they are the first eight bytes of the row
+/// of the key with this text.
 fn plain_front_in(bytes: &[u8]) -> Option<u64>
     ensures { IfSome result (λ number. (key : KeyOf) → bytes.now ≡ text key
         → number ≡ front key.row) }
@@ -71,7 +72,7 @@ fn plain_front_in(bytes: &[u8]) -> Option<u64>
     ]))
 }
 
-/// The number of the first eight bytes of the row of the key with this text, byte by byte, a row of fewer filled up with
+/// The first eight bytes, as a number, of the row of the key with this text, decoded byte by byte and padded with
 /// zeros.
 fn short_front_in(bytes: &[u8]) -> u64
     ensures { (key : KeyOf) → bytes.now ≡ text key → result ≡ front key.row }
@@ -88,7 +89,7 @@ fn short_front_in(bytes: &[u8]) -> u64
     u64::from_be_bytes(front)
 }
 
-/// The number of the first eight bytes of the row of the key with this text, a row of fewer filled up with zeros.
+/// The first eight bytes, as a number, of the row of the key with this text, padded with zeros.
 fn front_in(bytes: &[u8]) -> u64
     ensures { (key : KeyOf) → bytes.now ≡ text key → result ≡ front key.row }
 {
@@ -98,8 +99,8 @@ fn front_in(bytes: &[u8]) -> u64
     }
 }
 
-/// Bounds of values: their stamps from the least to the greatest, and the fronts of their rows from the first to the
-/// last. No value is within bounds whose least is above the greatest.
+/// Bounds of values: their least and greatest stamps, and the least and greatest first eight bytes of their rows. Empty
+/// if a least is above its greatest.
 #[derive(Clone, Copy)]
 pub(crate) struct Bounds {
     pub(crate) least: Stamp,
@@ -109,7 +110,7 @@ pub(crate) struct Bounds {
 }
 
 impl Bounds {
-    /// The bounds of no value.
+    /// The bounds of no values.
     const NONE: Bounds = Bounds {
         least: u64::MAX,
         greatest: 0,
@@ -117,7 +118,7 @@ impl Bounds {
         last: 0,
     };
 
-    /// Widens the bounds to a value at this stamp of a row with this front.
+    /// Widens the bounds to a value at this stamp in a row whose first eight bytes are this number.
     fn widen(&mut self, number: u64, stamp: Stamp)
         ensures has { (row : List ℕ) → number ≡ front row → IsWithin self.new row stamp }
         ensures keeps { (row : List ℕ) (s : ℕ) → IsWithin self.old row s → IsWithin self.new row s }
@@ -128,7 +129,7 @@ impl Bounds {
         self.last = self.last.max(number);
     }
 
-    /// Bounds of the values of both.
+    /// Bounds of the values of both (their union).
     fn joined(self, other: Bounds) -> Bounds
         ensures first { (row : List ℕ) (s : ℕ) → IsWithin self row s → IsWithin result row s }
         ensures second { (row : List ℕ) (s : ℕ) → IsWithin other row s → IsWithin result row s }
@@ -149,7 +150,7 @@ impl Bounds {
         self.least <= hi && lo <= self.greatest
     }
 
-    /// Whether one of the rows may have this front.
+    /// Whether one of the rows may have these first eight bytes.
     fn has_front(self, number: u64) -> bool
         ensures { result ≡ false → (row : List ℕ) (s : ℕ) → number ≡ front row
             → ¬ (IsWithin self row s) }
@@ -158,7 +159,7 @@ impl Bounds {
     }
 }
 
-/// The bounds of values, for each kind of a cell's columns.
+/// The bounds of values, for each kind of column.
 #[derive(Clone, Copy)]
 pub(crate) struct ColumnBounds {
     pub(crate) data: Bounds,
@@ -167,14 +168,14 @@ pub(crate) struct ColumnBounds {
 }
 
 impl ColumnBounds {
-    /// The bounds of no value.
+    /// The bounds of no values.
     pub(crate) const NONE: ColumnBounds = ColumnBounds {
         data: Bounds::NONE,
         lock: Bounds::NONE,
         write: Bounds::NONE,
     };
 
-    /// The bounds of one kind.
+    /// The bounds of one kind of column.
     fn of(&self, qualifier: Qualifier) -> Bounds
         ensures { result ≡ column_bounds self.now qualifier }
     {
@@ -200,7 +201,7 @@ impl ColumnBounds {
         }
     }
 
-    /// Bounds of the values of both.
+    /// Bounds of the values of both (their union).
     pub(crate) fn joined(self, other: ColumnBounds) -> ColumnBounds
         ensures first { AreWithin self result }
         ensures second { AreWithin other result }
@@ -212,7 +213,7 @@ impl ColumnBounds {
         }
     }
 
-    /// Whether there may be a value of such a column at a stamp in `lo..=hi`.
+    /// Whether there may be a value in a column of this kind at a stamp in `lo..=hi`.
     pub(crate) fn meet(&self, qualifier: Qualifier, lo: Stamp, hi: Stamp) -> bool
         ensures { result ≡ false → (row : List ℕ) (s : ℕ) → lo ≤ s → s ≤ hi
             → ¬ (IsWithin (column_bounds self.now qualifier) row s) }
@@ -220,7 +221,7 @@ impl ColumnBounds {
         self.of(qualifier).meets(lo, hi)
     }
 
-    /// Whether there may be a value of the key's column at a stamp from `lo` up to the key's.
+    /// Whether there may be a value in the key's column at a stamp from `lo` to the key's.
     pub(crate) fn meet_column(&self, key: &CellKey, lo: Stamp) -> bool
         ensures { result ≡ false → (s : ℕ) → lo ≤ s → s ≤ key.now.stamp
             → ¬ (IsWithin (column_bounds self.now key.now.qualifier) key.now.row s) }
@@ -230,11 +231,11 @@ impl ColumnBounds {
     }
 }
 
-/// The text of the first value of a block, if it has a value. Answers `NoMemory` if there is no memory.
+/// The text of the first value of a block, if it has one. Answers `NoMemory` if there is no memory.
 pub(crate) fn head_of(alloc: Global, block: &Block) -> Result<Option<Vec<u8>>, Refusal>
     ensures head { IfOk result (λ head. (es : List Entry) → IsParsed es block.now
         → option_map (λ text. text.items) head ≡ option_map (λ e. e.0) (first_value es)) }
-    ensures refusal { IfErr result (λ refusal. refusal ≡ Refusal.NoMemory) }
+    ensures refusal { IsOkUnless result Refusal.NoMemory }
 {
     match block.first_value_from(0) {
         Some(entry) => Ok(Some(Vec::from_slice(alloc, entry.key)?)),
@@ -242,10 +243,11 @@ pub(crate) fn head_of(alloc: Global, block: &Block) -> Result<Option<Vec<u8>>, R
     }
 }
 
-/// How many heads are missing before the next that is there, from each on. Answers `NoMemory` if there is no memory.
+/// For each head, how many heads from it on are missing before the next one that is present. Answers `NoMemory` if
+/// there is no memory.
 pub(crate) fn skips_of(alloc: Global, heads: &[Option<Vec<u8>>]) -> Result<Vec<usize>, Refusal>
     ensures skips { IfOk result (λ counts. counts.items ≡ skips heads.now) }
-    ensures refusal { IfErr result (λ refusal. refusal ≡ Refusal.NoMemory) }
+    ensures refusal { IsOkUnless result Refusal.NoMemory }
 {
     let mut skips = Vec::with_capacity(alloc, heads.len())?;
     let mut rest = heads;
@@ -259,7 +261,7 @@ pub(crate) fn skips_of(alloc: Global, heads: &[Option<Vec<u8>>]) -> Result<Vec<u
     Ok(skips)
 }
 
-/// The first head from an index on, by how many are missing before each next.
+/// The first head that is present at or behind an index; `counts` are the heads' skips.
 pub(crate) fn next_head<'a>(
     heads: &'a [Option<Vec<u8>>],
     counts: &[usize],
@@ -273,7 +275,7 @@ pub(crate) fn next_head<'a>(
     head.as_ref()
 }
 
-/// The stamp of a text, if it is one of the column that another text is of.
+/// The stamp of the text `bytes`, if it is in the column of the text `column`.
 pub(crate) fn stamp_in(column: &[u8], bytes: &[u8]) -> Option<Stamp>
     requires { 8 ≤ length column.now }
     ensures some { IfSome result (λ stamp. (key : KeyOf) → column.now ≡ text key

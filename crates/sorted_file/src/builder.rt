@@ -1,4 +1,4 @@
-//! A file that is built in memory, entry by entry, and what an open file keeps of it.
+//! A file built in memory entry by entry, and the state of an open file for it.
 
 ghost use Rattle.std.specs.List.{AllByRecursion};
 ghost use Rattle.std.specs.Prelude.{◌≡◌, ◌≤◌, ◌<◌, ◌+◌, ◌^◌, ◌++◌, ◌∷◌, [], true, false, List, length, flat_map, IfOk, IfErr, IfSome, IfNone, OnOk, IsErrOf, IsOkUnless, ◌⊎◌};
@@ -20,33 +20,33 @@ use cell_key::{EntryRef, KeyRef, Qualifier, Refusal, Stamp};
 use std::alloc::Global;
 use std::mem;
 
-/// Where the text of the last key stands, and what it says behind its row and family.
+/// The extent of the last key's text, with the rest of the key behind row and family.
 #[derive(Clone, Copy, Drop)]
 pub(crate) struct LastKey {
-    /// The part of the open block.
+    /// The extent in the open block.
     pub(crate) text: Extent,
-    /// How many bytes of the text name the row and the family.
+    /// The length in bytes of the text's row and family.
     pub(crate) place_len: usize,
     pub(crate) qualifier: Qualifier,
     pub(crate) stamp: Stamp,
 }
 
-/// A file of format 2 so far. After an `Err` it is given up.
+/// A file of format 2 under construction. It cannot be used after an `Err`.
 #[derive(Drop)]
 pub(crate) struct FileBuilder {
     alloc: Global,
-    /// The head and the blocks that are closed.
+    /// The head and the closed blocks.
     out: Vec<u8>,
-    /// What an open file keeps of these blocks.
+    /// An open file's state of these blocks.
     pub(crate) opening: Opening,
     /// The block that entries are added to.
     pub(crate) current: GatheredBlock,
-    /// Of the key of its last entry.
+    /// The key of its last entry.
     last: Option<LastKey>,
 }
 
 impl FileBuilder {
-    /// A file of no entries so far, which may have at most `limit` bytes. Answers `NoMemory` if there is no memory.
+    /// A file without entries, of at most `limit` bytes. Answers `NoMemory` if there is no memory.
     pub(crate) fn new(alloc: Global, name: u64, limit: u64) -> Result<FileBuilder, Refusal>
         requires { 48 ≤ limit }
         ensures ready { IfOk result IsReady }
@@ -80,7 +80,7 @@ impl FileBuilder {
         }
     }
 
-    /// The key of an entry, if the entry can be the next one.
+    /// The key of an entry, if the entry can come next.
     fn key_of_next<'a>(&self, entry: EntryRef<'a>) -> Option<KeyRef<'a>>
         requires { IsReady self.now }
         ensures key { IfSome result IsLentKey }
@@ -93,7 +93,7 @@ impl FileBuilder {
         key_behind(self.last_key(), entry)
     }
 
-    /// Closes the open block, and opens one of no entries. Answers `NoMemory` if there is no memory.
+    /// Closes the open block and begins an empty one. Answers `NoMemory` if there is no memory.
     fn close_block(&mut self) -> Result<(), Refusal>
         requires sound { IsSound self.old }
         requires fits { Fits (entries_of self.old.current.block) }
@@ -112,7 +112,7 @@ impl FileBuilder {
         self.opening.add(closed)
     }
 
-    /// Sees that the open block may take an entry next. Answers `NoMemory` if there is no memory.
+    /// Closes the open block if it has no room for the entry. Answers `NoMemory` if there is no memory.
     fn make_room(&mut self, entry: EntryRef<'_>) -> Result<(), Refusal>
         requires { IsReady self.old }
         ensures sound { OnOk result (IsSound self.new) }
@@ -127,7 +127,7 @@ impl FileBuilder {
         self.close_block()
     }
 
-    /// Whether the file with an entry more keeps to its limit, without an index and a foot.
+    /// Whether the file with one more entry stays within its limit, without index and foot.
     fn allows(&self, entry: EntryRef<'_>) -> bool
         requires { IsReady self.now }
         ensures allows { result ≡ true → self.now.opening.end
@@ -140,9 +140,9 @@ impl FileBuilder {
         len + spelled_len(entry) <= self.opening.size as u128
     }
 
-    /// Adds an entry, of a file that is newer than those whose locks the index has. Answers `Damaged` if the entries are
-    /// no entry list with it, `FileTooLarge` if it doesn't fit behind the bytes so far, and `NoMemory` if there is no
-    /// memory for it.
+    /// Adds an entry. `over` is the index of the older files' locks. Answers `Damaged` if the entries with it are no
+    /// entry list, `FileTooLarge` if it doesn't fit behind the bytes so far, and `NoMemory` if there is no memory for
+    /// it.
     pub(crate) fn push(&mut self, entry: EntryRef<'_>, over: &LockIndex) -> Result<(), Refusal>
         requires { IsReady self.old }
         ensures ready { OnOk result (IsReady self.new) }
@@ -173,8 +173,8 @@ impl FileBuilder {
         Ok(())
     }
 
-    /// What an open file keeps of the file, and its bytes. Answers `FileTooLarge` if it has more bytes than it may have,
-    /// and `NoMemory` if there is no memory for it.
+    /// The state of the open file, and the file's bytes. Answers `FileTooLarge` if they are more than the limit, and
+    /// `NoMemory` if there is no memory for them.
     pub(crate) fn finish(self) -> Result<(Opening, Vec<u8>), Refusal>
         requires { IsReady self }
         ensures opening { IfOk result (λ made. IsOpening made.0) }
@@ -196,8 +196,8 @@ impl FileBuilder {
         builder.into_image()
     }
 
-    /// What an open file keeps of the blocks that are closed, and the file of them. Answers `FileTooLarge` if that has
-    /// more bytes than it may have, and `NoMemory` if there is no memory for it.
+    /// An open file's state of the closed blocks, and the bytes of the file of them. Answers `FileTooLarge` if they are
+    /// more than the limit, and `NoMemory` if there is no memory for them.
     fn into_image(self) -> Result<(Opening, Vec<u8>), Refusal>
         requires { IsSound self }
         ensures opening { IfOk result (λ made. made.0 ≡ self.opening) }
@@ -234,7 +234,7 @@ impl FileBuilder {
     }
 }
 
-/// Appends the row of a block to an index. Answers `NoMemory` if there is no memory.
+/// Appends a block's row to an index. Answers `NoMemory` if there is no memory.
 fn push_row(index: &mut Vec<u8>, row: &BlockRow) -> Result<(), Refusal>
     requires { length row.now.first.items < 2 ^ 32 }
     ensures ok { OnOk result (index.new.items ≡ index.old.items ++ row_spelled row.now) }
@@ -245,7 +245,7 @@ fn push_row(index: &mut Vec<u8>, row: &BlockRow) -> Result<(), Refusal>
     push_field(index, &row.first)
 }
 
-/// The index of blocks with these rows. Answers `NoMemory` if there is no memory.
+/// The index with these rows. Answers `NoMemory` if there is no memory.
 fn index_of(alloc: Global, rows: &[BlockRow]) -> Result<Vec<u8>, Refusal>
     requires { AllByRecursion HasShortText rows.now }
     ensures index { IfOk result (λ index. index.items ≡ flat_map row_spelled rows.now) }

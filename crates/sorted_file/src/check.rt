@@ -1,7 +1,7 @@
 //! The check of a whole file, block by block, when it is opened.
 
 ghost use Rattle.std.specs.FinMap as map;
-ghost use Rattle.std.specs.Prelude.{◌≡◌, List, ℕ, length, IfOk, IfErr, IfSome, IsSome, IsErrOf, ◌≤◌, ◌<◌, ◌+◌, take, ◌-◌, ◌++◌, ◌∷◌, ◌↔◌, [], OnOk, IsTrue};
+ghost use Rattle.std.specs.Prelude.{◌≡◌, List, ℕ, length, IfOk, IfSome, IsSome, IsErrOf, ◌≤◌, ◌<◌, ◌+◌, take, ◌-◌, ◌++◌, ◌∷◌, ◌↔◌, [], OnOk, IsTrue, IsOkUnless};
 ghost use Rattle.cell_key.specs.Entries.{Entry, IsEntryList, IsRising};
 ghost use Rattle.cell_key.specs.Faults.{HasReason};
 ghost use Rattle.file_store.specs.Store.{part};
@@ -26,8 +26,8 @@ use file_store::Files;
 use std::alloc::Global;
 use std::snapshot::Snapshot;
 
-/// How many bytes a file has. Answers `Damaged` if it isn't there, `Device` if a device fails, and `NoMemory` if there
-/// is no memory.
+/// The size of a file in bytes. Answers `Damaged` if it doesn't exist, `Device` if a device fails, and `NoMemory` if
+/// there is no memory.
 fn file_size<F: Files>(name: u64, files: &mut F) -> Result<u64, Refusal>
     ensures size { IfOk result (λ size. (image : List ℕ)
         → Tells (F.contents files.old) name image → length image ≡ size) }
@@ -43,8 +43,8 @@ fn file_size<F: Files>(name: u64, files: &mut F) -> Result<u64, Refusal>
         .ok_or(Refusal::Damaged)
 }
 
-/// The format that the head of a file of this size names. Answers `Damaged` if it names none, or no file of that
-/// format has this size, `Device` if a device fails, and `NoMemory` if there is no memory.
+/// The format that the head of a file of this size names. Answers `Damaged` if it names none or no file of that format
+/// has this size, `Device` if a device fails, and `NoMemory` if there is no memory.
 fn read_format<F: Files>(
     alloc: Global,
     name: u64,
@@ -69,8 +69,8 @@ fn read_format<F: Files>(
     Ok(format)
 }
 
-/// Where the index of a file of this format and size begins, and the file's foot. Answers `Damaged` if the foot isn't
-/// in the form, `Device` if a device fails, and `NoMemory` if there is no memory.
+/// The offset of the index of a file of this format and size, and the file's foot. Answers `Damaged` if the foot is
+/// malformed, `Device` if a device fails, and `NoMemory` if there is no memory.
 fn read_foot<F: Files>(
     alloc: Global,
     name: u64,
@@ -98,8 +98,8 @@ fn read_foot<F: Files>(
     Ok((at, foot))
 }
 
-/// The index and the foot of a file of this format and size. Answers `Damaged` if the foot isn't in the form, `Device`
-/// if a device fails, and `NoMemory` if there is no memory.
+/// The index and the foot of a file of this format and size. Answers `Damaged` if the foot is malformed, `Device` if a
+/// device fails, and `NoMemory` if there is no memory.
 fn read_frame<F: Files>(
     alloc: Global,
     name: u64,
@@ -122,28 +122,28 @@ fn read_frame<F: Files>(
     Ok((index, foot))
 }
 
-/// A file that is being opened, as it is read or written: what an open file keeps of its blocks so far.
+/// A file while it is read or written: the open file's state of the blocks so far.
 #[derive(Drop)]
 pub(crate) struct Opening {
     alloc: Global,
     name: u64,
     format: Format,
-    /// How many bytes the file has, or may have at most if it is written.
+    /// The size of the file in bytes, or its limit if it is being written.
     pub(crate) size: u64,
     pub(crate) rows: Vec<BlockRow>,
-    /// The text of the first value of each block that has one.
+    /// The text of each block's first value, if the block has a value.
     pub(crate) heads: Vec<Option<Vec<u8>>>,
     pub(crate) columns: Columns,
     /// How many entries there are.
     pub(crate) count: u64,
-    /// The text of the last entry, or no bytes before the first.
+    /// The text of the last entry; empty before the first.
     last: Vec<u8>,
-    /// Where the next block begins.
+    /// The offset of the next block.
     pub(crate) end: u64,
 }
 
 impl Opening {
-    /// A file of this format and size, of no blocks so far.
+    /// A file of this format and size, without blocks.
     pub(crate) fn new(alloc: Global, name: u64, format: Format, size: u64) -> Opening
         requires least { 8 + foot_len format ≤ size }
         requires most { size < most format }
@@ -167,7 +167,7 @@ impl Opening {
         }
     }
 
-    /// The next block, whose row this is. Answers `Damaged` if no block of this length is there, `Device` if a device
+    /// The next block, which has this row. Answers `Damaged` if there is no block of this length, `Device` if a device
     /// fails, and `NoMemory` if there is no memory.
     fn next_block<F: Files>(
         &self,
@@ -201,7 +201,7 @@ impl Opening {
         Ok(read)
     }
 
-    /// Whether a block can be the next one, and the row names it.
+    /// Whether a block can come next, and the row matches it.
     fn accepts(&self, row: RowRef<'_>, block: &Block) -> bool
         requires opening { IsOpening self.now }
         requires parsed { IsParsed (entries_of block.now) block.now }
@@ -239,7 +239,7 @@ impl Opening {
         ensures size { self.new.size ≡ self.old.size }
         ensures rows { OnOk result (blocks_of self.new.rows.items
             ≡ blocks_of self.old.rows.items ++ entries_of next.block ∷ []) }
-        ensures refusal { IfErr result (λ refusal. refusal ≡ Refusal.NoMemory) }
+        ensures refusal { IsOkUnless result Refusal.NoMemory }
     {
         let GatheredBlock { block, columns } = next;
         let length = block.bytes.len();
@@ -263,9 +263,9 @@ impl Opening {
         Ok(())
     }
 
-    /// Reads the next block, whose row stands at the front of what is left of the index, and answers what follows the
-    /// row. Answers `Damaged` if row and block aren't those of a file, `Device` if a device fails, and `NoMemory` if
-    /// there is no memory.
+    /// Reads the next block, whose row is at the front of `left`, and answers the rest of the index behind that row.
+    /// Answers `Damaged` if row and block aren't a file's, `Device` if a device fails, and `NoMemory` if there is no
+    /// memory.
     fn read_next<'i, F: Files>(
         &mut self,
         left: &'i [u8],
@@ -294,8 +294,8 @@ impl Opening {
         Ok(rest)
     }
 
-    /// Reads all blocks that an index names. Answers `Damaged` if its rows and the blocks aren't those of a
-    /// file, `Device` if a device fails, and `NoMemory` if there is no memory.
+    /// Reads all blocks that an index names. Answers `Damaged` if its rows and the blocks aren't a file's, `Device` if
+    /// a device fails, and `NoMemory` if there is no memory.
     fn read_blocks<F: Files>(
         &mut self,
         index: &[u8],
@@ -319,12 +319,12 @@ impl Opening {
         Ok(())
     }
 
-    /// Whether the foot is that of a file of these blocks. Answers `NoMemory` if there is no memory.
+    /// Whether the foot is right for a file of these blocks. Answers `NoMemory` if there is no memory.
     fn has_foot(&self, end: &[u8]) -> Result<bool, Refusal>
         requires { IsOpening self.now }
         ensures exact { IfOk result (λ is. IsTrue is ↔ (end.now ≡ foot self.now.format self.now.end
             (length self.now.rows.items) self.now.count self.now.size)) }
-        ensures refusal { IfErr result (λ refusal. refusal ≡ Refusal.NoMemory) }
+        ensures refusal { IsOkUnless result Refusal.NoMemory }
     {
         let mut foot = Vec::new(self.alloc);
         push_foot(
@@ -339,8 +339,8 @@ impl Opening {
     }
 }
 
-/// Reads a file block by block, which is newer than those whose locks the index has. Answers `Damaged` if it isn't there
-/// or is the file of no entry list, `Device` if a device fails, and `NoMemory` if there is no memory.
+/// Reads a file block by block. `over` is the index of the older files' locks. Answers `Damaged` if the file doesn't
+/// exist or is no entry list's file, `Device` if a device fails, and `NoMemory` if there is no memory.
 pub(crate) fn read_file<F: Files>(
     alloc: Global,
     name: u64,

@@ -14,29 +14,29 @@ use cell_key::{EntryRef, Refusal};
 use file_store::Files;
 use std::alloc::Global;
 
-/// A cursor over the entries of an open file, from a text on. It holds the bytes of one block and lends entries as
-/// parts of them, and reads the other blocks when it comes to them.
+/// A cursor over the entries of an open file at or above a text. It holds the bytes of one block and lends entries as
+/// parts of them. It reads the next block when it has passed the last entry of its own.
 #[derive(Drop)]
 pub struct FileCursor<'a> {
     alloc: Global,
     name: u64,
     from: &'a [u8],
-    /// The blocks that it has not come to.
+    /// The blocks that it has not read.
     rows: &'a [BlockRow],
-    /// The row of its block, which it has once it has read one.
+    /// The row of its block, once it has read one.
     row: Option<&'a BlockRow>,
     /// The bytes of its block.
     block: Vec<u8>,
-    /// The offset in its block of the entries that it has not come to.
+    /// The offset in its block of the next entry.
     at: usize,
-    /// The parts of its block that are the entry that it is at.
+    /// The extents in its block of its current entry.
     current: Option<EntryExtent>,
 }
 
 impl<'a> FileCursor<'a> {
     ghost use Rattle.std.specs.Prelude.{None, []};
 
-    /// Before the first entry of these blocks whose text isn't below `from`.
+    /// A cursor before the first entry of these blocks at or above `from`.
     pub(crate) fn new(
         alloc: Global,
         name: u64,
@@ -62,8 +62,8 @@ impl<'a> FileCursor<'a> {
         }
     }
 
-    /// The bytes of a block, and where in it the first text is that isn't below that of the cursor. Answers
-    /// `Damaged` if the block isn't there, `Device` if a device fails, and `NoMemory` if there is no memory.
+    /// The bytes of a block, and the offset in it of the first entry at or above `from`. Answers `Damaged` if the block
+    /// isn't there, `Device` if a device fails, and `NoMemory` if there is no memory.
     fn read_block<F: Files>(
         &self,
         row: &BlockRow,

@@ -1,6 +1,6 @@
-//! A file of entries that is open for reading.
+//! A file of entries, open for reading.
 
-ghost use Rattle.std.specs.Prelude.{OnOk, ◌≡◌, ◌≤◌, ◌<◌, ◌^◌, ◌-◌, List, ℕ, drop, Option, Some, None, true, false, length, slice_get, take, option_map, IfOk, IfErr, IfSome, IsErrOf, Contains};
+ghost use Rattle.std.specs.Prelude.{OnOk, ◌≡◌, ◌≤◌, ◌<◌, ◌^◌, ◌-◌, List, ℕ, drop, Option, Some, None, true, false, length, slice_get, take, option_map, IfOk, IfSome, IsErrOf, Contains, IsOkUnless};
 ghost use Rattle.std.specs.NonZero.{non_zero_usize_get};
 ghost use Rattle.cell_key.specs.Entries.{Entry, entry_of_key, entries_from};
 ghost use Rattle.cell_key.specs.Faults.{HasReason};
@@ -30,30 +30,30 @@ use lru::LruCache;
 use std::alloc::Global;
 use std::num::NonZeroUsize;
 
-/// A file of entries, open for reading. What it reads is under its name as long as the file stays as it is.
+/// A file of entries, open for reading. It is valid as long as the bytes under its name don't change.
 #[derive(Drop)]
 pub struct SortedFile {
     alloc: Global,
     name: u64,
-    /// What the index names: a row of each block.
+    /// The index: a row for each block.
     rows: Vec<BlockRow>,
-    /// The text of the first value of each block that has one.
+    /// The text of each block's first value, if the block has a value.
     heads: Vec<Option<Vec<u8>>>,
-    /// How many blocks have no value before the next one that has, from each block on.
+    /// For each block, how many blocks from it on have no value before the next one that has.
     skips: Vec<usize>,
     /// How many entries there are.
     count: u64,
     pub(crate) bounds: ColumnBounds,
-    /// A number of each column that has an entry.
+    /// A hash of each column that has an entry.
     pub(crate) numbers: Numbers,
-    /// A number of the text of each lock's key, of a value or an erasure.
+    /// A hash of the key's text of each lock entry, value or erasure.
     pub(crate) lock_keys: Numbers,
     /// The key of each lock that has a value.
     pub(crate) lock_values: Vec<LockValue>,
-    /// Keys of its entries, values or erasures, in rising order: those that an index of older files' locks seemed to
-    /// have when the file was opened.
+    /// The keys of its entries, values or erasures, in ascending order, that matched a lock in the index of the older
+    /// files' locks when the file was opened. They match by hash, so some may be false matches.
     pub(crate) named_locks: Vec<CellKey>,
-    /// The blocks that were looked into last, by their numbers.
+    /// The blocks that were used last, by their numbers.
     cache: LruCache<usize, Block>,
 }
 
@@ -65,7 +65,7 @@ impl SortedFile {
     ghost use Rattle.sorted_file.specs.Check.{IsOpening, IsWhole};
     ghost use Rattle.sorted_file.specs.File.{HasBlockNow, HasFile, IsCursorOf, IsFoundNow, IsOpen, IsReadFrom, IsReadNow, IsSameFile, IsSearchedNow, KeepsWhatItRead, listed, name_of, MayHaveIn};
 
-    /// Opens a file that caches 8 blocks at most. Answers `Damaged` if it isn't there or is the file of no entry list,
+    /// Opens a file with a cache of 8 blocks. Answers `Damaged` if the file doesn't exist or is no entry list's file,
     /// `Device` if a device fails, and `NoMemory` if there is no memory.
     pub fn open<F: Files>(alloc: Global, name: u64, files: &mut F) -> Result<SortedFile, Refusal>
         ensures opened { IfOk result (λ file. IfSome (F.contents files.old) (λ m. IsOpen m file)) }
@@ -78,8 +78,8 @@ impl SortedFile {
         SortedFile::open_with(alloc, name, few_blocks(), files)
     }
 
-    /// Opens a file that caches this many blocks at most. Answers `Damaged` if it isn't there or is the file of no entry
-    /// list, `Device` if a device fails, and `NoMemory` if there is no memory.
+    /// Opens a file with a cache of this many blocks. Answers `Damaged` if the file doesn't exist or is no entry list's
+    /// file, `Device` if a device fails, and `NoMemory` if there is no memory.
     pub fn open_with<F: Files>(
         alloc: Global,
         name: u64,
@@ -97,8 +97,8 @@ impl SortedFile {
         SortedFile::open_over(alloc, name, most_blocks, &none, files)
     }
 
-    /// Opens a file as `open_with` does, for a reader of older files whose locks the index has: the file then keeps which of
-    /// those locks it names, and an index of all of them can leave these out.
+    /// Opens a file as `open_with` does. `over` is the index of the older files' locks: the open file keeps the keys of
+    /// those locks that it has an entry of, so that an index of all the files can leave these locks out.
     pub fn open_over<F: Files>(
         alloc: Global,
         name: u64,
@@ -117,7 +117,7 @@ impl SortedFile {
         SortedFile::of_opening(alloc, name, most_blocks, opening)
     }
 
-    /// The open file of this name whose blocks are those of an opening. Answers `NoMemory` if there is no memory.
+    /// The open file with this name and the blocks of an opening. Answers `NoMemory` if there is no memory.
     pub(crate) fn of_opening(
         alloc: Global,
         name: u64,
@@ -129,7 +129,7 @@ impl SortedFile {
             → IsOpen m file) }
         ensures named { IfOk result (λ file. name_of file ≡ name) }
         ensures sized { IfOk result (λ file. file.cache.cap ≡ non_zero_usize_get most_blocks) }
-        ensures refusal { IfErr result (λ refusal. refusal ≡ Refusal.NoMemory) }
+        ensures refusal { IsOkUnless result Refusal.NoMemory }
     {
         let Opening {
             rows,
@@ -172,22 +172,22 @@ impl SortedFile {
         self.name
     }
 
-    /// How many entries the file has, erasures among them. Takes no memory and reads nothing.
+    /// How many entries the file has, erasures included. Allocates nothing and reads nothing.
     pub fn len(&self) -> usize
         ensures { (m : Contents) → IsOpen m self.now → result ≡ length (listed m self.now) }
     {
         self.count as usize
     }
 
-    /// Whether the key's column may have an entry.
+    /// Whether the file may have an entry in the key's column.
     fn may_have_value(&self, key: &LookupKey) -> bool
         ensures { result ≡ false → ¬ MayHaveIn self.now (number_of (text key.now)) }
     {
         self.numbers.has(key.column_number())
     }
 
-    /// Whether the file may have an entry of a key, a value or an erasure: of a lock's, whether it may have one of this
-    /// very key, and of any other, whether it may have one of the key's column. Takes no memory and reads nothing.
+    /// Whether the file may have an entry of a key, value or erasure. A lock's key is tested itself; for any other key
+    /// the test is whether the file may have an entry in the key's column. Allocates nothing and reads nothing.
     pub fn may_have_key(&self, key: &LookupKey) -> bool
         requires from { 1 ≤ key.now.stamp }
         requires to { key.now.stamp < 2 ^ 63 }
@@ -200,13 +200,13 @@ impl SortedFile {
         }
     }
 
-    /// What the file has of a key: a value, of at most 65,536 bytes, `Some(None)` if it is an erasure, and
-    /// `None` if the file has no entry of the key. It reads one block at most, and none that is cached from an earlier
-    /// look-up. The file stays what it was, also after an `Err`.
+    /// The file's entry of a key: a value of at most 65,536 bytes, `Some(None)` if it is an erasure, `None` if the file
+    /// has no entry of the key. Reads at most one block, and none that is still cached from an earlier look-up. The
+    /// file is unchanged, even after an `Err`.
     ///
     /// # Errors
     ///
-    /// `Device`, `NoMemory`, and `Damaged` only if the file is no longer what was opened.
+    /// `Device`, `NoMemory`, and `Damaged` only if the file has changed since it was opened.
     pub fn lookup<F: Files>(
         &mut self,
         key: &CellKey,
@@ -227,11 +227,11 @@ impl SortedFile {
         self.find(&key, files)
     }
 
-    /// What `lookup` answers of this key. Its text was made once, however many files are asked.
+    /// The same as `lookup`, for a key whose text was encoded once for all files.
     ///
     /// # Errors
     ///
-    /// `Device`, `NoMemory`, and `Damaged` only if the file is no longer what was opened.
+    /// `Device`, `NoMemory`, and `Damaged` only if the file has changed since it was opened.
     pub fn find<F: Files>(
         &mut self,
         key: &LookupKey,
@@ -254,7 +254,7 @@ impl SortedFile {
         }
     }
 
-    /// What a block has at a text. Answers `Damaged` if the block isn't there, `Device` if a device fails, and
+    /// The entry of a block at a text. Answers `Damaged` if the block isn't there, `Device` if a device fails, and
     /// `NoMemory` if there is no memory.
     fn value_in<F: Files>(
         &mut self,
@@ -293,8 +293,8 @@ impl SortedFile {
         }
     }
 
-    /// A block, read anew. Answers `Damaged` if no block is there that begins with the text that the index
-    /// names, `Device` if a device fails, and `NoMemory` if there is no memory.
+    /// A block, read from the file. Answers `Damaged` if there is no block that begins with the text in the index,
+    /// `Device` if a device fails, and `NoMemory` if there is no memory.
     fn read_block<F: Files>(&self, number: usize, files: &mut F) -> Result<Block, Refusal>
         requires { number < length self.now.rows.items }
         ensures read { IfOk result (λ block. (row : Row)
@@ -318,14 +318,13 @@ impl SortedFile {
         Ok(block)
     }
 
-    /// The greatest stamp, from `lo` up to that of the key, at which the file has a value of the key's
-    /// column. It reads one block at most, and none that can't have such a value, nor any if the file has no entry of the
-    /// column. The file stays what it was,
-    /// also after an `Err`.
+    /// The greatest stamp from `lo` to the key's at which the file has a value in the key's column. Reads at most one
+    /// block, and none if the file's column hashes or the bounds of file or block rule out such a value. The file is
+    /// unchanged, even after an `Err`.
     ///
     /// # Errors
     ///
-    /// `Device`, `NoMemory`, and `Damaged` only if the file is no longer what was opened.
+    /// `Device`, `NoMemory`, and `Damaged` only if the file has changed since it was opened.
     pub fn newest_stamp<F: Files>(
         &mut self,
         key: &LookupKey,
@@ -362,8 +361,8 @@ impl SortedFile {
         Ok(Some(stamp))
     }
 
-    /// The text of the first value of a block at a text that isn't below this one. Answers `Damaged` if the block
-    /// isn't there, `Device` if a device fails, and `NoMemory` if there is no memory.
+    /// The text of a block's first value at or above this text. Answers `Damaged` if the block isn't there, `Device` if
+    /// a device fails, and `NoMemory` if there is no memory.
     fn text_in<F: Files>(
         &mut self,
         number: usize,
@@ -398,12 +397,12 @@ impl SortedFile {
         }
     }
 
-    /// The text of the first value of the blocks from this one on. Answers `NoMemory` if there is no memory.
+    /// The text of the first value in this block or a later one. Answers `NoMemory` if there is no memory.
     fn head_from(&self, at: usize) -> Result<Option<Vec<u8>>, Refusal>
         ensures found { IfOk result (λ found. (m : Contents) → IsOpen m self.now
             → option_map (λ bytes. bytes.items) found ≡ option_map (λ e. e.0)
             (first_value (entries_in (blocks_of (drop at self.now.rows.items))))) }
-        ensures refusal { IfErr result (λ refusal. refusal ≡ Refusal.NoMemory) }
+        ensures refusal { IsOkUnless result Refusal.NoMemory }
     {
         match next_head(&self.heads, &self.skips, at) {
             Some(head) => Ok(Some(Vec::from_slice(self.alloc, head)?)),
@@ -411,9 +410,9 @@ impl SortedFile {
         }
     }
 
-    /// The text of the first value at a text that isn't below this one, the key's, or of the first behind the block of
-    /// that text if this one can't have a value of the column. Answers `Damaged` if the file is no longer what was
-    /// opened, `Device` if a device fails, and `NoMemory` if there is no memory.
+    /// The text of the first value at or above `sought`, the key's text. If the block of that text cannot hold a value
+    /// of the column from `lo` to the key's stamp, the search starts at the next block. Answers `Damaged` if the file
+    /// has changed since it was opened, `Device` if a device fails, and `NoMemory` if there is no memory.
     fn first_text<F: Files>(
         &mut self,
         key: &CellKey,
@@ -442,7 +441,8 @@ impl SortedFile {
         }
     }
 
-    /// Whether there is a block before this one that may have a value of the key's column from `lo` up to its stamp.
+    /// Whether there is a block before this index, and that block may have a value in the key's column from `lo` to the
+    /// key's stamp.
     fn may_have_before(&self, index: usize, key: &CellKey, lo: Stamp) -> bool
         requires { index ≤ length self.now.rows.items }
         ensures there { result ≡ true → 0 < index }
@@ -454,7 +454,7 @@ impl SortedFile {
         index > 0 && self.rows[index - 1].bounds.meet_column(key, lo)
     }
 
-    /// Empties the cache. The file stays what it was. Takes no memory.
+    /// Empties the cache. The file is unchanged. Allocates nothing.
     pub fn drop_cache(&mut self)
         ensures stays { (disk : Option Contents) → IsSameFile disk self.old self.new }
         ensures none { (number : ℕ) → IsUncached number self.new.cache.entries }
@@ -462,8 +462,8 @@ impl SortedFile {
         self.cache.clear();
     }
 
-    /// Lets the file cache this many blocks at most, from now on. If it has more, those go whose use is longest ago. The
-    /// file stays what it was, and nothing but the cache changes.
+    /// Sets the capacity of the cache, in blocks. If it holds more, the least recently used ones are evicted. Only the
+    /// cache changes.
     pub fn resize_cache(&mut self, most_blocks: NonZeroUsize)
         ensures stays { (disk : Option Contents) → IsSameFile disk self.old self.new }
         ensures kept { (disk : Option Contents) → KeepsWhatItRead disk self.old self.new }
@@ -474,8 +474,7 @@ impl SortedFile {
         resize(&mut self.cache, most_blocks);
     }
 
-    /// The entries from the first text on that isn't below `from`, which is any bytes. Takes no memory and reads
-    /// nothing.
+    /// A cursor over the entries at or above `from`, which may be any bytes. Allocates nothing and reads nothing.
     pub fn cursor<'a>(&'a self, from: &'a [u8]) -> FileCursor<'a>
         ensures lent { cursor_lent result ≡ None }
         ensures entries { (m : Contents) → IsOpen m self.now

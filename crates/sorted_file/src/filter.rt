@@ -1,23 +1,24 @@
-//! A filter of numbers (a Bloom filter of two probes in one word): a number without both its bits was not added.
+//! A filter of numbers (a Bloom filter of two probes in one word): if one of a number's two bits isn't set, the number
+//! was not added.
 
 ghost use Rattle.std.specs.Int.{bit_at, IsPowerOfTwo};
-ghost use Rattle.std.specs.Prelude.{◌≡◌, ◌↔◌, ◌+◌, ◌*◌, ◌<◌, ◌≤◌, ℕ, [], All, IfErr, IsTrue, length};
+ghost use Rattle.std.specs.Prelude.{◌≡◌, ◌↔◌, ◌+◌, ◌*◌, ◌<◌, ◌≤◌, ℕ, [], All, IsTrue, length, IsOkUnless};
 ghost use Rattle.sorted_file.specs.Filters.{first_bit, second_bit, word_place, HasBits};
 
 use cell_key::Refusal;
 use std::alloc::Global;
 
-/// For how many numbers, at most, a filter has a word.
+/// The most numbers for each word of a filter.
 const NUMBERS_A_WORD: usize = 8;
 
-/// How far down a number's top six bits are shifted, which say which bit of a word is its first.
+/// The shift that leaves a number's top six bits, the index of its first bit within a word.
 const FIRST_SHIFT: u64 = 58;
 
-/// How far down the six bits below those are shifted, which say which bit is its second.
+/// The shift behind which the next six bits are the index of its second bit within a word.
 const SECOND_SHIFT: u64 = 52;
 
-/// How many words a filter has for this number of numbers: a power of two, with at least 8 bits for each, and at most
-/// 16 for each and 64 more.
+/// How many words a filter of `count` numbers has: a power of two, with at least 8 bits for each number, and at most 16
+/// bits for each number and 64 more.
 fn words_for(count: usize) -> usize
     ensures power { IsPowerOfTwo result }
     ensures enough { count ≤ 8 * result }
@@ -26,7 +27,7 @@ fn words_for(count: usize) -> usize
     count.div_ceil(NUMBERS_A_WORD).next_power_of_two()
 }
 
-/// The place of the word that has a number's bits, in a filter of `count` words.
+/// The index of the word with a number's bits, in a filter of `count` words.
 #[inline(always)]
 fn place_of(count: usize, number: u64) -> usize
     ensures { result ≡ word_place count number }
@@ -34,7 +35,7 @@ fn place_of(count: usize, number: u64) -> usize
     number as usize & count.saturating_sub(1)
 }
 
-/// Which bit of its word is a number's first.
+/// The index of a number's first bit within its word.
 #[inline(always)]
 fn first_bit(number: u64) -> u64
     ensures value { result ≡ first_bit number }
@@ -43,7 +44,7 @@ fn first_bit(number: u64) -> u64
     number >> FIRST_SHIFT
 }
 
-/// Which bit of its word is a number's second, maybe the same one.
+/// The index of a number's second bit within its word; it may equal the first.
 #[inline(always)]
 fn second_bit(number: u64) -> u64
     ensures value { result ≡ second_bit number }
@@ -71,7 +72,7 @@ fn with_bit(word: u64, bit: u64) -> u64
     word | (1 << bit)
 }
 
-/// Whether both bits of a number are set, or there is no word for them.
+/// Whether both bits of a number are set, or the filter has no words.
 #[inline(always)]
 fn has_bits(words: &[u64], number: u64) -> bool
     ensures { IsTrue result ↔ HasBits words.now number }
@@ -82,7 +83,7 @@ fn has_bits(words: &[u64], number: u64) -> bool
     }
 }
 
-/// Sets both bits of a number, if there is a word for them.
+/// Sets both bits of a number, if the filter has words.
 fn set_bits(words: &mut [u64], number: u64)
     ensures has { HasBits words.new number }
     ensures keeps { (other : ℕ) → HasBits words.old other → HasBits words.new other }
@@ -95,7 +96,7 @@ fn set_bits(words: &mut [u64], number: u64)
     }
 }
 
-/// Sets both bits of each of some numbers, if there is a word for them.
+/// Sets both bits of each number, if the filter has words.
 fn set_each(words: &mut [u64], numbers: &[u64])
     ensures each { All (HasBits words.new) numbers.now }
     ensures keeps { (other : ℕ) → HasBits words.old other → HasBits words.new other }
@@ -115,7 +116,7 @@ pub(crate) struct Filter {
 }
 
 impl Filter {
-    /// A filter without a bit, which has every number. Takes no memory.
+    /// A filter without words, to which every number may have been added. Allocates nothing.
     pub(crate) fn all(alloc: Global) -> Filter
         ensures { result.words.items ≡ [] }
     {
@@ -127,13 +128,13 @@ impl Filter {
 
     /// An empty filter, with words for `count` numbers. Answers `NoMemory` if there is no memory.
     pub(crate) fn with_room(alloc: Global, count: usize) -> Result<Filter, Refusal>
-        ensures refusal { IfErr result (λ refusal. refusal ≡ Refusal.NoMemory) }
+        ensures refusal { IsOkUnless result Refusal.NoMemory }
     {
         let words = vec![in alloc; 0; words_for(count)]?;
         Ok(Filter { words, count: 0 })
     }
 
-    /// Whether it has words for `more` numbers beside those that it has.
+    /// Whether it has room for `more` numbers beside those that were added.
     pub(crate) fn has_room(&self, more: usize) -> bool {
         self.count.saturating_add(more) <= self.words.len().saturating_mul(NUMBERS_A_WORD)
     }

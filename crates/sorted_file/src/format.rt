@@ -11,23 +11,23 @@ ghost use Rattle.sorted_file.specs.Grammar.{IsNoFile, head, foot_len, most, numb
 
 use cell_key::{EntryRef, Refusal, are_same, compare_texts};
 
-/// How many bytes the head has.
+/// The length of the head in bytes.
 pub(crate) const HEAD: u64 = 8;
 
-/// How many bytes the length of a field has.
+/// The length in bytes of a field's length.
 pub(crate) const LENGTH: usize = 4;
 
-/// The most bytes of a value.
+/// The most bytes in a value.
 pub(crate) const MOST_VALUE: usize = 65536;
 
-/// The most bytes of a block of several entries.
+/// The most bytes in a block of several entries.
 pub(crate) const BLOCK_LIMIT: u128 = 4096;
 
-/// The most bytes of a block: those of an entry whose text and value are the longest.
+/// The most bytes in a block: one entry with the longest text and the longest value.
 pub(crate) const LONGEST_BLOCK: u64 = 73_628;
 
-/// The formats of a file. They differ in the head, and in how many bytes a number of the index or of the foot has: four
-/// in format 1, and eight in format 2. Both are read, and format 2 is written.
+/// The formats of a file. They differ in the head and in the size of a number in index and foot: four bytes in format
+/// 1, eight in format 2. Both are read; format 2 is written.
 #[derive(Clone, Copy, PartialEq, Eq)]
 pub enum Format {
     One,
@@ -45,7 +45,7 @@ impl Format {
         }
     }
 
-    /// How many bytes the foot has.
+    /// The length of the foot in bytes.
     pub(crate) fn foot_len(self) -> u64
         ensures { result ≡ foot_len self }
     {
@@ -66,7 +66,7 @@ impl Format {
     }
 }
 
-/// The format whose head the bytes are.
+/// The format with this head.
 pub(crate) fn format_of(bytes: &[u8]) -> Option<Format>
     ensures found { IfSome result (λ format. bytes.now ≡ head format) }
     ensures none { IfNone result ((format : Format) → bytes.now ≢ head format) }
@@ -87,7 +87,7 @@ pub(crate) fn is_below(first: &[u8], second: &[u8]) -> bool
     compare_texts(first, second).is_lt()
 }
 
-/// The number of four bytes at the front, and what follows.
+/// The four-byte number at the front, and the bytes behind it.
 fn read_short(bytes: &[u8]) -> Option<(u32, &[u8])>
     ensures found { IfSome result (λ p. bytes.now ≡ to_be_bytes w32 p.0 ++ p.1.now) }
     ensures fits { IfSome result (λ p. p.0 < 2 ^ 32) }
@@ -103,7 +103,7 @@ fn read_short(bytes: &[u8]) -> Option<(u32, &[u8])>
     ))
 }
 
-/// Appends a number of four bytes.
+/// Appends a four-byte number.
 fn push_short(out: &mut Vec<u8>, number: u32) -> Result<(), Refusal>
     ensures ok { OnOk result (out.new.items ≡ out.old.items ++ to_be_bytes w32 number) }
     ensures memory { IsOkUnless result Refusal.NoMemory }
@@ -112,7 +112,7 @@ fn push_short(out: &mut Vec<u8>, number: u32) -> Result<(), Refusal>
     Ok(())
 }
 
-/// The number of eight bytes at the front, and what follows.
+/// The eight-byte number at the front, and the bytes behind it.
 fn read_long(bytes: &[u8]) -> Option<(u64, &[u8])>
     ensures found { IfSome result (λ p. bytes.now ≡ to_be_bytes w64 p.0 ++ p.1.now) }
     ensures fits { IfSome result (λ p. p.0 < 2 ^ 64) }
@@ -130,7 +130,7 @@ fn read_long(bytes: &[u8]) -> Option<(u64, &[u8])>
     ))
 }
 
-/// The number of an index or of a foot at the front, and what follows.
+/// The number of an index or foot at the front, and the bytes behind it.
 fn read_number(format: Format, bytes: &[u8]) -> Option<(u64, &[u8])>
     ensures found { IfSome result (λ p. bytes.now ≡ number_bytes format p.0 ++ p.1.now) }
     ensures fits { IfSome result (λ p. p.0 < most format) }
@@ -145,7 +145,7 @@ fn read_number(format: Format, bytes: &[u8]) -> Option<(u64, &[u8])>
     }
 }
 
-/// Appends a number of an index or of a foot.
+/// Appends a number of an index or foot.
 pub(crate) fn push_number(out: &mut Vec<u8>, format: Format, number: u64) -> Result<(), Refusal>
     requires { number < most format }
     ensures ok { OnOk result (out.new.items ≡ out.old.items ++ number_bytes format number) }
@@ -160,7 +160,7 @@ pub(crate) fn push_number(out: &mut Vec<u8>, format: Format, number: u64) -> Res
     }
 }
 
-/// The length and as many bytes at the front, and what follows.
+/// The field at the front (a length and that many bytes), and the bytes behind it.
 fn read_field(bytes: &[u8]) -> Option<(&[u8], &[u8])>
     ensures found { IfSome result (λ p. bytes.now ≡ field p.0.now ++ p.1.now) }
     ensures short { IfSome result (λ p. length p.0.now < 2 ^ 32) }
@@ -185,7 +185,7 @@ pub(crate) fn push_field(out: &mut Vec<u8>, bytes: &[u8]) -> Result<(), Refusal>
     Ok(())
 }
 
-/// The entry at the front, and what follows.
+/// The entry at the front, and the bytes behind it.
 pub(crate) fn read_entry(bytes: &[u8]) -> Option<(EntryRef<'_>, &[u8])>
     ensures found { IfSome result (λ p. bytes.now ≡ spelled (lent_entry p.0) ++ p.1.now) }
     ensures none { IfNone result (length bytes.now < 2 ^ 32 → (entry : Entry) (rest : List ℕ)
@@ -221,7 +221,7 @@ pub(crate) fn push_entry(out: &mut Vec<u8>, entry: EntryRef<'_>) -> Result<(), R
     Ok(())
 }
 
-/// How many bytes an entry has in a file.
+/// The length of an entry in a file, in bytes.
 pub(crate) fn spelled_len(entry: EntryRef<'_>) -> u128
     ensures { result ≡ entry_len (lent_entry entry.entry) }
 {
@@ -232,7 +232,7 @@ pub(crate) fn spelled_len(entry: EntryRef<'_>) -> u128
     }
 }
 
-/// Whether the value is no longer than a value may be; an erasure has none.
+/// Whether the value isn't longer than a value may be; true for an erasure.
 pub(crate) fn is_short(value: Option<&[u8]>) -> bool
     ensures { IsTrue result
         ↔ IfSome (option_copied value.entry) (λ bytes. length bytes ≤ 65536) }
@@ -243,7 +243,7 @@ pub(crate) fn is_short(value: Option<&[u8]>) -> bool
     }
 }
 
-/// A row of the index, lent.
+/// A borrowed row of the index.
 #[derive(Clone, Copy)]
 pub(crate) struct RowRef<'a> {
     pub(crate) offset: u64,
@@ -251,7 +251,7 @@ pub(crate) struct RowRef<'a> {
     pub(crate) first: &'a [u8],
 }
 
-/// The row at the front, and what follows.
+/// The row at the front, and the bytes behind it.
 pub(crate) fn read_row(format: Format, bytes: &[u8]) -> Option<(RowRef<'_>, &[u8])>
     ensures found { IfSome result (λ p. bytes.now ≡ row_bytes format p.0 ++ p.1.now) }
     ensures offset { IfSome result (λ p. p.0.offset < most format) }
@@ -272,7 +272,7 @@ pub(crate) fn read_row(format: Format, bytes: &[u8]) -> Option<(RowRef<'_>, &[u8
     Some((row, rest))
 }
 
-/// The offset of the index, as the foot of a file of this size names it.
+/// The offset of the index, read from the foot of a file of this size.
 pub(crate) fn index_offset(format: Format, foot: &[u8], size: u64) -> Option<u64>
     requires foot { length foot.now ≡ foot_len format }
     requires size { 8 + foot_len format ≤ size }

@@ -1,6 +1,6 @@
-//! What an open file keeps of the entries of blocks, gathered as these are read or written.
+//! The column data of an open file, gathered as its blocks are read or written.
 
-ghost use Rattle.std.specs.Prelude.{◌≡◌, ◌≢◌, ◌<◌, ◌+◌, ◌^◌, ◌⊎◌, ◌++◌, ◌∷◌, [], ℕ, List, Option, Contains, length, IfOk, IfErr, IfSome, IfNone, OnOk};
+ghost use Rattle.std.specs.Prelude.{◌≡◌, ◌≢◌, ◌<◌, ◌+◌, ◌^◌, ◌⊎◌, ◌++◌, ◌∷◌, [], ℕ, List, Option, Contains, length, IfOk, IfSome, IfNone, OnOk, IsOkUnless};
 ghost use Rattle.sorted_file.specs.Numbers.{number_of, IsAmong, IsLockKept, IsLockKeyNumbered};
 ghost use Rattle.cell_key.specs.Entries.{Entry, IsEntryList, entry_len, lent_entry};
 ghost use Rattle.cell_key.specs.Keys.{text};
@@ -19,28 +19,28 @@ use crate::numbers::{column_number, push_number, text_number};
 use cell_key::{CellKey, EntryRef, KeyRef, Qualifier, Refusal};
 use std::alloc::Global;
 
-/// How many numbers of a kind most blocks have at most.
+/// How many hashes of each kind are enough for most blocks.
 const MOST_NUMBERS: usize = 64;
 
-/// What a file keeps of the columns of entries.
+/// The column data of some entries.
 #[derive(Drop)]
 pub(crate) struct Columns {
     /// The bounds of the values.
     pub(crate) bounds: ColumnBounds,
-    /// A number of each column that has an entry.
+    /// A hash of each column that has an entry.
     pub(crate) numbers: Vec<u64>,
-    /// A number of the text of each lock's key.
+    /// A hash of the text of each lock's key.
     pub(crate) lock_keys: Vec<u64>,
     /// The key of each lock that has a value.
     pub(crate) lock_values: Vec<LockValue>,
-    /// The keys of entries, values or erasures, that the index of the older files' locks seems to have.
+    /// The keys of entries, values or erasures, that match a lock in the index of the older files' locks.
     pub(crate) named_locks: Vec<CellKey>,
 }
 
 impl Columns {
     ghost use Rattle.sorted_file.specs.Columns.{AreColumnsOf};
 
-    /// Those of no entries.
+    /// The column data of no entries.
     pub(crate) fn new(alloc: Global) -> Columns
         ensures { AreColumnsOf result [] }
     {
@@ -53,10 +53,10 @@ impl Columns {
         }
     }
 
-    /// Those of no entries, with room for those of most blocks. Answers `NoMemory` if there is no memory.
+    /// The column data of no entries, with room for most blocks. Answers `NoMemory` if there is no memory.
     fn with_room(alloc: Global) -> Result<Columns, Refusal>
         ensures none { IfOk result (λ columns. AreColumnsOf columns []) }
-        ensures refusal { IfErr result (λ refusal. refusal ≡ Refusal.NoMemory) }
+        ensures refusal { IsOkUnless result Refusal.NoMemory }
     {
         Ok(Columns {
             bounds: ColumnBounds::NONE,
@@ -67,14 +67,14 @@ impl Columns {
         })
     }
 
-    /// Adds those of an entry at this key, of a file that is newer than those whose locks the index has. Answers `NoMemory`
-    /// if there is no memory.
+    /// Adds the data of an entry at this key. `over` is the index of the older files' locks. Answers `NoMemory` if
+    /// there is no memory.
     fn add(&mut self, entry: EntryRef<'_>, key: KeyRef<'_>, over: &LockIndex) -> Result<(), Refusal>
         requires key { IsLentKey key }
         requires text { key.text.now ≡ entry.key.now }
         ensures added { OnOk result ((es : List Entry) → AreColumnsOf self.old es
             → AreColumnsOf self.new (es ++ lent_entry entry.entry ∷ [])) }
-        ensures refusal { IfErr result (λ refusal. refusal ≡ Refusal.NoMemory) }
+        ensures refusal { IsOkUnless result Refusal.NoMemory }
     {
         let number = column_number(key.text);
         push_number(&mut self.numbers, number)?;
@@ -88,11 +88,11 @@ impl Columns {
         Ok(())
     }
 
-    /// Adds those of more entries. Answers `NoMemory` if there is no memory.
+    /// Adds the data of more entries. Answers `NoMemory` if there is no memory.
     pub(crate) fn join(&mut self, more: Columns) -> Result<(), Refusal>
         ensures joined { OnOk result ((es fs : List Entry) → AreColumnsOf self.old es
             → AreColumnsOf more fs → AreColumnsOf self.new (es ++ fs)) }
-        ensures refusal { IfErr result (λ refusal. refusal ≡ Refusal.NoMemory) }
+        ensures refusal { IsOkUnless result Refusal.NoMemory }
     {
         self.numbers.extend_from_slice(&more.numbers)?;
         self.lock_keys.extend_from_slice(&more.lock_keys)?;
@@ -104,13 +104,13 @@ impl Columns {
     }
 }
 
-/// Adds the number of a key's text, if it is a lock's. Answers `NoMemory` if there is no memory.
+/// Adds the hash of a key's text, if it is a lock's. Answers `NoMemory` if there is no memory.
 fn push_lock_key(keys: &mut Vec<u64>, key: KeyRef<'_>) -> Result<(), Refusal>
     requires { IsLentKey key }
     ensures has { OnOk result ((value : Option (List ℕ))
         → IsLockKeyNumbered keys.new.items (key.entry.text.now, value)) }
     ensures keeps { OnOk result (IsAmong keys.old.items keys.new.items) }
-    ensures refusal { IfErr result (λ refusal. refusal ≡ Refusal.NoMemory) }
+    ensures refusal { IsOkUnless result Refusal.NoMemory }
 {
     if key.qualifier == Qualifier::Lock {
         push_number(keys, text_number(key.text))?;
@@ -118,7 +118,7 @@ fn push_lock_key(keys: &mut Vec<u64>, key: KeyRef<'_>) -> Result<(), Refusal>
     Ok(())
 }
 
-/// Adds a key, if it is a lock's and the index seems to have that lock. Answers `NoMemory` if there is no memory.
+/// Adds a key, if it is a lock's and it matches a lock in the index. Answers `NoMemory` if there is no memory.
 fn push_named(
     named: &mut Vec<CellKey>,
     key: KeyRef<'_>,
@@ -127,7 +127,7 @@ fn push_named(
 ) -> Result<(), Refusal>
     ensures named { OnOk result ((one : KeyOf) → Contains named.new.items one
         → Contains named.old.items one ⊎ (key.entry.text.now ≡ text one)) }
-    ensures refusal { IfErr result (λ refusal. refusal ≡ Refusal.NoMemory) }
+    ensures refusal { IsOkUnless result Refusal.NoMemory }
 {
     if key.qualifier != Qualifier::Lock || !over.has(number, key.stamp) {
         return Ok(());
@@ -138,7 +138,7 @@ fn push_named(
     Ok(())
 }
 
-/// Adds a key, if it is a lock's, which has a value. Answers `NoMemory` if there is no memory.
+/// Adds the key of a lock that has a value; does nothing for other keys. Answers `NoMemory` if there is no memory.
 #[inline(always)]
 fn push_lock_value(values: &mut Vec<LockValue>, key: KeyRef<'_>, number: u64) -> Result<(), Refusal>
     requires key { IsLentKey key }
@@ -146,7 +146,7 @@ fn push_lock_value(values: &mut Vec<LockValue>, key: KeyRef<'_>, number: u64) ->
     ensures has { OnOk result ((value : Option (List ℕ))
         → IsLockKept values.new.items (key.entry.text.now, value)) }
     ensures keeps { OnOk result (IsAmong values.old.items values.new.items) }
-    ensures refusal { IfErr result (λ refusal. refusal ≡ Refusal.NoMemory) }
+    ensures refusal { IsOkUnless result Refusal.NoMemory }
 {
     match key.qualifier {
         Qualifier::Lock => {
@@ -159,7 +159,7 @@ fn push_lock_value(values: &mut Vec<LockValue>, key: KeyRef<'_>, number: u64) ->
     }
 }
 
-/// Where the entries begin that have these bytes, and their columns; `None` if no entry list has the bytes. Answers
+/// The offsets of the entries in these bytes, and their column data; `None` if the bytes are no entry list. Answers
 /// `NoMemory` if there is no memory.
 fn gather(
     alloc: Global,
@@ -171,7 +171,7 @@ fn gather(
         IfSome found (λ gathered. IsGathered bytes.now gathered.0.items gathered.1)) }
     ensures none { IfOk result (λ found. IfNone found ((es : List Entry) → IsEntryList es
         → bytes.now ≢ block_bytes es)) }
-    ensures refusal { IfErr result (λ refusal. refusal ≡ Refusal.NoMemory) }
+    ensures refusal { IsOkUnless result Refusal.NoMemory }
 {
     let mut starts = room_for_starts(alloc, bytes.len())?;
     let mut columns = Columns::with_room(alloc)?;
@@ -189,7 +189,7 @@ fn gather(
     Ok(Some((starts, columns)))
 }
 
-/// A block, and its columns.
+/// A block and its column data.
 #[derive(Drop)]
 pub(crate) struct GatheredBlock {
     pub(crate) block: Block,
@@ -201,12 +201,12 @@ impl GatheredBlock {
     ghost use Rattle.sorted_file.specs.Block.{IsParsed, entries_of};
     ghost use Rattle.sorted_file.specs.Grammar.{Fits};
 
-    /// A block of no entries, with room for those of most blocks. Answers `NoMemory` if there is no memory.
+    /// An empty block, with room for most blocks' column data. Answers `NoMemory` if there is no memory.
     pub(crate) fn with_room(alloc: Global) -> Result<GatheredBlock, Refusal>
         ensures none { IfOk result (λ made. entries_of made.block ≡ []) }
         ensures parsed { IfOk result (λ made. IsParsed [] made.block) }
         ensures columns { IfOk result (λ made. AreColumnsOf made.columns []) }
-        ensures refusal { IfErr result (λ refusal. refusal ≡ Refusal.NoMemory) }
+        ensures refusal { IsOkUnless result Refusal.NoMemory }
     {
         let bytes = Vec::with_capacity(alloc, BLOCK_LIMIT as usize)?;
         let starts = room_for_starts(alloc, BLOCK_LIMIT as usize)?;
@@ -215,8 +215,8 @@ impl GatheredBlock {
         Ok(GatheredBlock { block, columns })
     }
 
-    /// Adds an entry at this key behind the others, of a file that is newer than those whose locks the index has. Answers
-    /// `NoMemory` if there is no memory.
+    /// Appends an entry at this key. `over` is the index of the older files' locks. Answers `NoMemory` if there is no
+    /// memory.
     pub(crate) fn push(
         &mut self,
         entry: EntryRef<'_>,
@@ -235,7 +235,7 @@ impl GatheredBlock {
             ≡ length self.old.block.bytes.items + entry_len (lent_entry entry.entry)) }
         ensures columns { OnOk result (AreColumnsOf self.old.columns (entries_of self.old.block)
             → AreColumnsOf self.new.columns (entries_of self.new.block)) }
-        ensures refusal { IfErr result (λ refusal. refusal ≡ Refusal.NoMemory) }
+        ensures refusal { IsOkUnless result Refusal.NoMemory }
     {
         let start = self.block.bytes.len() as u32;
         push_entry(&mut self.block.bytes, entry)?;
@@ -244,7 +244,8 @@ impl GatheredBlock {
     }
 }
 
-/// The block that the bytes are, and its columns; `None` if they are no block. Answers `NoMemory` if there is no memory.
+/// The block of these bytes and its column data; `None` if the bytes are no block. Answers `NoMemory` if there is no
+/// memory.
 pub(crate) fn read_block(
     alloc: Global,
     bytes: Vec<u8>,
@@ -259,7 +260,7 @@ pub(crate) fn read_block(
         IfSome found (λ read. AreColumnsOf read.columns (entries_of read.block))) }
     ensures none { IfOk result (λ found. IfNone found ((es : List Entry)
         → ¬ IsBlock es bytes.items)) }
-    ensures refusal { IfErr result (λ refusal. refusal ≡ Refusal.NoMemory) }
+    ensures refusal { IsOkUnless result Refusal.NoMemory }
 {
     let Some((starts, columns)) = gather(alloc, &bytes, over)? else {
         return Ok(None);

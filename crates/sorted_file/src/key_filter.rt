@@ -1,6 +1,6 @@
-//! A filter of the keys of several files, by which a read passes by all of them at once.
+//! A filter of the keys of several files, by which a read skips all of them with one test.
 
-ghost use Rattle.std.specs.Prelude.{◌≡◌, ◌≤◌, ◌<◌, ◌^◌, ℕ, None, false, All, IfErr, IfOk, OnErr, OnOk};
+ghost use Rattle.std.specs.Prelude.{◌≡◌, ◌≤◌, ◌<◌, ◌^◌, ℕ, None, false, All, IfOk, OnErr, OnOk, IsOkUnless};
 ghost use Rattle.cell_key.specs.Entries.{entry_of_key};
 ghost use Rattle.cell_key.specs.Keys.{text};
 ghost use Rattle.file_store.specs.Store.{Contents};
@@ -17,7 +17,7 @@ use crate::lookup_key::LookupKey;
 use cell_key::{Qualifier, Refusal, Stamp};
 use std::alloc::Global;
 
-/// For how many numbers of each kind a filter has room.
+/// The capacity of a filter, for each kind of hash.
 #[derive(Clone, Copy)]
 struct Room {
     numbers: usize,
@@ -25,7 +25,7 @@ struct Room {
 }
 
 impl Room {
-    /// Room for those of a file, twice.
+    /// Adds room for twice a file's hashes.
     fn with_file(self, file: &SortedFile) -> Room {
         Room {
             numbers: self
@@ -37,7 +37,7 @@ impl Room {
         }
     }
 
-    /// Room for those of some files, twice, so that a filter isn't made anew at each file, and for `more` entries.
+    /// Room for twice the hashes of these files, so that not every new file needs a new filter, and for `more` entries.
     fn for_files(files: &[SortedFile], more: usize) -> Room {
         let mut room = Room {
             numbers: more,
@@ -50,22 +50,21 @@ impl Room {
     }
 }
 
-/// What several files have of keys: a file that a filter covers has no entry of a key if the filter says that none may
-/// have one.
+/// A filter over the keys of several files. If it says that none may have an entry of a key, no file that it covers has
+/// one.
 #[derive(Drop)]
 pub struct KeyFilter {
     alloc: Global,
-    /// Of the numbers of columns that have an entry.
+    /// A filter of the hashes of columns that have an entry.
     numbers: Filter,
-    /// Of the numbers of the texts of locks' keys.
+    /// A filter of the hashes of locks' key texts.
     lock_keys: Filter,
-    /// Of the values.
+    /// The bounds of the values.
     bounds: ColumnBounds,
 }
 
 impl KeyFilter {
-    /// A filter without room for a key: of each file that is added it says that there may be an entry of any key. Takes no
-    /// memory.
+    /// A filter without capacity, which rules out no key. Allocates nothing.
     pub fn without_room(alloc: Global) -> KeyFilter {
         KeyFilter {
             alloc,
@@ -75,11 +74,11 @@ impl KeyFilter {
         }
     }
 
-    /// A filter that covers these files, with room for twice their keys and `more`. Answers `NoMemory` if there is no
-    /// memory.
+    /// A filter that covers these files, with room for twice their keys and for `more` entries. Answers `NoMemory` if
+    /// there is no memory.
     pub fn new(alloc: Global, files: &[SortedFile], more: usize) -> Result<KeyFilter, Refusal>
         ensures covers { IfOk result (λ filter. All (Covers filter) files.now) }
-        ensures refusal { IfErr result (λ refusal. refusal ≡ Refusal.NoMemory) }
+        ensures refusal { IsOkUnless result Refusal.NoMemory }
     {
         let room = Room::for_files(files, more);
         let mut filter = KeyFilter {
@@ -94,17 +93,17 @@ impl KeyFilter {
         Ok(filter)
     }
 
-    /// Whether there is room for `more` entries.
+    /// Whether it has room for `more` entries.
     fn has_room(&self, more: usize) -> bool {
         self.numbers.has_room(more) && self.lock_keys.has_room(more)
     }
 
-    /// Makes room for a file of `more` entries, if there isn't: the filter is then made anew of these files. It covers
-    /// them as before, also after an `Err`, which is `NoMemory`.
+    /// Makes room for a file of `more` entries. If there isn't room, the filter is rebuilt from these files. It covers
+    /// them as before, even after an `Err`, which is `NoMemory`.
     pub fn reserve(&mut self, files: &[SortedFile], more: usize) -> Result<(), Refusal>
         requires { All (Covers self.old) files.now }
         ensures covers { All (Covers self.new) files.now }
-        ensures refusal { IfErr result (λ refusal. refusal ≡ Refusal.NoMemory) }
+        ensures refusal { IsOkUnless result Refusal.NoMemory }
     {
         if !self.has_room(more) {
             *self = KeyFilter::new(self.alloc, files, more)?;
@@ -112,8 +111,7 @@ impl KeyFilter {
         Ok(())
     }
 
-    /// Adds the keys of a file. Takes no memory: what there is no room for makes the filter say more often that there may
-    /// be an entry.
+    /// Adds the keys of a file. Allocates nothing: without room for them the filter has more false positives.
     pub fn add(&mut self, file: &SortedFile)
         ensures covers { Covers self.new file.now }
         ensures keeps { (other : FileOf) → Covers self.old other → Covers self.new other }
@@ -123,8 +121,8 @@ impl KeyFilter {
         self.bounds = self.bounds.joined(file.bounds);
     }
 
-    /// Whether a file that the filter covers may have a value of a column of this kind at a stamp in `lo..=hi`. Takes no
-    /// memory.
+    /// Whether a file that the filter covers may have a value in a column of this kind at a stamp in `lo..=hi`.
+    /// Allocates nothing.
     pub fn may_have(&self, qualifier: Qualifier, lo: Stamp, hi: Stamp) -> bool
         ensures { result ≡ false → (file : FileOf) → Covers self.now file → (m : Contents)
             → IsOpen m file → HasNoValue qualifier lo hi (listed m file) }
@@ -132,7 +130,7 @@ impl KeyFilter {
         self.bounds.meet(qualifier, lo, hi)
     }
 
-    /// Whether a file that the filter covers may have a value of a key's column. Takes no memory.
+    /// Whether a file that the filter covers may have a value in a key's column. Allocates nothing.
     pub fn may_have_value(&self, key: &LookupKey) -> bool
         ensures { result ≡ false → (file : FileOf) → Covers self.now file → (m : Contents)
             → IsOpen m file → (lo : ℕ) → IsNewestStamp (listed m file) key.now lo None }
@@ -140,7 +138,7 @@ impl KeyFilter {
         self.numbers.has(key.column_number())
     }
 
-    /// Whether a file that the filter covers may have an entry of a key, a value or an erasure. Takes no memory.
+    /// Whether a file that the filter covers may have an entry of a key, value or erasure. Allocates nothing.
     pub fn may_have_key(&self, key: &LookupKey) -> bool
         requires from { 1 ≤ key.now.stamp }
         requires to { key.now.stamp < 2 ^ 63 }

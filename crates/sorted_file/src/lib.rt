@@ -1,4 +1,4 @@
-//! Files of entries in the order of their keys, and the sources that entries come from (Bigtable, the SSTable).
+//! Files of entries in key order, and sources of entries (Bigtable, the SSTable).
 #![tactic(auto)]
 
 mod block;

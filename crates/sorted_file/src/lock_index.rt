@@ -1,6 +1,6 @@
-//! The locks that may have a value in several files together, by which a lock test reads none of them.
+//! The locks that may have a value in any of several files, by which a lock test needs no read.
 
-ghost use Rattle.std.specs.Prelude.{◌≡◌, ◌≤◌, ◌∷◌, [], false, Contains, IfErr, IfOk, List, map, ℕ};
+ghost use Rattle.std.specs.Prelude.{◌≡◌, ◌≤◌, ◌∷◌, [], false, Contains, IfOk, List, map, ℕ, IsOkUnless};
 ghost use Rattle.cell_key.specs.Keys.{text};
 ghost use Rattle.cell_key.specs.declared.keys.CellKey.{CellKey as KeyOf};
 ghost use Rattle.sorted_file.specs.LockIndexes.{IsIndexOf, stamp_of};
@@ -19,8 +19,8 @@ use cell_key::{Refusal, Row, Stamp};
 use std::alloc::Global;
 use std::marker::Model;
 
-/// The keys of the locks that may have a value in several files together: of each lock that a file has a value of, unless
-/// a newer file was found to name its key.
+/// The keys of the locks that may have a value in any of several files: each lock that a file has a value of, unless a
+/// newer file is known to have an entry of its key.
 #[derive(Drop)]
 pub struct LockIndex {
     alloc: Global,
@@ -47,7 +47,7 @@ impl Model for LockIndex {
 }
 
 impl LockIndex {
-    /// The index of no files. Takes no memory.
+    /// The index of no files. Allocates nothing.
     pub fn new(alloc: Global) -> LockIndex
         ensures { result ≡ [] }
     {
@@ -62,7 +62,7 @@ impl LockIndex {
     /// The index of these locks. Answers `NoMemory` if there is no memory.
     fn of_values(alloc: Global, values: Vec<LockValue>) -> Result<LockIndex, Refusal>
         ensures values { IfOk result (λ index. index ≡ values.items) }
-        ensures refusal { IfErr result (λ refusal. refusal ≡ Refusal.NoMemory) }
+        ensures refusal { IsOkUnless result Refusal.NoMemory }
     {
         let stamps = LockStamps::new(stamps_of(alloc, &values)?);
         let rows = rows_of(alloc, &values)?;
@@ -74,10 +74,10 @@ impl LockIndex {
         })
     }
 
-    /// The index of these files, the newest first. Answers `NoMemory` if there is no memory.
+    /// The index of these files, newest first. Answers `NoMemory` if there is no memory.
     pub fn of(alloc: Global, files: &[SortedFile]) -> Result<LockIndex, Refusal>
         ensures files { IfOk result (λ index. IsIndexOf index files.now) }
-        ensures refusal { IfErr result (λ refusal. refusal ≡ Refusal.NoMemory) }
+        ensures refusal { IsOkUnless result Refusal.NoMemory }
     {
         let mut index = LockIndex::new(alloc);
         let mut newer = files;
@@ -92,7 +92,7 @@ impl LockIndex {
     pub fn over(&self, file: &SortedFile) -> Result<LockIndex, Refusal>
         ensures over { IfOk result (λ index. (files : List FileOf) → IsIndexOf self.now files
             → IsIndexOf index (file.now ∷ files)) }
-        ensures refusal { IfErr result (λ refusal. refusal ≡ Refusal.NoMemory) }
+        ensures refusal { IsOkUnless result Refusal.NoMemory }
     {
         let values = values_over(
             self.alloc,
@@ -103,15 +103,15 @@ impl LockIndex {
         LockIndex::of_values(self.alloc, values)
     }
 
-    /// Whether it has a lock of the column with this number at this stamp. Takes no memory.
+    /// Whether it has a lock at this stamp whose column has this hash. Allocates nothing.
     pub(crate) fn has(&self, column: u64, stamp: Stamp) -> bool
         ensures { result ≡ false → ¬ Contains (map stamp_of self.now) (lock_stamp column stamp) }
     {
         !self.values.is_empty() && self.stamps.latest(column, stamp, stamp).is_some()
     }
 
-    /// The greatest stamp, from `lo` up to that of the key, of its locks whose columns have the number of the key's: later
-    /// it has none of the key's column. Takes no memory.
+    /// The greatest stamp, from `lo` to the key's, of its locks whose columns have the same hash as the key's. Above
+    /// it, up to the key's stamp, it has no lock of the key's column. Allocates nothing.
     pub fn latest(&self, key: &LookupKey, lo: Stamp) -> Option<Stamp>
         ensures latest { IsLatest
             (map stamp_of self.now) (number_of (text key.now)) lo key.now.stamp result }
@@ -121,8 +121,8 @@ impl LockIndex {
         self.stamps.latest(key.column_number(), lo, key.key().stamp)
     }
 
-    /// Whether it may have a lock of the row: if it has none at all, or a filter says so of this row, it has none. Takes no
-    /// memory.
+    /// Whether it may have a lock of the row. No means that it has none: either it is empty, or the filter of its rows
+    /// rules the row out. Allocates nothing.
     pub fn may_have_row(&self, row: &Row) -> bool
         ensures { result ≡ false → (key : KeyOf) → Contains self.now key → ¬ (key.row ≡ row.now) }
     {

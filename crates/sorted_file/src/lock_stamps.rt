@@ -1,4 +1,4 @@
-//! The stamps of locks that have a value, by which a lock test passes by a file without reading it.
+//! The stamps of locks that have a value, by which a lock test skips files without reading them.
 
 ghost use Rattle.std.specs.Prelude.{◌≡◌, ◌≤◌, ◌⊎◌, ℕ, Some, IfSome};
 ghost use Rattle.sorted_file.specs.LockStamps.{InColumnOrder, IsLatest, IsLatestOf};
@@ -8,14 +8,14 @@ ghost use Rattle.sorted_file.specs.Numbers.{IsAmong};
 use cell_key::Stamp;
 use std::marker::Model;
 
-/// The stamp of a lock that has a value, by the number of its column.
+/// The stamp of a lock that has a value, and the hash of its column.
 #[derive(Clone, Copy, Drop)]
 pub(crate) struct LockStamp {
     pub(crate) column: u64,
     pub(crate) stamp: Stamp,
 }
 
-/// The later of a stamp that was found, if one was, and another one, if that is in `lo..=hi`.
+/// The later of `found` and `stamp`, which counts only if it is in `lo..=hi`.
 fn later(found: Option<Stamp>, stamp: Stamp, lo: Stamp, hi: Stamp) -> Option<Stamp>
     requires { IfSome found (λ last. (lo ≤ last) × (last ≤ hi)) }
     ensures within { IfSome result (λ last. (lo ≤ last) × (last ≤ hi)) }
@@ -32,7 +32,7 @@ fn later(found: Option<Stamp>, stamp: Stamp, lo: Stamp, hi: Stamp) -> Option<Sta
     }
 }
 
-/// The greatest stamp in `lo..=hi` of locks.
+/// The greatest of these locks' stamps in `lo..=hi`.
 fn latest_of(locks: &[LockStamp], lo: Stamp, hi: Stamp) -> Option<Stamp>
     ensures { IsLatestOf locks.now lo hi result }
 {
@@ -46,7 +46,7 @@ fn latest_of(locks: &[LockStamp], lo: Stamp, hi: Stamp) -> Option<Stamp>
 /// The stamps of locks.
 #[derive(Drop)]
 pub(crate) struct LockStamps {
-    /// In the order of their columns' numbers.
+    /// In ascending order of the columns' hashes.
     sorted: Vec<LockStamp>,
 }
 
@@ -73,7 +73,7 @@ impl LockStamps {
         LockStamps { sorted }
     }
 
-    /// The greatest stamp in `lo..=hi` of a lock of this column.
+    /// The greatest stamp in `lo..=hi` of a lock whose column has this hash.
     pub(crate) fn latest(&self, column: u64, lo: Stamp, hi: Stamp) -> Option<Stamp>
         ensures { IsLatest self.now column lo hi result }
     {

@@ -1,6 +1,6 @@
-//! The keys of locks that have a value, and those of several files together.
+//! The keys of locks that have a value, in one file or in several together.
 
-ghost use Rattle.std.specs.Prelude.{◌≡◌, ◌⊎◌, ◌++◌, ℕ, true, All, Contains, IfErr, IfOk, OnOk, map};
+ghost use Rattle.std.specs.Prelude.{◌≡◌, ◌⊎◌, ◌++◌, ℕ, true, All, Contains, IfOk, OnOk, map, IsOkUnless};
 ghost use Rattle.cell_key.specs.Keys.{text};
 ghost use Rattle.cell_key.specs.declared.keys.CellKey.{CellKey as KeyOf};
 ghost use Rattle.sorted_file.specs.LockIndexes.{HasRow, stamp_of};
@@ -13,7 +13,7 @@ use cell_key::{CellKey, Refusal};
 use std::alloc::Global;
 use std::marker::Model;
 
-/// The key of a lock that has a value, with the number of its column.
+/// The key of a lock that has a value, with the hash of its column.
 #[derive(Drop)]
 pub(crate) struct LockValue {
     key: CellKey,
@@ -45,7 +45,7 @@ impl LockValue {
     /// A copy. Answers `NoMemory` if there is no memory.
     fn copy(&self) -> Result<LockValue, Refusal>
         ensures copy { IfOk result (λ lock. lock ≡ self.now) }
-        ensures refusal { IfErr result (λ refusal. refusal ≡ Refusal.NoMemory) }
+        ensures refusal { IsOkUnless result Refusal.NoMemory }
     {
         Ok(LockValue {
             key: self.key.clone()?,
@@ -53,7 +53,7 @@ impl LockValue {
         })
     }
 
-    /// The lock's stamp, by its column's number.
+    /// The lock's stamp, with the hash of its column.
     fn stamp(&self) -> LockStamp
         ensures { result ≡ stamp_of self.now }
     {
@@ -63,14 +63,15 @@ impl LockValue {
         }
     }
 
-    /// The number of the lock's row.
+    /// The hash of the lock's row.
     fn row_number(&self) -> u64
         ensures { result ≡ text_number self.now.row }
     {
         text_number(self.key.row.as_bytes())
     }
 
-    /// Whether the lock's key is among these, which are in rising order. If they aren't, the answer may be no.
+    /// Whether the lock's key is among `keys`, which are in ascending order. If they aren't, the answer may be a false
+    /// no.
     fn is_among(&self, keys: &[CellKey]) -> bool
         ensures { result ≡ true → Contains keys.now self.now }
     {
@@ -78,7 +79,7 @@ impl LockValue {
     }
 }
 
-/// Adds a copy of a lock whose key isn't among these. Answers `NoMemory` if there is no memory.
+/// Adds a copy of a lock, unless its key is among `named`. Answers `NoMemory` if there is no memory.
 fn push_unnamed(
     kept: &mut Vec<LockValue>,
     lock: &LockValue,
@@ -88,7 +89,7 @@ fn push_unnamed(
     ensures keeps { OnOk result (IsAmong kept.old.items kept.new.items) }
     ensures only { OnOk result ((key : KeyOf) → Contains kept.new.items key
         → Contains kept.old.items key ⊎ (lock.now ≡ key)) }
-    ensures refusal { IfErr result (λ refusal. refusal ≡ Refusal.NoMemory) }
+    ensures refusal { IsOkUnless result Refusal.NoMemory }
 {
     if lock.is_among(named) {
         return Ok(());
@@ -97,7 +98,7 @@ fn push_unnamed(
     Ok(())
 }
 
-/// Copies of those of some locks whose keys aren't among these. Answers `NoMemory` if there is no memory.
+/// Copies of the locks whose keys aren't among `named`. Answers `NoMemory` if there is no memory.
 fn copy_unnamed(
     alloc: Global,
     locks: &[LockValue],
@@ -106,7 +107,7 @@ fn copy_unnamed(
     ensures keeps { IfOk result (λ kept. (key : KeyOf) → Contains locks.now key
         → ¬ Contains named.now key → Contains kept.items key) }
     ensures only { IfOk result (λ kept. IsAmong kept.items locks.now) }
-    ensures refusal { IfErr result (λ refusal. refusal ≡ Refusal.NoMemory) }
+    ensures refusal { IsOkUnless result Refusal.NoMemory }
 {
     let mut kept = Vec::new(alloc);
     for lock in locks {
@@ -118,7 +119,7 @@ fn copy_unnamed(
 /// Adds copies of locks. Answers `NoMemory` if there is no memory.
 fn push_copies(out: &mut Vec<LockValue>, locks: &[LockValue]) -> Result<(), Refusal>
     ensures items { OnOk result (out.new.items ≡ out.old.items ++ locks.now) }
-    ensures refusal { IfErr result (λ refusal. refusal ≡ Refusal.NoMemory) }
+    ensures refusal { IsOkUnless result Refusal.NoMemory }
 {
     for lock in locks {
         out.push(lock.copy()?)?;
@@ -126,7 +127,8 @@ fn push_copies(out: &mut Vec<LockValue>, locks: &[LockValue]) -> Result<(), Refu
     Ok(())
 }
 
-/// Those of a file, and those of older files whose keys the file doesn't name. Answers `NoMemory` if there is no memory.
+/// The locks of a file (`values`), and the older ones that it doesn't name (`named`). Answers `NoMemory` if there is no
+/// memory.
 pub(crate) fn values_over(
     alloc: Global,
     older: &[LockValue],
@@ -136,7 +138,7 @@ pub(crate) fn values_over(
     ensures older { IfOk result (λ locks. (key : KeyOf) → Contains older.now key
         → ¬ Contains named.now key → Contains locks.items key) }
     ensures newer { IfOk result (λ locks. IsAmong values.now locks.items) }
-    ensures refusal { IfErr result (λ refusal. refusal ≡ Refusal.NoMemory) }
+    ensures refusal { IsOkUnless result Refusal.NoMemory }
 {
     let mut locks = copy_unnamed(alloc, older, named)?;
     push_copies(&mut locks, values)?;
@@ -146,7 +148,7 @@ pub(crate) fn values_over(
 /// The stamps of locks. Answers `NoMemory` if there is no memory.
 pub(crate) fn stamps_of(alloc: Global, locks: &[LockValue]) -> Result<Vec<LockStamp>, Refusal>
     ensures stamps { IfOk result (λ stamps. stamps.items ≡ map stamp_of locks.now) }
-    ensures refusal { IfErr result (λ refusal. refusal ≡ Refusal.NoMemory) }
+    ensures refusal { IsOkUnless result Refusal.NoMemory }
 {
     let mut stamps = Vec::new(alloc);
     for lock in locks {
@@ -158,7 +160,7 @@ pub(crate) fn stamps_of(alloc: Global, locks: &[LockValue]) -> Result<Vec<LockSt
 /// A filter of the rows of locks. Answers `NoMemory` if there is no memory.
 pub(crate) fn rows_of(alloc: Global, locks: &[LockValue]) -> Result<Filter, Refusal>
     ensures rows { IfOk result (λ rows. All (HasRow rows.words.items) locks.now) }
-    ensures refusal { IfErr result (λ refusal. refusal ≡ Refusal.NoMemory) }
+    ensures refusal { IsOkUnless result Refusal.NoMemory }
 {
     let mut rows = Filter::with_room(alloc, locks.len())?;
     for lock in locks {

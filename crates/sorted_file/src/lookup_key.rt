@@ -1,6 +1,6 @@
-//! A key that is looked up in files, with what each of them is asked by.
+//! A key to look up in files, with the text and the hashes that the look-ups need.
 
-ghost use Rattle.std.specs.Prelude.{◌≡◌, IfErr, IfOk};
+ghost use Rattle.std.specs.Prelude.{◌≡◌, IfOk, IsOkUnless};
 ghost use Rattle.sorted_file.specs.LookupKey.{entry_number};
 ghost use Rattle.sorted_file.specs.Numbers.{number_of};
 
@@ -9,7 +9,7 @@ use cell_key::{CellKey, Qualifier, Refusal, Stamp, set_stamp};
 use std::alloc::Global;
 use std::marker::Model;
 
-/// A key that is looked up in files. Its text and its numbers are made once, however many files are asked.
+/// A key to look up in files. Its text and its hashes are made once for all files.
 #[derive(Drop)]
 pub struct LookupKey {
     key: CellKey,
@@ -30,7 +30,7 @@ impl Model for LookupKey {
         IsLookupKey lookup.key lookup.text.items lookup.column lookup.entry };
 }
 
-/// The number by which the entry of a key with this text is asked for: of a lock's its own, and of any other its column's.
+/// The hash that an entry of the key with this text is tested by: of its text for a lock, else of its column.
 fn entry_number(qualifier: Qualifier, text: &[u8], column: u64) -> u64
     requires { column ≡ number_of text.now }
     ensures { result ≡ entry_number qualifier text.now }
@@ -48,7 +48,7 @@ impl LookupKey {
     /// The lookup key of a key. Answers `NoMemory` if there is no memory.
     pub fn new(alloc: Global, key: CellKey) -> Result<LookupKey, Refusal>
         ensures key { IfOk result (λ lookup. lookup ≡ key) }
-        ensures refusal { IfErr result (λ refusal. refusal ≡ Refusal.NoMemory) }
+        ensures refusal { IsOkUnless result Refusal.NoMemory }
     {
         // These show that row, family and stamp are within their limits.
         let _row = key.row.as_bytes();
@@ -66,7 +66,7 @@ impl LookupKey {
         })
     }
 
-    /// Makes it that of the same column at another stamp. Takes no memory.
+    /// Changes the key's stamp; the column is unchanged. Allocates nothing.
     pub fn set_stamp(&mut self, stamp: Stamp)
         ensures { self.new ≡ at_stamp self.old stamp }
     {
@@ -90,14 +90,14 @@ impl LookupKey {
         &self.text
     }
 
-    /// The number of the key's column.
+    /// The hash of the key's column.
     pub(crate) fn column_number(&self) -> u64
         ensures { result ≡ number_of (text self.now) }
     {
         self.column
     }
 
-    /// The number by which the entry of the key is asked for.
+    /// The hash that an entry of the key is tested by.
     pub(crate) fn entry_number(&self) -> u64
         ensures { result ≡ entry_number self.now.qualifier (text self.now) }
     {

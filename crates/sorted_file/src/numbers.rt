@@ -1,7 +1,7 @@
-//! Numbers of columns, by which a read passes by a file that has no entry of its column, or no lock.
+//! Hashes of columns, by which a read skips a file without an entry in its column, or without a lock.
 
 ghost use Rattle.std.specs.List.Sorted.{IsNonDecreasing};
-ghost use Rattle.std.specs.Prelude.{◌≡◌, ◌↔◌, ℕ, All, Contains, IfErr, IfOk, IsTrue, OnOk, length};
+ghost use Rattle.std.specs.Prelude.{◌≡◌, ◌↔◌, ℕ, All, Contains, IfOk, IsTrue, OnOk, length, IsOkUnless};
 ghost use Rattle.sorted_file.specs.Filters.{HasBits};
 ghost use Rattle.sorted_file.specs.Numbers.{number_of, text_number, IsAmong};
 
@@ -11,10 +11,10 @@ use std::alloc::Global;
 use std::hash::{FoldHasher, Hasher};
 use std::marker::Model;
 
-/// How many bytes of a key's text its stamp has.
+/// The length in bytes of the stamp in a key's text.
 const STAMP: usize = 8;
 
-/// The number of a text.
+/// The hash of a text.
 pub(crate) fn text_number(text: &[u8]) -> u64
     ensures { result ≡ text_number text.now }
 {
@@ -23,7 +23,7 @@ pub(crate) fn text_number(text: &[u8]) -> u64
     hasher.finish()
 }
 
-/// The number of the column of the key with this text. Keys of one column have one number.
+/// The hash of the column of the key with this text. Keys of one column have the same hash.
 pub(crate) fn column_number(text: &[u8]) -> u64
     ensures { result ≡ number_of text.now }
 {
@@ -35,7 +35,7 @@ pub(crate) fn column_number(text: &[u8]) -> u64
 pub(crate) fn push_number(numbers: &mut Vec<u64>, number: u64) -> Result<(), Refusal>
     ensures has { OnOk result (Contains numbers.new.items number) }
     ensures keeps { IsAmong numbers.old.items numbers.new.items }
-    ensures refusal { IfErr result (λ refusal. refusal ≡ Refusal.NoMemory) }
+    ensures refusal { IsOkUnless result Refusal.NoMemory }
 {
     if let Some(last) = numbers.last() {
         if *last == number {
@@ -46,7 +46,7 @@ pub(crate) fn push_number(numbers: &mut Vec<u64>, number: u64) -> Result<(), Ref
     Ok(())
 }
 
-/// Whether a number is among numbers in rising order.
+/// Whether a number is among numbers in ascending order.
 fn is_among(sorted: &[u64], number: u64) -> bool
     requires { IsNonDecreasing sorted.now }
     ensures { IsTrue result ↔ Contains sorted.now number }
@@ -54,12 +54,12 @@ fn is_among(sorted: &[u64], number: u64) -> bool
     sorted.binary_search(&number).is_ok()
 }
 
-/// A set of numbers of columns.
+/// A set of hashes.
 #[derive(Drop)]
 pub(crate) struct Numbers {
-    /// In rising order.
+    /// In ascending order.
     sorted: Vec<u64>,
-    /// Each of them has its bits set in it.
+    /// A filter of all of them.
     filter: Filter,
 }
 
@@ -81,7 +81,7 @@ impl Numbers {
     pub(crate) fn new(alloc: Global, numbers: Vec<u64>) -> Result<Numbers, Refusal>
         ensures keeps { IfOk result (λ made. IsAmong numbers.items made) }
         ensures only { IfOk result (λ made. IsAmong made numbers.items) }
-        ensures refusal { IfErr result (λ refusal. refusal ≡ Refusal.NoMemory) }
+        ensures refusal { IsOkUnless result Refusal.NoMemory }
     {
         let mut sorted = numbers;
         sorted.sort_unstable();
@@ -90,21 +90,21 @@ impl Numbers {
         Ok(Numbers { sorted, filter })
     }
 
-    /// Whether a number is among them. Of most that aren't, one word of the filter says so.
+    /// Whether a number is in the set. For most that aren't, one word of the filter is enough to say no.
     pub(crate) fn has(&self, number: u64) -> bool
         ensures { IsTrue result ↔ Contains self.now number }
     {
         self.filter.has(number) && is_among(&self.sorted, number)
     }
 
-    /// How many they are.
+    /// How many there are.
     pub(crate) fn len(&self) -> usize
         ensures { result ≡ length self.now }
     {
         self.sorted.len()
     }
 
-    /// Adds each to a filter.
+    /// Adds all of them to a filter.
     pub(crate) fn add_to(&self, filter: &mut Filter)
         ensures each { All (HasBits filter.new.words.items) self.now }
         ensures keeps { (other : ℕ) → HasBits filter.old.words.items other

@@ -1,4 +1,4 @@
-//! Where entries come from: parts of files, and sources, which give one entry after the other.
+//! Sources, which give entries one after another, and reads of parts of files.
 
 ghost use Rattle.std.specs.Prelude.{◌≡◌, ◌≤◌, ◌+◌, ℕ, List, Option, option_map, is_some, IfOk, OnOk, IsErrOf, IfErr, IfSome, if◌then◌else◌, length, ◌<◌};
 ghost use Rattle.cell_key.specs.Entries.{Entry, IsEntryList, Takes, lent_entry};
@@ -11,33 +11,32 @@ use cell_key::{EntryRef, Refusal};
 use file_store::{FileFault, Files};
 use std::alloc::Global;
 
-/// Entries, one after the other. After an `Err` of `advance` a source is given up: only the files, the
-/// count of faults and damage are spoken of.
+/// Entries, one after another. A source cannot be used after an `Err` of `advance`: the contract then speaks only of
+/// the files, the count of faults and damage.
 pub trait Source<F: Files> {
-    /// Over files that hold this it stands for a list of entries: one that reads no files does so whatever they
-    /// hold.
+    /// If it holds over the files' contents, the source stands for a list of entries. For a source that reads no files
+    /// the contents don't matter.
     ghost holds: { Option Contents → Self → Type 0 };
 
-    /// The entries that it has not come to.
+    /// The entries that it has not reached.
     ghost remaining: { Option Contents → Self → List Entry };
 
-    /// The entry that it is at.
+    /// Its current entry.
     ghost lent: { Self → Option Entry };
 
-    /// Over files that hold this it goes on by one step from the one to the other, through bytes that are entries,
-    /// whatever stood there before.
+    /// A step of the source from the first state to the second over these contents, through bytes that are entries,
+    /// whatever was there before.
     ghost steps: { Option Contents → Self → Self → Type 0 };
 
-    /// Over files that hold this its entries break off behind the one that it is at: what stands there is no list
-    /// of entries.
+    /// Over these contents its entries break off behind its current entry: the bytes there are no entries.
     ghost breaks: { Option Contents → Self → Type 0 };
 
-    /// At most how many entries it can come to, whatever the files give.
+    /// An upper bound of the number of entries that it can still reach, whatever the files give.
     ghost left: { Self → ℕ };
 
-    /// Goes on to the next entry, and says whether there is one. Answers `Device` if a device fails,
-    /// `NoMemory` if there is no memory, and `Damaged` only if the files do not hold what the source
-    /// stands for, and its entries break off where it is.
+    /// Goes to the next entry, and answers whether there is one. Answers `Device` if a device fails, `NoMemory` if
+    /// there is no memory, and `Damaged` only if the files don't hold the entries that the source stands for, and its
+    /// entries break off at its place.
     fn advance(&mut self, files: &mut F) -> Result<bool, Refusal>
         ensures files { F.contents files.new ≡ F.contents files.old }
         ensures reason { HasReason (F.faults files.old) (F.faults files.new) result }
@@ -54,7 +53,7 @@ pub trait Source<F: Files> {
             → Takes (lent self.new) (remaining (F.contents files.old) self.old)
             (remaining (F.contents files.old) self.new)) };
 
-    /// The entry that it is at.
+    /// Its current entry.
     fn current(&self) -> Option<EntryRef<'_>>
         ensures { option_map lent_entry result ≡ lent self.now };
 
@@ -62,7 +61,7 @@ pub trait Source<F: Files> {
         → IsEntryList (pending (lent s) (remaining disk s)) };
 }
 
-/// The refusal of a fault of files.
+/// The refusal for a fault of files.
 pub fn refusal_of(fault: FileFault) -> Refusal
     ensures { result ≡ fault_refusal fault }
 {
@@ -72,7 +71,7 @@ pub fn refusal_of(fault: FileFault) -> Refusal
     }
 }
 
-/// What stands in a file from an offset on, up to the length of a buffer, and how much it is.
+/// Reads a file from an offset into a buffer, up to the buffer's length, and answers how many bytes were read.
 fn read_into<F: Files>(
     name: u64,
     offset: u64,
@@ -90,8 +89,8 @@ fn read_into<F: Files>(
     files.read_at(name, offset, buffer).map_err(refusal_of)
 }
 
-/// The bytes of a file from an offset on, as many as `len`. Answers `Damaged` if the file ends before them,
-/// `Device` if a device fails, and `NoMemory` if there is no memory.
+/// `len` bytes of a file from an offset on. Answers `Damaged` if the file ends before that, `Device` if a device fails,
+/// and `NoMemory` if there is no memory.
 pub(crate) fn read_part<F: Files>(
     alloc: Global,
     name: u64,

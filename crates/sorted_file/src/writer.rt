@@ -1,4 +1,4 @@
-//! Writing a file, which is open at once: nothing of it is read.
+//! Writing a file, which is open at once without reading any of it.
 
 ghost use Rattle.std.specs.FinMap as map;
 ghost use Rattle.std.specs.Prelude.{◌≡◌, ◌≤◌, ◌++◌, length, Some, IfOk, IfErr, IfSome, IsErrOf, ◌⊎◌, OnOk, OnErr, ℕ, List};
@@ -8,7 +8,7 @@ ghost use Rattle.sorted_file.specs.Builder.{IsReady, built};
 ghost use Rattle.sorted_file.specs.File.{IsOpen, name_of};
 ghost use Rattle.sorted_file.specs.Grammar.{IsFile, FitsIn};
 ghost use Rattle.sorted_file.specs.Limits.{IsFileLimit};
-ghost use Rattle.sorted_file.specs.Source.{ComesToEnd, IsWriteRefusal};
+ghost use Rattle.sorted_file.specs.Source.{ComesToEnd, IsFaultRefusal, IsWriteRefusal, StaysIfUnfit};
 ghost use Rattle.sorted_file.specs.Passing.{BreaksAfter, EndsAfter, IsFileOf, PassesNoList, PassesTooMuch};
 
 use crate::builder::FileBuilder;
@@ -21,7 +21,7 @@ use cell_key::Refusal;
 use file_store::Files;
 use std::alloc::Global;
 
-/// The file of the entries that remain, but for its end.
+/// The file of the source's remaining entries, without its last block, index and foot.
 fn build<F: Files, S: Source<F>>(
     alloc: Global,
     source: &mut S,
@@ -58,7 +58,7 @@ fn build<F: Files, S: Source<F>>(
     Ok(builder)
 }
 
-/// The file of the entries that remain, open where its bytes stand under this name, and those bytes.
+/// The file of the source's remaining entries, which is open once its bytes are under this name, and these bytes.
 fn file_of_rest<F: Files, S: Source<F>>(
     alloc: Global,
     source: &mut S,
@@ -102,23 +102,22 @@ fn put<F: Files>(files: &mut F, name: u64, bytes: Vec<u8>) -> Result<(), Refusal
     ensures ok { OnOk result (F.contents files.new
         ≡ with_file name bytes.items (F.contents files.old)) }
     ensures err { OnErr result (KeepsOthers name (F.contents files.old) (F.contents files.new)) }
-    ensures refusal { IfErr result (λ refusal. (refusal ≡ Refusal.Device)
-        ⊎ (refusal ≡ Refusal.NoMemory)) }
+    ensures refusal { IfErr result IsFaultRefusal }
     ensures reason { HasReason (F.faults files.old) (F.faults files.new) result }
 {
     files.put_owned(name, bytes).map_err(refusal_of)
 }
 
-/// Writes the entries that remain in a source as a file of format 2 (Bigtable, the SSTable), which replaces a file of
-/// this name, and returns it open: nothing of it is read. The file caches 8 blocks at most. It is newer than those whose
-/// locks the index has, and keeps which of those locks it names, as `SortedFile::open_over` does.
+/// Writes the remaining entries of a source as a file of format 2 (Bigtable, the SSTable), which replaces a file of
+/// this name, and returns it open without reading any of it. Its cache holds 8 blocks. `over` is the index of the older
+/// files' locks: the open file keeps the keys of those that it has an entry of, as `SortedFile::open_over` does.
 ///
 /// # Errors
 ///
-/// `FileTooLarge` if the file would have more than `file_limit` bytes, `Damaged` if the source is damaged or its entries
-/// are no entry list, `Device` if a device fails, and `NoMemory` if there is no memory. Until the whole file is in memory
-/// no file is changed; after an `Err` of the write itself the bytes under this name are open. All other files stay as
-/// they are.
+/// `FileTooLarge` if the file would have more than `file_limit` bytes, `Damaged` if the source is damaged or its
+/// entries are no entry list, `Device` if a device fails, and `NoMemory` if there is no memory. No file changes until
+/// the whole file is in memory. After an `Err` of the write itself any bytes may be under this name. No other file
+/// changes.
 pub fn write_file<F: Files, S: Source<F>>(
     alloc: Global,
     source: &mut S,
@@ -147,10 +146,7 @@ pub fn write_file<F: Files, S: Source<F>>(
         → BreaksAfter (S.steps (F.contents files.old)) S.lent (S.breaks (F.contents files.old))
         source.old ⊎ PassesNoList (S.steps (F.contents files.old)) S.lent source.old }
     ensures damaged { IsErrOf result Refusal.Damaged → ¬ S.holds (F.contents files.old) source.old }
-    ensures large_same { IsErrOf result Refusal.FileTooLarge
-        → F.contents files.new ≡ F.contents files.old }
-    ensures damaged_same { IsErrOf result Refusal.Damaged
-        → F.contents files.new ≡ F.contents files.old }
+    ensures unfit { StaysIfUnfit (F.contents files.old) (F.contents files.new) result }
     ensures others { OnErr result (KeepsOthers name (F.contents files.old) (F.contents files.new)) }
     ensures refusal { IfErr result IsWriteRefusal }
     ensures reason { HasReason (F.faults files.old) (F.faults files.new) result }

@@ -1,4 +1,4 @@
-//! Tests of the crates of storage: names and texts, files, memtables, sorted files, tablets and the table of their places.
+//! Tests of the storage crates: names and texts, files, memtables, sorted files, tablets and the metadata table.
 
 mod compactions;
 mod damages;

@@ -1,4 +1,4 @@
--- What stands between the fences of a range is what the range sees.
+-- The entries between the fences of a range are the entries that the range sees.
 use Rattle.std.proofs.Common.{◌≡◌, ℕ, Bool, true, cond, List, [], ◌∷◌, ◌&&◌, Option, Some, None, refl, sym, ap, ◌∙◌}
 use Rattle.std.specs.Prelude.{option_map}
 use Rattle.std.specs.List.{AllByRecursion}
@@ -44,7 +44,7 @@ module _ (key : CellKey) (stored : IsStored key) where
   before_fence None = refl
   before_fence (Some row) = ap is_lt (fences_rows key row stored) ∙ straight (byte_cmp key.row row)
 
-  -- the texts between the fences of a range are those of its rows
+  -- a key's text is between the fences of a range if and only if the range has its row
   pub between_fences : (range : RowRange) → is_between (lower_fence range) (upper_fence range) (text key) ≡ has_row range key.row
   between_fences range =
       ap (λ (b : Bool). b && is_below (upper_fence range) (text key)) (after_fence range.after)
@@ -57,6 +57,6 @@ entry_between range e is =
     ∙ ap (λ (k : CellKey). has_row range k.row) (sym (key_of_text-text is.key is.stored))
     ∙ ap (λ (n : List ℕ). has_row range (key_of_text n).row) (sym is.named)
 
--- what a range sees of a list stands between its fences
+-- the part of a list between a range's fences is the part that the range sees
 pub seen_between : (range : RowRange) (es : List Entry) → AllByRecursion IsEntry es → entries_between (lower_fence range) (upper_fence range) es ≡ seen range es
 seen_between range es each = filter_twice (λ e. is_below (upper_fence range) e.0) (λ e. is_le (byte_cmp (lower_fence range) e.0)) (λ e. has_row range (key_of_text e.0).row) IsEntry (entry_between range) es each

@@ -1,4 +1,4 @@
--- What filtered lists of entries have at a text.
+-- The entries of a text in filtered lists.
 use Rattle.std.proofs.Common.{◌≡◌, ℕ, Bool, true, false, cond, List, [], ◌∷◌, ◌&&◌, map, Option, None, refl, sym, ap, ◌∙◌}
 use Rattle.std.specs.Prelude.{filter}
 use Rattle.std.specs.List.{AllByRecursion}
@@ -24,7 +24,7 @@ or_cond : {A : Type 0} (b : Bool) (x y : Option A) → or_else (cond b x None) (
 or_cond true x y = refl
 or_cond false x y = refl
 
--- texts that tie are one
+-- texts that compare equal are equal
 pub one_text : (x y : List ℕ) → eq_by_cmp byte_cmp x y ≡ true → x ≡ y
 one_text x y e = same_key x y (equal (byte_cmp x y) e)
 
@@ -38,12 +38,12 @@ first-map f b name h (es ∷ lists) =
     ∙ ap (or_else (cond b (entry_of_key es name) None)) (first-map f b name h lists)
     ∙ or_cond b (entry_of_key es name) (first_naming lists name)
 
--- lists stay entry lists where a part of each is taken
+-- a function that keeps entry lists keeps each of several
 pub each_map : (f : List Entry → List Entry) → ((es : List Entry) → IsEntryList es → IsEntryList (f es)) → (lists : List (List Entry)) → AllByRecursion IsEntryList lists → AllByRecursion IsEntryList (map f lists)
 each_map f keeps [] each = tt
 each_map f keeps (es ∷ lists) each = (keeps es each.0, each_map f keeps lists each.1)
 
--- whether a text is one from the first on, and below the second if there is one
+-- whether a text is at or above `from`, and below `end` if there is one
 abbrev pub is_between : List ℕ → Option (List ℕ) → List ℕ → Bool
 is_between from end name = is_le (byte_cmp from name) && is_below end name
 
@@ -53,7 +53,7 @@ find-between from end name es =
     ∙ ap (λ (o : Option (Option (List ℕ))). cond (is_below end name) o None) (find-filter (λ n. is_le (byte_cmp from n)) es name)
     ∙ cond_and (is_le (byte_cmp from name)) (is_below end name) (entry_of_key es name)
 
--- two filters are one that agrees with them
+-- two filters, one after the other, are one filter that agrees with both
 pub filter_twice : (p q r : Entry → Bool) (P : Entry → Type 0) → ((e : Entry) → P e → (q e && p e) ≡ r e) → (es : List Entry) → AllByRecursion P es → filter p (filter q es) ≡ filter r es
 filter_twice p q r P agree [] all = refl
 filter_twice p q r P agree (e ∷ es) all = step (filter_twice p q r P agree es all.1) (q e) ∙ ap (λ (b : Bool). cond b (e ∷ filter r es) (filter r es)) (agree e all.0)

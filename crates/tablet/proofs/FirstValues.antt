@@ -1,4 +1,4 @@
--- The first value of entries whose texts rise.
+-- The first value of entries in ascending order.
 use Rattle.std.proofs.Common.{◌≡◌, ℕ, Bool, true, false, cond, List, [], ◌∷◌, Option, Some, None, refl, ap, subst, ◌∙◌}
 use Rattle.std.specs.Option.{unwrap_or}
 use Rattle.std.specs.declared.cmp.Ordering.TheVariants.{Less}
@@ -21,7 +21,7 @@ first_none [] e name = refl
 first_none ((n, None) ∷ es) e name = no_value (eq_by_cmp byte_cmp name n) (find byte_cmp name es) (first_none es e name)
 first_none ((n, Some v) ∷ es) e name = cc
 
--- a list has this value at this text, and no value at a text below it
+-- a list has this value at this text, and no value at any lower text
 pub record IsFirstAt (es : List Entry) (found : List ℕ × List ℕ) : Type 0 where
   pub there : entry_of_key es found.0 ≡ Some (Some found.1)
   pub least : (k : List ℕ) → byte_cmp k found.0 ≡ Less → value_of (entry_of_key es k) ≡ None

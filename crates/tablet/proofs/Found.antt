@@ -1,4 +1,4 @@
--- The first value between two texts is the first cell there.
+-- The first value between two texts belongs to the first cell there.
 use Rattle.std.proofs.Common.{◌≡◌, ℕ, Bool, true, false, cond, List, Option, Some, None, refl, sym, ap, ◌∙◌}
 use Rattle.std.specs.declared.cmp.Ordering.TheVariants.{Less}
 use Rattle.cell_key.specs.Keys.{key_cmp, text, IsStored}
@@ -12,11 +12,11 @@ use Rattle.tablet.proofs.FirstValues.{IsFirstAt, first_none, first_some}
 use Rattle.tablet.proofs.Shown.{first_at}
 
 module _ (from : List ℕ) (end : Option (List ℕ)) (lists : List (List Entry)) where
-  -- no list names a key between the texts first with a value
+  -- no key between the texts has a value
   pub record HasNone : Type 0 where
     pub none : (k : CellKey) → is_between from end (text k) ≡ true → first_at lists k ≡ None
 
-  -- the key and its value are the first of those between the texts
+  -- the key is the first one between the texts that has a value, and this is its value
   pub record HasFirst (key : CellKey) (value : List ℕ) : Type 0 where
     pub inside : is_between from end (text key) ≡ true
     pub has : first_at lists key ≡ Some value
@@ -25,7 +25,7 @@ module _ (from : List ℕ) (end : Option (List ℕ)) (lists : List (List Entry))
   value_inside : (name : List ℕ) → is_between from end name ≡ true → value_of (first_naming lists name) ≡ value_of (cond (is_between from end name) (first_naming lists name) None)
   value_inside name e = ap (λ (b : Bool). value_of (cond b (first_naming lists name) None)) (sym e)
 
-  -- a list has at each text what the lists have together there, if it is one between the texts
+  -- between the texts the list has the merged entries of the lists, and it has no others
   abbrev pub HasBetween : List Entry → Type 0
   HasBetween es = (name : List ℕ) → entry_of_key es name ≡ cond (is_between from end name) (first_naming lists name) None
 

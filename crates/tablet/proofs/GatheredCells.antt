@@ -1,4 +1,4 @@
--- What was gathered, as one entry after the other comes.
+-- Gathered cells, one entry at a time.
 use Rattle.std.proofs.Common.{◌≡◌, ◌≢◌, ◌<◌, ◌≤◌, ◌+◌, ◌-◌, ℕ, Bool, true, false, cond, List, [], ◌∷◌, ◌++◌, ◌⊎◌, inl, inr, Option, Some, None, refl, sym, ap, subst, ◌∙◌, append_assoc, length, get_or, set, take, ◌^◌, arith}
 use Rattle.std.specs.Prelude.{IfSome, IsSome}
 use Rattle.std.specs.Bool.{OnFalse}
@@ -36,7 +36,7 @@ use Rattle.rows.proofs.NextLists.{last_append, next_append, next_one}
 use Rattle.tablet.proofs.ReadPlaces.{left_after, none_below, none_erased, some_from}
 use Rattle.tablet.proofs.Shown.{stored_or_none}
 
--- ---- places among entries that go on
+-- ---- places in a list of entries that grows
 
 first_more : (xs ys : List Entry) → first_value (xs ++ ys) ≡ or_else (first_value xs) (first_value ys)
 first_more [] ys = refl
@@ -69,7 +69,7 @@ none_more past es more e f = from_more past es more ∙ ap (λ (o : Option (List
 pub cells_next : (es more : List Entry) (cells : List CellVersions) → AreNext (IsNextIn es) None (length cells) (places_in cells) → AreNext (IsNextIn (es ++ more)) None (length cells) (places_in cells)
 cells_next es more cells next = next_more (length cells) None es more (places_in cells) (length-map cells place_in) next
 
--- ---- a cell that stays shown
+-- ---- a cell that stays correct
 
 pub cell_shown : (es now : List Entry) (hi : ℕ) (found : CellVersions) → ((q : CellKey) → place_of q ≡ place_in found → get (cells_of now) q ≡ get (cells_of es) q) → IsShown es hi found → IsShown now hi found
 cell_shown es now hi found same h = record {
@@ -115,7 +115,7 @@ then_first Equal Equal t e other = absurd (other refl refl)
 then_first Equal Greater t e other = cc
 then_first Greater s t e other = cc
 
--- a later text at another place is at a later place
+-- a later text of another place has a later place
 later_place : (j k : CellKey) → IsStored j → IsStored k → byte_cmp (text j) (text k) ≡ Less → (place_of k ≡ place_of j → ⊥) → place_cmp (place_of j) (place_of k) ≡ Less
 later_place j k a b lower other =
     then_first (byte_cmp j.row k.row) (byte_cmp j.family k.family) _ (sym (text_order j k (stored_key j a) (stored_key k b)) ∙ lower)
@@ -129,7 +129,7 @@ less_le x y z e f = go (byte_cmp y z) refl f
     go Equal p t = sym (alike_right total y z x p) ∙ e
     go Greater p t = absurd (let no : false ≡ true = t in cc)
 
--- keys of a place have texts below one that comes after it
+-- keys of a place are below every text past the place
 below_later : (q : CellKey) → IsStored q → (place : Place) → place_of q ≡ place → (name : List ℕ) → is_le (byte_cmp (past_place (Some place)) name) ≡ true → byte_cmp (text q) name ≡ Less
 below_later q stored place at name up =
     less_le (text q) (past_place (Some place)) name
@@ -153,7 +153,7 @@ last_at front last = ap (slice_get (front ++ last ∷ [])) (one_less front last)
 front_at : (front : List CellVersions) (last : CellVersions) → before_last (front ++ last ∷ []) ≡ front
 front_at front last = ap (λ (n : ℕ). take n (front ++ last ∷ [])) (one_less front last) ∙ take-append_seam front (last ∷ [])
 
--- there is none, or they end with one
+-- a list is empty, or it has a last item
 pub record HasLast (cells : List CellVersions) : Type 0 where
   pub front : List CellVersions
   pub last : CellVersions
@@ -199,7 +199,7 @@ gathers_erased es name g list h = record {
   last = if_map (last_of g.cells.items) (λ o was. record { text = was.text; shown = cell_shown es (es ++ (name, None) ∷ []) g.hi o (λ q at. get_erased es name list q) was.shown }) h.last;
 }
 
--- out of entries these cells were gathered, the last of which has this text of its place
+-- a gathering of these entries, made of complete cells and a last one whose place's text is kept
 gathers_at : (es : List Entry) (hi : ℕ) (bytes : List ℕ) (front : List CellVersions) (last : CellVersions) → AreNext (IsNextIn es) None (length (front ++ last ∷ [])) (places_in (front ++ last ∷ [])) → IsNextIn es (Some (place_in last)) None
     → AllByRecursion (IsWhole es hi) front → IsShownSoFar es hi bytes last → (new : Gathering) → new.cells.items ≡ front ++ last ∷ [] → new.place.items ≡ bytes → new.hi ≡ hi → Gathers es new
 gathers_at es hi bytes front last next none whole shown new cells place stamp = record {
@@ -262,7 +262,7 @@ module _ (es : List Entry) (k : CellKey) (stored : IsStored k) (value : List ℕ
           ∙ sym (length-append s.front (p ∷ []))
 
   module _ (other : IfSome (last_of g.cells.items) (λ o. ¬ BeginsWith g.place.items (text k))) where
-    -- a value of another cell lies behind the last one
+    -- a value of another cell is past the last cell
     behind_last : IsEntryList now → (s : HasLast g.cells.items) → is_le (byte_cmp (past_place (Some (place_in s.last))) (text k)) ≡ true
     behind_last list s = go (stored_or_none es (list_front es _ list).each was.shown.some.key)
       where
@@ -286,7 +286,7 @@ module _ (es : List Entry) (k : CellKey) (stored : IsStored k) (value : List ℕ
         go : IsStored was.shown.some.key ⊎ (get (cells_of es) was.shown.some.key ≡ None) → is_le (byte_cmp (past_place (Some (place_in s.last))) (text k)) ≡ true
         go either = at_key (get (cells_of es) was.shown.some.key) refl was.shown.some.some
 
-    -- so does each key of that cell
+    -- so is each key of that cell
     at_last : (q : CellKey) → IsStored q → place_of q ≡ place_of k → IsEntryList now → is_le (byte_cmp (past_place (last_or None (places_in g.cells.items))) (text q)) ≡ true
     at_last q stored_q at list = go (split_last g.cells.items)
       where
@@ -298,14 +298,14 @@ module _ (es : List Entry) (k : CellKey) (stored : IsStored k) (value : List ℕ
             ∙ after_past q stored_q (place_in s.last) place
             (subst (λ (p : Place). place_cmp (place_in s.last) p ≡ Less) (sym at) (past_after k stored (place_in s.last) place (behind_last list s)))
 
-    -- then the last cell is whole
+    -- so the last cell is complete
     last_whole : (more : List Entry) → IsEntryList (es ++ (text k, Some value) ∷ more) → IsEntryList now → (s : HasLast g.cells.items) → IsShown (es ++ (text k, Some value) ∷ more) g.hi s.last
     last_whole more list short s =
         cell_shown es (es ++ (text k, Some value) ∷ more) g.hi s.last
         (λ q at. get_unnamed es ((text k, Some value) ∷ more) list q (λ stored_q. none_behind (text k, Some value) more (text q) (list_back es ((text k, Some value) ∷ more) list).rising (below_later q stored_q (place_in s.last) at (text k) (behind_last short s))))
         (was_last es g h s).shown
 
-    -- the cells that were gathered are whole before it
+    -- all cells gathered before it are complete
     all_shown : (more : List Entry) → IsEntryList (es ++ (text k, Some value) ∷ more) → AllByRecursion (IsShown (es ++ (text k, Some value) ∷ more) g.hi) g.cells.items
     all_shown more list = go (split_last g.cells.items)
       where
@@ -360,7 +360,7 @@ module _ (es : List Entry) (k : CellKey) (stored : IsStored k) (value : List ℕ
             ∙ first_none (entries_from past es) h.none (text cell.key))
             cell.some
 
-    -- and it is the next one
+    -- and it is the next cell
     pub gathers_begun : IsEntryList now → (o : CellVersions) (start : List ℕ) → HasPlaceText o start → place_of k ≡ place_in o
         → (¬ HasCell (cells_of es) (place_in o) → HasNewest (cells_of now) g.hi o)
         → (new : Gathering) → new.cells.items ≡ g.cells.items ++ o ∷ [] → new.place.items ≡ start → new.hi ≡ g.hi → Gathers now new
@@ -397,7 +397,7 @@ module _ (es : List Entry) (k : CellKey) (stored : IsStored k) (value : List ℕ
 
 -- ---- the end
 
--- after the last entry
+-- the gathering after the last entry
 pub gathers_ended : (es : List Entry) (g : Gathering) → IsEntryList es → Gathers es g → AreVersionsIn es g.hi g.cells.items true
 gathers_ended es g list h = record {
   next = h.next;
@@ -459,7 +459,7 @@ module _ (start : List ℕ) (o : CellVersions) (is : HasPlaceText o start) (name
   abbrev family : List ℕ
   family = o.family
 
-  -- what follows the place in a key's text
+  -- a text with the place's text as a prefix, and no qualifier and stamp after it, is not a key's
   pub not_key : ((q : Qualifier) (s : ℕ) → rest ≢ ended (qualifier_name q) ++ stamp_text s) → ¬ IsKeyText name
   not_key none key =
       none key.key.qualifier key.key.stamp
@@ -477,12 +477,12 @@ module _ (start : List ℕ) (o : CellVersions) (is : HasPlaceText o start) (name
     texts : IsEntryList (es ++ (name, Some value) ∷ []) → IsEntryList (es ++ (text (version row family q s), Some value) ∷ [])
     texts list = subst (λ (n : List ℕ). IsEntryList (es ++ (n, Some value) ∷ [])) named list
 
-    -- a version above the stamp is passed by
+    -- a version above `hi` changes nothing
     pub above_newest : IsEntryList (es ++ (name, Some value) ∷ []) → hi < s → HasNewest (cells_of es) hi o → HasNewest (cells_of (es ++ (name, Some value) ∷ [])) hi o
     above_newest list up h = subst (λ (n : List ℕ). HasNewest (cells_of (es ++ (n, Some value) ∷ [])) hi o) (sym named)
         (λ p. newest_above es row family q s (is_stored list) value (texts list) hi up p (of_column o p) (h p))
 
-    -- and another one kept, if it is the first of its column
+    -- another one is kept, if it is the first of its column
     pub kept_newest : IsEntryList (es ++ (name, Some value) ∷ []) → s ≤ hi → (new : CellVersions) → Keeps q (s, value) o new → HasNewest (cells_of es) hi o → HasNewest (cells_of (es ++ (name, Some value) ∷ [])) hi new
     kept_newest list within new keeps h = subst (λ (n : List ℕ). HasNewest (cells_of (es ++ (n, Some value) ∷ [])) hi new) (sym named) (λ p. at_place p (go p (same_or_other p q)))
       where
@@ -499,11 +499,11 @@ module _ (start : List ℕ) (o : CellVersions) (is : HasPlaceText o start) (name
         go p (inr other) = subst (λ (found : Option (ℕ × List ℕ)). IsNewest after (version row family p) 0 hi found) (sym (keeps.others p other))
             (newest_beside es row family q s (is_stored list) value (texts list) hi p other (of_column o p) (h p))
 
--- no version was found yet
+-- the cell has no versions
 abbrev IsEmpty : CellVersions → Type 0
 IsEmpty found = (qualifier : Qualifier) → of_column found qualifier ≡ None
 
--- a cell of which entries have no key has no version
+-- a cell without versions is right for entries that have no key of it
 newest_empty : (es : List Entry) (hi : ℕ) (found : CellVersions) → IsEmpty found → ¬ HasCell (cells_of es) (place_in found) → HasNewest (cells_of es) hi found
 newest_empty es hi found empty none p =
     subst (λ (x : Option (ℕ × List ℕ)). IsNewest (cells_of es) (version found.row found.family p) 0 hi x) (sym (empty p))
@@ -522,7 +522,7 @@ bare_empty key Data = refl
 bare_empty key Lock = refl
 bare_empty key Write = refl
 
--- the cell that is opened for a key
+-- a new cell for a key
 module _ (start : List ℕ) (o : CellVersions) (key : CellKey) (stored : IsStored key) (bare : o ≡ bare_cell key) (place : start ≡ place_text key.row key.family) where
   at : place_in o ≡ place_of key
   at = ap place_in bare
@@ -552,16 +552,16 @@ module _ (start : List ℕ) (o : CellVersions) (key : CellKey) (stored : IsStore
     none_before : ¬ HasCell (cells_of es) (place_in o) → HasNewest (cells_of es) hi o
     none_before = newest_empty es hi o (subst IsEmpty (sym bare) (bare_empty key))
 
-    -- its value is above the stamp
+    -- if its value is above `hi`, the cell has no versions
     pub opened_above : hi < key.stamp → ¬ HasCell (cells_of es) (place_in o) → HasNewest (cells_of (es ++ (name, Some value) ∷ [])) hi o
     opened_above up none = above_newest start o opened_text name rest begins key.qualifier key.stamp refl small es value hi list up (none_before none)
 
-    -- or it is kept
+    -- otherwise the cell keeps it
     pub opened_kept : key.stamp ≤ hi → (new : CellVersions) → Keeps key.qualifier (key.stamp, value) o new → ¬ HasCell (cells_of es) (place_in new) → HasNewest (cells_of (es ++ (name, Some value) ∷ [])) hi new
     opened_kept within new keeps none = kept_newest start o opened_text name rest begins key.qualifier key.stamp refl small es value hi list within new keeps
         (none_before (subst (λ (p : Place). ¬ HasCell (cells_of es) p) keeps.place none))
 
--- it begins with its value, or without it if that is above the stamp
+-- a gathering begins a cell with its value, or without it if the value is above `hi`
 module _ (bytes value : List ℕ) (old new : Gathering) (key : CellKey) (stored : IsStored key) (named : bytes ≡ text key) (place : new.place.items ≡ place_text key.row key.family) where
   pub begins_above : new.hi < key.stamp → new.cells.items ≡ old.cells.items ++ bare_cell key ∷ [] → Begins bytes value old new
   begins_above up after = record {
@@ -581,7 +581,7 @@ module _ (bytes value : List ℕ) (old new : Gathering) (key : CellKey) (stored 
     newest = λ es list none. opened_kept new.place.items (bare_cell key) key stored refl place bytes named es value new.hi list within cell keeps none;
   }
 
--- the text of a place, out of that of a key
+-- the text of a place as a prefix of a key's text
 pub place_part : (bytes : List ℕ) (k : CellKey) (name : List ℕ) → bytes ≡ text k → name ≡ qualifier_name k.qualifier → take (length bytes - length name - 10) bytes ≡ place_text k.row k.family
 place_part bytes k name is names =
     let whole = is ∙ text_of_place k in
@@ -593,7 +593,7 @@ place_part bytes k name is names =
     let front : length bytes - length name - 10 ≡ length (place_text k.row k.family) = omega (arith, all, tail, ending, stamp, lens) in
     ap (λ (n : ℕ). take n bytes) front ∙ ap (take (length (place_text k.row k.family))) whole ∙ take-append_seam (place_text k.row k.family) (ended (qualifier_name k.qualifier) ++ stamp_text k.stamp)
 
--- ---- what a call answers
+-- ---- answers
 
 pub on_false : {A : Type 0} (b : Bool) → b ≡ false → OnFalse b A → A
 on_false true e a = cc

@@ -1,4 +1,4 @@
--- What one more entry changes in the cells that entries stand for.
+-- One more entry, and its effect on the cells of a list of entries.
 use Rattle.std.proofs.Common.{◌≡◌, ◌≢◌, ◌<◌, ◌≤◌, ℕ, Bool, true, false, cond, T, List, [], ◌∷◌, ◌++◌, ◌&&◌, ◌⊎◌, inl, inr, Option, Some, None, refl, sym, ap, subst, ◌∙◌, arith}
 use Rattle.std.specs.List.{AllByRecursion}
 use Rattle.std.specs.declared.cmp.Ordering.{Ordering}
@@ -19,7 +19,7 @@ use Rattle.cell_key.proofs.TextPlaces.{below_less, find_below, first, less, seco
 use Rattle.tablet.proofs.Filters.{one_text}
 use Rattle.tablet.proofs.Shown.{stored_or_none}
 
--- ---- parts of rising lists
+-- ---- parts of ascending lists
 
 pub below_middle : (low : List ℕ) (before : List Entry) (e : Entry) (rest : List Entry) → T (below_all byte_cmp low (before ++ e ∷ rest)) → byte_cmp low e.0 ≡ Less
 below_middle low [] e rest h = less _ (first _ _ h)
@@ -45,7 +45,7 @@ each_front : (es more : List Entry) → AllByRecursion IsEntry (es ++ more) → 
 each_front [] more h = tt
 each_front (x ∷ es) more h = (h.0, each_front es more h.1)
 
--- the first part of an entry list is one
+-- a prefix of an entry list is an entry list
 pub list_front : (es more : List Entry) → IsEntryList (es ++ more) → IsEntryList es
 list_front es more h = record { rising = rising_front es more h.rising; each = each_front es more h.each }
 
@@ -53,7 +53,7 @@ pub list_back : (es more : List Entry) → IsEntryList (es ++ more) → IsEntryL
 list_back [] more h = h
 list_back (x ∷ es) more h = list_back es more (record { rising = second _ _ h.rising; each = h.each.1 })
 
--- what stands before an entry has a lower text
+-- entries before an entry have lower texts
 pub found_before : (es : List Entry) (e : Entry) (more : List Entry) (name : List ℕ) (v : Option (List ℕ)) → IsRising (es ++ e ∷ more) → entry_of_key es name ≡ Some v → byte_cmp name e.0 ≡ Less
 found_before [] e more name v r found = absurd (let no : None ≡ Some v = found in cc)
 found_before (x ∷ es) e more name v r found = go (found_before es e more name v (second _ _ r)) (eq_by_cmp byte_cmp name x.0) refl found
@@ -65,7 +65,7 @@ found_before (x ∷ es) e more name v r found = go (found_before es e more name 
 irreflexive : (x : List ℕ) → byte_cmp x x ≡ Less → ⊥
 irreflexive x e = absurd (let no : is_eq Less ≡ true = ap is_eq (sym e) ∙ ties_itself x in cc)
 
--- so its own text isn't among them
+-- so its own text is not among theirs
 pub none_before : (es : List Entry) (e : Entry) (more : List Entry) → IsRising (es ++ e ∷ more) → entry_of_key es e.0 ≡ None
 none_before es e more r = go (entry_of_key es e.0) refl
   where
@@ -73,19 +73,19 @@ none_before es e more r = go (entry_of_key es e.0) refl
     go None is = is
     go (Some v) is = absurd (irreflexive e.0 (found_before es e more e.0 v r is))
 
--- a text below the first of a rising list isn't in it
+-- a text below the first one of an ascending list is not in the list
 pub none_behind : (e : Entry) (more : List Entry) (name : List ℕ) → IsRising (e ∷ more) → byte_cmp name e.0 ≡ Less → entry_of_key (e ∷ more) name ≡ None
 none_behind e more name r lower =
     ap (λ (o : Ordering). cond (is_eq o) (Some e.1) (find byte_cmp name more)) lower
     ∙ find_below name more (below_less name e.0 more lower (first _ _ r))
 
--- ---- the cells of a list, and of one that goes on
+-- ---- the cells of a list, and of a longer one
 
 or_none : {A : Type 0} (x : Option A) → or_else x None ≡ x
 or_none None = refl
 or_none (Some a) = refl
 
--- if what follows doesn't name a key, it has the value that it had
+-- a key that the appended entries don't name keeps its value
 pub get_front : (es more : List Entry) → IsEntryList (es ++ more) → (q : CellKey) → (IsStored q → value_of (or_else (entry_of_key es (text q)) (entry_of_key more (text q))) ≡ value_of (entry_of_key es (text q))) → get (cells_of (es ++ more)) q ≡ get (cells_of es) q
 get_front es more list q same = go (stored_or_none (es ++ more) list.each q) (stored_or_none es (list_front es more list).each q)
   where
@@ -117,7 +117,7 @@ module _ (es : List Entry) (k : CellKey) (stored : IsStored k) (value : List ℕ
   abbrev pub added : List Entry
   added = es ++ (text k, Some value) ∷ []
 
-  -- a value is there, and changes no other key
+  -- an appended value is there, and no other key changes
   pub get_added : get (cells_of added) k ≡ Some value
   get_added =
       get-cells_of added list.each k stored
@@ -166,7 +166,7 @@ same_self x = go (byte_cmp x x) refl
 name_self : (q : Qualifier) → byte_cmp (qualifier_name q) (qualifier_name q) ≡ Equal
 name_self q = same_self (qualifier_name q)
 
--- of one column a lower text has a later stamp
+-- in one column a lower text has a later stamp
 pub later_stamp : (row family : List ℕ) (q : Qualifier) (s t : ℕ) → IsStored (version row family q s) → IsStored (version row family q t) → byte_cmp (text (version row family q s)) (text (version row family q t)) ≡ Less → t < s
 later_stamp row family q s t a b lower = go (nat_cmp t s) refl (ranks t s)
   where
@@ -188,19 +188,19 @@ other_stamp : (row family : List ℕ) (q : Qualifier) (s t : ℕ) → s ≢ t �
 other_stamp row family q s t other e = other (ap (λ (k : CellKey). k.stamp) e)
 
 module _ (es : List Entry) (row family : List ℕ) (q : Qualifier) (s : ℕ) (stored : IsStored (version row family q s)) (value : List ℕ) (list : IsEntryList (es ++ (text (version row family q s), Some value) ∷ [])) (hi : ℕ) where
-  -- a version above the stamp is passed by
+  -- a version above `hi` changes nothing
   pub newest_above : hi < s → (p : Qualifier) (found : Option (ℕ × List ℕ)) → IsNewest (cells_of es) (version row family p) 0 hi found → IsNewest (cells_of (es ++ (text (version row family q s), Some value) ∷ [])) (version row family p) 0 hi found
   newest_above up p found h =
       newest_same (cells_of es) _ (version row family p) hi found
       (λ t within. get_other es (version row family q s) stored value list (version row family p t) (λ e. let same = ap (λ (k : CellKey). k.stamp) e in omega (arith, same, up, within))) h
 
-  -- one of another column too
+  -- neither does one of another column
   pub newest_beside : (p : Qualifier) → p ≢ q → (found : Option (ℕ × List ℕ)) → IsNewest (cells_of es) (version row family p) 0 hi found → IsNewest (cells_of (es ++ (text (version row family q s), Some value) ∷ [])) (version row family p) 0 hi found
   newest_beside p other found h =
       newest_same (cells_of es) _ (version row family p) hi found
       (λ t within. get_other es (version row family q s) stored value list (version row family p t) (λ e. other (ap (λ (k : CellKey). k.qualifier) e))) h
 
-  -- the first one that comes at or below the stamp is the newest
+  -- the first one at or below `hi` is the newest
   pub newest_kept : s ≤ hi → (found : Option (ℕ × List ℕ)) → IsNewest (cells_of es) (version row family q) 0 hi found → IsNewest (cells_of (es ++ (text (version row family q s), Some value) ∷ [])) (version row family q) 0 hi (or_else found (Some (s, value)))
   newest_kept within None h = (
     omega arith,

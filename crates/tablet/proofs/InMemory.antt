@@ -1,4 +1,4 @@
--- What the memtable alone tells of a column.
+-- Answers about a column from the memtable alone.
 use Rattle.std.proofs.Common.{◌≡◌, ◌≤◌, ◌<◌, ◌^◌, ℕ, Bool, true, cond, List, ◌⊎◌, inl, inr, map, Option, Some, None, refl, sym, ap, subst, ◌∙◌, arith}
 use Rattle.std.specs.Prelude.{IfSome, IsTrue, option_map}
 use Rattle.std.specs.Option.{option_or}
@@ -46,7 +46,7 @@ module _ (m : Contents) (t : Tablet) (held : Holds m t) (row family : List ℕ) 
   in_memory : (s : ℕ) → IsStored (at s) → get (cells_of (memory_of t)) (at s) ≡ value_of (entry_of_key (memory_of t) (text (at s)))
   in_memory s stored = get-cells_of (memory_of t) held.memory.each (at s) stored
 
-  -- what the memtable has is shown
+  -- the memtable's values are shown
   pub still_there : (s : ℕ) (value : List ℕ) → get (cells_of (memory_of t)) (at s) ≡ Some value → get (cells_at m t) (at s) ≡ Some value
   still_there s value e = go (stored_or_none (memory_of t) held.memory.each (at s))
     where
@@ -57,7 +57,7 @@ module _ (m : Contents) (t : Tablet) (held : Holds m t) (row family : List ℕ) 
           ∙ value_front (entry_of_key (memory_of t) (text (at s))) (first_naming (map (listed m) (files_of t)) (text (at s))) value (sym (in_memory s stored) ∙ e)
 
   module _ (lo hi : ℕ) (found : Option (ℕ × List ℕ)) (is : IsNewest (cells_of (memory_of t)) at lo hi found) (from to : ℕ) (after : IsLater from lo found) (first : (s : ℕ) → 1 ≤ s → IsLater s lo found → from ≤ s) (high : to ≤ hi) (last : (s : ℕ) → s < 2 ^ 63 → s ≤ hi → s ≤ to) where
-    -- the memtable has none at the stamps that are left
+    -- the memtable has no version at the remaining stamps
     pub none_later : IsNewest (cells_of (memory_of t)) at from to None
     none_later s a b = go found is after
       where
@@ -65,7 +65,7 @@ module _ (m : Contents) (t : Tablet) (held : Holds m t) (row family : List ℕ) 
         go None none low = none s (omega (arith, low, a)) (omega (arith, b, high))
         go (Some v) newest low = newest.3 s (omega (arith, low, a)) (omega (arith, b, high))
 
-    -- nor has the tablet, where the files have no value there
+    -- nor has the tablet, if the files have no value there
     pub none_in_all : (from ≤ to → HaveNoValue row q from to (files_of t)) → IsNewest (cells_at m t) at from to None
     none_in_all none s a b = go (stored_or_hidden (range_of t) (lists_of m t) (held_lists m t held) (at s))
       where
@@ -84,7 +84,7 @@ module _ (m : Contents) (t : Tablet) (held : Holds m t) (row family : List ℕ) 
         go (inr h) = h
         go (inl stored) = none stored.from (last s stored.to b)
 
-    -- then the memtable's version is the newest
+    -- in that case the memtable's version is the newest
     pub newest_of_all : IsNewest (cells_at m t) at from to None → IsNewest (cells_at m t) at lo hi found
     newest_of_all none = go found is (λ s later b. none_above s b (λ one c. none s (first s one later) c))
       where
@@ -92,7 +92,7 @@ module _ (m : Contents) (t : Tablet) (held : Holds m t) (row family : List ℕ) 
         go None is above = above
         go (Some v) is above = (is.0, is.1, still_there v.0 v.1 is.2, above)
 
-    -- and else the later one is
+    -- otherwise the later one is
     pub newest_later : (v : ℕ × List ℕ) → IsNewest (cells_at m t) at from to (Some v) → IsNewest (cells_at m t) at lo hi (Some v)
     newest_later v h =
         let a = h.0 in let b = h.1 in

@@ -1,4 +1,4 @@
--- The cells of a tablet stay under compactions, and change by edits.
+-- The cells of a tablet are unchanged by compactions, and change by edits.
 use Rattle.std.proofs.Common.{◌≡◌, ℕ, Bool, true, false, cond, List, [], ◌∷◌, ◌++◌, map, refl, sym, ap, subst, ◌∙◌}
 use Rattle.std.specs.Prelude.{Option, Some, None}
 use Rattle.std.specs.List.{AllByRecursion}
@@ -29,7 +29,7 @@ keep_inside : (b : Bool) (memory x y : Option (Option (List ℕ))) → cond b (o
 keep_inside true memory x y = refl
 keep_inside false memory x y = refl
 
--- a list that names as some lists do, cut to the range, may stand for them
+-- a list with the same entries as some lists, cut to the range, can replace them
 pub stands_for : (range : RowRange) (memory one : List Entry) (xs ys : List (List Entry)) → ((name : List ℕ) → entry_of_key one name ≡ first_naming (map (seen range) xs) name) → shown range (memory ∷ one ∷ ys) ≡ shown range (memory ∷ (xs ++ ys))
 stands_for range memory one xs ys h =
     merged_same (map (seen range) (memory ∷ one ∷ ys)) (map (seen range) (memory ∷ (xs ++ ys))) (λ name.
@@ -48,7 +48,7 @@ drop_inside true None one x h = ap value_of (or_last one) ∙ h
 drop_inside true (Some v) one x h = refl
 drop_inside false memory one x h = refl
 
--- a list of the values of all files may stand for them, where no file is older
+-- a list with the values of all files can replace them, as no file is older
 pub stands_for_all : (range : RowRange) (memory one : List Entry) (xs : List (List Entry)) → AllByRecursion IsEntryList (memory ∷ one ∷ []) → AllByRecursion IsEntryList (memory ∷ xs) → ((name : List ℕ) → value_of (entry_of_key one name) ≡ value_of (first_naming (map (seen range) xs) name)) → cells_of (shown range (memory ∷ one ∷ [])) ≡ cells_of (shown range (memory ∷ xs))
 stands_for_all range memory one xs a b h =
     shown_same range (memory ∷ one ∷ []) (memory ∷ xs) a b (λ name. drop_inside (is_seen range name) (entry_of_key memory name) (entry_of_key one name) (first_naming xs name) (h name ∙ ap value_of (first-seen range xs name)))
@@ -80,7 +80,7 @@ edit_inside true false value x y h = absurd (let e : false ≡ true = h refl in 
 edit_inside false true value x y h = refl
 edit_inside false false value x y h = refl
 
--- what an edit leaves at its key
+-- the value of an edit's key after it
 abbrev edit_value : Edit → Option (List ℕ)
 edit_value edit = (edit_entry edit).1
 
@@ -133,7 +133,7 @@ each_put name v (e ∷ es) one all =
       | Greater ↦ λ _. (all.0, each_put name v es one all.1)
     ] refl
 
--- an entry list is one after an edit, and after edits
+-- an entry list stays one after an edit, and after edits
 edit_list : (row : List ℕ) (memory : List Entry) (edit : Edit) → IsEntryList memory → HasStoredKey edit → IsEditOf row edit → IsEntryList (with_edit memory edit)
 edit_list row memory edit h k e = record {
   rising = is_sorted-put byte_cmp total (edit_entry edit).0 (edit_entry edit).1 memory h.rising;
@@ -144,7 +144,7 @@ pub edits_list : (row : List ℕ) (memory : List Entry) (edits : List Edit) → 
 edits_list row memory [] h k e = h
 edits_list row memory (edit ∷ edits) h k e = edits_list row (with_edit memory edit) edits (edit_list row memory edit h k.0 e.0) k.1 e.1
 
--- edits under a row of the range make of what is shown what they make of its cells
+-- edits to a row of the range have the same effect on the shown entries as on their cells
 pub edits_shown : (range : RowRange) (row : List ℕ) (memory : List Entry) (lists : List (List Entry)) (edits : List Edit) → AllByRecursion IsEntryList (memory ∷ lists) → AllByRecursion HasStoredKey edits → AllByRecursion (IsEditOf row) edits → has_row range row ≡ true → cells_of (shown range (with_edits memory edits ∷ lists)) ≡ after_edits (cells_of (shown range (memory ∷ lists))) edits
 edits_shown range row memory lists [] a k e inside = refl
 edits_shown range row memory lists (edit ∷ edits) a k e inside =

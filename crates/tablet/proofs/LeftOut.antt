@@ -1,4 +1,4 @@
--- Lists that have no value at a text.
+-- Lists without a value at a text.
 use Rattle.std.proofs.Common.{◌≡◌, ℕ, List, [], ◌∷◌, Option, Some, None, refl}
 use Rattle.std.specs.List.{AllByRecursion}
 use Rattle.cell_key.specs.Entries.{Entry, entry_of_key, first_naming, or_else, value_of}

@@ -1,4 +1,4 @@
--- What a tablet answers, by what was found in its lists.
+-- A tablet's answers, from the results of its lists.
 use Rattle.std.proofs.Common.{◌≡◌, ◌<◌, ◌≤◌, ◌^◌, ℕ, List, ◌∷◌, ◌⊎◌, inl, inr, map, Option, Some, None, sym, subst, ◌∙◌}
 use Rattle.std.specs.Prelude.{IfSome, IfOk, IsTrue, Result, Ok, Err}
 use Rattle.std.specs.FinMap.{get}
@@ -31,7 +31,7 @@ pub ok_map : {T E : Type 0} {P Q : T → Type 0} (r : Result T E) → IfOk r P �
 ok_map (Ok x) h f = f x h
 ok_map (Err e) h f = tt
 
--- what is said of files that tell anything is said of those that tell something
+-- a fact about any contents is one about the contents, if they are known
 pub told_found : {T E : Type 0} (told : Option Contents) (files : List SortedFile) (P : T → List (List Entry) → Type 0) (r : Result T E) → IfOk r (λ x. AllByRecursion (IsOpenIn told) files → P x (map (listed_in told) files))
     → IfOk r (λ x. IfSome told (λ m. AllByRecursion (IsOpen m) files → P x (map (listed m) files)))
 told_found None files P (Ok x) h = tt

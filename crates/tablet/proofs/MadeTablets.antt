@@ -40,7 +40,7 @@ holds_after_apply (Err x) row t new edits e is k = tt
 
 -- ---- files
 
--- all files but this one are as before
+-- all files except this one are unchanged
 abbrev pub OthersStay : ℕ → Contents → Contents → Type 0
 OthersStay next m n = (other : ℕ) → other ≢ next → get n other ≡ get m other
 
@@ -58,14 +58,14 @@ all_drop P zero xs h = h
 all_drop P (suc count) [] h = tt
 all_drop P (suc count) (x ∷ xs) h = all_drop P count xs h.1
 
--- files of names that were used stay open under a write of another name, and stand for what they did
+-- files with used names stay open when another name is written, and list the same entries
 pub files_stay : StaysOpen → (next : ℕ) (m n : Contents) → OthersStay next m n → (files : List SortedFile) → AllByRecursion (IsOpen m) files → AllByRecursion (λ name. name < next) (map name_of files) → AllByRecursion (IsOpen n) files × (map (listed n) files ≡ map (listed m) files)
 files_stay stays next m n others files opened below =
     files_over stays m n files opened (each_same m n next (map name_of files) (λ name l. others name (apart name next l)) below)
 
 -- ---- compactions
 
--- a tablet whose newest files gave way to a new one
+-- a tablet whose newest `count` files were replaced by a new one
 pub record IsMade (next : ℕ) (t u : Tablet) (file : SortedFile) (count : ℕ) (entries : List Entry) : Type 0 where
   pub range : range_of u ≡ range_of t
   pub memory : memory_of u ≡ entries
@@ -118,7 +118,7 @@ made_keeps stays (Some m) (Some n) next after t u file count memory es is used o
           ∙ cells m h (subst IsEntryList (written h).lists (written h).opened.list),
     )
 
--- a tablet that is as it was keeps its cells, whether a file of a new name was written or not
+-- an unchanged tablet keeps its cells, whether a file of a new name was written or not
 same_keeps : StaysOpen → (m n : Contents) (next after : ℕ) (t u : Tablet) → IsUnchanged t u → OthersStay next m n → after ≡ next + 1 → Holds m t → IsBelow next t → Holds n u × IsBelow after u × (cells_at n u ≡ cells_at m t)
 same_keeps stays m n next after t u same others used h below =
     let stay = files_stay stays next m n others (files_of t) h.files below in (
@@ -141,13 +141,13 @@ still_keeps stays (Some m) new next after t u same (inl e) = subst (λ (o : Opti
 still_keeps stays (Some m) None next after t u same (inr e) = absurd e.1
 still_keeps stays (Some m) (Some n) next after t u same (inr e) = λ h below. same_keeps stays m n next after t u same e.1 e.0 h below
 
--- what a compaction reads of a tablet is open where it is of one that is as it was
+-- a compaction's files are open for a tablet that is unchanged from one for which they were
 pub still_reads : (compaction : Compaction) (told : Option Contents) (t u : Tablet) → IsUnchanged t u → ReadsOpen compaction told t → ReadsOpen compaction told u
 still_reads Minor told t u same h = tt
 still_reads (Merge count) told t u same h = subst (λ (fs : List SortedFile). AllByRecursion (IsOpenIn told) (take count fs)) (sym same.files) h
 still_reads Major told t u same h = subst (AllByRecursion (IsOpenIn told)) (sym same.files) h
 
--- what was written of a tablet is what would be of one that is as it was
+-- the file written for an unchanged tablet is the same
 pub made_of : (compaction : Compaction) (old new : Option Contents) (t u : Tablet) (file : SortedFile) (before es : Contents → List Entry) → IsUnchanged t u → ((m : Contents) → before m ≡ es m)
     → IfSome old (λ m. ReadsOpen compaction (Some m) u → IsSomeAnd new (λ n. IsNewFile n file (before m))) → IfSome old (λ m. ReadsOpen compaction (Some m) t → IsSomeAnd new (λ n. IsNewFile n file (es m)))
 made_of compaction None new t u file before es same is h = tt
@@ -158,7 +158,7 @@ pub large_of : (compaction : Compaction) (old : Option Contents) (t u : Tablet) 
 large_of compaction None t u before es P same is h = tt
 large_of compaction (Some m) t u before es P same is h = λ reads. subst P (is m) (h (still_reads compaction (Some m) t u same reads))
 
--- a file that a compaction made is in the place of what it wrote
+-- a compaction's file replaces its inputs
 put_over : (compaction : Compaction) (new : Option Contents) (t u : Tablet) (file : SortedFile) (es fs : List Entry) → files_of u ≡ files_after compaction file (files_of t) → es ≡ fs → IsSomeAnd new (λ n. IsNewFile n file es) → IsSomeAnd new (λ n. HasPut compaction n fs t u)
 put_over compaction None t u file es fs is same made = absurd made
 put_over compaction (Some n) t u file es fs is same made = record { file = file; files = is; written = subst (IsNewFile n file) same made }

@@ -1,4 +1,4 @@
--- What files show below a stamp that is hidden.
+-- The files' values below a hidden stamp.
 use Rattle.std.proofs.Common.{◌≡◌, ◌≤◌, ◌<◌, ◌+◌, ℕ, suc, Bool, true, cond, List, [], ◌∷◌, ◌++◌, ◌⊎◌, length, Vec, inl, inr, map, Option, Some, None, refl, sym, ap, subst, ◌∙◌, arith}
 use Rattle.std.specs.Prelude.{IfSome, IsTrue, nat_lt, false}
 use Rattle.std.proofs.lemmas.Bool.Decides.{nat_tests}
@@ -50,15 +50,15 @@ module _ (o : Option Contents) (t : Tablet) (row family : List ℕ) (q : Qualifi
   abbrev at : ℕ → CellKey
   at s = version row family q s
 
-  -- where the memtable has no version in the range
+  -- facts if the memtable has no version in the range
   abbrev pub Tells : (Contents → Type 0) → Type 0
   Tells P = IfSome o (λ m. Holds m t → IsTrue (has_row (range_of t) row) → IsNewest (cells_of (memory_of t)) at lo hi None → P m)
 
-  -- no version has a stamp above this one
+  -- the tablet has no version in the range above this stamp
   abbrev pub NoneAbove : ℕ → Type 0
   NoneAbove to = Tells (λ m. (s : ℕ) → to < s → s ≤ hi → get (cells_at m t) (at s) ≡ None)
 
-  -- nor one after that of the files
+  -- nor one after the stamp found in the files
   abbrev pub NoneAfter : Option ℕ → Type 0
   NoneAfter found = Tells (λ m. (s : ℕ) → IsAfterStamp s lo found → lo ≤ s → s ≤ hi → get (cells_at m t) (at s) ≡ None)
 
@@ -118,7 +118,7 @@ module _ (o : Option Contents) (t : Tablet) (row family : List ℕ) (q : Qualifi
         let a = here.0 in let b = here.1 in
         (omega (arith, a, low), omega (arith, b, high), here.2, λ s c d. later held has memory s (omega (arith, a, b, c)) (omega (arith, a, low, c)) d)) after finds
 
-  -- what is the newest up to a stamp, after which there is none, is so in all of the range
+  -- the newest version up to a stamp, above which there is none, is the newest of the whole range
   module _ (now : Option Contents) (w : Tablet) (same : now ≡ o) (is : IsSameTablet o t w) (to : ℕ) (high : to ≤ hi) (above : NoneAbove to) where
     side : (s : ℕ) → (to < s) ⊎ (s ≤ to)
     side s = go (nat_lt to s) refl
@@ -146,7 +146,7 @@ module _ (o : Option Contents) (t : Tablet) (row family : List ℕ) (q : Qualifi
         (subst (λ (cells : Cells). IsNewest cells at lo to found) (same_cells o m t w told is held)
         (h (still_at o m t w told is held).0 (subst (λ (r : RowRange). IsTrue (has_row r row)) (sym is.range) has)))) above finds
 
--- the newest version alone, outside a range
+-- if the single newest version is outside the range, the range has none
 none_in : (cells : Cells) (at : ℕ → CellKey) (lo hi : ℕ) (v : ℕ × List ℕ) (left : List (ℕ × List ℕ)) → AreNewestFirst cells at hi 1 (v ∷ left) → (lo ≤ v.0 → v.0 ≤ hi → ⊥) → IsNewest cells at lo hi None
 none_in cells at lo hi v left (some, (low, upto, there, later), one, more) outside = λ s a b. later s (below s a (nat_lt v.0 s) refl) b
   where

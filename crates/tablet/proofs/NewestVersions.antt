@@ -78,7 +78,7 @@ le_by a b h = go (nat_cmp a b) (ranks a b)
     go Equal m = refl
     go Greater m = absurd (omega (arith, m))
 
--- what is neither before nor after a part of a key has that part
+-- a part that is bounded by the same part from both sides is equal to it
 squeezed : (r s t : Ordering) → is_le (ordering_then r s) ≡ true → is_lt (ordering_then (ordering_reverse r) t) ≡ true → (r ≡ Equal) × (is_le s ≡ true) × (is_lt t ≡ true)
 squeezed Less s t e f = cc
 squeezed Equal s t e f = (refl, e, f)
@@ -110,7 +110,7 @@ module _ (row family : List ℕ) (qualifier : Qualifier) (is_row : IsRow row) (i
   is_stored : (s : ℕ) → 1 ≤ s → s < 2 ^ 63 → IsStored (at s)
   is_stored s from to = record { row = is_row; family = is_family; from = from; to = to }
 
-  -- their stamps fall in the order of their texts
+  -- their stamps descend in the order of their texts
   stamp_order : (a b : ℕ) → a < 2 ^ 63 → b < 2 ^ 63 → byte_cmp (text (at a)) (text (at b)) ≡ nat_cmp b a
   stamp_order a b small less =
       text_order (at a) (at b) (is_key a small) (is_key b less)
@@ -126,7 +126,7 @@ module _ (row family : List ℕ) (qualifier : Qualifier) (is_row : IsRow row) (i
       both_so _ _ (ap is_le (stamp_order hi s small (omega arith)) ∙ le_by s hi most)
       (ap is_lt (stamp_order s 0 (omega arith) (omega arith) ∙ less_by 0 s (omega arith)))
 
-  -- a text between is that of a key of the column
+  -- a text between two keys of the column is the text of a key of the column
   record IsOfColumn (hi : ℕ) (name : List ℕ) : Type 0 where
     stamp : ℕ
     from : 1 ≤ stamp
@@ -156,7 +156,7 @@ module _ (row family : List ℕ) (qualifier : Qualifier) (is_row : IsRow row) (i
   -- ---- the values of entries of the column
 
   module _ (cells : Cells) where
-    -- at the stamps of the column up to one, the cells are what the entries have
+    -- at the column's stamps up to `hi` the cells are given by the entries
     abbrev Shows : ℕ → List Entry → Type 0
     Shows hi es = (s : ℕ) → 1 ≤ s → s ≤ hi → get cells (at s) ≡ value_of (entry_of_key es (text (at s)))
 
@@ -172,7 +172,7 @@ module _ (row family : List ℕ) (qualifier : Qualifier) (is_row : IsRow row) (i
         let order : byte_cmp (text (at t)) name ≡ Greater = ap (byte_cmp (text (at t))) named ∙ stamp_order t s (omega arith) small ∙ greater_by s t (omega arith) in
         shows t from (omega arith) ∙ ap (λ (o : Ordering). value_of (cond (is_eq o) (Some (Some value)) (find byte_cmp (text (at t)) es))) order
 
-    -- entries after one of the column have lower stamps
+    -- entries after an entry of the column have lower stamps
     narrowed : (s hi : ℕ) → s < 2 ^ 63 → hi < 2 ^ 63 → (es : List Entry) → T (below_all byte_cmp (text (at s)) es) → AllByRecursion (λ e. IsOfColumn hi e.0) es → AllByRecursion (λ e. IsOfColumn (s - 1) e.0) es
     narrowed s hi small high [] below all = tt
     narrowed s hi small high (e ∷ es) below all = (
@@ -239,9 +239,9 @@ module _ (row family : List ℕ) (qualifier : Qualifier) (is_row : IsRow row) (i
         go s more (inl up) = above s more up
         go s more (inr e) = e
 
-  -- ---- those of a range
+  -- ---- the values of a range
 
-  -- what each text of a rising list keeps to
+  -- a property of every named text holds for each entry of an ascending list
   each_found : (P : List ℕ → Type 0) (es : List Entry) → IsRising es → ((name : List ℕ) (x : Option (List ℕ)) → entry_of_key es name ≡ Some x → P name) → AllByRecursion (λ e. P e.0) es
   each_found P [] rising h = tt
   each_found P (e ∷ es) rising h = (
@@ -302,7 +302,7 @@ module _ (row family : List ℕ) (qualifier : Qualifier) (is_row : IsRow row) (i
         go s up (inl stored) = inl (down s stored.to up)
         go s up (inr e) = inr e
 
-  -- ---- those of a tablet
+  -- ---- the values of a tablet
 
   pub newest_found : (t : Tablet) (fs : List SortedFile) → fs ≡ files_of t → (last hi most : ℕ) → last < 2 ^ 63 → last ≤ hi → ((s : ℕ) → s < 2 ^ 63 → s ≤ hi → s ≤ last)
       → (x : List ℕ) (y : Option (List ℕ)) → x ≡ text (at last) → y ≡ Some (text (at 0)) → (vs : List (ℕ × List ℕ)) → (o : Option Contents)
@@ -315,9 +315,9 @@ module _ (row family : List ℕ) (qualifier : Qualifier) (is_row : IsRow row) (i
       (sym (h (subst (λ (gs : List SortedFile). AllByRecursion (IsOpen m) gs) (sym files) held.files) ∙ (λ i. take most (stamped_values (part (starts i) (ends i) (memory_of t ∷ map (listed m) (files i)))))))
       (newest_shown (range_of t) (lists_of m t) (held_lists m t held) has last high hi most below down)
 
--- ---- what a search finds
+-- ---- results of a search
 
--- as many were found as were asked for
+-- the search is full: it has found `most` versions
 pub found_full : (vs all : List (ℕ × List ℕ)) (left : List Entry) (most : ℕ) → vs ++ stamped_values left ≡ all → length vs ≡ most → vs ≡ take most all
 found_full vs all left most e full =
     sym (ap (take most) (sym e) ∙ take-append-le most vs (stamped_values left) (omega arith) ∙ take_whole vs most (omega arith))

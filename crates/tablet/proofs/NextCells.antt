@@ -1,4 +1,4 @@
--- The first value after a place, within a range, is of the next cell.
+-- The first value after a place, within a range, belongs to the next cell.
 use Rattle.std.proofs.Common.{◌≡◌, ◌<◌, ◌≤◌, ℕ, Bool, true, false, cond, List, [], ◌∷◌, Option, Some, None, ◌&&◌, refl, sym, ap, subst, ◌∙◌, arith}
 use Rattle.std.specs.Prelude.{IsSome}
 use Rattle.std.specs.List.{AllByRecursion}
@@ -58,7 +58,7 @@ above_zero s h = go (nat_cmp s 0) (ranks s 0)
     go Equal m = absurd (omega (arith, m))
     go Greater m = refl
 
--- nothing stored at a place comes after its last key
+-- no stored key of a place comes after the place's last key
 last_of_place : (qualifier : Qualifier) (s : ℕ) → 1 ≤ s → ordering_then (byte_cmp (qualifier_name Write) (qualifier_name qualifier)) (nat_cmp s 0) ≡ Greater
 last_of_place Data s h = refl
 last_of_place Lock s h = refl
@@ -89,7 +89,7 @@ module _ (key : CellKey) (stored : IsStored key) where
       ap is_le (text_order (version place.0 place.1 Write 0) key (last_key place is) (stored_key key stored))
       ∙ two_first (byte_cmp place.0 key.row) (byte_cmp place.1 key.family) _ e
 
-  -- the text of a key comes before what comes after its place
+  -- a key's text is below the bound past its place
   pub below_past : byte_cmp (text key) (past_place (Some (place_of key))) ≡ Less
   below_past =
       let over : byte_cmp (past_place (Some (place_of key))) (text key) ≡ Greater =
@@ -120,7 +120,7 @@ le_trans x y z e f = go (byte_cmp x y) (byte_cmp y z) refl refl e f
     go Equal p a b e f = ap is_le (total.congr x y z a ∙ b) ∙ f
     go Greater p a b e f = cc
 
--- a text from the later of two on is one from each on
+-- a text at or above the later of two is at or above both
 pub from_both : (a b name : List ℕ) → is_le (byte_cmp (later a b) name) ≡ true → (is_le (byte_cmp a name) ≡ true) × (is_le (byte_cmp b name) ≡ true)
 from_both a b name e = go (is_le (byte_cmp a b)) refl e
   where
@@ -179,7 +179,7 @@ module _ (range : RowRange) (after : Option Place) (is : IsPlaceOrNone after) (l
   abbrev pub cells : Cells
   cells = cells_of (view range lists)
 
-  -- a cell after the place has no value where no key between the texts has
+  -- a cell after the place has no value if no key between the texts has one
   none_shown : (key : CellKey) → IsStored key → IsAfter after (place_of key) → (is_between (start_of range after) (upper_fence range) (text key) ≡ true → first_at lists key ≡ None) → get cells key ≡ None
   none_shown key stored h none = shown range lists each key stored ∙ go (has_row range key.row) refl
     where

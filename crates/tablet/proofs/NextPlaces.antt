@@ -38,7 +38,7 @@ module _ (range : RowRange) (lists : List (List Entry)) (each : AllByRecursion I
   list : IsEntryList entries
   list = part_list (start_of range start) (upper_fence range) lists each
 
-  -- the entries from a text on are those of the range after a place
+  -- the entries from the text `past` on are those of the range after a place
   abbrev BeginsAfter : List ℕ → Option Place → Type 0
   BeginsAfter past after = HasBetween (start_of range after) (upper_fence range) lists (entries_from past entries)
 
@@ -70,7 +70,7 @@ module _ (range : RowRange) (lists : List (List Entry)) (each : AllByRecursion I
       (next_some range after is lists each found.key found.value found.stored
       (has_first (start_of range after) (upper_fence range) lists (entries_from past entries) begins (rising-filter (λ e. is_le (byte_cmp past e.0)) entries list.rising) found.key found.value found.stored found.is))
 
-  -- what is found lies behind the start
+  -- a place that is found is past the start
   further : (past : List ℕ) (after : Option Place) → BeginsAfter past after → ((name : List ℕ) → is_le (byte_cmp (start_of range after) name) ≡ true → is_le (byte_cmp (past_place start) name) ≡ true)
       → (place : Place) → IsOfPlace (first_value (entries_from past entries)) place → is_le (byte_cmp (past_place start) (past_place (Some place))) ≡ true
   further past after begins low place found =

@@ -1,4 +1,4 @@
--- What is gathered out of the entries of a range are the next cells of the tablet and their newest versions.
+-- The cells gathered from the entries of a range are the next cells of the tablet with their newest versions.
 use Rattle.std.proofs.Common.{◌≡◌, ◌+◌, ◌-◌, ℕ, Bool, true, false, cond, List, [], ◌∷◌, ◌++◌, ◌⊎◌, inl, inr, map, length, Option, Some, None, refl, sym, ap, subst, ◌∙◌, append_assoc, arith}
 use Rattle.std.specs.Prelude.{IfSome, IsSome, is_some}
 use Rattle.std.specs.Option.{option_to_list}
@@ -35,7 +35,7 @@ use Rattle.tablet.proofs.Shown.{first_at, part_at, part_list, shown, stored_or_h
 
 -- ---- entries that were passed
 
--- of a list these entries are left after others, out of which this was gathered
+-- `left` is the rest of a list after a prefix from which this was gathered
 pub record HasGone (all left : List Entry) (gathered : Gathering) : Type 0 where
   pub before : List Entry
   pub parts : all ≡ before ++ left
@@ -88,7 +88,7 @@ module _ (range : RowRange) (lists : List (List Entry)) (each : AllByRecursion I
   list : IsEntryList entries
   list = part_list (start_of range start) (upper_fence range) lists each
 
-  -- a key that the entries have is one of the range, and comes after the place
+  -- a key with a value among the entries is in the range and after the place
   inside : (j : CellKey) → IsStored j → (x : List ℕ) → get (cells_of entries) j ≡ Some x → (has_row range j.row ≡ true) × IsAfter start (place_of j)
   inside j stored x there =
       inside_both range start is j stored
@@ -103,7 +103,7 @@ module _ (range : RowRange) (lists : List (List Entry)) (each : AllByRecursion I
       ∙ sym (ap value_of (part_at (start_of range start) (upper_fence range) lists (text q)))
       ∙ sym (get-cells_of entries list.each q stored)
 
-  -- the tablet has of a cell what they have
+  -- the tablet and the entries agree on such a cell
   same_cell : (place : Place) → HasCell (cells_of entries) place → (q : CellKey) → place_of q ≡ place → get cells q ≡ get (cells_of entries) q
   same_cell place cell q at = go (stored_or_hidden range lists each q) (stored_or_none entries list.each q)
     where
@@ -145,7 +145,7 @@ module _ (range : RowRange) (lists : List (List Entry)) (each : AllByRecursion I
       places : List Place
       places = places_in batch.cells.items
 
--- ---- those of a tablet
+-- ---- the cells of a tablet
 
 module _ (t : Tablet) (fs : List SortedFile) (files : fs ≡ files_of t) (after : Option Place) (is : IsPlaceOrNone after) (x : List ℕ) (y : Option (List ℕ)) (starts : x ≡ start_of (range_of t) after) (ends : y ≡ upper_fence (range_of t)) where
   abbrev pub FindsVersions : ℕ → VersionBatch → Option Contents → Type 0

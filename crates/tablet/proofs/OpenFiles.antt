@@ -1,4 +1,4 @@
--- Files that a filter of their keys covers.
+-- Files covered by a filter of their keys.
 use Rattle.std.proofs.Common.{◌≡◌, ◌∙◌, ◌≤◌, ℕ, List, [], ◌∷◌, map, drop, length, Contains, Option, Some, None, refl, sym, ap, subst}
 use Rattle.std.specs.Option.{is_some}
 use Rattle.std.proofs.lemmas.List.{with_items_is}
@@ -23,7 +23,7 @@ use Rattle.sorted_file.specs.declared.key_filter.KeyFilter.{KeyFilter}
 use Rattle.tablet.specs.Reads.{HasNoLater, HaveNoValue}
 use Rattle.tablet.proofs.LeftOut.{none_named as none_in_each, value_or}
 
--- files that are what they were are still covered
+-- files that are the same as before are still covered
 still_covered : StaysCovered → (o : Option Contents) (filter : KeyFilter) (xs ys : List SortedFile) → AllZip (IsSameFile o) xs ys → All (Covers filter) xs → All (Covers filter) ys
 still_covered stays o filter [] [] same all = All-nil (Covers filter)
 still_covered stays o filter [] (y ∷ ys) same all = absurd same
@@ -32,18 +32,18 @@ still_covered stays o filter (x ∷ xs) (y ∷ ys) same all =
     All-cons (Covers filter) y ys (stays o filter x y same.0 (All-head (Covers filter) x xs all))
     (still_covered stays o filter xs ys same.1 (All-tail (Covers filter) x xs all))
 
--- also where they were lent as a slice
+-- also when they were borrowed as a slice
 pub covered_after : {Z : Type 0} → StaysCovered → (o : Option Contents) (filter : KeyFilter) (files : Vec SortedFile Z) (lent now : List SortedFile) → lent ≡ files.items → length now ≡ length lent → AllZip (IsSameFile o) lent now
     → All (Covers filter) files.items → All (Covers filter) (with_items files now).items
 covered_after stays o filter files lent now is size same all =
     All-same (Covers filter) _ now (with_items_is files now (size ∙ ap length is ∙ sym files.ok.0)) (still_covered stays o filter lent now same (All-same (Covers filter) lent files.items is all))
 
--- a file more, in the place of the first ones
+-- the files after one replaced the first `count`
 pub covered_more : (old new : KeyFilter) (count : ℕ) (file : SortedFile) (xs : List SortedFile) → Covers new file → ((other : SortedFile) → Covers old other → Covers new other) → All (Covers old) xs → All (Covers new) (file ∷ drop count xs)
 covered_more old new count file xs covers keeps all =
     All-cons (Covers new) file (drop count xs) covers (All-drop (Covers new) count xs (All-weaker (Covers old) (Covers new) keeps xs all))
 
--- no covered file has a value that the filter says none has
+-- no covered file has a value that the filter rules out
 none_each : (filter : KeyFilter) (q : Qualifier) (lo hi : ℕ) → ((file : SortedFile) → Covers filter file → (m : Contents) → IsOpen m file → HasNoValue q lo hi (listed m file))
     → (xs : List SortedFile) → All (Covers filter) xs → (m : Contents) → AllByRecursion (IsOpen m) xs → (key : CellKey) → IsStored key → key.qualifier ≡ q → lo ≤ key.stamp → key.stamp ≤ hi
     → AllByRecursion (λ es. value_of (entry_of_key es (text key)) ≡ None) (map (listed m) xs)
@@ -58,12 +58,12 @@ none_valued filter row q lo hi none xs all m opened key stored same kind low hig
 
 -- ---- the index of locks
 
--- open files keep of their locks what an index rests on
+-- open files know their locks, as an index requires
 told_of : (m : Contents) (xs : List SortedFile) → AllByRecursion (IsOpen m) xs → AllByRecursion IsTelling xs
 told_of m [] opened = tt
 told_of m (x ∷ xs) opened = (opened.0.locks_kept, told_of m xs opened.1)
 
--- a lock that isn't in the index of open files has no value in them
+-- a lock that is not in the index of open files has no value in them
 pub not_indexed : (index : List CellKey) (xs : List SortedFile) → IsIndexOf index xs → (m : Contents) → AllByRecursion (IsOpen m) xs → (key : CellKey) → IsStored key → key.qualifier ≡ Lock → ¬ Contains index key
     → value_of (first_naming (map (listed m) xs) (text key)) ≡ None
 not_indexed index xs is m opened key stored lock out = go (value_of (first_naming (map (listed m) xs) (text key))) refl
@@ -72,14 +72,14 @@ not_indexed index xs is m opened key stored lock out = go (value_of (first_namin
     go None e = refl
     go (Some v) e = absurd (out (is (told_of m xs opened) key stored lock (ap is_some e)))
 
--- the index of files that are what they were still is theirs, also where they were lent as a slice
+-- the index of files that are the same as before is still theirs, also when they were borrowed as a slice
 pub indexed_after : {Z : Type 0} → StaysIndexed → (o : Option Contents) (index : List CellKey) (files : Vec SortedFile Z) (lent now : List SortedFile) → lent ≡ files.items → length now ≡ length lent → AllZip (IsSameFile o) lent now
     → IsIndexOf index files.items → IsIndexOf index (with_items files now).items
 indexed_after stays o index files lent now is size same before =
     subst (IsIndexOf index) (sym (with_items_is files now (size ∙ ap length is ∙ sym files.ok.0))) (stays o index lent now same (subst (IsIndexOf index) (sym is) before))
 
 module _ (m : Contents) (filter : KeyFilter) where
-  -- no file has what the filter says that none has
+  -- no file names a key that the filter rules out
   pub none_named : (name : List ℕ) → ((file : SortedFile) → Covers filter file → (n : Contents) → IsOpen n file → entry_of_key (listed n file) name ≡ None)
       → (xs : List SortedFile) → All (Covers filter) xs → AllByRecursion (IsOpen m) xs → None ≡ first_naming (map (listed m) xs) name
   none_named name none [] all each = refl

@@ -1,4 +1,4 @@
--- An error that is passed on.
+-- Errors that are passed on.
 use Rattle.std.proofs.Common.{rules, ap, ◌∙◌, ◌≡◌, ℕ, ◌<◌, ◌≤◌, Bool, false, List, [], map, length, ◌⊎◌, inl, inr, sym, subst, arith}
 use Rattle.std.proofs.lemmas.List.{length-map}
 use Rattle.std.specs.Prelude.{◌≢◌, ◌↔◌, IsTrue, Option, Some, None, IfSome}
@@ -16,14 +16,14 @@ pub use Rattle.cell_key.proofs.Passed.{passed_err, passed_kept, passed_kind, pas
 pub use Rattle.cell_key.proofs.Reasons.{not_refused as not_err, reason_none as quiet_reason}
 use Rattle.tablet.specs.Compactions.{IsCompactionRefusal, IsMergeRefusal, IsMinorRefusal}
 
--- reading is refused nothing else
+-- the refusals of a read are refusals of a minor compaction
 pub minor_read : (e : Refusal) → IsReadRefusal e → IsMinorRefusal e
 minor_read Device read = tt
 minor_read NoMemory read = tt
 minor_read Damaged read = tt
 minor_read _ read = absurd read
 
--- what a call was refused with, what calls it is refused with too
+-- a caller passes on a call's refusal
 pub passed_over : {A B : Type 0} (r : Result B Refusal) (e n : Refusal) → IsErrAnd r (λ f. f ≡ e) → IsErrOf {T = A} (Err e) n → IsErrOf r n
 passed_over (Ok x) e n by is = absurd by
 passed_over (Err f) e n by is = let same : e ≡ n = cc in ap (λ x. Err x) (by ∙ same)
@@ -63,7 +63,7 @@ pub merge_of : (e : Refusal) → IsCompactionRefusal e → IsMergeRefusal e
 merge_of BadCount h = tt
 merge_of _ h = h
 
--- what a refusal of what is held is
+-- the refusals of a lookup in memory
 abbrev pub IsHeldRefusal : Refusal → Type 0
 IsHeldRefusal NoMemory = Unit {0}
 IsHeldRefusal Damaged = Unit {0}
@@ -77,7 +77,7 @@ pub held_read : (e : Refusal) → (e ≡ NoMemory) ⊎ (e ≡ Damaged) → IsRea
 held_read e (inl is) = subst IsReadRefusal (sym is) tt
 held_read e (inr is) = subst IsReadRefusal (sym is) tt
 
--- facts over the files, whose contents stay
+-- facts about the files, whose contents are unchanged
 pub over : (old now : Option Contents) (P Q R : Contents → Type 0) → now ≡ old → ((m : Contents) → P m → Q m → R m) → IfSome old P → IfSome now Q → IfSome old R
 over None now P Q R same f p q = tt
 over (Some m) now P Q R same f p q = f m p (subst (λ (o : Option Contents). IfSome o Q) same q)

@@ -1,4 +1,4 @@
--- What is left of a list of entries, once a place was found in it.
+-- The rest of a list of entries after a place was found in it.
 use Rattle.std.proofs.Common.{◌≡◌, ◌≤◌, ℕ, Bool, true, false, cond, T, List, [], ◌∷◌, ◌++◌, Option, Some, None, refl, sym, ap, subst, ◌∙◌, append_assoc, length, arith}
 use Rattle.std.specs.Option.{option_to_list}
 use Rattle.std.specs.Prelude.{is_some}
@@ -19,7 +19,7 @@ use Rattle.tablet.proofs.NextCells.{below_past, le_trans}
 
 -- ---- one entry
 
--- an entry below a text isn't among those from it on
+-- an entry below a text is not among those from the text on
 passed : (name : List ℕ) (past : List ℕ) → byte_cmp name past ≡ Less → is_le (byte_cmp past name) ≡ false
 passed name past e = ap is_le (total.antisymm past name ∙ ap ordering_reverse e)
 
@@ -68,9 +68,9 @@ first_here past (name, Some value) es p some = go (is_le (byte_cmp past name)) r
     go true is e = record { whole = ap (λ (b : Bool). first_value (cond b ((name, Some value) ∷ entries_from past es) (entries_from past es))) is ∙ e; named = let same : (name, value) ≡ p = cc in ap (λ q. q.0) same }
     go false is e = absurd (let no : None ≡ Some p = e in cc)
 
--- ---- a list, of which entries were passed
+-- ---- a list after some entries were passed
 
--- Of a list these entries are left after others, among which no value isn't below the text.
+-- `left` is the rest of a list after a prefix without a value at or above `past`.
 pub record HasPassed (past : List ℕ) (all left : List Entry) : Type 0 where
   pub before : List Entry
   pub parts : all ≡ before ++ left
@@ -124,9 +124,9 @@ left_some past all (Some e) old new place h taken found list =
     subst (λ es. HasLeft (past_place (Some place)) es new) (sym whole)
     (left_after (past_place (Some place)) h.before e new (subst IsRising whole list.rising) (ap (λ n. byte_cmp n (past_place (Some place))) named ∙ up))
 
--- ---- what is left for later places
+-- ---- the rest for later places
 
--- a value that is found among entries from a text on isn't below it
+-- a value found among the entries from a text on is not below the text
 pub found_from : (past : List ℕ) (es : List Entry) (p : List ℕ × List ℕ) → first_value (entries_from past es) ≡ Some p → is_le (byte_cmp past p.0) ≡ true
 found_from past [] p e = absurd (let no : None ≡ Some p = e in cc)
 found_from past ((name, None) ∷ es) p e = go (found_from past es p) (is_le (byte_cmp past name)) e
@@ -140,7 +140,7 @@ found_from past ((name, Some value) ∷ es) p e = go (found_from past es p) (is_
     go rest true is e = let same : (name, value) ≡ p = cc in subst (λ (q : List ℕ × List ℕ). is_le (byte_cmp past q.0) ≡ true) same is
     go rest false is e = rest e
 
--- of entries from a text on, those from a later one on are those of all
+-- the entries from a later text on are the same, taken from all or from those at or above an earlier text
 narrower : (low past : List ℕ) → is_le (byte_cmp low past) ≡ true → (es : List Entry) → entries_from past (entries_from low es) ≡ entries_from past es
 narrower low past up [] = refl
 narrower low past up (e ∷ es) = go (narrower low past up es) (is_le (byte_cmp low e.0)) (is_le (byte_cmp past e.0)) refl refl
@@ -150,14 +150,14 @@ narrower low past up (e ∷ es) = go (narrower low past up es) (is_le (byte_cmp 
     go same false true p q = absurd (let both = le_trans low past e.0 up q in cc)
     go same false false p q = same
 
--- what is left after a place, of what was left after an earlier one
+-- the rest after a place, taken from the rest after an earlier one
 pub left_later : (past : List ℕ) (all left rest : List Entry) (place : Place) → HasLeft past all left → IsOfPlace (first_value (entries_from past left)) place → HasLeft (past_place (Some place)) left rest → HasLeft (past_place (Some place)) all rest
 left_later past all left rest place had found has =
     let from = found_from past left (text found.key, found.value) found.is in
     let up = subst (λ (p : Place). is_le (byte_cmp past (past_place (Some p))) ≡ true) found.at (le_trans past (text found.key) (past_place (Some (place_of found.key))) from (ap is_le (below_past found.key found.stored))) in
     has ∙ sym (narrower past (past_place (Some place)) up left) ∙ ap (entries_from (past_place (Some place))) had ∙ narrower past (past_place (Some place)) up all
 
--- one place more
+-- one more place
 pub place_more : (all left rest : List Entry) (found : List Place) (place : Place) (past : List ℕ) → past ≡ past_place (last_or None found) → AreNext (IsNextIn all) None (length found) found → HasLeft (past_place (last_or None found)) all left → IsOfPlace (first_value (entries_from past left)) place → HasLeft (past_place (Some place)) left rest
     → (items : List Place) → items ≡ found ++ place ∷ [] → AreNext (IsNextIn all) None (length items) items × HasLeft (past_place (last_or None items)) all rest
 place_more all left rest found place past text next had more has items is =
@@ -169,7 +169,7 @@ place_more all left rest found place past text next had more has items is =
           (subst (λ (o : Option Place). HasLeft (past_place o) all rest) (sym (last_append None found place)) (left_later (past_place (last_or None found)) all left rest place had named has)),
     )
 
--- no place more
+-- no more places
 pub place_none : (all left : List Entry) (found : List Place) (most : ℕ) (past : List ℕ) → past ≡ past_place (last_or None found) → AreNext (IsNextIn all) None (length found) found → HasLeft (past_place (last_or None found)) all left → length found ≤ most → first_value (entries_from past left) ≡ None → AreNext (IsNextIn all) None most found
 place_none all left found most past text next had few none =
     let none_all = subst (λ (es : List Entry). first_value es ≡ None) had (subst (λ (p : List ℕ). first_value (entries_from p left) ≡ None) text none) in

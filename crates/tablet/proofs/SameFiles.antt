@@ -1,4 +1,4 @@
--- Files that are what they were.
+-- Files that are the same as before but for their caches.
 use Rattle.std.proofs.Common.{◌≡◌, ◌+◌, ◌<◌, ◌≤◌, ℕ, zero, suc, List, [], ◌∷◌, map, drop, set, get_or, length, Option, Some, None, refl, sym, ap, subst, ◌∙◌, arith}
 use Rattle.std.specs.Prelude.{IfSome, ⊤}
 use Rattle.std.specs.List.{AllByRecursion, AllZip}
@@ -13,12 +13,12 @@ use Rattle.tablet.specs.Reads.{HasNoLater}
 use Rattle.tablet.specs.Views.{range_of, memory_of, files_of, Holds, IsSameTablet}
 use Rattle.tablet.specs.declared.tablet.Tablet.{Tablet}
 
--- after the newest stamp there is none
+-- after the newest stamp there is no value
 pub none_after : (es : List Entry) (key : CellKey) (lo : ℕ) (found : Option ℕ) → IsNewestStamp es key lo found → HasNoneAfter es key lo found
 none_after es key lo None newest s later high = newest s later high
 none_after es key lo (Some found) newest s later high = newest.3 s later high
 
--- facts over the files, which tell the same
+-- facts about files with the same contents
 pub told_both : (o now : Option Contents) → now ≡ o → (P Q R : Contents → Type 0) → ((m : Contents) → o ≡ Some m → P m → Q m → R m) → IfSome o P → IfSome now Q → IfSome o R
 told_both None now same P Q R f p q = tt
 told_both (Some m) now same P Q R f p q = f m refl p (subst (λ (told : Option Contents). IfSome told Q) same q)
@@ -53,7 +53,7 @@ module _ (o : Option Contents) where
   same_lists m (x ∷ xs) (y ∷ ys) all = ap (λ es. es ∷ map (listed m) ys) (all.0.lists m) ∙ ap (λ lists. listed m x ∷ lists) (same_lists m xs ys all.1)
 
 module _ (m : Contents) where
-  -- if they were open they are, and stand for the same lists
+  -- they are still open, and list the same entries
   pub record AreStill (xs ys : List SortedFile) : Type 0 where
     pub each : AllByRecursion (IsOpen m) ys
     pub lists : map (listed m) ys ≡ map (listed m) xs
@@ -67,7 +67,7 @@ module _ (m : Contents) where
       let rest = still_files xs ys all.1 is.1 in
       record { each = (first, rest.each); lists = ap (λ es. es ∷ map (listed m) ys) (all.0.lists m) ∙ ap (λ lists. listed m x ∷ lists) rest.lists }
 
--- One file is looked up in, after those before it.
+-- One file is searched, after those before it.
 module _ (o now : Option Contents) (same : now ≡ o) (xs ys : List SortedFile) (i : ℕ) (d : SortedFile) (below : i < length ys) (all : AllZip (IsSameFile o) xs ys) where
   pub same_set : (u : SortedFile) → IsSameFile now (get_or ys i d) u → AllZip (IsSameFile o) xs (set ys i u)
   same_set u is = at xs ys i below all (subst (λ (told : Option Contents). IsSameFile told (get_or ys i d) u) same is)
@@ -79,7 +79,7 @@ module _ (o now : Option Contents) (same : now ≡ o) (xs ys : List SortedFile) 
       at (x ∷ xs) (y ∷ ys) zero below all is = (same_after o x y u all.0 is, all.1)
       at (x ∷ xs) (y ∷ ys) (suc i) below all is = (all.0, at xs ys i (omega (arith, below)) all.1 is)
 
-  -- what stands there
+  -- the file there is open, and the entry of a key in it or in the files after it
   abbrev IsStillAt : Contents → List ℕ → Type 0
   IsStillAt m name = IsOpen m (get_or ys i d) × (first_naming (map (listed m) (drop i xs)) name ≡ or_else (entry_of_key (listed m (get_or ys i d)) name) (first_naming (map (listed m) (drop (suc i) xs)) name))
 
@@ -96,11 +96,11 @@ module _ (o now : Option Contents) (same : now ≡ o) (xs ys : List SortedFile) 
           (first, ap (λ (es : List Entry). or_else (entry_of_key es name) (first_naming (map (listed m) xs) name)) (sym (all.0.lists m)))
       at (x ∷ xs) (y ∷ ys) (suc i) below all each = at xs ys i (omega (arith, below)) all.1 each.1
 
-  -- if it isn't open, not all are
+  -- if it is not open, not all were
   pub not_open : IfSome now (λ m. ¬ IsOpen m (get_or ys i d)) → IfSome o (λ m. ¬ AllByRecursion (IsOpen m) xs)
   not_open closed = told_both o now same (λ m. ⊤) (λ m. ¬ IsOpen m (get_or ys i d)) _ (λ m is _ not each. not (still_at m [] is each).0) (told_any o) closed
 
-  -- the first of the files that names the key is one of those from the place on
+  -- the files from `at` on give the same entry for the key as all files
   abbrev pub AreLeft : ℕ → List ℕ → Type 0
   AreLeft at name = IfSome o (λ m. AllByRecursion (IsOpen m) xs → first_naming (map (listed m) (drop at xs)) name ≡ first_naming (map (listed m) xs) name)
 
@@ -116,7 +116,7 @@ module _ (o now : Option Contents) (same : now ≡ o) (xs ys : List SortedFile) 
       next : suc i ≡ i + 1
       next = omega arith
 
-  -- the newest stamp is that of this file, or the one that was found before
+  -- the newest stamp is this file's, or the one found before
   module _ (key : CellKey) (lo from : ℕ) (found new : Option ℕ) (after : IsAfterStamp from lo found) (starts : (s : ℕ) → IsAfterStamp s lo found → from ≤ s) where
     abbrev pub Shows : ℕ → Option ℕ → Type 0
     Shows at stamp = IfSome o (λ m. AllByRecursion (IsOpen m) xs
@@ -153,7 +153,7 @@ module _ (o now : Option Contents) (same : now ≡ o) (xs ys : List SortedFile) 
     within_still None (Some n) old new low = (let a = new.0 in omega (arith, a, low), new.1)
     within_still (Some f) (Some n) old new low = (let a = new.0 in let b = old.0 in omega (arith, a, b, low), new.1)
 
--- if all files were asked, none shows a later value
+-- after all files were asked, none shows a later value
 pub no_later : (o : Option Contents) (xs : List SortedFile) (i : ℕ) (key : CellKey) (lo : ℕ) (stamp : Option ℕ) → length xs ≤ i
     → IfSome o (λ m. AllByRecursion (IsOpen m) xs → (s : ℕ) → IsAfterStamp s lo stamp → s ≤ key.stamp → IsStored (at_stamp key s)
     → value_of (first_naming (map (listed m) (drop i xs)) (text (at_stamp key s))) ≡ None → value_of (first_naming (map (listed m) xs) (text (at_stamp key s))) ≡ None)
@@ -167,7 +167,7 @@ no_later (Some m) xs i key lo stamp le h = λ each s after high stored. h each s
     all_dropped (x ∷ xs) zero le = absurd (omega (arith, le))
     all_dropped (x ∷ xs) (suc i) le = all_dropped xs i (omega (arith, le))
 
--- a tablet is what it was where its files are
+-- a tablet is the same if its files are
 pub same_tablet : (o : Option Contents) (t u : Tablet) → range_of u ≡ range_of t → memory_of u ≡ memory_of t → AllZip (IsSameFile o) (files_of t) (files_of u) → IsSameTablet o t u
 same_tablet o t u range memory files = record {
   range = range;

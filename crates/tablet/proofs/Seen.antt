@@ -1,4 +1,4 @@
--- What lists mean together where a range sees them, at each text and at each key.
+-- Merged lists cut to a range, at each text and at each key.
 use Rattle.std.proofs.Common.{◌≡◌, ℕ, Bool, true, false, cond, List, [], ◌∷◌, ◌++◌, map, refl, sym, ap, ◌∙◌}
 use Rattle.std.proofs.lemmas.Option.{none-some, same_Some}
 use Rattle.std.specs.Prelude.{Option, Some, None}
@@ -18,11 +18,11 @@ use Rattle.tablet.specs.Ranges.{has_row, seen}
 use Rattle.tablet.specs.declared.ranges.RowRange.{RowRange}
 use Rattle.tablet.proofs.Filters.{each_map, find-filter, first-map}
 
--- whether a range has the row of a text
+-- whether a range has the row of a key's text
 abbrev pub is_seen : RowRange → List ℕ → Bool
 is_seen range name = has_row range (key_of_text name).row
 
--- what a range shows of lists
+-- the merged entries of lists, cut to a range
 abbrev pub shown : RowRange → List (List Entry) → List Entry
 shown range lists = merged (map (seen range) lists)
 
@@ -37,7 +37,7 @@ pub first-append : (xs ys : List (List Entry)) (name : List ℕ) → first_namin
 first-append [] ys name = refl
 first-append (es ∷ xs) ys name = ap (or_else (entry_of_key es name)) (first-append xs ys name) ∙ sym (or_assoc (entry_of_key es name) (first_naming xs name) (first_naming ys name))
 
--- lists that name alike are merged alike
+-- lists with the same first entry for each text have the same merged list
 pub merged_same : (xs ys : List (List Entry)) → ((name : List ℕ) → first_naming xs name ≡ first_naming ys name) → merged xs ≡ merged ys
 merged_same xs ys h = same_entries byte_cmp total same_key (merged xs) (merged ys) (merged_rising xs) (merged_rising ys) (λ q. key_of_merged xs q ∙ h q ∙ sym (key_of_merged ys q))
 
@@ -60,18 +60,18 @@ stable (Some a) (Some b) h =
       | Greater ↦ λ t. absurd (h (λ e. never (apart a b (ap is_eq t) (same_Some a b e))))
     ] refl
 
--- what holds of keys within the limits and of all others holds of any key
+-- an equation that holds for keys within the limits and for all others holds for any key
 pub by_limits : (q : CellKey) (x y : Option (List ℕ)) → (IsStored q → x ≡ y) → (¬ (IsStored q) → x ≡ y) → x ≡ y
 by_limits q x y inside outside = stable x y (λ no. no (outside (λ s. no (inside s))))
 
 pub seen_list : (range : RowRange) (es : List Entry) → IsEntryList es → IsEntryList (seen range es)
 seen_list range es h = filter-list (λ entry. has_row range (key_of_text entry.0).row) es h
 
--- what is shown of entry lists is one
+-- the shown entries of entry lists are an entry list
 pub shown_list : (range : RowRange) (lists : List (List Entry)) → AllByRecursion IsEntryList lists → IsEntryList (shown range lists)
 shown_list range lists h = merged_list (map (seen range) lists) (each_map (seen range) (seen_list range) lists h)
 
--- the cell of a key within the limits, and of another one
+-- the cell of a key within the limits, and of any other key
 pub get-shown : (range : RowRange) (lists : List (List Entry)) → AllByRecursion IsEntryList lists → (q : CellKey) → IsStored q → get (cells_of (shown range lists)) q ≡ value_of (cond (has_row range q.row) (first_naming lists (text q)) None)
 get-shown range lists h q s =
     get-cells_of (shown range lists) (shown_list range lists h).each q s
@@ -81,7 +81,7 @@ get-shown range lists h q s =
 pub no_shown : (range : RowRange) (lists : List (List Entry)) → AllByRecursion IsEntryList lists → (q : CellKey) → ¬ (IsStored q) → get (cells_of (shown range lists)) q ≡ None
 no_shown range lists h q n = no_cell (shown range lists) (shown_list range lists h).each q n
 
--- lists of the same values stand for the same cells
+-- lists with the same values have the same cells
 pub cells_same : (es fs : List Entry) → AllByRecursion IsEntry es → AllByRecursion IsEntry fs → ((name : List ℕ) → value_of (entry_of_key es name) ≡ value_of (entry_of_key fs name)) → cells_of es ≡ cells_of fs
 cells_same es fs a b h =
     same_map key_cmp_total exact_keys (cells_of es) (cells_of fs)

@@ -17,6 +17,6 @@ entry_short (x ∷ es) all name v e = go (eq_by_cmp byte_cmp name x.0) (entry_sh
     go true more e = subst (λ (w : Option (List ℕ)). IfSome w IsValue) (ap (λ (o : Option (Option (List ℕ))). unwrap_or o x.1) e) all.0.value
     go false more e = more e
 
--- a long value is of no memtable
+-- no entry list, so no memtable, has a value that is too long
 pub long_of_none : (es : List Entry) → IsEntryList es → (name : List ℕ) (v : Option (List ℕ)) → Some v ≡ entry_of_key es name → ¬ IfSome v IsValue → ⊥
 long_of_none es list name v e long = long (entry_short es list.each name v (sym e))

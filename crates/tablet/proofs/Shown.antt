@@ -18,7 +18,7 @@ use Rattle.tablet.specs.declared.ranges.RowRange.{RowRange}
 use Rattle.tablet.proofs.Filters.{cond_same, each_map, find-between, first-map, is_between}
 use Rattle.tablet.proofs.Seen.{get-shown, shown_list}
 
--- a key is within the limits, or a list has no cell of it
+-- a key is within the limits, or the list has no cell for it
 pub stored_or_none : (es : List Entry) → AllByRecursion IsEntry es → (q : CellKey) → IsStored q ⊎ (get (cells_of es) q ≡ None)
 stored_or_none [] all q = inr (get-empty key_cmp q)
 stored_or_none ((name, None) ∷ es) all q = go (stored_or_none es all.1 q)
@@ -59,7 +59,7 @@ module _ (range : RowRange) (lists : List (List Entry)) where
     pub stored_or_hidden : (key : CellKey) → IsStored key ⊎ (get (cells_of view) key ≡ None)
     stored_or_hidden key = stored_or_none view view_list.each key
 
-    -- what it shows is stored
+    -- keys that it shows are within the limits
     pub shown_stored : (key : CellKey) → IsSome (get (cells_of view) key) → IsStored key
     shown_stored key some = go (stored_or_hidden key)
       where
@@ -71,7 +71,7 @@ module _ (range : RowRange) (lists : List (List Entry)) where
             none None e h = cc
             none (Some x) e h = cc
 
--- ---- what stands between two texts
+-- ---- entries between two texts
 
 module _ (from : List ℕ) (end : Option (List ℕ)) (lists : List (List Entry)) where
   pub part_list : AllByRecursion IsEntryList lists → IsEntryList (part from end lists)

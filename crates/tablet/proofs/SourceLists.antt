@@ -1,4 +1,4 @@
--- Sources that are gathered one after the other.
+-- Sources collected one at a time.
 use Rattle.std.proofs.Common.{◌≡◌, ◌+◌, ◌<◌, ◌≤◌, ℕ, List, [], ◌∷◌, ◌++◌, map, length, take, get_or, refl, sym, ap, subst, ◌∙◌, append_assoc, add-one}
 use Rattle.std.proofs.Math.Seq.{take-suc}
 use Rattle.std.proofs.lemmas.List.{take_all}
@@ -20,7 +20,7 @@ use Rattle.compaction.specs.declared.bounded.Bounded.{Bounded}
 use Rattle.rows.proofs.PushedLists.{each_push}
 use Rattle.tablet.specs.Sources.{entries_between, listed_in, lists_over, AreSourcesOf, Comes, HasSource, IsAtStart, IsOpenIn, IsReadThrough, IsSourceOf, remaining_of}
 
--- the sources are those of the memtable and of the first files
+-- the sources are those of the memtable and of the first `i` files
 pub record AreGathered (from : List ℕ) (end : Option (List ℕ)) (memtable : Option (List Entry)) (files : List SortedFile) (i : ℕ) (sources : List (Bounded Input)) : Type 0 where
   pub start : (told : Option Contents) → AllByRecursion (IsOpenIn told) files → AllByRecursion (IsAtStart told) sources
   pub of : AllByRecursion (HasSource from end sources) (take i files)
@@ -48,7 +48,7 @@ zip_push P [] (b ∷ ys) x y all p = absurd all
 zip_push P (a ∷ xs) [] x y all p = absurd all
 zip_push P (a ∷ xs) (b ∷ ys) x y all p = (all.0, zip_push P xs ys x y all.1 p)
 
--- a source more, of a file more
+-- one more source, of one more file
 pub sources_push : (from : List ℕ) (end : Option (List ℕ)) (memory : Option (List Entry)) (files : List SortedFile) (xs : List (Bounded Input)) (file : SortedFile) (s : Bounded Input) → AreSourcesOf from end memory files xs → IsSourceOf from end file s → AreSourcesOf from end memory (files ++ file ∷ []) (xs ++ s ∷ [])
 sources_push from end None files xs file s are of = zip_push (IsSourceOf from end) files xs file s are of
 sources_push from end (Some memory) files [] file s are of = absurd are
@@ -99,7 +99,7 @@ module _ (from : List ℕ) (end : Option (List ℕ)) (memtable : Option (List En
       opened : (m : Option Contents) → AllByRecursion (IsOpenIn m) files → IsOpenIn m file
       opened m all = subst (IsOpenIn m) (sym is) (All-from_recursion (IsOpenIn m) files all i file l)
 
--- a source of an input that has not begun
+-- a source of an input at its start
 pub source_start : (m : Option Contents) (s : Bounded Input) (x : Input) → source_of s ≡ x → InputHolds m x → input_lent x ≡ None → IsAtStart m s
 source_start m s x e h l = (subst (λ (y : Input). InputHolds m y) (sym e) h, ap (λ (y : Input). lent_until (end_of s) (input_lent y)) e ∙ ap (lent_until (end_of s)) l)
 
@@ -109,7 +109,7 @@ source_remaining m s x end es e f g =
     ∙ ap (λ (u : Option (List ℕ)). entries_until u (input_remaining m x)) f
     ∙ ap (entries_until end) g
 
--- a source of a file's cursor that has not begun
+-- a source of a file's cursor at its start
 pub file_start : (told : Option Contents) (s : Bounded Input) (cursor : FileCursor) (file : SortedFile) → source_of s ≡ File cursor → cursor_lent cursor ≡ None → ((m : Contents) → IsOpen m file → CursorHolds (Some m) cursor) → IsOpenIn told file → IsAtStart told s
 file_start None s cursor file e lent holds is = absurd is
 file_start (Some m) s cursor file e lent holds is = source_start (Some m) s (File cursor) e (holds m is) lent
@@ -132,7 +132,7 @@ entry_lists (Some es) files is told all = (is.0, all_lists told files all)
 
 -- ---- the files that were read
 
--- what has sources that come to their ends was read through
+-- files whose sources reach their ends were read through
 read_through : (disk : Option Contents) (from : List ℕ) (end : Option (List ℕ)) (sources : List (Bounded Input)) (files : List SortedFile) → AllByRecursion (HasSource from end sources) files → AllByRecursion (Comes disk) sources → AllByRecursion (IsReadThrough disk from end) files
 read_through disk from end sources [] has all = tt
 read_through disk from end sources (file ∷ files) has all = (
@@ -144,7 +144,7 @@ read_through disk from end sources (file ∷ files) has all = (
   read_through disk from end sources files has.1 all,
 )
 
--- and so were the same files, from the same text up to the same other
+-- the same files, between equal texts, were read through as well
 pub all_through : (disk : Option Contents) (from low : List ℕ) (end high : Option (List ℕ)) (sources : List (Bounded Input)) (files read : List SortedFile) → from ≡ low → end ≡ high → files ≡ read → AllByRecursion (HasSource from end sources) files → AllByRecursion (Comes disk) sources → AllByRecursion (IsReadThrough disk low high) read
 all_through disk from low end high sources files read f e r has all =
     subst (AllByRecursion (IsReadThrough disk low high)) r

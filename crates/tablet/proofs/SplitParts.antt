@@ -1,4 +1,4 @@
--- The two parts of a tablet that is split.
+-- The two parts of a split tablet.
 use Rattle.std.proofs.Common.{◌≡◌, ℕ, ◌<◌, Bool, true, false, cond, ◌&&◌, List, [], ◌∷◌, map, refl, sym, ap, subst, ◌∙◌, inl, inr, arith}
 use Rattle.std.specs.Prelude.{◌⊎◌, ◌≢◌, Option, Some, None, IfSome, IsSomeAnd, IsTrue}
 use Rattle.std.specs.List.{AllByRecursion}
@@ -65,7 +65,7 @@ after_more : (before : Option (List ℕ)) (row x : List ℕ) → is_after before
 after_more None row x e f = refl
 after_more (Some before) row x e f = ap is_lt (total.trans before row x (less_of (byte_cmp before row) e) (less_of (byte_cmp row x) f))
 
--- the parts of a range at a row lie in it
+-- the parts of a range at a row are within the range
 pub left_inside : (range : RowRange) (row : List ℕ) → has_row range row ≡ true → (x : List ℕ) → has_row record { after = range.after; end = Some row } x ≡ true → has_row range x ≡ true
 left_inside range row e x f =
     let whole = both_true (is_after range.after row) (is_up_to range.end row) e in
@@ -80,14 +80,14 @@ right_inside range row e x f =
 
 -- ---- the parts
 
--- a tablet of the same lists as one that has the cells of a whole, with a range inside that of the whole
+-- a tablet with the same lists as another has the part of its cells that is in a smaller range
 one_part : (m n : Contents) (whole middle part : Tablet) → Holds n middle → range_of middle ≡ range_of whole → cells_at n middle ≡ cells_at m whole → lists_of n part ≡ lists_of n middle → ((x : List ℕ) → has_row (range_of part) x ≡ true → has_row (range_of whole) x ≡ true) → IsPart (range_of part) (cells_at m whole) (cells_at n part)
 one_part m n whole middle part h range cells lists inside = λ key.
     (λ i. get (cells_of (shown (range_of part) (lists i))) key)
     ∙ part_of (range_of whole) (range_of part) (lists_of n middle) (held_lists n middle h) inside key
     ∙ (λ i. cond (has_row (range_of part) key.row) (get (((λ j. cells_of (shown (sym range j) (lists_of n middle))) ∙ cells) i) key) None)
 
--- what a split makes of a tablet after its minor compaction
+-- the parts of a tablet that was split after its minor compaction
 pub record IsSplit (whole middle left right : Tablet) (row : List ℕ) : Type 0 where
   pub range : range_of middle ≡ range_of whole
   pub left_range : range_of left ≡ record { after = (range_of whole).after; end = Some row }
@@ -120,12 +120,12 @@ splits law (Some m) (Some n) new next after whole middle left right row is keeps
     let kept = keeps h below in
     subst (λ (o : Option Contents). IsSomeAnd o (λ n. AreParts m whole n after left right)) (sym same) (parts_of law m n after whole middle left right row is inside holds kept.0 kept.1 kept.2)
 
--- a tablet that stays keeps its cells
+-- an unchanged tablet keeps its cells
 pub keeps_itself : (told : Option Contents) (next : ℕ) (t : Tablet) → Keeps told next t told next t
 keeps_itself None next t = tt
 keeps_itself (Some m) next t = λ h below. (h, below, refl)
 
--- what was cut after a minor compaction are the parts of what there was before
+-- the parts cut after a minor compaction are parts of the tablet before it
 pub parts_after : (old mid new : Option Contents) (next after : ℕ) (whole middle left right : Tablet) (row : List ℕ) → range_of middle ≡ range_of whole → Keeps old next whole mid after middle → MakesParts mid after middle row new after left right → MakesParts old next whole row new after left right
 parts_after None mid new next after whole middle left right row range keeps parts = tt
 parts_after (Some m) None new next after whole middle left right row range keeps parts = λ h below inside. absurd (keeps h below)
@@ -144,7 +144,7 @@ parts_after (Some m) (Some k) new next after whole middle left right row range k
       right_cells = subst (λ (cells : Cells). IsPart (range_of right) cells (cells_at n right)) same parts.right_cells;
     }
 
--- ---- files that are there
+-- ---- files that exist
 
 same_there : (m n : Contents) (name : ℕ) → get n name ≡ get m name → HasFile m name → HasFile n name
 same_there m n name same h = record { format = h.format; entries = h.entries; image = h.image; list = h.list; there = same ∙ h.there; form = h.form }
@@ -160,14 +160,14 @@ still_there : (m n : Contents) (next after : ℕ) → UsesName (Some m) next (So
 still_there m n next after (inl e) names below h = let same : n ≡ m = (let is : Some n ≡ Some m = e.1 in cc) in subst (λ (k : Contents). AllByRecursion (HasFile k) names) (sym same) h
 still_there m n next after (inr e) names below h = others_there m n next e.1 names below h
 
--- with the file that a minor compaction put
+-- all files exist, with the one that a minor compaction put
 all_there : OpenIsThere → (n : Contents) (next : ℕ) (t u : Tablet) (memory es : List Entry) → names_of u ≡ with_name next memory (names_of t) → (memory ≢ [] → HasPut Minor n es t u) → AllByRecursion (HasFile n) (names_of t) → AllByRecursion (HasFile n) (names_of u)
 all_there law n next t u [] es names put there = subst (AllByRecursion (HasFile n)) (sym names) there
 all_there law n next t u (e ∷ rest) es names put there =
     let one = put (λ none. absurd (let no : e ∷ rest ≡ [] = none in cc)) in
     subst (λ (fs : List SortedFile). AllByRecursion (HasFile n) (map name_of fs)) (sym one.files) (law n one.file one.written.opened, there)
 
--- if a file isn't there after a minor compaction, one wasn't before
+-- if a file is missing after a minor compaction, one was missing before
 pub missing_before : OpenIsThere → (old mid : Option Contents) (limit next after : ℕ) (t u : Tablet) → UsesName old next mid after → Flushes limit old next mid after t u
     → IfSome mid (λ n. ¬ AllByRecursion (HasFile n) (names_of u)) → IfSome old (λ m. IsBelow next t → ¬ AllByRecursion (HasFile m) (names_of t))
 missing_before law None mid limit next after t u uses flushed missing = tt
@@ -176,7 +176,7 @@ missing_before law (Some m) None limit next after t u (inr e) flushed missing = 
 missing_before law (Some m) (Some n) limit next after t u uses flushed missing =
     λ below there. missing (all_there law n next t u (memory_of t) (seen (range_of t) (memory_of t)) flushed.names flushed.put (still_there m n next after uses (names_of t) below there))
 
--- the parts that a tablet was cut into after a minor compaction, by what it was before
+-- the parts of a tablet cut after a minor compaction, in terms of the tablet before it
 pub cut_after : (r : Result Tablet Refusal) (names row : List ℕ) (t mid right : Tablet) → range_of mid ≡ range_of t → names_of mid ≡ names
     → IfOk r (λ left. range_of left ≡ record { after = (range_of mid).after; end = Some row }) → OnOk r (range_of right ≡ record { after = Some row; end = (range_of mid).end })
     → IfOk r (λ left. names_of left ≡ names_of mid) → OnOk r (names_of right ≡ names_of mid) → IfOk r (λ left. memory_of left ≡ []) → memory_of right ≡ []
@@ -194,7 +194,7 @@ cut_after (Ok left) names row t mid right range same lr rr ln rn lm rm =
       right_memory = rm;
     }
 
--- what a cut that was refused after a minor compaction left
+-- the tablet after a minor compaction and a refused cut
 pub left_after : (r : Result Tablet Refusal) (next : ℕ) (old mid new : Tablet) → range_of mid ≡ range_of old → (memory_of old ≡ [] → IsUnchanged old mid)
     → memory_of mid ≡ [] → names_of mid ≡ with_name next (memory_of old) (names_of old) → OnErr r (IsUnchanged mid new) → OnErr r (LeavesFlushed next old new)
 left_after (Ok left) next old mid new range empty memory names same = tt

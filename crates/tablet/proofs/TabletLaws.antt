@@ -1,4 +1,4 @@
--- What changes nothing for a tablet.
+-- Changes of files that change nothing for a tablet.
 use Rattle.std.proofs.Common.{◌≡◌, ◌<◌, ◌≤◌, ℕ, Bool, false, cond, List, [], ◌∷◌, ◌⊎◌, inl, inr, map, Option, None, refl, ap, ◌∙◌, arith}
 use Rattle.std.specs.Option.{unwrap_or}
 use Rattle.std.specs.List.{AllByRecursion}

@@ -1,4 +1,4 @@
--- What a compaction came to in its files, whatever they hold.
+-- Refused compactions, by the files' bytes, whatever they are.
 use Rattle.std.proofs.Common.{◌≡◌, ◌⊎◌, ℕ, Bool, List, length, ap, subst}
 use Rattle.std.specs.Prelude.{Option, Some, None, IfSome}
 use Rattle.cell_key.specs.Entries.{Entry}
@@ -16,7 +16,7 @@ use Rattle.tablet.specs.declared.compactions.Compaction.{Compaction}
 
 -- ---- sources
 
--- the same, said otherwise
+-- the sources of equal texts, memtables and files
 pub sources_same : (from low : List ℕ) (end high : Option (List ℕ)) (memory held : Option (List Entry)) (files read : List SortedFile) (ss : List (Bounded Input)) → from ≡ low → end ≡ high → memory ≡ held → files ≡ read → AreSourcesOf from end memory files ss → AreSourcesOf low high held read ss
 sources_same from low end high memory held files read ss f e m r h =
     subst (λ (fs : List SortedFile). AreSourcesOf low high held fs ss) r
@@ -24,7 +24,7 @@ sources_same from low end high memory held files read ss f e m r h =
     (subst (λ (h : Option (List ℕ)). AreSourcesOf low h memory files ss) e
     (subst (λ (l : List ℕ). AreSourcesOf l end memory files ss) f h)))
 
--- ---- a tablet that is as before
+-- ---- an unchanged tablet
 
 module _ (compaction : Compaction) (disk : Option Contents) (t u : Tablet) (same : IsUnchanged t u) where
   read_same : (ss : List (Bounded Input)) → AreRead compaction u ss → AreRead compaction t ss
@@ -48,9 +48,9 @@ pub each_unreadable : (compaction : Compaction) (disk : Option Contents) (t u : 
 each_unreadable compaction None t u same h = tt
 each_unreadable compaction (Some m) t u same h = still_unreadable compaction (Some m) t u same h
 
--- ---- files that tell something
+-- ---- known contents of files
 
--- what is so of what the files hold, if they say it
+-- a fact about contents is one about the contents, if they are known
 pub told_some : (disk : Option Contents) (P : Option Contents → Type 0) → P disk → IfSome disk (λ m. P (Some m))
 told_some None P h = tt
 told_some (Some m) P h = h

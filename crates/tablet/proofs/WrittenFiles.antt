@@ -1,4 +1,4 @@
--- A file that was written, and is open.
+-- Files that were just written and are open.
 use Rattle.std.proofs.Common.{◌≡◌, ℕ, ◌≤◌, Bool, true, false, cond, List, [], ◌∷◌, map, take, length, refl, sym, ap, subst, ◌∙◌}
 use Rattle.std.proofs.Common.{zero, suc}
 use Rattle.std.specs.Prelude.{◌≢◌, Option, Some, None, Result, Ok, Err, OnOk, IfOk, IfSome, IsSomeAnd, IsNone}
@@ -43,7 +43,7 @@ pub others_kept : (old new : Option Contents) (name : ℕ) (image : List ℕ) �
 others_kept None new name image e = subst IsNone (sym e) refl
 others_kept (Some m) new name image e = subst (λ (o : Option Contents). KeepsOthers name (Some m) o) (sym e) (λ other n. get_other m name image other n)
 
--- what was written of sources, where they stand for their lists
+-- the file written from sources, given their lists
 abbrev pub IsWritten : Option Contents → Option Contents → ℕ → ℕ → (Option Contents → Type 0) → (Option Contents → List Entry) → Type 0
 IsWritten old new name limit at_start es = (image : List ℕ) × ((new ≡ with_file name image old) × (length image ≤ limit) × (at_start old → IsFile Two (es old) image))
 
@@ -53,7 +53,7 @@ opens_it law m name image es file form named read = record {
   lists = law (insert m name image) file Two es image read form (ap (get (insert m name image)) named ∙ get_own m name image);
 }
 
--- a file that was written and is open stands for what was written, also when its cache has changed
+-- a file that was written and is open lists the entries written, also when its cache has changed
 pub made_as_written : WrittenIsListed → (old new : Option Contents) (name limit : ℕ) (at_start : Option Contents → Type 0) (es : Option Contents → List Entry) (file now : SortedFile) → IsWritten old new name limit at_start es
     → IfSome new (λ n. IsOpen n file) → name_of file ≡ name → ((disk : Option Contents) → IsSameFile disk file now)
     → IfSome old (λ m. at_start (Some m) → IsSomeAnd new (λ n. IsNewFile n now (es (Some m))))
@@ -63,11 +63,11 @@ made_as_written law (Some m) new name limit at_start es file now w opened named 
     (opens_it law m name w.0 (es (Some m)) now (w.1.2 start) ((same None).name ∙ named)
     ((same (Some (insert m name w.0))).still (subst (λ (o : Option Contents). IfSome o (λ n. IsOpen n file)) w.1.0 opened)))
 
--- what was written keeps to the limit
+-- the file written is within the limit
 pub within_limit : (old mid : Option Contents) (name limit : ℕ) (at_start : Option Contents → Type 0) (es : Option Contents → List Entry) → IsWritten old mid name limit at_start es → at_start old → FitsIn limit (es old)
 within_limit old mid name limit at_start es w = λ start. record { image = w.0; form = w.1.2 start; within = w.1.1 }
 
--- ---- what a compaction writes
+-- ---- the entries of a compaction
 
 pub all_take : {A : Type 0} (P : A → Type 0) (count : ℕ) (xs : List A) → AllByRecursion P xs → AllByRecursion P (take count xs)
 all_take P zero xs h = tt
@@ -78,7 +78,7 @@ between_seen : (range : RowRange) (lists : List (List Entry)) → AllByRecursion
 between_seen range [] h = refl
 between_seen range (es ∷ lists) h = λ i. seen_between range es h.0.each i ∷ between_seen range lists h.1 i
 
--- what sources between the fences of a range give is what the compaction writes
+-- sources cut to a range's fences give the entries that the compaction writes
 pub compacts : (compaction : Compaction) (range : RowRange) (memory : List Entry) (lists : List (List Entry)) (files : ℕ) (keep : Bool) (from : List ℕ) (end : Option (List ℕ)) (inputs xs : List (List Entry)) → AllByRecursion IsEntryList inputs
     → length lists ≡ files → keep ≡ keeps_erasures compaction files → from ≡ lower_fence range → end ≡ upper_fence range → inputs ≡ inputs_of compaction memory lists → xs ≡ map (entries_between from end) inputs
     → written keep xs ≡ compacted compaction range memory lists
@@ -98,31 +98,27 @@ pub on_ok_map : {A E P Q : Type 0} (r : Result A E) → (P → Q) → OnOk r P �
 on_ok_map (Ok x) f p = f p
 on_ok_map (Err e) f p = tt
 
-pub on_ok_both : {A E : Type 0} (r : Result A E) (P Q : Type 0) → OnOk r P → OnOk r Q → OnOk r (P × Q)
-on_ok_both (Ok x) P Q p q = (p, q)
-on_ok_both (Err e) P Q p q = tt
-
 pub told_not : (told : Option Contents) (P : Option Contents → Type 0) → ¬ P told → IfSome told (λ m. ¬ P (Some m))
 told_not None P not = tt
 told_not (Some m) P not = not
 
--- over files that are held, what a compaction reads is open
+-- a compaction's files are open if the tablet holds
 pub reads_held : (compaction : Compaction) (m : Contents) (t : Tablet) → Holds m t → ReadsOpen compaction (Some m) t
 reads_held Minor m t h = tt
 reads_held (Merge count) m t h = all_take (IsOpenIn (Some m)) count (files_of t) h.files
 reads_held Major m t h = h.files
 
--- what holds where those are open holds where all are
+-- a fact that holds if a compaction's files are open holds if the tablet holds
 pub where_held : (compaction : Compaction) (told : Option Contents) (t : Tablet) (P : Contents → Type 0) → IfSome told (λ m. ReadsOpen compaction (Some m) t → P m) → IfSome told (λ m. Holds m t → P m)
 where_held compaction None t P h = tt
 where_held compaction (Some m) t P h = λ held. h (reads_held compaction m t held)
 
--- a compaction says so of files that tell something
+-- a compaction's fact about any contents is one about known contents
 pub told_written : (compaction : Compaction) (told : Option Contents) (t : Tablet) (P : List (List Entry) → Type 0) → (ReadsOpen compaction told t → P (map (listed_in told) (files_of t))) → IfSome told (λ m. ReadsOpen compaction (Some m) t → P (map (listed m) (files_of t)))
 told_written compaction None t P h = tt
 told_written compaction (Some m) t P h = h
 
--- what never fails over files that tell something fails only over others
+-- a call that never fails over known contents fails only over unknown ones
 pub none_told : (told : Option Contents) → IfSome told (λ m. ¬ (Unit {0})) → IsNone told
 none_told None h = refl
 none_told (Some m) h = absurd (h tt)

@@ -1,23 +1,29 @@
--- Cells that are gathered out of entries which come one after the other.
-use Rattle.std.specs.Prelude.{◌≡◌, ◌≤◌, ◌-◌, ℕ, Bool, true, List, ◌++◌, ◌∷◌, [], length, take, Option, None, Some, IfSome}
+-- Cells gathered from entries that arrive in order.
+use Rattle.std.specs.Prelude.{◌≡◌, ◌⊎◌, ◌≤◌, ◌-◌, ℕ, Bool, true, List, ◌++◌, ◌∷◌, [], length, take, Option, None, Some, IfSome}
 use Rattle.std.specs.List.{slice_get, AllByRecursion}
 use Rattle.cell_key.specs.Entries.{Entry, IsEntryList, cells_of}
 use Rattle.cell_key.specs.Keys.{text, IsStored}
 use Rattle.cell_key.specs.Places.{AreNext, HasCell, Place, last_or, place_of}
 use Rattle.cell_key.specs.Texts.{place_text}
 use Rattle.cell_key.specs.declared.keys.CellKey.{CellKey}
+use Rattle.cell_key.specs.declared.refusals.Refusal.{Refusal}
+use Rattle.cell_key.specs.declared.refusals.Refusal.TheVariants as refused
 use Rattle.rows.specs.Batches.{HasNewest, bytes_in, place_in, places_in}
 use Rattle.tablet.specs.Reads.{IsNextIn, IsStoredPlace}
 use Rattle.rows.specs.declared.batches.CellVersions.{CellVersions}
 use Rattle.tablet.specs.declared.gathering.Gathering.{Gathering}
 
--- entries have a key of the cell, and its versions are the newest at or below a stamp
+-- the refusals of gathering entries that were read: there is no memory, or a file is damaged
+abbrev pub IsGatheringRefusal : Refusal → Type 0
+IsGatheringRefusal refusal = (refusal ≡ refused.NoMemory) ⊎ (refusal ≡ refused.Damaged)
+
+-- the entries have a key of the cell, and its versions are the newest at or below a stamp
 pub record IsShown (es : List Entry) (hi : ℕ) (found : CellVersions) : Type 0 where
   pub some : HasCell (cells_of es) (place_in found)
   pub newest : HasNewest (cells_of es) hi found
 
--- The cells come one after the other in entries, with their newest versions at or below a stamp. If
--- they are the last, no cell comes after them.
+-- These are the first cells of the entries, in order, with their newest versions at or below a stamp. If `is_last`, no
+-- cell comes after them.
 pub record AreVersionsIn (es : List Entry) (hi : ℕ) (found : List CellVersions)
     (is_last : Bool) : Type 0 where
   pub next : AreNext (IsNextIn es) None (length found) (places_in found)
@@ -36,15 +42,15 @@ pub record HasPlaceText (cell : CellVersions) (bytes : List ℕ) : Type 0 where
   pub place : IsStoredPlace (place_in cell)
   pub text : bytes ≡ place_text cell.row cell.family
 
--- the bytes are another text and what follows it
+-- the bytes begin with `start`
 abbrev pub BeginsWith : List ℕ → List ℕ → Type 0
 BeginsWith start bytes = (rest : List ℕ) × (bytes ≡ start ++ rest)
 
--- a cell is shown, whatever entries follow
+-- the cell stays correct whatever entries follow
 abbrev pub IsWhole : List Entry → ℕ → CellVersions → Type 0
 IsWhole es hi found = (more : List Entry) → IsEntryList (es ++ more) → IsShown (es ++ more) hi found
 
--- a cell is shown by the entries up to now, and these bytes are the text of its place
+-- the cell is correct for the entries up to now, and these bytes are the text of its place
 pub record IsShownSoFar (es : List Entry) (hi : ℕ) (bytes : List ℕ) (cell : CellVersions) : Type 0 where
   pub text : HasPlaceText cell bytes
   pub shown : IsShown es hi cell
@@ -56,8 +62,8 @@ last_of found = slice_get found (length found - 1)
 abbrev pub before_last : List CellVersions → List CellVersions
 before_last found = take (length found - 1) found
 
--- Out of these entries it gathered their cells in order. Each but the last is whole. The last one
--- is shown by these entries, and the text of its place is kept.
+-- It gathered the cells of these entries in order. Each but the last is complete. The last one is correct for these
+-- entries, and the text of its place is kept.
 pub record Gathers (es : List Entry) (gathered : Gathering) : Type 0 where
   pub next : AreNext (IsNextIn es) None (length gathered.cells.items) (places_in gathered.cells.items)
   pub none : IsNextIn es (last_or None (places_in gathered.cells.items)) None
@@ -65,8 +71,8 @@ pub record Gathers (es : List Entry) (gathered : Gathering) : Type 0 where
   pub last : IfSome (last_of gathered.cells.items)
       (IsShownSoFar es gathered.hi gathered.place.items)
 
--- The cell of a text now comes after the others, and the text of its place is kept. If no entry
--- before had a key of the cell, its versions are the newest of those entries and this value.
+-- The cell of a key's text was appended, and the text of its place is kept. If no earlier entry has a key of the cell,
+-- its versions are the newest of those entries and this value.
 pub record Begins (bytes value : List ℕ) (old new : Gathering) : Type 0 where
   pub cell : CellVersions
   pub after : new.cells.items ≡ old.cells.items ++ cell ∷ []
@@ -76,12 +82,12 @@ pub record Begins (bytes value : List ℕ) (old new : Gathering) : Type 0 where
       → ¬ HasCell (cells_of es) (place_in cell)
       → HasNewest (cells_of (es ++ (bytes, Some value) ∷ [])) new.hi cell
 
--- it has no more cells than it may, and knows for how many bytes there is room
+-- it has no more cells than its limit, and `room` is right
 pub record IsWithin (gathered : Gathering) : Type 0 where
   pub cells : length gathered.cells.items ≤ gathered.limits.cells
   pub room : gathered.room ≡ gathered.limits.bytes - bytes_in (before_last gathered.cells.items)
 
--- what it was asked for stays
+-- its limits are unchanged
 pub record KeepsLimits (old new : Gathering) : Type 0 where
   pub hi : new.hi ≡ old.hi
   pub limits : new.limits ≡ old.limits

@@ -26,26 +26,26 @@ ShowsItsLists =
     ≡ (if has_row (range_of t) key.row
     then value_of (first_naming (lists_of m t) (text key)) else None)
 
--- A file under a name that no tablet's file has had changes nothing for a tablet.
+-- Writing a file under a name that none of a tablet's files has had changes nothing for the tablet.
 abbrev pub OthersStay : Type 0
 OthersStay =
     (m n : Contents) (before after : ℕ) (t : Tablet) → UsesName (Some m) before (Some n) after
     → Holds m t → IsBelow before t → Holds n t × IsBelow after t × (cells_at n t ≡ cells_at m t)
 
--- While the bytes under the names of its files stay, nothing changes for a tablet,
--- whatever else is removed or written.
+-- As long as the bytes under the names of its files are unchanged, nothing changes for a tablet, whatever else is
+-- removed or written.
 abbrev pub UnnamedMayGo : Type 0
 UnnamedMayGo =
     (m n : Contents) (t : Tablet) → Holds m t
     → AllByRecursion (λ name. get n name ≡ get m name) (names_of t)
     → Holds n t × (cells_at n t ≡ cells_at m t)
 
--- Tablets of one range and one memtable, whose files have the same names, have the same cells.
+-- Tablets with the same range, the same memtable and the same file names have the same cells.
 abbrev pub SameCells : Type 0
 SameCells =
     (m : Contents) (t u : Tablet) → Holds m t → Holds m u → range_of t ≡ range_of u
     → memory_of t ≡ memory_of u → names_of t ≡ names_of u → cells_at m t ≡ cells_at m u
 
--- The files of a tablet are there.
+-- Every file of a tablet exists.
 abbrev pub FilesAreThere : Type 0
 FilesAreThere = (m : Contents) (t : Tablet) → Holds m t → AllByRecursion (HasFile m) (names_of t)

@@ -1,4 +1,4 @@
--- What a read finds.
+-- Results of reads.
 use Rattle.std.specs.Prelude.{◌≡◌, ℕ, ◌≤◌, ◌<◌, length, List, [], ◌∷◌, Option, Some, None, if◌then◌else◌, map, IfSome, Result, IsErrOf}
 use Rattle.std.specs.List.{AllByRecursion}
 use Rattle.std.specs.Ordering.{is_le}
@@ -28,15 +28,15 @@ first_value [] = None
 first_value ((name, None) ∷ es) = first_value es
 first_value ((name, Some value) ∷ es) = Some (name, value)
 
--- what a value keeps to
+-- a value within the limit
 abbrev pub IsValue : List ℕ → Type 0
 IsValue bytes = length bytes ≤ 65536
 
--- of some entries these are left, among them all whose texts aren't below this one
+-- the entries left of `es` include all whose texts are at or above `past`
 abbrev pub HasLeft : List ℕ → List Entry → List Entry → Type 0
 HasLeft past es left = entries_from past left ≡ entries_from past es
 
--- a text with a value is that of a key of the place
+-- a text with a value, whose text is a key's of this place
 pub record IsOfPlace (found : Option (List ℕ × List ℕ)) (place : Place) : Type 0 where
   pub key : CellKey
   pub value : List ℕ
@@ -44,24 +44,24 @@ pub record IsOfPlace (found : Option (List ℕ × List ℕ)) (place : Place) : T
   pub at : place_of key ≡ place
   pub is : found ≡ Some (text key, value)
 
--- the place of such a text, or nothing
+-- the place of such a text, or `None` without one
 abbrev pub NamesPlace : Option (List ℕ × List ℕ) → Option Place → Type 0
 NamesPlace found None = found ≡ None
 NamesPlace found (Some place) = IsOfPlace found place
 
--- files have together no value of a column of this kind in this row at these stamps
+-- the files' merged list has no value of a column of this kind in this row at these stamps
 abbrev pub HaveNoValue : List ℕ → Qualifier → ℕ → ℕ → List SortedFile → Type 0
 HaveNoValue row qualifier lo hi files =
     (m : Contents) → AllByRecursion (IsOpen m) files → (key : CellKey) → IsStored key
     → key.row ≡ row → key.qualifier ≡ qualifier → lo ≤ key.stamp → key.stamp ≤ hi
     → value_of (first_naming (map (listed m) files) (text key)) ≡ None
 
--- a stamp that comes after that of a version, or from the least one on if there is none
+-- the stamp is after the version's, or at least `lo` without a version
 abbrev pub IsLater : ℕ → ℕ → Option (ℕ × List ℕ) → Type 0
 IsLater s lo None = lo ≤ s
 IsLater s lo (Some found) = found.0 < s
 
--- Up to that of the key, at no stamp after the one found do lists show a value of the key's column.
+-- The lists show no value of the key's column at a stamp after the one found, up to the key's.
 abbrev pub HasNoLater : CellKey → ℕ → Option ℕ → List (List Entry) → Type 0
 HasNoLater key lo found lists =
     (s : ℕ) → IsAfterStamp s lo found → s ≤ key.stamp → IsStored (at_stamp key s)
@@ -77,12 +77,12 @@ stamped_values ((name, Some value) ∷ es) = ((key_of_text name).stamp, value) �
 abbrev pub later : List ℕ → List ℕ → List ℕ
 later a b = if is_le (byte_cmp a b) then b else a
 
--- what comes after the texts of a place and before those of later places, or before all texts
+-- a bound above the texts of a place and below those of later places; without a place, below all texts
 abbrev pub past_place : Option Place → List ℕ
 past_place None = []
 past_place (Some place) = text (version place.0 place.1 Write 0)
 
--- from where the cells of a range after a place are looked for
+-- the text from which the cells of a range after a place are searched
 abbrev pub start_of : RowRange → Option Place → List ℕ
 start_of range after = later (lower_fence range) (past_place after)
 
@@ -95,11 +95,11 @@ abbrev pub IsPlaceOrNone : Option Place → Type 0
 IsPlaceOrNone None = Unit {0}
 IsPlaceOrNone (Some place) = IsStoredPlace place
 
--- found is the place of the first value of entries after a place
+-- `found` is the place of the first value of the entries after a place
 abbrev pub IsNextIn : List Entry → Option Place → Option Place → Type 0
 IsNextIn es after = NamesPlace (first_value (entries_from (past_place after) es))
 
--- A read of a tablet reads files, and answers that they are damaged only if the tablet doesn't hold.
+-- A read of a tablet changes no file; it answers `Damaged` only if the tablet doesn't hold.
 pub record ReadsTablet {F T : Type 0} (contents : F → Option Contents) (faults : F → ℕ)
     (tablet : Tablet) (old new : F) (result : Result T Refusal) : Type 0 where
   pub damaged : IsErrOf result Damaged → IfSome (contents old) (λ m. ¬ Holds m tablet)

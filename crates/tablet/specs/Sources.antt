@@ -1,4 +1,4 @@
--- The lists that a tablet reads, and parts of them.
+-- The lists that a tablet reads, cut to ranges of texts, and their sources.
 use Rattle.std.specs.Prelude.{◌≡◌, ℕ, List, [], ◌∷◌, ◌++◌, map, Option, Some, None, Contains}
 use Rattle.std.specs.Option.{option_to_list}
 use Rattle.std.specs.List.{AllZip}
@@ -14,12 +14,11 @@ use Rattle.compaction.specs.declared.input.Input.{Input}
 use Rattle.compaction.specs.declared.input.Input.TheVariants.{File, Memtable}
 use Rattle.compaction.specs.declared.bounded.Bounded.{Bounded}
 
--- the entries from a text on, and below another one if there is one
+-- the entries with texts from `from` on, and below `end` if there is one
 abbrev pub entries_between : List ℕ → Option (List ℕ) → List Entry → List Entry
 entries_between from end es = entries_until end (entries_from from es)
 
--- an open file over files that hold this, and its list: if nothing is known of them, no file is
--- open
+-- a file is open over this disk, and its list; over an unknown disk no file is open
 abbrev pub IsOpenIn : Option Contents → SortedFile → Type 0
 IsOpenIn None file = ⊥
 IsOpenIn (Some m) file = IsOpen m file
@@ -28,11 +27,11 @@ abbrev pub listed_in : Option Contents → SortedFile → List Entry
 listed_in None file = []
 listed_in (Some m) file = listed m file
 
--- the list of a memtable, if there is one, and those of files
+-- the list of a memtable, if there is one, and the lists of files
 abbrev pub lists_over : Option Contents → Option (List Entry) → List SortedFile → List (List Entry)
 lists_over disk memtable files = option_to_list memtable ++ map (listed_in disk) files
 
--- what lists mean together from a text on, and below another one if there is one
+-- the merged list of these lists, from `from` on, and below `end` if there is one
 abbrev pub part : List ℕ → Option (List ℕ) → List (List Entry) → List Entry
 part from end lists = merged (map (entries_between from end) lists)
 
@@ -41,11 +40,11 @@ abbrev pub IsAtStart : Option Contents → Bounded Input → Type 0
 IsAtStart disk s =
     InputHolds disk (source_of s) × (lent_until (end_of s) (input_lent (source_of s)) ≡ None)
 
--- the entries that it has
+-- the entries that are left in it
 abbrev pub remaining_of : Option Contents → Bounded Input → List Entry
 remaining_of disk s = entries_until (end_of s) (input_remaining disk (source_of s))
 
--- a source has the entries of a file from a text on, and below another one if there is one
+-- a source of a file's entries from a text on, and below `end` if there is one
 pub record IsSourceOf (text : List ℕ) (end : Option (List ℕ)) (file : SortedFile) (s : Bounded Input)
     : Type 0 where
   pub cursor : FileCursor
@@ -53,20 +52,20 @@ pub record IsSourceOf (text : List ℕ) (end : Option (List ℕ)) (file : Sorted
   pub ends : end_of s ≡ end
   pub of : IsCursorOf file text cursor
 
--- such a source is among these
+-- a source of the file is among these
 pub record HasSource (text : List ℕ) (end : Option (List ℕ)) (sources : List (Bounded Input))
     (file : SortedFile) : Type 0 where
   pub source : Bounded Input
   pub among : Contains sources source
   pub of : IsSourceOf text end file source
 
--- and a source those of a memtable
+-- a source of a memtable's entries from a text on, and below `end` if there is one
 pub record IsMemorySource (text : List ℕ) (end : Option (List ℕ)) (memory : List Entry)
     (s : Bounded Input) : Type 0 where
   pub source : source_of s ≡ Memtable (None, entries_from text memory)
   pub ends : end_of s ≡ end
 
--- the sources are one of a memtable, if there is one, and then one of each file, the newest first
+-- the sources: one of the memtable, if there is one, then one of each file, the newest first
 abbrev pub AreSourcesOf : List ℕ → Option (List ℕ) → Option (List Entry) → List SortedFile
     → List (Bounded Input) → Type 0
 AreSourcesOf text end None files sources = AllZip (IsSourceOf text end) files sources
@@ -74,7 +73,7 @@ AreSourcesOf text end (Some memory) files [] = ⊥
 AreSourcesOf text end (Some memory) files (s ∷ sources) =
     IsMemorySource text end memory s × AllZip (IsSourceOf text end) files sources
 
--- the entry that a source is at, and how it goes on and where it breaks off over files that hold this
+-- a source's current entry, and how it advances and where it fails over this disk
 abbrev pub lent_by : Bounded Input → Option Entry
 lent_by s = lent_until (end_of s) (input_lent (source_of s))
 
@@ -84,12 +83,12 @@ Steps disk = BoundedSteps (InputSteps disk) input_lent
 abbrev pub Breaks : Option Contents → Bounded Input → Type 0
 Breaks disk s = InputBreaks disk (source_of s)
 
--- over files that hold this a source comes to its end
+-- over this disk the source reaches its end
 abbrev pub Comes : Option Contents → Bounded Input → Type 0
 Comes disk = ComesToEnd (Steps disk) lent_by
 
--- A file was read from a text on, and up to another one if there is one: over files that hold this a
--- source of it comes to its end, through bytes that are entries.
+-- A file was read from a text on, and below `end` if there is one: over this disk a source of it reaches its end,
+-- through bytes that are entries.
 pub record IsReadThrough (disk : Option Contents) (text : List ℕ) (end : Option (List ℕ))
     (file : SortedFile) : Type 0 where
   pub source : Bounded Input

@@ -1,4 +1,4 @@
-//! Emptying what the files of a tablet keep, and how much that is at most.
+//! The block caches of a tablet's files: emptying them and setting their sizes.
 
 ghost use Rattle.std.specs.Prelude.{◌≡◌, Option};
 ghost use Rattle.file_store.specs.Store.{Contents};
@@ -8,8 +8,8 @@ use crate::tablet::Tablet;
 use std::num::NonZeroUsize;
 
 impl Tablet {
-    /// Lets each file cache this many blocks at most, from now on, and those too that will be opened. The tablet stays
-    /// what it was.
+    /// Sets how many blocks each file caches at most, for the open files and those opened later. The tablet is
+    /// otherwise unchanged.
     pub fn resize_caches(&mut self, most_blocks: NonZeroUsize)
         ensures same { (disk : Option Contents) → IsSameTablet disk self.old self.new }
         ensures blocks { self.new.most_blocks ≡ most_blocks }
@@ -18,7 +18,7 @@ impl Tablet {
         self.most_blocks = most_blocks;
     }
 
-    /// Empties the caches of the files. The tablet stays what it was. Takes no memory.
+    /// Empties the caches of the files. The tablet is unchanged. Allocates nothing.
     pub fn drop_caches(&mut self)
         ensures { (disk : Option Contents) → IsSameTablet disk self.old self.new }
     {

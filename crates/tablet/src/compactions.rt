@@ -1,12 +1,13 @@
-//! Compactions (Bigtable, tablet serving): what stands in several places is written as one file. Room in the tablet's
-//! list of files is made before the file is written, unless it comes in the place of another, and the file is open once
-//! it is written, before the tablet changes: from then on no memory is taken, and nothing is refused. The calls of laws
-//! of lower crates, as `stays_open()`, do nothing: what is ensured here rests on them.
+//! Compactions (Bigtable, tablet serving): several sources are merged into one file. The tablet changes last. Room for
+//! the file in its list is reserved before the file is written, unless it replaces others, and the file is open once it
+//! is written. After that only the new index of locks may be refused, with `NoMemory`; the tablet is then unchanged and
+//! the file is left over. Calls of lemmas of lower crates, like `stays_open()`, do nothing at run time; the contracts
+//! here rest on them.
 
-ghost use Rattle.std.specs.Prelude.{◌≡◌, ◌≢◌, ◌≤◌, ◌<◌, ◌+◌, ◌^◌, ◌↔◌, ◌⊎◌, [], Option, Some, length, map, take, false, nat_lt, option_map, IfOk, IfErr, OnOk, OnErr, IfSome, IsNone, IsOk, IsSomeAnd, IsErrOf};
+ghost use Rattle.std.specs.Prelude.{◌≡◌, ◌≢◌, ◌≤◌, ◌<◌, ◌+◌, ◌^◌, ◌⊎◌, [], Option, Some, length, map, take, false, nat_lt, option_map, IfOk, IfErr, OnOk, OnErr, IfSome, IsNone, IsOk, IsSomeAnd, IsErrOf, IsOkUnless};
 ghost use Rattle.std.specs.Option.{option_copied};
 ghost use Rattle.std.specs.List.{AllByRecursion};
-ghost use Rattle.file_store.specs.Store.{Contents, KeepsOthers};
+ghost use Rattle.file_store.specs.Store.{Contents};
 ghost use Rattle.sorted_file.specs.Source.{ComesToEnd};
 ghost use Rattle.sorted_file.specs.Grammar.{FitsIn};
 ghost use Rattle.sorted_file.specs.Limits.{IsFileLimit};
@@ -19,7 +20,7 @@ ghost use Rattle.tablet.specs.Ranges.{seen};
 ghost use Rattle.tablet.specs.Sources.{IsOpenIn, listed_in, lists_over};
 ghost use Rattle.tablet.specs.Views.{range_of, memory_of, files_of, names_of, IsUnchanged, Keeps};
 ghost use Rattle.tablet.specs.declared.compactions.Compaction.TheVariants.{Minor, Merge, Major};
-ghost use Rattle.tablet.specs.Compactions.{compacted, compacted_of, inputs_of, keeps_erasures, memory_read, Compacts, Flushes, HasAsMany, files_read, IsCompactionRefusal, IsMergeRefusal, IsMinorRefusal, IsNewFile, IsUnreadable, ReadsOpen, ReadsThrough, ReadsTooMuch, Replaces, TakesName};
+ghost use Rattle.tablet.specs.Compactions.{compacted, compacted_of, inputs_of, keeps_erasures, memory_read, Compacts, Flushes, HasAsMany, files_read, IsCompactionRefusal, IsMergeRefusal, IsMinorRefusal, IsNewFile, IsRefusedFirst, IsUnreadable, IsUntouched, NeedsTooManyFiles, ReadsOpen, ReadsThrough, ReadsTooMuch, Replaces, TakesName, WritesNext};
 
 use crate::sources::{fences, sources};
 use crate::tablet::Tablet;
@@ -34,7 +35,7 @@ use std::num::NonZeroUsize;
 /// The greatest name of a file.
 const MOST_NAME: u64 = 9_223_372_036_854_775_807;
 
-/// What a compaction of a tablet writes as one file.
+/// The sources that a compaction writes as one file.
 #[derive(Clone, Copy)]
 pub enum Compaction {
     /// The memtable.
@@ -45,7 +46,7 @@ pub enum Compaction {
     Major,
 }
 
-/// The next name of a file, which is not used again.
+/// Takes the next file name, which is never used again.
 fn take_name(next_name: &mut u64) -> Result<u64, Refusal>
     ensures name { IfOk result (λ name. name ≡ next_name.old) }
     ensures used { OnOk result (next_name.new ≡ next_name.old + 1) }
@@ -62,8 +63,8 @@ fn take_name(next_name: &mut u64) -> Result<u64, Refusal>
     Ok(name)
 }
 
-/// Writes what sources mean together as a file of the next name, which is open at once and caches this many blocks at
-/// most, over the index of the locks of older files.
+/// Writes the merged list of the sources as a file of the next name, opened at once, with `most_blocks` cached blocks
+/// at most, over the index of the locks of older files.
 fn write_new<F: Files, S: Source<F> + Drop>(
     alloc: Global,
     sources: Vec<S>,
@@ -79,14 +80,12 @@ fn write_new<F: Files, S: Source<F> + Drop>(
     ensures made { IfOk result (λ file. IfSome (F.contents files.old) (λ m.
         AreAtStart S.lent (S.holds (Some m)) sources.items → IsSomeAnd (F.contents files.new) (λ n.
         IsNewFile n file (written keep_erasures (map (S.remaining (Some m)) sources.items))))) }
-    ensures used { OnOk result (next_name.new ≡ next_name.old + 1) }
-    ensures others { OnOk result (KeepsOthers
-        next_name.old (F.contents files.old) (F.contents files.new)) }
+    ensures wrote { OnOk result (WritesNext
+        (F.contents files.old) next_name.old (F.contents files.new) next_name.new) }
     ensures comes { OnOk result (AllByRecursion
         (ComesToEnd (S.steps (F.contents files.old)) S.lent) sources.items) }
     ensures name { TakesName
         (F.contents files.old) next_name.old (F.contents files.new) next_name.new }
-    ensures left { OnOk result (next_name.old < 2 ^ 63) }
     ensures exhausted { IsErrOf result Refusal.Exhausted → 2 ^ 63 ≤ next_name.old }
     ensures large { IsErrOf result Refusal.FileTooLarge
         → AreAtStart S.lent (S.holds (F.contents files.old)) sources.items → ¬ FitsIn file_limit
@@ -112,7 +111,7 @@ fn write_new<F: Files, S: Source<F> + Drop>(
 }
 
 impl Tablet {
-    /// The memtable, if a compaction writes it, and the files that it writes.
+    /// The sources of a compaction: the memtable, if it is one of them, and the files.
     fn inputs(&self, compaction: Compaction) -> (Option<&Memtable>, &[SortedFile])
         requires { HasAsMany compaction (length (files_of self.now)) }
         ensures lists { (disk : Option Contents)
@@ -141,11 +140,11 @@ impl Tablet {
         }
     }
 
-    /// The index of the locks of the files behind those that a compaction replaces; `None` of a minor one, which replaces
-    /// none. Answers `NoMemory` if there is no memory.
+    /// The index of the locks of the files older than those that a compaction replaces; `None` for a minor one, which
+    /// replaces none. Answers `NoMemory` if there is no memory.
     fn older_locks(&self, compaction: Compaction) -> Result<Option<LockIndex>, Refusal>
         requires { HasAsMany compaction (length (files_of self.now)) }
-        ensures { IfErr result (λ refusal. refusal ≡ Refusal.NoMemory) }
+        ensures { IsOkUnless result Refusal.NoMemory }
     {
         match compaction {
             Compaction::Minor => Ok(None),
@@ -154,7 +153,7 @@ impl Tablet {
         }
     }
 
-    /// Writes what a compaction writes as a file of the next name, which is open at once. Keys of the range alone are
+    /// Writes the file of a compaction under the next name, opened at once. Only keys of the tablet's range are
     /// written.
     fn write<F: Files>(
         &self,
@@ -170,10 +169,8 @@ impl Tablet {
             ReadsOpen compaction (Some m) self.now → IsSomeAnd (F.contents files.new) (λ n.
             IsNewFile n file (compacted_of compaction m self.now)))) }
         ensures read { OnOk result (ReadsThrough compaction (F.contents files.old) self.now) }
-        ensures used { OnOk result ((next_name.old < 2 ^ 63)
-            × (next_name.new ≡ next_name.old + 1)) }
-        ensures others { OnOk result (KeepsOthers
-            next_name.old (F.contents files.old) (F.contents files.new)) }
+        ensures wrote { OnOk result (WritesNext
+            (F.contents files.old) next_name.old (F.contents files.new) next_name.new) }
         ensures name { TakesName
             (F.contents files.old) next_name.old (F.contents files.new) next_name.new }
         ensures exhausted { IsErrOf result Refusal.Exhausted → 2 ^ 63 ≤ next_name.old }
@@ -211,14 +208,14 @@ impl Tablet {
         )
     }
 
-    /// Writes the memtable as a new file (Bigtable, minor compaction), keys of the range alone, and empties it.
-    /// If it is empty, the call is accepted and does nothing.
+    /// Writes the memtable, only keys of the range, as a new file (Bigtable, minor compaction), and empties it. If it
+    /// is empty, the call does nothing and succeeds.
     ///
     /// # Errors
     ///
-    /// `TooManyFiles` if there are 64 files already, `FileTooLarge`, `Exhausted` if no name is left,
-    /// `Device` and `NoMemory`; no file that the tablet has is read, and `Damaged` comes only over files that do
-    /// not keep what they are given. The memtable then has entries, and the tablet is as before.
+    /// `TooManyFiles` if there are already 64 files, `FileTooLarge`, `Exhausted` if no name is left, `Device` and
+    /// `NoMemory`. No file of the tablet is read; `Damaged` comes only from a store that does not keep the bytes it is
+    /// given. An error comes only if the memtable has entries, and leaves the tablet unchanged.
     pub fn minor<F: Files>(
         &mut self,
         file_limit: u64,
@@ -232,15 +229,16 @@ impl Tablet {
             Minor (F.contents files.old) next_name.old (F.contents files.new) self.old self.new) }
         ensures keeps { Keeps (F.contents files.old)
             next_name.old self.old (F.contents files.new) next_name.new self.new }
-        ensures empty { memory_of self.old ≡ [] → IsOk result × (IsUnchanged self.old self.new
-            × ((next_name.new ≡ next_name.old) × (F.contents files.new ≡ F.contents files.old))) }
+        ensures empty { memory_of self.old ≡ [] → IsOk result × IsUntouched (F.contents files.old)
+            next_name.old (F.contents files.new) next_name.new self.old self.new }
         ensures range { range_of self.new ≡ range_of self.old }
         ensures err { OnErr result (IsUnchanged self.old self.new) }
         ensures name { TakesName
             (F.contents files.old) next_name.old (F.contents files.new) next_name.new }
-        // If there are 64 files it is refused before a file is written, whatever else may fail.
-        ensures full { IsErrOf result Refusal.TooManyFiles
-            ↔ (memory_of self.old ≢ []) × (64 ≤ length (names_of self.old)) }
+        // With 64 files it is refused before a file is written, whatever else may fail.
+        ensures full { IsRefusedFirst result Refusal.TooManyFiles (NeedsTooManyFiles self.old)
+            (F.contents files.old) next_name.old (F.contents files.new) next_name.new
+            self.old self.new }
         ensures exhausted { IsErrOf result Refusal.Exhausted
             → (memory_of self.old ≢ []) × (2 ^ 63 ≤ next_name.old) }
         ensures large { IsErrOf result Refusal.FileTooLarge → (memory_of self.old ≢ [])
@@ -250,8 +248,6 @@ impl Tablet {
         ensures damaged { IsErrOf result Refusal.Damaged → IsNone (F.contents files.old) }
         ensures refusal { IfErr result IsMinorRefusal }
         ensures reason { HasReason (F.faults files.old) (F.faults files.new) result }
-        ensures unwritten { IsErrOf result Refusal.TooManyFiles
-            → (next_name.new ≡ next_name.old) × (F.contents files.new ≡ F.contents files.old) }
     {
         stays_open();
         keeps_one_list();
@@ -268,15 +264,14 @@ impl Tablet {
         Ok(())
     }
 
-    /// Writes the newest `count` files as one at their place (Bigtable, merging compaction), keys of the range
-    /// alone. Erasures are kept unless `count` is all files.
+    /// Merges the newest `count` files into one that replaces them (Bigtable, merging compaction), only keys of the
+    /// range. Erasures are kept unless `count` is all files.
     ///
     /// # Errors
     ///
-    /// `BadCount` exactly if `count` is below 2 or above the number of files, `FileTooLarge`, `Exhausted`
-    /// if no name is left, `Device`, `NoMemory`, and `Damaged` only if one of these files is no longer what
-    /// was opened: what stands there now breaks off where it was read, or isn't in order. The tablet is then as
-    /// before.
+    /// `BadCount` exactly if `count` is below 2 or above the number of files, `FileTooLarge`, `Exhausted` if no name is
+    /// left, `Device`, `NoMemory`, and `Damaged` only if one of these files has changed since it was opened: it can't
+    /// be read further, or its entries are out of order. The tablet is then unchanged.
     pub fn merge<F: Files>(
         &mut self,
         count: u32,
@@ -295,8 +290,10 @@ impl Tablet {
         ensures err { OnErr result (IsUnchanged self.old self.new) }
         ensures name { TakesName
             (F.contents files.old) next_name.old (F.contents files.new) next_name.new }
-        ensures count { IsErrOf result Refusal.BadCount
-            ↔ ¬ ((2 ≤ count) × (count ≤ length (names_of self.old))) }
+        ensures count { IsRefusedFirst result Refusal.BadCount
+            (¬ ((2 ≤ count) × (count ≤ length (names_of self.old))))
+            (F.contents files.old) next_name.old (F.contents files.new) next_name.new
+            self.old self.new }
         ensures exhausted { IsErrOf result Refusal.Exhausted → 2 ^ 63 ≤ next_name.old }
         ensures large { IsErrOf result Refusal.FileTooLarge
             → IfSome (F.contents files.old) (λ m. ReadsOpen (Merge count) (Some m) self.old
@@ -309,8 +306,6 @@ impl Tablet {
             IsUnreadable (Merge count) (Some m) self.old) }
         ensures refusal { IfErr result IsMergeRefusal }
         ensures reason { HasReason (F.faults files.old) (F.faults files.new) result }
-        ensures unwritten { IsErrOf result Refusal.BadCount
-            → (next_name.new ≡ next_name.old) × (F.contents files.new ≡ F.contents files.old) }
     {
         stays_open();
         names_first();
@@ -324,14 +319,13 @@ impl Tablet {
         Ok(())
     }
 
-    /// Writes the memtable and all files as exactly one file without erasures (Bigtable, major compaction), keys
-    /// of the range alone, even if there is nothing, and empties the memtable.
+    /// Writes the memtable and all files, only keys of the range, as exactly one file without erasures (Bigtable, major
+    /// compaction), even if there is nothing to write, and empties the memtable.
     ///
     /// # Errors
     ///
-    /// `FileTooLarge`, `Exhausted` if no name is left, `Device`, `NoMemory`, and `Damaged` only if a file
-    /// is no longer what was opened: what stands there now breaks off where it was read, or isn't in order. The
-    /// tablet is then as before.
+    /// `FileTooLarge`, `Exhausted` if no name is left, `Device`, `NoMemory`, and `Damaged` only if a file has changed
+    /// since it was opened: it can't be read further, or its entries are out of order. The tablet is then unchanged.
     pub fn major<F: Files>(
         &mut self,
         file_limit: u64,

@@ -1,22 +1,22 @@
-//! The gathering of cells with their newest versions out of entries that come one after the other.
+//! Cells with their newest versions, gathered from entries that arrive in order.
 
-ghost use Rattle.std.specs.Prelude.{◌≡◌, ◌≢◌, ◌≤◌, ◌<◌, ◌-◌, ◌^◌, ◌++◌, ◌∷◌, ◌⊎◌, [], List, ℕ, length, false, true, Some, IfErr, IfNone, IfOk, IfSome, IsErrOf, OnOk};
+ghost use Rattle.std.specs.Prelude.{◌≡◌, ◌≢◌, ◌≤◌, ◌<◌, ◌-◌, ◌^◌, ◌++◌, ◌∷◌, [], List, ℕ, length, false, true, Some, IfErr, IfNone, IfOk, IfSome, IsErrOf, OnOk, IsOkUnless};
 ghost use Rattle.std.specs.Bool.{OnFalse, OnTrue};
 ghost use Rattle.cell_key.specs.Entries.{Entry, IsEntry, IsEntryList, lent_entry};
 ghost use Rattle.cell_key.specs.Keys.{qualifier_name, IsKeyText};
 ghost use Rattle.cell_key.specs.Texts.{ended, stamp_text};
 ghost use Rattle.cell_key.specs.declared.keys.Qualifier.{Qualifier as Names};
 ghost use Rattle.rows.specs.Batches.{bytes_in, IsFull};
-ghost use Rattle.tablet.specs.Gathering.{last_of, AreVersionsIn, Begins, BeginsWith, Gathers, IsWithin, KeepsLimits};
+ghost use Rattle.tablet.specs.Gathering.{last_of, AreVersionsIn, Begins, BeginsWith, Gathers, IsGatheringRefusal, IsWithin, KeepsLimits};
 
 use cell_key::{CellKey, EntryRef, Qualifier, Refusal, Stamp, stamp_of};
 use rows::{BatchLimits, CellVersions, VersionBatch};
 use std::alloc::Global;
 
-/// For how many cells, at most, there is room from the start.
+/// The most cells that room is reserved for at the start.
 const ROOM: usize = 256;
 
-/// The qualifier and the stamp whose texts the bytes are, which follow the place in the text of a key.
+/// The qualifier and the stamp encoded in these bytes, the rest of a key's text after its place.
 fn version_of(bytes: &[u8]) -> Option<(Qualifier, Stamp)>
     ensures found { IfSome result (λ found.
         bytes.now ≡ ended (qualifier_name found.0) ++ stamp_text found.1) }
@@ -34,27 +34,27 @@ fn version_of(bytes: &[u8]) -> Option<(Qualifier, Stamp)>
     Some((Qualifier::Write, stamp_of(stamp)?))
 }
 
-/// Cells that are gathered: the last of them is the one whose values come now, and those before it are whole.
+/// Cells being gathered: the last one may still get values, those before it are complete.
 #[derive(Drop)]
 pub(crate) struct Gathering {
     limits: BatchLimits,
     hi: Stamp,
     cells: Vec<CellVersions>,
-    /// The text of the place of the last cell, if there is one.
+    /// The text of the last cell's place; empty without a cell.
     place: Vec<u8>,
-    /// For how many bytes of values there is room beside those of the cells before the last.
+    /// How many bytes of values the limits leave after the cells before the last.
     room: usize,
 }
 
 impl Gathering {
-    /// Nothing yet, with room for as many cells as it may have, but no more than 256. Answers `NoMemory` if there is no
-    /// memory.
+    /// An empty gathering, with room for as many cells as `limits` allows, but at most 256. Answers `NoMemory` if there
+    /// is no memory.
     pub(crate) fn new(alloc: Global, limits: BatchLimits, hi: Stamp) -> Result<Gathering, Refusal>
         ensures limits { IfOk result (λ gathering. gathering.limits ≡ limits) }
         ensures hi { IfOk result (λ gathering. gathering.hi ≡ hi) }
         ensures within { IfOk result IsWithin }
         ensures none { IfOk result (Gathers []) }
-        ensures refusal { IfErr result (λ refusal. refusal ≡ Refusal.NoMemory) }
+        ensures refusal { IsOkUnless result Refusal.NoMemory }
     {
         Ok(Gathering {
             limits,
@@ -65,7 +65,7 @@ impl Gathering {
         })
     }
 
-    /// For how many bytes of values there is room beside those of all cells.
+    /// How many bytes of values the limits leave after all cells.
     fn room_left(&self) -> usize
         requires { IsWithin self.now }
         ensures { result ≡ self.now.limits.bytes - bytes_in self.now.cells.items }
@@ -76,8 +76,8 @@ impl Gathering {
         }
     }
 
-    /// Takes a value if it is of the last cell, and keeps it if it is the newest of its column at or below `hi`.
-    /// Whether it is of that cell.
+    /// Takes a value if it belongs to the last cell, and keeps it if it is the newest of its column at or below `hi`.
+    /// Answers whether it belongs to that cell.
     fn take_last(&mut self, alloc: Global, text: &[u8], value: &[u8]) -> Result<bool, Refusal>
         requires { IsWithin self.old }
         ensures within { IsWithin self.new }
@@ -90,8 +90,7 @@ impl Gathering {
         ensures limits { KeepsLimits self.old self.new }
         ensures damaged { (es : List Entry) → Gathers es self.old
             → IsErrOf result Refusal.Damaged → ¬ IsKeyText text.now }
-        ensures refusal { IfErr result (λ refusal.
-            (refusal ≡ Refusal.NoMemory) ⊎ (refusal ≡ Refusal.Damaged)) }
+        ensures refusal { IfErr result IsGatheringRefusal }
     {
         let Some(rest) = text.strip_prefix(self.place.as_slice()) else {
             return Ok(false);
@@ -108,14 +107,13 @@ impl Gathering {
         Ok(true)
     }
 
-    /// Makes the cell of a value the last one, with the value if its stamp is at or below `hi`. Answers `Damaged` if
-    /// `text` is the text of no key, and `NoMemory` if there is no memory.
+    /// Appends the cell of a value, with the value if its stamp is at or below `hi`. Answers `Damaged` if `text` isn't
+    /// the text of a key, and `NoMemory` if there is no memory.
     fn begin(&mut self, alloc: Global, text: &[u8], value: &[u8]) -> Result<(), Refusal>
         ensures begins { OnOk result (Begins text.now value.now self.old self.new) }
         ensures limits { KeepsLimits self.old self.new }
         ensures damaged { IsErrOf result Refusal.Damaged → ¬ IsKeyText text.now }
-        ensures refusal { IfErr result (λ refusal.
-            (refusal ≡ Refusal.NoMemory) ⊎ (refusal ≡ Refusal.Damaged)) }
+        ensures refusal { IfErr result IsGatheringRefusal }
     {
         let Some(key) = CellKey::decode(alloc, text)? else {
             return Err(Refusal::Damaged);
@@ -137,7 +135,7 @@ impl Gathering {
         Ok(())
     }
 
-    /// Takes an entry, unless that is a value of a further cell and the batch is full. Whether it did.
+    /// Takes an entry, unless it is a value of a new cell and the batch is full. Answers whether it did.
     pub(crate) fn take(&mut self, alloc: Global, entry: EntryRef<'_>) -> Result<bool, Refusal>
         requires { IsWithin self.old }
         ensures gathers { (es : List Entry) → IsEntryList (es ++ lent_entry entry.entry ∷ [])
@@ -152,8 +150,7 @@ impl Gathering {
         ensures limits { KeepsLimits self.old self.new }
         ensures damaged { (es : List Entry) → Gathers es self.old
             → IsErrOf result Refusal.Damaged → ¬ IsEntry (lent_entry entry.entry) }
-        ensures refusal { IfErr result (λ refusal.
-            (refusal ≡ Refusal.NoMemory) ⊎ (refusal ≡ Refusal.Damaged)) }
+        ensures refusal { IfErr result IsGatheringRefusal }
     {
         let Some(value) = entry.value else {
             return Ok(true);
@@ -170,7 +167,7 @@ impl Gathering {
         Ok(true)
     }
 
-    /// The batch of the cells, after an entry that was not taken: it isn't the last batch.
+    /// The batch of the cells after an entry was refused: not the last batch.
     pub(crate) fn stopped(self) -> VersionBatch
         ensures cells { result.cells.items ≡ self.cells.items }
         ensures more { result.is_last ≡ false }
@@ -182,7 +179,7 @@ impl Gathering {
         }
     }
 
-    /// The batch of the cells, after the last entry.
+    /// The batch of the cells after the last entry: the last batch.
     pub(crate) fn ended(self) -> VersionBatch
         requires { IsWithin self }
         ensures versions { (es : List Entry) → IsEntryList es → Gathers es self

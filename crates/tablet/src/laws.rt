@@ -9,34 +9,34 @@ pub fn stays_in_range()
     ensures { StaysInRange }
 {}
 
-/// In its range a tablet shows a key's value in the first of its lists that names the key, or nothing
-/// if that is an erasure or no list names it. The memtable is the first list, and the newest file next.
+/// In its range a tablet shows a key's value in the first of its lists that names the key, or no value if that list has
+/// an erasure or no list names the key. The memtable is the first list, the newest file the next.
 pub fn shows_its_lists()
     ensures { ShowsItsLists }
 {}
 
-/// A file under a name that no file of a tablet has changes nothing for the tablet.
+/// Writing or removing a file under a name that none of a tablet's files has changes nothing for the tablet.
 pub fn others_stay()
     ensures { OthersStay }
 {
     stays_open();
 }
 
-/// While the files of its names stay as they are, nothing changes for a tablet.
+/// As long as the files under its names are unchanged, nothing changes for a tablet.
 pub fn unnamed_may_go()
     ensures { UnnamedMayGo }
 {
     stays_open();
 }
 
-/// Tablets of one range and one memtable, whose files have the same names, have the same cells.
+/// Tablets with the same range, the same memtable and the same file names have the same cells.
 pub fn same_cells()
     ensures { SameCells }
 {
     one_listing();
 }
 
-/// The files of a tablet are there.
+/// Every file of a tablet exists.
 pub fn files_are_there()
     ensures { FilesAreThere }
 {

@@ -1,6 +1,6 @@
-//! A version sought through a memtable and files: the newest one that names it decides (Bigtable, tablet serving).
+//! Lookups of one version in a memtable and files: the newest one that names it decides (Bigtable, tablet serving).
 
-ghost use Rattle.std.specs.Prelude.{◌≡◌, ℕ, ◌⊎◌, ◌≤◌, ◌<◌, ◌^◌, ◌∷◌, option_map, map, length, IfOk, IfErr, IfSome, IsErrOf};
+ghost use Rattle.std.specs.Prelude.{◌≡◌, ℕ, ◌≤◌, ◌<◌, ◌^◌, ◌∷◌, option_map, map, length, IfOk, IfErr, IfSome, IsErrOf};
 ghost use Rattle.std.specs.Option.{option_copied};
 ghost use Rattle.std.specs.List.{AllByRecursion, AllZip};
 ghost use Rattle.cell_key.specs.Entries.{entry_of_key, first_naming, value_of};
@@ -10,6 +10,7 @@ ghost use Rattle.sorted_file.specs.File.{IsOpen, IsSameFile, IsShortValue, liste
 ghost use Rattle.sorted_file.specs.Source.{ReadsFiles};
 ghost use Rattle.sorted_file.specs.Newest.{IsAfterStamp};
 ghost use Rattle.tablet.specs.Reads.{HasNoLater, IsValue};
+ghost use Rattle.tablet.specs.Gathering.{IsGatheringRefusal};
 
 use crate::open_files::OpenFiles;
 use cell_key::{Refusal, Stamp};
@@ -22,15 +23,14 @@ use std::alloc::Global;
 const MOST_VALUE: usize = 65_536;
 
 /// A copy of a value, if there is one. Answers `Damaged` if it is longer than a value may be, and `NoMemory` if there
-/// is no memory for it.
+/// is no memory for the copy.
 pub(crate) fn copy_value(alloc: Global, value: Option<&[u8]>) -> Result<Option<Vec<u8>>, Refusal>
     ensures copy { IfOk result (λ copy.
         option_map (λ bytes. bytes.items) copy ≡ option_copied value.entry) }
     ensures short { IfOk result (λ copy. IfSome copy (λ bytes. length bytes.items ≤ 65536)) }
     ensures damaged { IsErrOf result Refusal.Damaged
         → ¬ IfSome (option_copied value.entry) IsValue }
-    ensures refusal { IfErr result (λ refusal.
-        (refusal ≡ Refusal.NoMemory) ⊎ (refusal ≡ Refusal.Damaged)) }
+    ensures refusal { IfErr result IsGatheringRefusal }
 {
     let Some(value) = value else {
         return Ok(None);
@@ -42,7 +42,7 @@ pub(crate) fn copy_value(alloc: Global, value: Option<&[u8]>) -> Result<Option<V
     Ok(Some(copy))
 }
 
-/// The first stamp after one that was found, or `lo` if none was.
+/// The first stamp after `found`, or `lo` if it is `None`.
 pub(crate) fn first_after(found: Option<Stamp>, lo: Stamp) -> Stamp
     requires { IfSome found (λ stamp. stamp < 2 ^ 63) }
     ensures after { IsAfterStamp result lo found }
@@ -54,8 +54,8 @@ pub(crate) fn first_after(found: Option<Stamp>, lo: Stamp) -> Stamp
     }
 }
 
-/// The greatest stamp, from `lo` up to that of the key, at which any of some files may have a value of the key's
-/// column: later none has one. The files stay what they were.
+/// The newest stamp, from `lo` up to the key's, at which any of some files may have a value of the key's column: none
+/// has a later one. The files are unchanged.
 pub(crate) fn newest_stamp<F: Files>(
     files: &mut [SortedFile],
     key: &LookupKey,
@@ -82,7 +82,8 @@ pub(crate) fn newest_stamp<F: Files>(
     Ok(found)
 }
 
-/// What a file has of a key. No block is read if the file says that it has none. The file stays what it was.
+/// The file's entry of a key, if it has one. No block is read if the file's filter rules out the key. The file is
+/// unchanged.
 fn find_in_file<F: Files>(
     file: &mut SortedFile,
     key: &LookupKey,
@@ -104,7 +105,7 @@ fn find_in_file<F: Files>(
     file.find(key, store)
 }
 
-/// What the first of some files that names a key has of it. The files stay what they were.
+/// The entry of a key in the first file that names it. The files are unchanged.
 pub(crate) fn find_in_files<F: Files>(
     files: &mut [SortedFile],
     key: &LookupKey,
@@ -129,8 +130,8 @@ pub(crate) fn find_in_files<F: Files>(
     Ok(None)
 }
 
-/// The value of a key in a memtable, or else in the first of some files that names it. An erasure is no
-/// value. No file is asked if the filter of their keys says that none names it. The files stay what they were.
+/// The value of a key in the memtable or, if that does not name the key, in the first file that does; `None` for an
+/// erasure. No file is asked if the filter of their keys rules out the key. The files are unchanged.
 pub(crate) fn lookup<F: Files>(
     alloc: Global,
     memtable: &Memtable,

@@ -1,12 +1,12 @@
-//! Which of a tablet's files are merged so that few are left.
+//! The merge policy: which of a tablet's files are merged to keep their number small.
 
 ghost use Rattle.std.specs.Prelude.{◌≡◌, ◌≤◌, ◌+◌, length};
 
 use crate::tablet::Tablet;
 use sorted_file::SortedFile;
 
-/// How many of the newest files are taken for a merge: at least `fewest`, and then each next older one that has no more
-/// entries than those before it together.
+/// How many of the newest files to merge: at least `fewest`, then each next older one that has no more entries than all
+/// newer ones together.
 fn merged_count(files: &[SortedFile], fewest: usize) -> usize
     requires { fewest ≤ length files.now }
     ensures least { fewest ≤ result }
@@ -26,9 +26,9 @@ fn merged_count(files: &[SortedFile], fewest: usize) -> usize
 impl Tablet {
     ghost use Rattle.tablet.specs.Views.{names_of};
 
-    /// How many of the newest files a merge takes, so that fewer than `most` files are left, and each file that is left
-    /// has more entries than all newer ones together, as far as merges have come. So an entry is written again some
-    /// logarithm of times. Takes no memory and reads nothing.
+    /// How many of the newest files to merge so that fewer than `most` files are left, and the next older file, if
+    /// there is one, has more entries than all newer ones together. With merges chosen so, an entry is rewritten a
+    /// logarithmic number of times. Allocates and reads nothing.
     pub fn merge_count(&self, most: usize) -> usize
         requires least { 2 ≤ most }
         requires many { most ≤ length (names_of self.now) }

@@ -1,6 +1,6 @@
 //! The open files of a tablet, with a filter of their keys and an index of their locks.
 
-ghost use Rattle.std.specs.Prelude.{◌≡◌, ◌≤◌, ◌<◌, ◌^◌, ◌∷◌, [], false, Option, option_map, map, drop, length, vec_len, IfOk, IfErr, IfSome, IsErrOf, OnOk, OnErr};
+ghost use Rattle.std.specs.Prelude.{◌≡◌, ◌≤◌, ◌<◌, ◌^◌, ◌∷◌, [], false, Option, option_map, map, drop, length, vec_len, IfOk, IfSome, IsErrOf, OnOk, OnErr, IsOkUnless};
 ghost use Rattle.std.specs.List.{AllByRecursion, AllZip};
 ghost use Rattle.cell_key.specs.Entries.{first_naming};
 ghost use Rattle.cell_key.specs.Keys.{text};
@@ -18,7 +18,7 @@ use std::alloc::Global;
 use std::marker::Model;
 use std::num::NonZeroUsize;
 
-/// Puts a file in the place of the first `count` ones.
+/// Replaces the first `count` files with one.
 fn replace_newest(files: &mut Vec<SortedFile>, count: usize, file: SortedFile)
     requires some { 1 ≤ count }
     requires within { count ≤ vec_len files.old }
@@ -30,13 +30,12 @@ fn replace_newest(files: &mut Vec<SortedFile>, count: usize, file: SortedFile)
     files[0] = file;
 }
 
-/// Puts a file in the place of the first `count` ones. Answers `NoMemory` if there is no memory, and the files are then
-/// as they were.
+/// Replaces the first `count` files with one. Answers `NoMemory` if there is no memory; the files are then unchanged.
 fn put_newest(files: &mut Vec<SortedFile>, count: usize, file: SortedFile) -> Result<(), Refusal>
     requires { count ≤ vec_len files.old }
     ensures ok { OnOk result (files.new.items ≡ file ∷ drop count files.old.items) }
     ensures err { OnErr result (files.new.items ≡ files.old.items) }
-    ensures refusal { IfErr result (λ refusal. refusal ≡ Refusal.NoMemory) }
+    ensures refusal { IsOkUnless result Refusal.NoMemory }
 {
     if count == 0 {
         files.insert(0, file)?;
@@ -46,7 +45,7 @@ fn put_newest(files: &mut Vec<SortedFile>, count: usize, file: SortedFile) -> Re
     Ok(())
 }
 
-/// Empties the caches of some files. The files stay what they were.
+/// Empties the caches of some files. The files are unchanged.
 fn drop_each(files: &mut [SortedFile])
     ensures { (disk : Option Contents) → AllZip (IsSameFile disk) files.old files.new }
 {
@@ -55,7 +54,7 @@ fn drop_each(files: &mut [SortedFile])
     }
 }
 
-/// Lets each of some files cache this many blocks at most. The files stay what they were.
+/// Sets how many blocks each of some files caches at most. The files are otherwise unchanged.
 fn resize_each(files: &mut [SortedFile], most_blocks: NonZeroUsize)
     ensures { (disk : Option Contents) → AllZip (IsSameFile disk) files.old files.new }
 {
@@ -90,7 +89,7 @@ impl Model for OpenFiles {
 }
 
 impl OpenFiles {
-    /// No files. Takes no memory.
+    /// No files. Allocates nothing.
     pub(crate) fn new(alloc: Global) -> OpenFiles
         ensures { result ≡ [] }
     {
@@ -121,21 +120,21 @@ impl OpenFiles {
         &self.locks
     }
 
-    /// The index of the locks of the files behind the first `count` ones. Answers `NoMemory` if there is no memory.
+    /// The index of the locks of all files but the first `count`. Answers `NoMemory` if there is no memory.
     pub(crate) fn locks_behind(&self, count: usize) -> Result<LockIndex, Refusal>
         requires { count ≤ length self.now }
         ensures index { IfOk result (λ index. IsIndexOf index (drop count self.now)) }
-        ensures refusal { IfErr result (λ refusal. refusal ≡ Refusal.NoMemory) }
+        ensures refusal { IsOkUnless result Refusal.NoMemory }
     {
         LockIndex::of(self.alloc, &self.files[count..])
     }
 
-    /// The index of the locks of a file and of those behind the first `count` ones. Answers `NoMemory` if there is no
+    /// The index of the locks of a file and of all files but the first `count`. Answers `NoMemory` if there is no
     /// memory.
     fn locks_over(&self, count: usize, file: &SortedFile) -> Result<LockIndex, Refusal>
         requires { count ≤ length self.now }
         ensures index { IfOk result (λ index. IsIndexOf index (file.now ∷ drop count self.now)) }
-        ensures refusal { IfErr result (λ refusal. refusal ≡ Refusal.NoMemory) }
+        ensures refusal { IsOkUnless result Refusal.NoMemory }
     {
         if count == 0 {
             return self.locks.over(file);
@@ -143,8 +142,8 @@ impl OpenFiles {
         self.locks_behind(count)?.over(file)
     }
 
-    /// Whether the files together may have a value of a column of this kind in the row, at a stamp in `lo..=hi`. Of a lock
-    /// the index is asked for the row too. Takes no memory and reads no file.
+    /// Whether the files' merged list may have a value of a column of this kind in the row, at a stamp in `lo..=hi`.
+    /// For a lock the index is also checked for the row. Allocates nothing and reads no file.
     pub(crate) fn may_have(&self, row: &Row, qualifier: Qualifier, lo: Stamp, hi: Stamp) -> bool
         ensures { result ≡ false → HaveNoValue row.now qualifier lo hi self.now }
     {
@@ -157,24 +156,24 @@ impl OpenFiles {
         }
     }
 
-    /// Makes room for one more file, of at most this number of entries. Answers `NoMemory` if there is no memory. The files
-    /// stay, also after an `Err`.
+    /// Reserves room for one more file of at most `entries` entries. Answers `NoMemory` if there is no memory. The
+    /// files are unchanged, also after an `Err`.
     pub(crate) fn reserve(&mut self, entries: usize) -> Result<(), Refusal>
         ensures same { self.new ≡ self.old }
-        ensures refusal { IfErr result (λ refusal. refusal ≡ Refusal.NoMemory) }
+        ensures refusal { IsOkUnless result Refusal.NoMemory }
     {
         self.filter.reserve(&self.files, entries)?;
         self.files.reserve(1)?;
         Ok(())
     }
 
-    /// Puts a file in the place of the first `count` ones. Answers `NoMemory` if there is no memory, and the files are then
-    /// as they were.
+    /// Replaces the first `count` files with one. Answers `NoMemory` if there is no memory; the files are then
+    /// unchanged.
     pub(crate) fn replace_newest(&mut self, count: usize, file: SortedFile) -> Result<(), Refusal>
         requires { count ≤ length self.old }
         ensures ok { OnOk result (self.new ≡ file ∷ drop count self.old) }
         ensures err { OnErr result (self.new ≡ self.old) }
-        ensures refusal { IfErr result (λ refusal. refusal ≡ Refusal.NoMemory) }
+        ensures refusal { IsOkUnless result Refusal.NoMemory }
     {
         let locks = self.locks_over(count, &file)?;
         self.filter.add(&file);
@@ -183,7 +182,8 @@ impl OpenFiles {
         Ok(())
     }
 
-    /// What `newest_stamp` answers, by the files. No file is asked if the filter says that none has a value of the column.
+    /// `newest_stamp` by the files instead of the index. No file is asked if the filter rules out a value of the
+    /// column.
     fn newest_in_files<F: Files>(
         &mut self,
         key: &LookupKey,
@@ -209,9 +209,9 @@ impl OpenFiles {
         newest_stamp(&mut self.files, key, lo, store)
     }
 
-    /// The greatest stamp, from `lo` up to that of the key, at which the files may have a value of the key's column: later
-    /// they have none together. Of a lock the index says so. Else no file is asked if the filter says that none has one.
-    /// The files stay what they were.
+    /// The newest stamp, from `lo` up to the key's, at which the files may have a value of the key's column: their
+    /// merged list has no later value. For a lock the index answers. Otherwise the files are asked, unless the filter
+    /// rules out a value of the column. The files are unchanged.
     pub(crate) fn newest_stamp<F: Files>(
         &mut self,
         key: &LookupKey,
@@ -235,8 +235,8 @@ impl OpenFiles {
         }
     }
 
-    /// What the first of the files that names a key has of it. No file is asked if the filter says that none names the
-    /// key. The files stay what they were.
+    /// The entry of a key in the first file that names it. No file is asked if the filter rules out the key. The files
+    /// are unchanged.
     pub(crate) fn find<F: Files>(
         &mut self,
         key: &LookupKey,
@@ -261,7 +261,7 @@ impl OpenFiles {
         find_in_files(&mut self.files, key, store)
     }
 
-    /// Empties the caches of the files. The files stay what they were. Takes no memory.
+    /// Empties the caches of the files. The files are unchanged. Allocates nothing.
     pub(crate) fn drop_caches(&mut self)
         ensures { (disk : Option Contents) → AllZip (IsSameFile disk) self.old self.new }
     {
@@ -270,7 +270,7 @@ impl OpenFiles {
         drop_each(&mut self.files);
     }
 
-    /// Lets each file cache this many blocks at most. The files stay what they were.
+    /// Sets how many blocks each file caches at most. The files are otherwise unchanged.
     pub(crate) fn resize_caches(&mut self, most_blocks: NonZeroUsize)
         ensures { (disk : Option Contents) → AllZip (IsSameFile disk) self.old self.new }
     {

@@ -2,8 +2,8 @@
 
 use cell_key::Row;
 
-/// The rows after one row, up to and with another. With no row `after` it begins at the first row, and with
-/// no `end` it has no last one (Bigtable, tablets: a tablet is a range of rows).
+/// The rows after the row `after`, up to and including the row `end`. Without `after` it begins at the first row,
+/// without `end` it has no last row (Bigtable, tablets: a tablet is a range of rows).
 #[derive(Debug, Clone, Drop)]
 pub struct RowRange {
     pub after: Option<Row>,

@@ -1,6 +1,6 @@
-//! What a tablet answers: the newest versions of a column, and the next cells, alone or with their newest versions.
+//! A tablet's reads: the newest versions of a column, and the next cells, alone or with their newest versions.
 
-ghost use Rattle.std.specs.Prelude.{◌≡◌, ℕ, ◌≤◌, ◌<◌, ◌^◌, length, [], false, IsTrue, option_map, map, IfOk, IfErr, IfSome};
+ghost use Rattle.std.specs.Prelude.{◌≡◌, ℕ, ◌≤◌, ◌<◌, ◌^◌, length, [], false, IsTrue, option_map, map, IfOk, IfSome, IsOkUnless};
 ghost use Rattle.cell_key.specs.Cells.{IsNewest, version};
 ghost use Rattle.cell_key.specs.Entries.{cells_of};
 ghost use Rattle.cell_key.specs.Places.{AreNextCells, IsNextCell, place_named};
@@ -25,17 +25,17 @@ use rows::{BatchLimits, VersionBatch};
 use sorted_file::LookupKey;
 use std::alloc::Global;
 
-/// How many hidden versions a look-up passes by one at a time.
+/// How many hidden versions a read skips one at a time.
 const FEW_HIDDEN: usize = 8;
 
-/// A copy of a version that is lent, if there is one. Answers `NoMemory` if there is no memory.
+/// A copy of a borrowed version, if there is one. Answers `NoMemory` if there is no memory.
 fn copy_version(
     alloc: Global,
     found: Option<(Stamp, &[u8])>,
 ) -> Result<Option<(Stamp, Vec<u8>)>, Refusal>
     ensures copy { IfOk result (λ copy.
         option_map stamped copy ≡ option_map lent_version found.entry) }
-    ensures refusal { IfErr result (λ refusal. refusal ≡ Refusal.NoMemory) }
+    ensures refusal { IsOkUnless result Refusal.NoMemory }
 {
     match found {
         Some((stamp, value)) => {
@@ -46,7 +46,7 @@ fn copy_version(
     }
 }
 
-/// The first stamp after that of a version that is lent, or `lo` if there is none.
+/// The first stamp after the version's, or `lo` without a version.
 fn stamp_after(found: Option<(Stamp, &[u8])>, lo: Stamp) -> Stamp
     requires { IfSome found (λ found. IsVersion found.0 found.1.now) }
     ensures after { IsLater result lo (option_map lent_version found.entry) }
@@ -62,8 +62,8 @@ impl Tablet {
     ghost use Rattle.file_store.specs.Store.{Contents};
     ghost use Rattle.tablet.specs.Views.{range_of, memory_of, files_of, cells_at, Holds, IsSameTablet};
 
-    /// Whether the files together may have a value of a column of this kind in the row, at a stamp in `lo..=hi`. Of a lock
-    /// the index of the files' locks is asked for the row too. Takes no memory and reads no file.
+    /// Whether the files' merged list may have a value of a column of this kind in the row, at a stamp in `lo..=hi`.
+    /// For a lock the index of the files' locks is also checked for the row. Allocates nothing and reads no file.
     fn may_be_in_files(&self, row: &Row, qualifier: Qualifier, lo: Stamp, hi: Stamp) -> bool
         ensures { result ≡ false → lo ≤ hi
             → HaveNoValue row.now qualifier lo hi (files_of self.now) }
@@ -71,8 +71,8 @@ impl Tablet {
         lo <= hi && self.files.may_have(row, qualifier, lo, hi)
     }
 
-    /// The value of a version, if the tablet has it, by lookups. No file is asked if the memtable names the version, or
-    /// the filter of the files' keys says that none of them does.
+    /// The version at the key's stamp, if the tablet has it, by lookups. No file is asked if the memtable names the
+    /// version, or the filter of the files' keys rules it out.
     fn version_at<F: Files>(
         &mut self,
         key: &LookupKey,
@@ -97,9 +97,9 @@ impl Tablet {
         }
     }
 
-    /// The version with the greatest stamp in `lo..=hi`, if the memtable has none there: by the newest stamps of the
-    /// files' values, unless one stamp is all of them. One that a newer erasure hides is passed by, and behind eight of
-    /// them the others are passed by together.
+    /// The newest version in `lo..=hi`, given that the memtable has none there. A single stamp is looked up; otherwise
+    /// the files' newest stamps tell which versions to look up. A version that a newer erasure hides is skipped; after
+    /// eight of them one pass over the rest of the column decides.
     fn newest_in_files<F: Files>(
         &mut self,
         row: &Row,
@@ -143,7 +143,7 @@ impl Tablet {
         self.newest_by_pass(row, family, qualifier, lo, below, files)
     }
 
-    /// The version with the greatest stamp in `lo..=hi`, by one pass over the column from `hi` down.
+    /// The newest version in `lo..=hi`, by one pass over the column from `hi` down.
     fn newest_by_pass<F: Files>(
         &self,
         row: &Row,
@@ -168,8 +168,9 @@ impl Tablet {
         }
     }
 
-    /// The greatest stamp, from `lo` up to that of the key, at which the files may have a value of the key's column: later
-    /// they have none together. No file is asked of a lock, nor if the filter of their keys says that none has one.
+    /// The newest stamp, from `lo` up to the key's, at which the files may have a value of the key's column: their
+    /// merged list has no later value. No file is asked for a lock, or if the filter of their keys rules out such a
+    /// value.
     fn newest_file_stamp<F: Files>(
         &mut self,
         key: &LookupKey,
@@ -187,16 +188,16 @@ impl Tablet {
         self.files.newest_stamp(key, lo, files)
     }
 
-    /// The version of a cell's column with the greatest stamp in `lo..=hi` (Bigtable, timestamps), or
-    /// nothing. The memtable is searched first, and no file is asked if it decides: then only the value takes
-    /// memory. No file is asked either if the filter of their keys says that none has such a version. Else each
-    /// file is asked for the stamp of its newest value that is later than the memtable's, and the version there is
-    /// looked up. If newer erasures hide it, the next one is, and after eight of them the rest of the column is read by
-    /// one pass. The tablet stays what it was, also after an `Err`.
+    /// The version of a cell's column with the greatest stamp in `lo..=hi` (Bigtable, timestamps), or `None`. The
+    /// memtable is searched first. If no file can have a later version, it decides: no file is asked, and only the copy
+    /// of the value allocates. Otherwise each file is asked for the stamp of its newest value later than the
+    /// memtable's, and the version at the greatest of these stamps is looked up. If a newer erasure hides it, the read
+    /// goes on below it; after eight hidden versions one pass reads the rest of the column. The tablet is unchanged,
+    /// also after an `Err`.
     ///
     /// # Errors
     ///
-    /// `Damaged` only if a file is no longer what was opened, `Device` and `NoMemory`.
+    /// `Damaged` only if a file has changed since it was opened, `Device` and `NoMemory`.
     pub fn newest<F: Files>(
         &mut self,
         row: &Row,
@@ -227,13 +228,13 @@ impl Tablet {
         Ok(later.or(in_memory))
     }
 
-    /// Whether a cell's column has a version with a stamp in `lo..=hi`: whether `newest` would find one. If the
-    /// memtable has one, nothing hides it, as each file is older: then no file is asked, and nothing takes memory. Else
-    /// the files are asked as by `newest`. The tablet stays what it was, also after an `Err`.
+    /// Whether a cell's column has a version with a stamp in `lo..=hi`, that is, whether `newest` would find one. If
+    /// the memtable has one, nothing hides it, as every file is older: no file is asked, and nothing is allocated.
+    /// Otherwise the files are asked as by `newest`. The tablet is unchanged, also after an `Err`.
     ///
     /// # Errors
     ///
-    /// `Damaged` only if a file is no longer what was opened, `Device` and `NoMemory`.
+    /// `Damaged` only if a file has changed since it was opened, `Device` and `NoMemory`.
     pub fn has_version<F: Files>(
         &mut self,
         row: &Row,
@@ -263,12 +264,12 @@ impl Tablet {
         Ok(found.is_some())
     }
 
-    /// The versions of a cell's column with stamps at or below `hi` (Bigtable, timestamps), the newest first: `most` of
-    /// them, or all, if they are fewer. The memtable and the files are read once, up to the last one that is answered.
+    /// The versions of a cell's column with stamps at or below `hi` (Bigtable, timestamps), the newest first, `most` of
+    /// them or all if there are fewer. The memtable and the files are read once, up to the last version answered.
     ///
     /// # Errors
     ///
-    /// `Damaged` only if a file is no longer what was opened, `Device` and `NoMemory`.
+    /// `Damaged` only if a file has changed since it was opened, `Device` and `NoMemory`.
     pub fn versions<F: Files>(
         &self,
         row: &Row,
@@ -302,12 +303,12 @@ impl Tablet {
         )
     }
 
-    /// The first cell of the tablet that has any version, after the cell of `after`, which may lie outside
-    /// the tablet's range, or from its start.
+    /// The first cell of the tablet that has any version, after the cell `after` (which may lie outside the tablet's
+    /// range), or from the tablet's start.
     ///
     /// # Errors
     ///
-    /// `Damaged` only if a file is no longer what was opened, `Device` and `NoMemory`.
+    /// `Damaged` only if a file has changed since it was opened, `Device` and `NoMemory`.
     pub fn next_cell<F: Files>(
         &self,
         after: Option<(&Row, &Family)>,
@@ -322,13 +323,13 @@ impl Tablet {
         Ok(found.pop())
     }
 
-    /// The first cells of the tablet that have any version, after the cell of `after`, which may lie outside
-    /// the tablet's range, or from its start: `most` of them, or all, if they are fewer. The memtable and the
-    /// files are read once, up to the last one that is answered.
+    /// The first cells of the tablet that have any version, `most` of them or all if there are fewer, after the cell
+    /// `after` (which may lie outside the tablet's range), or from the tablet's start. The memtable and the files are
+    /// read once, up to the last cell answered.
     ///
     /// # Errors
     ///
-    /// `Damaged` only if a file is no longer what was opened, `Device` and `NoMemory`.
+    /// `Damaged` only if a file has changed since it was opened, `Device` and `NoMemory`.
     pub fn next_cells<F: Files>(
         &self,
         after: Option<(&Row, &Family)>,
@@ -354,15 +355,15 @@ impl Tablet {
             files,
         )
     }
-    /// The first cells of the tablet that have any version, after the cell of `after`, which may lie outside
-    /// the tablet's range, or from its start, each with the newest versions at or below `hi` of its columns: until they
-    /// are as many as `limits` says or their values have as many bytes, or no more are left. The memtable and the
-    /// files are read once, up to the first value after the last of these cells. No older version is copied, nor one
-    /// above `hi`.
+    /// The first cells of the tablet that have any version, after the cell `after` (which may lie outside the tablet's
+    /// range), or from the tablet's start, each with the newest versions of its columns at or below `hi`. It stops when
+    /// the cells reach the number or their values the bytes of `limits`, or no cell is left. The memtable and the files
+    /// are read once, up to the first value after the last of these cells. Older versions, and versions above `hi`, are
+    /// not copied.
     ///
     /// # Errors
     ///
-    /// `Damaged` only if a file is no longer what was opened, `Device` and `NoMemory`.
+    /// `Damaged` only if a file has changed since it was opened, `Device` and `NoMemory`.
     pub fn next_versions<F: Files>(
         &self,
         after: Option<(&Row, &Family)>,

@@ -1,7 +1,7 @@
-//! The merged scan: the places of the values that a memtable and files show together from a text on, the cells there with
-//! their newest versions, and the newest versions of one column (Bigtable, tablet serving).
+//! Merged scans of a memtable and files from a key text on: the places of their values, the cells with their newest
+//! versions, and the newest versions of one column (Bigtable, tablet serving).
 
-ghost use Rattle.std.specs.Prelude.{◌≡◌, ◌≤◌, ◌⊎◌, ◌++◌, List, false, length, [], ◌∷◌, None, Some, option_map, map, take, IfOk, OnOk, IfErr, IfSome, IsErrOf};
+ghost use Rattle.std.specs.Prelude.{◌≡◌, ◌≤◌, ◌++◌, List, false, length, [], ◌∷◌, None, Some, option_map, map, take, IfOk, OnOk, IfErr, IfSome, IsErrOf, IsOkUnless};
 ghost use Rattle.std.specs.Bool.{OnFalse, OnTrue};
 ghost use Rattle.std.specs.Option.{option_copied, option_to_list};
 ghost use Rattle.std.specs.List.{AllByRecursion};
@@ -14,7 +14,7 @@ ghost use Rattle.cell_key.specs.Versions.{IsVersion, stamped};
 ghost use Rattle.sorted_file.specs.File.{IsOpen, listed};
 ghost use Rattle.sorted_file.specs.Source.{ReadsFiles};
 ghost use Rattle.rows.specs.Batches.{IsFull};
-ghost use Rattle.tablet.specs.Gathering.{AreVersionsIn, Gathers, IsWithin, KeepsLimits};
+ghost use Rattle.tablet.specs.Gathering.{AreVersionsIn, Gathers, IsGatheringRefusal, IsWithin, KeepsLimits};
 ghost use Rattle.tablet.specs.Reads.{first_value, later, past_place, stamped_values, HasLeft, IsNextIn, IsPlaceOrNone, NamesPlace};
 ghost use Rattle.tablet.specs.Sources.{part};
 
@@ -29,8 +29,8 @@ use rows::{BatchLimits, VersionBatch};
 use sorted_file::{SortedFile, Source};
 use std::alloc::Global;
 
-/// The place of the key of an entry, if it is no erasure and its text isn't below `past`. Answers `Damaged` if
-/// such an entry isn't within the limits of entries, and `NoMemory` if there is no memory for the place.
+/// The place of an entry's key, if the entry is a value and its text is not below `past`. Answers `Damaged` if such an
+/// entry exceeds the limits of entries, and `NoMemory` if there is no memory for the place.
 fn place_of(
     alloc: Global,
     entry: EntryRef<'_>,
@@ -39,8 +39,7 @@ fn place_of(
     ensures found { IfOk result
         (NamesPlace (first_value (entries_from past.now (lent_entry entry.entry ∷ [])))) }
     ensures damaged { IsErrOf result Refusal.Damaged → ¬ IsEntry (lent_entry entry.entry) }
-    ensures refusal { IfErr result (λ refusal.
-        (refusal ≡ Refusal.NoMemory) ⊎ (refusal ≡ Refusal.Damaged)) }
+    ensures refusal { IfErr result IsGatheringRefusal }
 {
     if entry.value.is_none() || entry.key.cmp(&past).is_lt() {
         return Ok(None);
@@ -51,7 +50,7 @@ fn place_of(
     }
 }
 
-/// The place that a source is at, if it is at a value whose text isn't below `past`.
+/// The place of a source's current entry, if that is a value whose text is not below `past`.
 fn place_at<F: Files, S: Source<F>>(
     alloc: Global,
     source: &S,
@@ -60,8 +59,7 @@ fn place_at<F: Files, S: Source<F>>(
     ensures found { IfOk result
         (NamesPlace (first_value (entries_from past.now (option_to_list (S.lent source.now))))) }
     ensures damaged { IsErrOf result Refusal.Damaged → ¬ IfSome (S.lent source.now) IsEntry }
-    ensures refusal { IfErr result (λ refusal.
-        (refusal ≡ Refusal.NoMemory) ⊎ (refusal ≡ Refusal.Damaged)) }
+    ensures refusal { IfErr result IsGatheringRefusal }
 {
     match source.current() {
         Some(entry) => place_of(alloc, entry, past),
@@ -69,7 +67,7 @@ fn place_at<F: Files, S: Source<F>>(
     }
 }
 
-/// The place of the next value of a source whose text isn't below `past`. Reads up to it and not further.
+/// The place of the next value of a source whose text is not below `past`. Reads no further than that value.
 fn next_place<F: Files, S: Source<F>>(
     alloc: Global,
     source: &mut S,
@@ -78,7 +76,7 @@ fn next_place<F: Files, S: Source<F>>(
 ) -> Result<Option<(Row, Family)>, Refusal>
     ensures found { IfOk result (λ found. S.holds (F.contents store.old) source.old → NamesPlace
         (first_value (entries_from past.now (S.remaining (F.contents store.old) source.old))) found) }
-    // What comes after the place has not been read.
+    // The entries after the place have not been read.
     ensures rest { IfOk result (λ found. S.holds (F.contents store.old) source.old
         → IfSome found (λ place. HasLeft (past_place (Some place))
         (S.remaining (F.contents store.old) source.old)
@@ -96,8 +94,8 @@ fn next_place<F: Files, S: Source<F>>(
     Ok(None)
 }
 
-/// The places of the values of a source, one after the other: `most` of them, or all, if they are fewer. Nothing is
-/// read behind the last one that is answered.
+/// The next places of values of a source, each once: `most` of them or all if there are fewer. Reads no further than
+/// the last one answered.
 fn next_places<F: Files, S: Source<F>>(
     alloc: Global,
     source: &mut S,
@@ -121,9 +119,9 @@ fn next_places<F: Files, S: Source<F>>(
     Ok(found)
 }
 
-/// The places of the values of a memtable and files together, the newest first, whose texts are `from` or come
-/// after it, and are below `end` if there is one: `most` of them, or all, if they are fewer. One pass over
-/// that range, which ends at the last one that is answered.
+/// The places of the values that a memtable and files (the newest first) show together, with texts from `from` on and
+/// below `end`, if one is given: `most` of them or all if there are fewer. One pass over that range, which ends at the
+/// last place answered.
 pub(crate) fn merged_places<F: Files>(
     alloc: Global,
     memtable: &Memtable,
@@ -147,7 +145,7 @@ pub(crate) fn merged_places<F: Files>(
     next_places(alloc, &mut merge, most, store)
 }
 
-/// Takes the entry that a source is at, if it is at one, unless the batch is full. Whether it did.
+/// Takes a source's current entry, if it has one, unless the batch is full. Answers whether it did.
 fn take_at<F: Files, S: Source<F>>(
     alloc: Global,
     gathering: &mut Gathering,
@@ -168,8 +166,7 @@ fn take_at<F: Files, S: Source<F>>(
     ensures limits { KeepsLimits gathering.old gathering.new }
     ensures damaged { (es : List Entry) → Gathers es gathering.old
         → IsErrOf result Refusal.Damaged → ¬ IfSome (S.lent source.now) IsEntry }
-    ensures refusal { IfErr result (λ refusal.
-        (refusal ≡ Refusal.NoMemory) ⊎ (refusal ≡ Refusal.Damaged)) }
+    ensures refusal { IfErr result IsGatheringRefusal }
 {
     match source.current() {
         Some(entry) => gathering.take(alloc, entry),
@@ -177,8 +174,8 @@ fn take_at<F: Files, S: Source<F>>(
     }
 }
 
-/// The cells that a source comes to, with their newest versions at or below `hi`: until the batch is full, or no
-/// more are left. Reads up to the first value after the last of them and not further.
+/// The next cells of a source, with their newest versions at or below `hi`, until the batch is full or no cell is left.
+/// Reads no further than the first value after the last of them.
 fn next_versions<F: Files, S: Source<F>>(
     alloc: Global,
     source: &mut S,
@@ -202,9 +199,9 @@ fn next_versions<F: Files, S: Source<F>>(
     Ok(gathering.ended())
 }
 
-/// The cells that a memtable and files have together, the newest first, with their newest versions at or below `hi`:
-/// those with texts from `from` on and below `end`, if there is one, until the batch is full, or no more are left.
-/// One pass over that range.
+/// The cells that a memtable and files (the newest first) show together, with their newest versions at or below `hi`:
+/// those with texts from `from` on and below `end`, if one is given, until the batch is full or no cell is left. One
+/// pass over that range.
 pub(crate) fn merged_versions<F: Files>(
     alloc: Global,
     memtable: &Memtable,
@@ -230,16 +227,15 @@ pub(crate) fn merged_versions<F: Files>(
     next_versions(alloc, &mut merge, limits, hi, store)
 }
 
-/// The version that an entry has, if it is no erasure. Answers `Damaged` if such an entry isn't within the limits of
-/// entries, and `NoMemory` if there is no memory for a copy.
+/// The version in an entry, if it is no erasure. Answers `Damaged` if such an entry exceeds the limits of entries, and
+/// `NoMemory` if there is no memory for a copy.
 fn version_in(alloc: Global, entry: EntryRef<'_>) -> Result<Option<(Stamp, Vec<u8>)>, Refusal>
     ensures found { IfOk result (λ found. option_to_list (option_map stamped found)
         ≡ stamped_values (lent_entry entry.entry ∷ [])) }
     ensures limits { IfOk result (λ found.
         IfSome found (λ version. IsVersion version.0 version.1.items)) }
     ensures damaged { IsErrOf result Refusal.Damaged → ¬ IsEntry (lent_entry entry.entry) }
-    ensures refusal { IfErr result (λ refusal.
-        (refusal ≡ Refusal.NoMemory) ⊎ (refusal ≡ Refusal.Damaged)) }
+    ensures refusal { IfErr result IsGatheringRefusal }
 {
     let Some(value) = copy_value(alloc, entry.value)? else {
         return Ok(None);
@@ -250,7 +246,7 @@ fn version_in(alloc: Global, entry: EntryRef<'_>) -> Result<Option<(Stamp, Vec<u
     }
 }
 
-/// The version that a source is at, if it is at a value.
+/// The version in a source's current entry, if that is a value.
 fn version_at<F: Files, S: Source<F>>(
     alloc: Global,
     source: &S,
@@ -260,8 +256,7 @@ fn version_at<F: Files, S: Source<F>>(
     ensures limits { IfOk result (λ found.
         IfSome found (λ version. IsVersion version.0 version.1.items)) }
     ensures damaged { IsErrOf result Refusal.Damaged → ¬ IfSome (S.lent source.now) IsEntry }
-    ensures refusal { IfErr result (λ refusal.
-        (refusal ≡ Refusal.NoMemory) ⊎ (refusal ≡ Refusal.Damaged)) }
+    ensures refusal { IfErr result IsGatheringRefusal }
 {
     match source.current() {
         Some(entry) => version_in(alloc, entry),
@@ -269,8 +264,8 @@ fn version_at<F: Files, S: Source<F>>(
     }
 }
 
-/// The first versions that a source comes to: `most` of them, or fewer if no more are left. Reads up to the last of so
-/// many and not further.
+/// The next versions of a source: `most` of them or all if there are fewer. Reads no further than the last one
+/// answered.
 fn first_versions<F: Files, S: Source<F>>(
     alloc: Global,
     source: &mut S,
@@ -298,9 +293,9 @@ fn first_versions<F: Files, S: Source<F>>(
     Ok(found)
 }
 
-/// The first versions that a memtable and files have together, the newest first, from the text `from` on and below `end`, if
-/// there is one: `most` of them, or fewer if no more are left. One pass over that range, which ends at the last of so
-/// many.
+/// The first versions that a memtable and files (the newest first) show together, with texts from `from` on and below
+/// `end`, if one is given: `most` of them or all if there are fewer. One pass over that range, which ends at the last
+/// version answered.
 pub(crate) fn merged_values<F: Files>(
     alloc: Global,
     memtable: &Memtable,
@@ -338,7 +333,7 @@ pub(crate) fn version_text(
         bytes.items ≡ text (version row.now family.now qualifier stamp)) }
     ensures row { IsRow row.now }
     ensures family { IsFamily family.now }
-    ensures refusal { IfErr result (λ refusal. refusal ≡ Refusal.NoMemory) }
+    ensures refusal { IsOkUnless result Refusal.NoMemory }
 {
     let key = CellKey::new(row, family, qualifier, stamp)?;
     let mut text = Vec::new(alloc);
@@ -346,13 +341,13 @@ pub(crate) fn version_text(
     Ok(text)
 }
 
-/// What comes after the texts of a place and before those of later places, or before all texts if there
-/// is no place. Answers `NoMemory` if there is no memory.
+/// A bound above all texts of a place and below those of later places; without a place, a bound below all texts.
+/// Answers `NoMemory` if there is no memory.
 pub(crate) fn past_place(alloc: Global, after: Option<(&Row, &Family)>) -> Result<Vec<u8>, Refusal>
     ensures past { IfOk result (λ text.
         text.items ≡ past_place (option_map place_named after.entry)) }
     ensures names { IsPlaceOrNone (option_map place_named after.entry) }
-    ensures refusal { IfErr result (λ refusal. refusal ≡ Refusal.NoMemory) }
+    ensures refusal { IsOkUnless result Refusal.NoMemory }
 {
     match after {
         Some((row, family)) => version_text(alloc, row, family, Qualifier::Write, 0),

@@ -1,6 +1,6 @@
-//! What a tablet reads: its memtable and its files, from a text on and up to another.
+//! The sources of a tablet's reads: its memtable and its files, each cut to a range of key texts.
 
-ghost use Rattle.std.specs.Prelude.{◌≡◌, [], map, Option, option_map, IfOk, IfErr};
+ghost use Rattle.std.specs.Prelude.{◌≡◌, [], map, Option, option_map, IfOk, IsOkUnless};
 ghost use Rattle.std.specs.Option.{option_copied, option_to_list};
 ghost use Rattle.std.specs.List.{AllByRecursion};
 ghost use Rattle.file_store.specs.Store.{Contents};
@@ -17,13 +17,13 @@ use memtable::Memtable;
 use sorted_file::{SortedFile, Source};
 use std::alloc::Global;
 
-/// What comes before the texts of a range's rows and after those of all earlier rows, and what comes after
-/// those of its rows, if its end isn't infinite. Answers `NoMemory` if there is no memory.
+/// The fences of a range: a lower bound of the key texts of its rows, above the texts of all earlier rows, and an upper
+/// bound, if the range has an end. Answers `NoMemory` if there is no memory.
 pub(crate) fn fences(alloc: Global, range: &RowRange) -> Result<(Vec<u8>, Option<Vec<u8>>), Refusal>
     ensures from { IfOk result (λ fences. fences.0.items ≡ lower_fence range.now) }
     ensures end { IfOk result (λ fences.
         option_map (λ fence. fence.items) fences.1 ≡ upper_fence range.now) }
-    ensures refusal { IfErr result (λ refusal. refusal ≡ Refusal.NoMemory) }
+    ensures refusal { IsOkUnless result Refusal.NoMemory }
 {
     let from = match &range.after {
         Some(row) => row.fence(alloc)?,
@@ -36,7 +36,7 @@ pub(crate) fn fences(alloc: Global, range: &RowRange) -> Result<(Vec<u8>, Option
     Ok((from, end))
 }
 
-/// The entries of a memtable from a text on and below another.
+/// The entries of a memtable from the text `from` on and below `end`.
 fn memtable_source<'a>(
     memtable: &'a Memtable,
     from: &[u8],
@@ -51,7 +51,7 @@ fn memtable_source<'a>(
     Bounded::new(Input::Memtable(memtable.cursor(from)), end)
 }
 
-/// The entries of a memtable, if there is one, from a text on and below another.
+/// The entries of a memtable, if one is given, from the text `from` on and below `end`.
 fn memtable_sources<'a>(
     alloc: Global,
     memtable: Option<&'a Memtable>,
@@ -68,7 +68,7 @@ fn memtable_sources<'a>(
         AllByRecursion IsEntryList (option_to_list (option_copied memtable.entry))) }
     ensures of { IfOk result (λ sources. AreSourcesOf
         from.now (option_copied end.entry) (option_copied memtable.entry) [] sources.items) }
-    ensures refusal { IfErr result (λ refusal. refusal ≡ Refusal.NoMemory) }
+    ensures refusal { IsOkUnless result Refusal.NoMemory }
 {
     let mut sources = Vec::new(alloc);
     if let Some(memtable) = memtable {
@@ -77,7 +77,7 @@ fn memtable_sources<'a>(
     Ok(sources)
 }
 
-/// The entries of a file from a text on and below another.
+/// The entries of a file from the text `from` on and below `end`.
 fn file_source<'a>(
     file: &'a SortedFile,
     from: &'a [u8],
@@ -91,9 +91,8 @@ fn file_source<'a>(
     Bounded::new(Input::File(file.cursor(from)), end)
 }
 
-/// The entries of a memtable, if there is one, and of files, from the text `from` on and below `end`, if
-/// there is one: a source of each, in this order, at its start. Answers `NoMemory` if there is no
-/// memory.
+/// The entries of a memtable, if one is given, and of files, from the text `from` on and below `end`, if one is given:
+/// one source each, in this order, at its start. Answers `NoMemory` if there is no memory.
 pub(crate) fn sources<'a, F: Files>(
     alloc: Global,
     memtable: Option<&'a Memtable>,
@@ -117,7 +116,7 @@ pub(crate) fn sources<'a, F: Files>(
         (HasSource from.now (option_copied end.entry) sources.items) files.now) }
     ensures each { IfOk result (λ sources. AreSourcesOf from.now
         (option_copied end.entry) (option_copied memtable.entry) files.now sources.items) }
-    ensures refusal { IfErr result (λ refusal. refusal ≡ Refusal.NoMemory) }
+    ensures refusal { IsOkUnless result Refusal.NoMemory }
 {
     let mut sources = memtable_sources(alloc, memtable, from, end)?;
     for file in files {

@@ -1,7 +1,7 @@
-//! Cutting a tablet in two, and moving it: after a minor compaction its files are all that it has, and they may
-//! be named by two tablets or opened by another server.
+//! Cutting a tablet in two, and moving it: after a minor compaction all its entries are in its files, which two tablets
+//! can share or another server can open.
 
-ghost use Rattle.std.specs.Prelude.{◌≡◌, ◌≢◌, ◌≤◌, ◌<◌, ◌+◌, ◌^◌, ◌∷◌, [], Some, length, ◌↔◌, ℕ, IfOk, IfErr, OnOk, OnErr, IfSome, IsNone, IsErrOf};
+ghost use Rattle.std.specs.Prelude.{◌≡◌, ◌≢◌, ◌≤◌, ◌<◌, ◌+◌, ◌^◌, ◌∷◌, [], Some, ℕ, IfOk, IfErr, OnOk, OnErr, IfSome, IsNone, IsErrOf, IsOkUnless};
 ghost use Rattle.std.specs.List.{AllByRecursion};
 ghost use Rattle.sorted_file.specs.Grammar.{FitsIn};
 ghost use Rattle.sorted_file.specs.Limits.{IsFileLimit};
@@ -12,7 +12,7 @@ ghost use Rattle.tablet.specs.Ranges.{seen};
 ghost use Rattle.tablet.specs.Views.{range_of, memory_of, names_of, Holds, IsBelow, IsUnchanged, Keeps, with_name};
 ghost use Rattle.tablet.specs.Splits.{Cuts, MakesParts};
 ghost use Rattle.tablet.specs.declared.compactions.Compaction.TheVariants.{Minor};
-ghost use Rattle.tablet.specs.Compactions.{Compacts, Flushes, IsMinorRefusal, LeavesFlushed, TakesName, WritesMemory};
+ghost use Rattle.tablet.specs.Compactions.{Compacts, Flushes, IsMinorRefusal, IsRefusedFirst, LeavesFlushed, NeedsTooManyFiles, TakesName, WritesMemory};
 
 use crate::open_files::OpenFiles;
 use crate::ranges::RowRange;
@@ -25,12 +25,13 @@ use std::alloc::Global;
 use std::num::NonZeroUsize;
 
 impl Tablet {
-    /// Opens the files of these names, the newest first, as a tablet of a range with an empty memtable. Each file, and each
-    /// that it opens later, caches `most_blocks` blocks at most. The oldest is opened first.
+    /// Opens the files of these names, the newest first, as a tablet of a range with an empty memtable. Each of these
+    /// files, and each file that the tablet opens later, caches `most_blocks` blocks at most. The oldest is opened
+    /// first.
     ///
     /// # Errors
     ///
-    /// `Device`, `NoMemory`, and `Damaged` only if a file is missing or is the file of no entry list.
+    /// `Device`, `NoMemory`, and `Damaged` only if a file is missing or is not the file of an entry list.
     pub fn load<F: Files>(
         alloc: Global,
         range: RowRange,
@@ -67,14 +68,14 @@ impl Tablet {
     /// The names of the files, the newest first.
     fn names(&self) -> Result<Vec<u64>, Refusal>
         ensures names { IfOk result (λ names. names.items ≡ names_of self.now) }
-        ensures refusal { IfErr result (λ refusal. refusal ≡ Refusal.NoMemory) }
+        ensures refusal { IsOkUnless result Refusal.NoMemory }
     {
         let mut names = Vec::new(self.alloc);
         self.push_names(&mut names)?;
         Ok(names)
     }
 
-    /// Opens the files once more, as a tablet of another range with an empty memtable.
+    /// Opens the same files again, as a tablet of another range with an empty memtable.
     fn open_again<F: Files>(&self, range: RowRange, files: &mut F) -> Result<Tablet, Refusal>
         ensures range { IfOk result (λ t. range_of t ≡ range) }
         ensures memory { IfOk result (λ t. memory_of t ≡ []) }
@@ -88,11 +89,11 @@ impl Tablet {
         Tablet::load(self.alloc, range, &names, self.most_blocks, files)
     }
 
-    /// A minor compaction, and then the names of the files, the newest first.
+    /// Runs a minor compaction and answers the names of the files, the newest first.
     ///
     /// # Errors
     ///
-    /// Those of `minor`. A refused call may have done the minor compaction.
+    /// The errors of `minor`. A refused call may still have done the minor compaction.
     pub fn unload<F: Files>(
         &mut self,
         file_limit: u64,
@@ -111,9 +112,10 @@ impl Tablet {
         ensures left { OnErr result (LeavesFlushed next_name.old self.old self.new) }
         ensures name { TakesName
             (F.contents files.old) next_name.old (F.contents files.new) next_name.new }
-        // If there are 64 files it is refused before a file is written, whatever else may fail.
-        ensures full { IsErrOf result Refusal.TooManyFiles
-            ↔ (memory_of self.old ≢ []) × (64 ≤ length (names_of self.old)) }
+        // With 64 files it is refused before a file is written, whatever else may fail.
+        ensures full { IsRefusedFirst result Refusal.TooManyFiles (NeedsTooManyFiles self.old)
+            (F.contents files.old) next_name.old (F.contents files.new) next_name.new
+            self.old self.new }
         ensures exhausted { IsErrOf result Refusal.Exhausted
             → (memory_of self.old ≢ []) × (2 ^ 63 ≤ next_name.old) }
         ensures large { IsErrOf result Refusal.FileTooLarge → (memory_of self.old ≢ [])
@@ -121,8 +123,6 @@ impl Tablet {
         ensures damaged { IsErrOf result Refusal.Damaged → IsNone (F.contents files.old) }
         ensures refusal { IfErr result IsMinorRefusal }
         ensures reason { HasReason (F.faults files.old) (F.faults files.new) result }
-        ensures unwritten { IsErrOf result Refusal.TooManyFiles → IsUnchanged self.old self.new
-            × ((next_name.new ≡ next_name.old) × (F.contents files.new ≡ F.contents files.old)) }
         ensures empty { memory_of self.old ≡ []
             → (next_name.new ≡ next_name.old) × (F.contents files.new ≡ F.contents files.old) }
     {
@@ -130,12 +130,12 @@ impl Tablet {
         self.names()
     }
 
-    /// The range up to a row, and that row again, which the rest begins after.
+    /// The range up to and including a row, and a copy of that row, after which the right part begins.
     fn left_of(&self, row: &Row) -> Result<(RowRange, Row), Refusal>
         ensures range { IfOk result (λ left.
             left.0 ≡ record { after = (range_of self.now).after; end = Some row.now }) }
         ensures row { IfOk result (λ left. left.1 ≡ row.now) }
-        ensures refusal { IfErr result (λ refusal. refusal ≡ Refusal.NoMemory) }
+        ensures refusal { IsOkUnless result Refusal.NoMemory }
     {
         let range = RowRange {
             after: self.range.after.clone()?,
@@ -144,14 +144,14 @@ impl Tablet {
         Ok((range, row.clone()?))
     }
 
-    /// Cuts the tablet, whose memtable is empty, at a row of its range that isn't its end (Bigtable, tablets are
-    /// split). Answers the left part, which ends with the row; the tablet becomes the right part, which begins
-    /// after it. Both have its files.
+    /// Cuts the tablet, whose memtable must be empty, at a row of its range other than its end (Bigtable, tablets are
+    /// split). Answers the left part, which ends with the row; the tablet becomes the right part, which begins after
+    /// it. Both share its files.
     ///
     /// # Errors
     ///
-    /// `Device`, `NoMemory`, and `Damaged` only if a file is missing or is the file of no entry list. The tablet is
-    /// then as before.
+    /// `Device`, `NoMemory`, and `Damaged` only if a file is missing or is not the file of an entry list. The tablet is
+    /// then unchanged.
     pub fn cut<F: Files>(&mut self, row: &Row, files: &mut F) -> Result<Tablet, Refusal>
         requires flushed { memory_of self.old ≡ [] }
         ensures left_range { IfOk result (λ left.
@@ -178,11 +178,11 @@ impl Tablet {
         Ok(left)
     }
 
-    /// A minor compaction, and then `cut`.
+    /// Runs a minor compaction and then `cut`.
     ///
     /// # Errors
     ///
-    /// Those of `minor` and of `cut`. A refused call may have done the minor compaction.
+    /// The errors of `minor` and of `cut`. A refused call may still have done the minor compaction.
     pub fn split<F: Files>(
         &mut self,
         row: &Row,
@@ -203,9 +203,10 @@ impl Tablet {
         ensures left { OnErr result (LeavesFlushed next_name.old self.old self.new) }
         ensures name { TakesName
             (F.contents files.old) next_name.old (F.contents files.new) next_name.new }
-        // If there are 64 files it is refused before a file is written, whatever else may fail.
-        ensures full { IsErrOf result Refusal.TooManyFiles
-            ↔ (memory_of self.old ≢ []) × (64 ≤ length (names_of self.old)) }
+        // With 64 files it is refused before a file is written, whatever else may fail.
+        ensures full { IsRefusedFirst result Refusal.TooManyFiles (NeedsTooManyFiles self.old)
+            (F.contents files.old) next_name.old (F.contents files.new) next_name.new
+            self.old self.new }
         ensures exhausted { IsErrOf result Refusal.Exhausted
             → (memory_of self.old ≢ []) × (2 ^ 63 ≤ next_name.old) }
         ensures large { IsErrOf result Refusal.FileTooLarge → (memory_of self.old ≢ [])
@@ -214,8 +215,6 @@ impl Tablet {
             IsBelow next_name.old self.old → ¬ AllByRecursion (HasFile m) (names_of self.old)) }
         ensures refusal { IfErr result IsMinorRefusal }
         ensures reason { HasReason (F.faults files.old) (F.faults files.new) result }
-        ensures unwritten { IsErrOf result Refusal.TooManyFiles → IsUnchanged self.old self.new
-            × ((next_name.new ≡ next_name.old) × (F.contents files.new ≡ F.contents files.old)) }
         ensures empty { memory_of self.old ≡ []
             → (next_name.new ≡ next_name.old) × (F.contents files.new ≡ F.contents files.old) }
     {

@@ -1,6 +1,6 @@
-//! A tablet: its calls that write no file.
+//! Tablets: the type, and its calls that write no file.
 
-ghost use Rattle.std.specs.Prelude.{◌≡◌, ◌≤◌, ◌<◌, ◌+◌, ◌++◌, ◌∷◌, ◌⊎◌, ◌↔◌, [], None, length, vec_len, vec_capacity, IsTrue, IsOk, IfErr, OnErr, OnOk, IsErrOf};
+ghost use Rattle.std.specs.Prelude.{◌≡◌, ◌≤◌, ◌<◌, ◌+◌, ◌++◌, ◌∷◌, ◌⊎◌, ◌↔◌, [], None, length, vec_len, vec_capacity, IsTrue, IsOk, IfErr, OnErr, OnOk, IsErrOf, IsOkUnless};
 ghost use Rattle.std.specs.List.{AllByRecursion};
 ghost use Rattle.cell_key.specs.Cells.{IsEditOf, after_edits};
 ghost use Rattle.file_store.specs.Store.{Contents};
@@ -23,7 +23,7 @@ pub struct Tablet {
     pub(crate) memtable: Memtable,
     /// The newest first.
     pub(crate) files: OpenFiles,
-    /// How many blocks a file that is opened caches at most.
+    /// How many blocks each newly opened file caches at most.
     pub(crate) most_blocks: NonZeroUsize,
 }
 
@@ -31,11 +31,12 @@ impl Tablet {
     ghost use Rattle.tablet.specs.Ranges.{has_row};
     ghost use Rattle.tablet.specs.Views.{range_of, memory_of, files_of, names_of, cells_at, Holds};
 
-    /// A tablet with this many files or more gets no further one: a minor compaction with entries to write is
-    /// refused `TooManyFiles`.
+    /// A tablet with this many files gets no further one: a minor compaction with entries to write is refused with
+    /// `TooManyFiles`.
     pub const MOST_FILES: usize = 64;
 
-    /// A tablet of all rows, with no entries and no files. A file that it opens caches 8 blocks at most. Takes no memory.
+    /// A tablet of all rows, with no entries and no files. Each file that it opens caches 8 blocks at most. Allocates
+    /// nothing.
     pub fn new(alloc: Global) -> Tablet
         ensures range { range_of result ≡ record { after = None; end = None } }
         ensures memory { memory_of result ≡ [] }
@@ -53,14 +54,14 @@ impl Tablet {
         }
     }
 
-    /// The rows that the tablet holds. Takes no memory.
+    /// The rows that the tablet holds. Allocates nothing.
     pub fn range(&self) -> &RowRange
         ensures { result.now ≡ range_of self.now }
     {
         &self.range
     }
 
-    /// How many entries the memtable has, erasures among them. Takes no memory.
+    /// How many entries the memtable has, erasures among them. Allocates nothing.
     pub fn len(&self) -> usize
         ensures len { result ≡ length (memory_of self.now) }
         ensures limits { IsWithinLimits (memory_of self.now) }
@@ -68,40 +69,40 @@ impl Tablet {
         self.memtable.len()
     }
 
-    /// How many bytes the entries of the memtable have in a file, as `Memtable::entry_bytes` counts them. Takes no memory.
+    /// How many bytes the memtable's entries take in a file, as `Memtable::entry_bytes` counts them. Allocates nothing.
     pub fn entry_bytes(&self) -> usize
         ensures { result ≡ bytes_of (memory_of self.now) }
     {
         self.memtable.entry_bytes()
     }
 
-    /// Whether the memtable has no entries. Takes no memory.
+    /// Whether the memtable has no entries. Allocates nothing.
     pub fn is_empty(&self) -> bool
         ensures { IsTrue result ↔ (memory_of self.now ≡ []) }
     {
         self.memtable.is_empty()
     }
 
-    /// How many blocks a file that the tablet opens caches at most. Takes no memory.
+    /// How many blocks each file that the tablet opens caches at most. Allocates nothing.
     pub fn most_blocks(&self) -> NonZeroUsize
         ensures { result ≡ self.now.most_blocks }
     {
         self.most_blocks
     }
 
-    /// How many files the tablet has. Takes no memory.
+    /// How many files the tablet has. Allocates nothing.
     pub fn file_count(&self) -> usize
         ensures { result ≡ length (names_of self.now) }
     {
         self.files.len()
     }
 
-    /// Appends the names of the files, the newest first. Answers `NoMemory` if a growth is refused, and
-    /// never if `out` has the room. An `Err` leaves `out` as it was.
+    /// Appends the names of the files, the newest first. `NoMemory` if `out` cannot grow; never if it has the capacity.
+    /// On `Err`, `out` is unchanged.
     pub fn push_names(&self, out: &mut Vec<u64>) -> Result<(), Refusal>
         ensures ok { OnOk result (out.new.items ≡ out.old.items ++ names_of self.now) }
         ensures err { OnErr result (out.new.items ≡ out.old.items) }
-        ensures refusal { IfErr result (λ refusal. refusal ≡ Refusal.NoMemory) }
+        ensures refusal { IsOkUnless result Refusal.NoMemory }
         ensures room { vec_len out.old + length (names_of self.now) ≤ vec_capacity out.old
             → IsOk result }
     {
@@ -112,12 +113,11 @@ impl Tablet {
         Ok(())
     }
 
-    /// Makes edits under one row in order, all of them or none.
+    /// Applies edits to one row in order, all of them or none.
     ///
     /// # Errors
     ///
-    /// `MemtableFull` if a limit of the memtable would be passed, and `NoMemory`. The tablet is then as
-    /// before.
+    /// `MemtableFull` if a limit of the memtable would be exceeded, and `NoMemory`. The tablet is then unchanged.
     pub fn apply(&mut self, row: &Row, edits: Vec<Edit>) -> Result<(), Refusal>
         requires { AllByRecursion (IsEditOf row.now) edits.items }
         ensures ok { OnOk result ((m : Contents) → Holds m self.old

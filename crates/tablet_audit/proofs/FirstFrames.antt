@@ -1,4 +1,4 @@
--- Why bytes that begin with no frame don't, by their first four.
+-- Why bytes do not begin with a frame, from their first four bytes.
 use Rattle.std.proofs.Common.{◌≡◌, ℕ, ◌<◌, ◌≤◌, List, length, take, arith, sym, ap, ◌∙◌}
 use Rattle.std.specs.Int.{from_be_bytes, w32}
 use Rattle.request_codec.specs.Stream.{longest, announced, BeginsNoFrame, IsPartial, IsTooLong}

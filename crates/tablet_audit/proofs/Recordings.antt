@@ -1,4 +1,4 @@
--- How a judgement goes on over a recording, and how it ends.
+-- The progress of a judgement over a recording, and its end.
 use Rattle.std.proofs.Common.{◌≡◌, ◌≢◌, ℕ, ◌+◌, ◌<◌, ◌≤◌, ◌⊎◌, inl, inr, Bool, true, false, List, [], ◌∷◌, ◌++◌, length, Option, Some, None, Result, Ok, Err, refl, sym, ap, ◌∙◌, subst, arith, append_assoc, length-append}
 use Rattle.std.specs.Prelude.{IfOk, IfSome}
 use Rattle.std.specs.List.{AllByRecursion}
@@ -22,7 +22,7 @@ use Rattle.tablet_audit.specs.declared.reopenings.Reopening.{Reopening}
 use Rattle.tablet_audit.specs.declared.verdicts.Verdict.{Verdict}
 use Rattle.tablet_audit.specs.declared.verdicts.Verdict.TheVariants.{Steps, NoStep, BadRequest, BadReply, BadMark}
 
--- ---- openings
+-- ---- reopenings
 
 pub not_opened : (found : Option Reopening) (audit : Audit) → found ≡ None → JudgesReopening found audit audit true
 not_opened found audit none = subst (λ (f : Option Reopening). Follows audit audit (OpensAgain f)) (sym none) (λ st keeps. (st, refl, keeps))
@@ -53,7 +53,7 @@ passes_step old new body answer request reply result is judges asks answers =
     let steps = subst (JudgesStep old new request reply) is judges in
     λ st keeps. let s = steps st keeps in (s.0, (reply, answers, inl (request, asks, s.1)), s.2)
 
--- ---- where the judgement ends
+-- ---- the end of the judgement
 
 pub stops_at_request : (audit : Audit) (number : ℕ) (rest more : List ℕ) (flaw : Flaw) → ¬ IsAtEnd rest more → IsFlawed rest flaw
     → StopsAt audit number rest more (BadRequest number flaw)

@@ -1,4 +1,4 @@
--- What is said of a frame that is no whole one.
+-- The words for each flaw of a frame.
 use Rattle.std.specs.Prelude.{ℕ, List, codes}
 use Rattle.tablet_audit.specs.declared.frames.Flaw.{Flaw}
 use Rattle.tablet_audit.specs.declared.frames.Flaw.TheVariants.{Missing, Cut, OutsideGrammar}

@@ -1,4 +1,4 @@
--- What the judgement of one request and its reply says.
+-- The judgement of one request and its reply.
 use Rattle.std.specs.Prelude.{◌≡◌, ℕ, List, [], Option, Some, None}
 use Rattle.request_codec.specs.Requests.{IsRequest, asked}
 use Rattle.request_codec.specs.Replies.{IsReply, IsNoReply, replied}
@@ -11,7 +11,7 @@ use Rattle.tablet_audit.specs.declared.reopenings.Reopening.{Reopening}
 use Rattle.tablet_audit.specs.declared.verdicts.Verdict.{Verdict}
 use Rattle.tablet_audit.specs.declared.verdicts.Verdict.TheVariants.{NoStep, BadRequest, BadReply}
 
--- what a verdict on two bodies says of them
+-- the meaning of a verdict on two bodies
 abbrev pub EndsWith : Audit → ℕ → List ℕ → List ℕ → Verdict → Type 0
 EndsWith audit number body answer (NoStep k request reply) = (k ≡ number)
     × IsRequest (asked request) body × IsReply (replied reply) answer
@@ -22,12 +22,12 @@ EndsWith audit number body answer (BadReply k flaw) =
     (k ≡ number) × (flaw ≡ OutsideGrammar) × IsNoReply answer
 EndsWith audit number body answer other = ⊥
 
--- No verdict: the audit goes on from the reply.
+-- Without a verdict, the audit continues from the reply.
 abbrev pub JudgesBodies : Audit → Audit → ℕ → List ℕ → List ℕ → Option Verdict → Type 0
 JudgesBodies old new number body answer None = Follows old new (Answers body answer)
 JudgesBodies old new number body answer (Some verdict) = EndsWith old number body answer verdict
 
--- No verdict: both files go on behind a frame each, and the audit from the reply.
+-- Without a verdict, both files continue after one frame each, and the audit from the reply.
 pub record GoesOn (old new : Audit) (rest more rest' more' : List ℕ) : Type 0 where
   pub body : List ℕ
   pub answer : List ℕ
@@ -35,11 +35,11 @@ pub record GoesOn (old new : Audit) (rest more rest' more' : List ℕ) : Type 0 
   pub reply_splits : Splits more answer more'
   pub follows : Follows old new (Answers body answer)
 
--- nothing is left of both files
+-- both files are at their end
 abbrev pub IsAtEnd : List ℕ → List ℕ → Type 0
 IsAtEnd rest more = (rest ≡ []) × (more ≡ [])
 
--- what a verdict says that comes before an opening
+-- the meaning of a verdict that comes before a reopening
 abbrev pub StopsAt : Audit → ℕ → List ℕ → List ℕ → Verdict → Type 0
 StopsAt audit number rest more verdict =
     (reopenings : List Reopening) → EndsAt reopenings audit number rest more verdict

@@ -1,5 +1,4 @@
--- A run of the machine over a recording, which has requests, their replies, and the places at which
--- the store was opened again.
+-- A run of the machine over a recording: requests, their replies, and the places at which the store was reopened.
 use Rattle.std.specs.Prelude.{◌≡◌, ◌⊎◌, ℕ, ◌+◌, List, [], ◌∷◌, ◌++◌, length, nat_eq, Option, Some, None}
 use Rattle.std.specs.List.{find}
 use Rattle.cell_key.specs.declared.refusals.Refusal.TheVariants.{BadRequest}
@@ -9,29 +8,29 @@ use Rattle.request_codec.specs.Requests.{IsRequest, IsMalformed}
 use Rattle.request_codec.specs.Replies.{IsReply}
 use Rattle.tablet_audit.specs.declared.reopenings.Reopening.{Reopening}
 
--- A body in the grammar and the body of its reply are a step of the machine. Any other body is
--- answered BadRequest, and the machine stays.
+-- A body in the grammar and the body of its reply are a step of the machine. Any other body is answered BadRequest, and
+-- the machine is unchanged.
 abbrev pub Answers : List ℕ → List ℕ → State → State → Type 0
 Answers body answer st next = (reply : Reply) × IsReply reply answer
     × (((request : Request) × IsRequest request body × Step st request reply next)
     ⊎ (IsMalformed body × (reply ≡ Refused BadRequest) × (next ≡ st)))
 
--- the first of the places that is behind the reply of this number
+-- the first of the reopenings after the reply with this number
 abbrev pub reopening_behind : ℕ → List Reopening → Option Reopening
 reopening_behind number reopenings = find (λ it. nat_eq it.behind number) reopenings
 
--- A store without a log is opened again by a clean restart, one with a log over this mark.
+-- A store without a log is reopened by a clean restart, a store with a log over this mark.
 abbrev pub OpensOver : Option ℕ → State → State → Type 0
 OpensOver None st next = next ≡ reopened st
 OpensOver (Some mark) st next = ReopensOver mark st next
 
--- so it is opened there, if it is
+-- the same at a place of the recording, if the store was reopened there
 abbrev pub OpensAgain : Option Reopening → State → State → Type 0
 OpensAgain None st next = next ≡ st
 OpensAgain (Some reopening) st next = OpensOver reopening.mark st next
 
--- The machine goes from its new state to this one by these requests and replies, one after the
--- other, and is opened again behind some of them.
+-- The machine goes from its first state to this one by these requests and replies in order, and is reopened after some
+-- of them.
 pub data Run (reopenings : List Reopening) : List (List ℕ) → List (List ℕ) → State → Type 0 where
   begins_new : Run reopenings [] [] new_machine
   goes_on : {bodies answers : List (List ℕ)} {body answer : List ℕ} {st mid next : State}

@@ -12,7 +12,7 @@ status_of (BadMark number) = 1
 status_of (BadRequest number flaw) = 2
 status_of (BadReply number flaw) = 2
 
--- of a reply that is no step the line says more
+-- for a reply that is no step the line has more text
 abbrev pub verdict_text : Verdict → Option (List ℕ)
 verdict_text (Steps count) = Some (decimal count ++ codes " replies, each a step of the machine")
 verdict_text (NoStep number request reply) = None

@@ -1,4 +1,4 @@
--- What a verdict on two files says of them.
+-- The meaning of a verdict on two files.
 use Rattle.std.specs.Prelude.{◌≡◌, ◌≢◌, ◌⊎◌, ℕ, ◌+◌, ◌<◌, ◌≤◌, List, [], ◌++◌, length, Option, Some, None}
 use Rattle.std.specs.List.{AllByRecursion}
 use Rattle.cell_key.specs.declared.refusals.Refusal.TheVariants.{BadRequest as TheBadRequest}
@@ -16,8 +16,8 @@ use Rattle.tablet_audit.specs.declared.reopenings.Reopening.{Reopening}
 use Rattle.tablet_audit.specs.declared.verdicts.Verdict.{Verdict}
 use Rattle.tablet_audit.specs.declared.verdicts.Verdict.TheVariants.{Steps, NoStep, BadRequest, BadReply, BadMark}
 
--- The first frames of both files are those of this many requests and of their replies, which are a
--- run to a state that the audit keeps. This is left behind them.
+-- The first frames of both files are this many requests and their replies, which are a run to a state that the audit
+-- keeps. The rest of both files follows them.
 pub record Passes (reopenings : List Reopening) (requests replies : List ℕ) (count : ℕ)
     (rest more : List ℕ) (audit : Audit) : Type 0 where
   pub bodies : List (List ℕ)
@@ -32,29 +32,29 @@ pub record Passes (reopenings : List Reopening) (requests replies : List ℕ) (c
   pub run : Run reopenings bodies answers state
   pub keeps : Keeps audit state
 
--- from each state that the one audit keeps, the machine can go so to one that the other keeps
+-- from each state that the old audit keeps, the machine can go in this way to one that the new audit keeps
 abbrev pub Follows : Audit → Audit → (State → State → Type 0) → Type 0
 Follows old new goes = (st : State) → Keeps old st → (next : State) × goes st next × Keeps new next
 
--- the machine takes no such step from any state that the audit keeps
+-- the machine can't take this step from any state that the audit keeps
 abbrev pub IsNoStep : Audit → Request → Reply → Type 0
 IsNoStep audit request reply = (st next : State) → Keeps audit st → Step st request reply next → ⊥
 
--- a stamp that was answered is above the mark, or the mark is above all stamps
+-- a stamp that was answered is above the mark, or the mark is not below the end of stamps
 abbrev pub IsBadMark : ℕ → State → Type 0
 IsBadMark mark st = (mark < st.top) ⊎ (end_of_stamps ≤ mark)
 
--- a store with a log was opened again over this mark
+-- a store with a log was reopened over this mark
 abbrev pub HasMark : Option Reopening → ℕ → Type 0
 HasMark found mark = (it : Reopening) × (found ≡ Some it) × (it.mark ≡ Some mark)
 
--- a body outside the grammar, and a reply to it that isn't BadRequest
+-- a body outside the grammar, with a reply other than BadRequest
 abbrev pub IsWronglyRead : List ℕ → List ℕ → Type 0
 IsWronglyRead body answer =
     IsMalformed body × (reply : Reply) × IsReply reply answer × (reply ≢ Refused TheBadRequest)
 
 module _ (reopenings : List Reopening) (audit : Audit) (number : ℕ) (rest more : List ℕ) where
-  -- What a verdict says of the next request and its reply: of what is left of both files.
+  -- The meaning of a verdict for the next request and its reply, in terms of the rest of both files.
   abbrev pub EndsAt : Verdict → Type 0
   EndsAt (Steps count) = (count + 1 ≡ number) × (rest ≡ []) × (more ≡ [])
   EndsAt (NoStep k request reply) = (k ≡ number)
@@ -76,7 +76,7 @@ module _ (reopenings : List Reopening) (audit : Audit) (number : ℕ) (rest more
       × ((st : State) → Keeps audit st
       → (next : State) × Answers body answer st next × IsBadMark mark next)
 
--- All requests and replies before the one that ends the judgement are a run.
+-- All requests and replies before the verdict are a run.
 pub record IsVerdict (reopenings : List Reopening) (requests replies : List ℕ) (verdict : Verdict)
     : Type 0 where
   pub count : ℕ

@@ -1,11 +1,11 @@
-//! The command line.
+//! The command line of `tablet_audit`: its options, and its parser.
 
 use crate::reopenings::Reopening;
 use clap::builder::ValueParser;
 use clap::{Arg, ArgAction, ArgMatches, Command, Error};
 use std::alloc::{AllocError, Global};
 
-/// What the program is.
+/// The help text.
 const ABOUT: &str =
     "Judges a recorded run of a tablet store: whether each reply is a step of the snapshot machine. \
     REQUESTS has the frames that went into the store, REPLIES those that came out. The status is 0 where each reply is a step, 1 where \
@@ -26,14 +26,14 @@ const RECOVERED: &str = "recovered-at";
 const RECOVERED_HELP: &str =
     "Replies behind which a store with a log was opened again, each with the mark of its oracle then";
 
-/// What the command line says.
+/// The options given on the command line.
 #[derive(Drop)]
 pub struct Options<'a> {
     /// The file of the requests' frames.
     pub requests: &'a str,
     /// The file of the replies' frames.
     pub replies: &'a str,
-    /// Where the store was opened again.
+    /// The places at which the store was reopened.
     pub reopenings: Vec<Reopening>,
 }
 
@@ -41,7 +41,7 @@ pub struct Options<'a> {
 #[derive(Drop)]
 pub enum LineError {
     NoMemory,
-    /// What the parser says, the answer to a request for help too.
+    /// The parser's text, also for a request for help.
     Parser(Error),
     /// A value of `--recovered-at` isn't a number and a mark.
     NoMark,
@@ -94,14 +94,14 @@ fn command<'a>(alloc: Global) -> Result<Command<'a>, AllocError> {
         .arg(recovered)
 }
 
-/// The places at which a store without a log was opened again.
+/// The places at which a store without a log was reopened.
 fn clean_reopenings(alloc: Global, matches: &ArgMatches<'_>) -> Result<Vec<Reopening>, AllocError> {
     let mut given = Vec::new(alloc);
     let Some(numbers) = matches.get_many::<u64>(REOPENED) else {
         return Ok(given);
     };
     for number in numbers {
-        // The parser has refused what is no number.
+        // The parser has refused texts that are not numbers.
         if let Ok(behind) = number {
             given.push(Reopening { behind, mark: None })?;
         }
@@ -109,7 +109,7 @@ fn clean_reopenings(alloc: Global, matches: &ArgMatches<'_>) -> Result<Vec<Reope
     Ok(given)
 }
 
-/// The place that a text as `7:1000` names, if it is one.
+/// The place given by a text like `7:1000`, if it is one.
 fn recovery_of(text: &str) -> Option<Reopening> {
     let (behind, mark) = text.split_once(':')?;
     Some(Reopening {
@@ -118,7 +118,7 @@ fn recovery_of(text: &str) -> Option<Reopening> {
     })
 }
 
-/// Adds the places at which a store with a log was opened again.
+/// Adds the places at which a store with a log was reopened.
 fn add_recoveries(given: &mut Vec<Reopening>, matches: &ArgMatches<'_>) -> Result<(), LineError> {
     let Some(texts) = matches.get_strs(RECOVERED) else {
         return Ok(());
@@ -132,7 +132,7 @@ fn add_recoveries(given: &mut Vec<Reopening>, matches: &ArgMatches<'_>) -> Resul
     Ok(())
 }
 
-/// Reads the words of the command line, the program's name first.
+/// Parses the words of the command line, the program's name first.
 pub fn read_options<'a>(alloc: Global, words: &'a [&'a str]) -> Result<Options<'a>, LineError> {
     let matches = command(alloc)?.try_get_matches_from(words)?;
     let mut reopenings = clean_reopenings(alloc, &matches)?;

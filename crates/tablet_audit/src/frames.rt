@@ -8,18 +8,18 @@ ghost use Rattle.tablet_audit.specs.Flaws.{flaw_text};
 use request_codec::{LONGEST_BODY, split_frame};
 use std::fmt;
 
-/// What is wrong with a frame of a recording.
+/// A flaw of a frame in a recording.
 #[derive(Clone, Copy, Debug, PartialEq, Eq)]
 pub enum Flaw {
-    /// There is none.
+    /// The file has no such frame.
     Missing,
-    /// The file ends in it.
+    /// The file ends within the frame.
     Cut,
-    /// It is outside the grammar.
+    /// The frame is outside the grammar.
     OutsideGrammar,
 }
 
-/// Why bytes begin with no frame.
+/// Why bytes do not begin with a frame.
 fn flaw_of(bytes: &[u8]) -> Flaw
     requires { BeginsNoFrame bytes.now }
     ensures { IsFlawed bytes.now result }
@@ -37,7 +37,7 @@ fn flaw_of(bytes: &[u8]) -> Flaw
     Flaw::Cut
 }
 
-/// The body of the first frame, and what stands behind the frame.
+/// The body of the first frame, and the bytes after the frame.
 pub fn first_frame(bytes: &[u8]) -> Result<(&[u8], &[u8]), Flaw>
     ensures ok { IfOk result (λ p. Splits bytes.now p.0.now p.1.now) }
     ensures err { IfErr result (λ flaw. IsFlawed bytes.now flaw) }

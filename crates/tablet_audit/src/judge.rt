@@ -22,7 +22,7 @@ fn is_bad_request(reply: &Reply) -> bool
     matches!(reply, Reply::Refused(Refusal::BadRequest))
 }
 
-/// What the audit says of a body of a request and one of its reply: nothing if the reply is a step, or is the one to a
+/// The verdict on the body of a request and the body of its reply. `None` if the reply is a step, or the right one to a
 /// body outside the grammar.
 ///
 /// # Errors
@@ -54,7 +54,7 @@ fn judge_bodies<'a>(
     Ok(Some(Verdict::NoStep(number, request, reply)))
 }
 
-/// What is left of the frames of a recording.
+/// The remaining frames of a recording.
 #[derive(Drop)]
 struct Recording<'a> {
     requests: &'a [u8],
@@ -62,15 +62,14 @@ struct Recording<'a> {
 }
 
 impl<'a> Recording<'a> {
-    /// Whether nothing is left of both files.
+    /// Whether both files are at their end.
     fn is_at_end(&self) -> bool
         ensures { IsTrue result ↔ IsAtEnd self.now.requests.now self.now.replies.now }
     {
         self.requests.is_empty() && self.replies.is_empty()
     }
 
-    /// Judges the first request and reply, and goes on behind them. It gives the verdict, or nothing if there is none
-    /// yet.
+    /// Judges the first request and reply, and moves past them. Returns the verdict, or `None` if there is none yet.
     ///
     /// # Errors
     ///
@@ -103,8 +102,8 @@ impl<'a> Recording<'a> {
     }
 }
 
-/// Judges the frames of a recording: each reply beside its request, from a new store on. Behind some replies the store was
-/// opened again.
+/// Judges the frames of a recording, each reply with its request, starting from a new store. The store was reopened
+/// after some of the replies.
 ///
 /// # Errors
 ///

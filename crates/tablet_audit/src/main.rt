@@ -1,5 +1,6 @@
-//! `tablet_audit REQUESTS REPLIES [--reopened-at K,..] [--recovered-at K:MARK,..]` judges a recorded run of a store: whether each
-//! reply is a step of the snapshot machine. REQUESTS has the frames that went in, REPLIES those that came out.
+//! `tablet_audit REQUESTS REPLIES [--reopened-at K,..] [--recovered-at K:MARK,..]` judges a recorded run of a store:
+//! whether each reply is a step of the snapshot machine. REQUESTS is the file of request frames, REPLIES the file of
+//! reply frames.
 #![tactic(auto)]
 
 mod command_line;
@@ -19,7 +20,7 @@ use std::process::ExitCode;
 use std::rt::{Env, Files as Folders};
 use std::{env, fs, io};
 
-/// The exit status if want of memory ends the judgement.
+/// The exit status if the audit runs out of memory.
 const NO_MEMORY: u8 = 3;
 
 /// The exit status if the command line is refused, or a file can't be read.
@@ -76,7 +77,7 @@ impl From<LineError> for Failure {
     }
 }
 
-/// The frames of the requests and those of the replies.
+/// The frames of the requests and the frames of the replies.
 fn read_files<R>(rt: &R, options: &Options<'_>) -> Result<(Vec<u8>, Vec<u8>), Failure>
 where
     R: AllocGlobal + Folders<File = File> + Clone + Drop,
@@ -86,7 +87,7 @@ where
     Ok((requests, replies))
 }
 
-/// Judges the two files, prints the verdict, and gives the exit status.
+/// Judges the two files, and prints the verdict. Returns the exit status.
 fn judge_files<R>(rt: &R, options: &Options<'_>) -> Result<u8, Failure>
 where
     R: AllocGlobal + Print + Folders<File = File> + Clone + Drop,
@@ -97,7 +98,7 @@ where
     Ok(verdict.status())
 }
 
-/// Judges what the words of the command line name.
+/// Judges the files that the command line names.
 fn judge_line<R>(rt: &R) -> Result<u8, Failure>
 where
     R: Env + AllocGlobal + Print + Folders<File = File> + Clone + Drop,
@@ -108,7 +109,7 @@ where
     judge_files(rt, &options)
 }
 
-/// Runs the program, and gives the exit status.
+/// Runs the program. Returns the exit status.
 fn run<R>(rt: &R) -> u8
 where
     R: Env + AllocGlobal + Print + Eprint + Folders<File = File> + Clone + Drop,

@@ -1,4 +1,4 @@
-//! The places of a recording at which the store was opened again.
+//! The places of a recording at which the store was reopened.
 
 ghost use Rattle.std.specs.Prelude.{◌≡◌};
 ghost use Rattle.tablet_audit.specs.Reopenings.{JudgesReopening};
@@ -6,14 +6,15 @@ ghost use Rattle.tablet_audit.specs.Runs.{reopening_behind};
 
 use audit::Audit;
 
-/// That a store was opened again: behind the reply of which number, from 1, and over which mark of its oracle if it has a log.
+/// A reopening of the store: the number of the reply before it, counted from 1, and the mark of the oracle if the store
+/// has a log.
 #[derive(Drop, Clone, Copy)]
 pub struct Reopening {
     pub behind: u64,
     pub mark: Option<u64>,
 }
 
-/// The first of the places that is behind the reply of this number.
+/// The first of the reopenings after the reply with this number.
 fn find_behind(number: u64, reopenings: &[Reopening]) -> Option<Reopening>
     ensures { result ≡ reopening_behind number reopenings.now }
 {
@@ -27,8 +28,8 @@ fn find_behind(number: u64, reopenings: &[Reopening]) -> Option<Reopening>
     None
 }
 
-/// Whether the store may have been opened again behind the reply of this number as the options say. If so, the audit
-/// goes on from there.
+/// Whether the store may have been reopened after the reply with this number, as the options say. If so, the audit
+/// continues from there.
 pub fn reopen(audit: &mut Audit, number: u64, reopenings: &[Reopening]) -> bool
     ensures { JudgesReopening (reopening_behind number reopenings.now) audit.old audit.new result }
 {

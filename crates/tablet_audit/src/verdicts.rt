@@ -8,18 +8,19 @@ use crate::words::{ReplyWords, RequestWords};
 use request_codec::{Reply, Request};
 use std::fmt;
 
-/// What comes of the judgement of a recording. Requests and replies are numbered from 1.
+/// The verdict of an audit. Requests and replies are numbered from 1.
 #[derive(Drop)]
 pub enum Verdict<'a> {
     /// Each of this many replies is a step of the machine.
     Steps(u64),
-    /// The reply of this number is no step.
+    /// The reply with this number is no step.
     NoStep(u64, Request<'a>, Reply),
-    /// The request of this number is no whole one.
+    /// The frame of the request with this number is flawed.
     BadRequest(u64, Flaw),
-    /// The reply of this number is no whole one.
+    /// The frame of the reply with this number is flawed.
     BadReply(u64, Flaw),
-    /// The mark over which the store was opened again behind the reply of this number is below a stamp that was answered.
+    /// The mark over which the store was reopened after the reply with this number is bad: below a stamp that was
+    /// answered, or above the greatest stamp.
     BadMark(u64),
 }
 

@@ -10,7 +10,7 @@ use std::fmt;
 /// The most bytes of a name or a value that are shown.
 const MOST_SHOWN: usize = 64;
 
-/// Bytes as text: those that can't be printed as their numbers, and the first 64 of more.
+/// Bytes as text: unprintable bytes as numbers, and only the first 64 bytes of a longer text.
 #[derive(Clone, Copy, Drop)]
 struct Text<'a>(&'a [u8]);
 
@@ -155,7 +155,7 @@ fn write_upkeep_of_tablets<W: fmt::Write>(
     }
 }
 
-/// A reply in words: what it answers, without the name of its request.
+/// A reply in words, without the name of its request.
 #[derive(Drop)]
 pub struct ReplyWords<'a>(pub &'a Reply);
 
@@ -176,7 +176,7 @@ impl fmt::Display for ReplyWords<'_> {
     }
 }
 
-/// A reply that answers with numbers, in words.
+/// A reply with numbers or without fields, in words.
 fn write_numbers<W: fmt::Write>(reply: &Reply, f: &mut fmt::Formatter<W>) -> fmt::Result {
     match *reply {
         Reply::Begin(start) => write!(f, "Begin {start}"),
@@ -189,7 +189,7 @@ fn write_numbers<W: fmt::Write>(reply: &Reply, f: &mut fmt::Formatter<W>) -> fmt
     }
 }
 
-/// The name of the request that a reply says is done.
+/// The name of the request that a reply without fields belongs to.
 fn done_name(reply: &Reply) -> &'static str {
     match reply {
         Reply::Set => "Set",
@@ -204,7 +204,7 @@ fn done_name(reply: &Reply) -> &'static str {
     }
 }
 
-/// What a CleanBegin answers, in words.
+/// The outcome of a CleanBegin, in words.
 fn write_clean_start<W: fmt::Write>(start: CleanStart, f: &mut fmt::Formatter<W>) -> fmt::Result {
     match start {
         CleanStart::NoLock => write!(f, "NoLock"),
@@ -212,7 +212,7 @@ fn write_clean_start<W: fmt::Write>(start: CleanStart, f: &mut fmt::Formatter<W>
     }
 }
 
-/// What a read finds, in words.
+/// The result of a read, in words.
 fn write_found<W: fmt::Write>(found: &Found, f: &mut fmt::Formatter<W>) -> fmt::Result {
     match found {
         Found::Value(value) => write!(f, "Value {}", Text(value)),
@@ -221,7 +221,7 @@ fn write_found<W: fmt::Write>(found: &Found, f: &mut fmt::Formatter<W>) -> fmt::
     }
 }
 
-/// What a scan found, in words: how many cells it names, and how far it went.
+/// The result of a scan, in words: the number of cells that it names, and how far it went.
 fn write_scanned<W: fmt::Write>(reply: &ScanReply, f: &mut fmt::Formatter<W>) -> fmt::Result {
     let count = reply.items.len();
     match &reply.reach {
@@ -234,7 +234,7 @@ fn write_scanned<W: fmt::Write>(reply: &ScanReply, f: &mut fmt::Formatter<W>) ->
     }
 }
 
-/// What a step of a session did, in words.
+/// The outcome of a session's step, in words.
 fn write_progress<W: fmt::Write>(progress: Progress, f: &mut fmt::Formatter<W>) -> fmt::Result {
     match progress {
         Progress::Held(count, all) => write!(f, "Held {count} {all}"),
@@ -246,7 +246,7 @@ fn write_progress<W: fmt::Write>(progress: Progress, f: &mut fmt::Formatter<W>) 
     }
 }
 
-/// What a step of a cleaner did, in words.
+/// The outcome of a cleaner's step, in words.
 fn write_cleaning<W: fmt::Write>(done: CleanReply, f: &mut fmt::Formatter<W>) -> fmt::Result {
     match done {
         CleanReply::Decided => write!(f, "Decided"),
@@ -256,7 +256,7 @@ fn write_cleaning<W: fmt::Write>(done: CleanReply, f: &mut fmt::Formatter<W>) ->
     }
 }
 
-/// What a step of a collector came to, in words.
+/// The outcome of a collector's step, in words.
 fn write_collecting<W: fmt::Write>(done: &CollectReply, f: &mut fmt::Formatter<W>) -> fmt::Result {
     match done {
         CollectReply::More => write!(f, "More"),

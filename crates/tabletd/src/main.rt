@@ -1,6 +1,6 @@
-//! `tabletd [--dir DIR [--log]] [--log-bytes L] [--flush N] [--flush-bytes B] [--merge M] [--cache C]` serves framed requests
-//! from the standard input, and writes a framed reply to each to the standard output. The store is in memory, or in a
-//! folder, with a log or without one.
+//! `tabletd [--dir DIR [--log]] [--log-bytes L] [--flush N] [--flush-bytes B] [--merge M] [--cache C]` serves framed
+//! requests from standard input, and writes a framed reply to each to standard output. The store is in memory, or in a
+//! folder, with or without a log.
 #![tactic(auto)]
 
 ghost use Rattle.std.specs.Prelude.{◌≡◌, ◌≤◌, IfOk, IfSome};
@@ -21,15 +21,18 @@ use std::process::ExitCode;
 use std::rt::{Env, Files as Folders};
 use std::{env, io, mem};
 
-/// The exit status if the command line is refused.
+/// The exit status after help or the version is printed.
+const DONE: u8 = 0;
+
+/// The exit status for a refused command line.
 const REFUSED: u8 = 1;
 
-/// The exit status if there is no memory, and its line on the standard error.
+/// The exit status for lack of memory, and its line on standard error.
 const NO_MEMORY: u8 = 7;
 
 const NO_MEMORY_LINE: &str = "tabletd: no memory";
 
-/// How many bytes of replies wait, at most, for the standard output. They leave before each read.
+/// The size of the buffer of replies for standard output, in bytes. It is flushed before each read.
 const WAITING: usize = 65_536;
 
 /// The name of the root file.
@@ -38,7 +41,7 @@ const ROOT_NAME: u64 = 0;
 /// The most bytes of a sorted file.
 const FILE_LIMIT: u64 = 68_719_476_736;
 
-/// Why the command line can't be read.
+/// Why the command line can't be parsed.
 #[derive(Drop)]
 enum LineError {
     NoMemory,
@@ -70,7 +73,7 @@ impl From<clap::Error> for LineError {
     }
 }
 
-/// What the program says if a folder's files can't be opened.
+/// The exit status if a folder's files can't be opened, and its line on standard error.
 fn folder_status(fault: &FileFault) -> (u8, &'static str) {
     match fault {
         FileFault::Device => open_status(&Refusal::Device),
@@ -78,7 +81,7 @@ fn folder_status(fault: &FileFault) -> (u8, &'static str) {
     }
 }
 
-/// The fault of a log beside files that failed so.
+/// The log's fault for a fault of the files beside it.
 fn fault_of_files(fault: FileFault) -> LogFault {
     match fault {
         FileFault::Device => LogFault::Device,
@@ -86,7 +89,7 @@ fn fault_of_files(fault: FileFault) -> LogFault {
     }
 }
 
-/// What the program says if a folder's log can't be opened or made.
+/// The exit status if a folder's log can't be opened or made, and its line on standard error.
 fn log_status(fault: &LogFault) -> (u8, &'static str) {
     match fault {
         LogFault::Device => open_status(&Refusal::Device),
@@ -95,7 +98,7 @@ fn log_status(fault: &LogFault) -> (u8, &'static str) {
     }
 }
 
-/// Whether files without a root are those of a store that had one: there is another file, or the oracle's mark is above 0.
+/// Whether a store lost its root: the files have no root, but there is another file, or the oracle's mark is above 0.
 fn lacks_root<F: Files, M: MarkStore>(
     alloc: Global,
     files: &mut F,
@@ -115,12 +118,12 @@ fn lacks_root<F: Files, M: MarkStore>(
     }
 }
 
-/// The log of a folder with these files and this mark, if it has one or is to get one. What was cut of it is said on the
-/// standard error.
+/// Opens the log of the folder with these files and this mark, or makes one if it is wanted; `None` without a log. If
+/// the log was cut, standard error says so.
 ///
 /// # Errors
 ///
-/// Those of `open_log` and `make_log`, and `Damaged` if the folder lacks its root.
+/// The errors of `open_log` and `make_log`, and `Damaged` if the folder lost its root.
 fn log_of<R, F: Files, M: MarkStore>(
     rt: &R,
     folder: &str,
@@ -153,8 +156,8 @@ where
     Ok(Some(log))
 }
 
-/// Serves the standard input with a server that was made or opened, and gives the exit status with its line on the
-/// standard error.
+/// Serves standard input with a server that was made or opened. Returns the exit status, with its line on standard
+/// error.
 fn serve<R: AllocGlobal + Input + Print, F: Files + Drop, M: MarkStore + Drop>(
     rt: &R,
     opened: Result<Server<F, M>, (Refusal, F, M)>,
@@ -175,12 +178,12 @@ fn serve<R: AllocGlobal + Input + Print, F: Files + Drop, M: MarkStore + Drop>(
         Ok(mut writer) => end_status(&server.serve(&mut reader, &mut writer, u64::MAX)),
         Err(_) => (NO_MEMORY, NO_MEMORY_LINE),
     };
-    // The program ends, and the system takes its memory back at once.
+    // The program ends, and the system frees its memory at once.
     mem::forget(server);
     ended
 }
 
-/// Serves the standard input with a server that has opened its log, and gives the exit status with its line on the standard
+/// Serves standard input with a server that has opened its log. Returns the exit status, with its line on standard
 /// error.
 fn serve_logged<
     R: AllocGlobal + Input + Print,
@@ -211,7 +214,7 @@ fn serve_logged<
         Ok(mut writer) => end_status(&server.serve(&mut reader, &mut writer, u64::MAX)),
         Err(_) => (NO_MEMORY, NO_MEMORY_LINE),
     };
-    // The program ends, and the system takes its memory back at once.
+    // The program ends, and the system frees its memory at once.
     mem::forget(server);
     ended
 }
@@ -287,7 +290,7 @@ fn serve_options<R: AllocGlobal + Input + Print + Eprint + Folders<File = File> 
     }
 }
 
-/// Serves as the words of the command line say, and gives the exit status with its line on the standard error.
+/// Serves as the command line says. Returns the exit status, with its line on standard error.
 fn serve_line<R>(rt: &R) -> Result<(u8, &'static str), LineError>
 where
     R: Env + AllocGlobal + Input + Print + Eprint + Folders<File = File> + Clone + Drop,
@@ -299,7 +302,7 @@ where
     Ok(ended)
 }
 
-/// Runs the program, and gives the exit status.
+/// Runs the program. Returns the exit status.
 fn run<R>(rt: &R) -> u8
 where
     R: Env + AllocGlobal + Input + Print + Eprint + Folders<File = File> + Clone + Drop,
@@ -312,8 +315,8 @@ where
             (REFUSED, "")
         }
         Err(LineError::Refused(error)) => {
-            let _ = eprint!(rt; "{error}");
-            (REFUSED, "")
+            let _ = error.print(rt);
+            (if error.use_stderr() { REFUSED } else { DONE }, "")
         }
     };
     if !line.is_empty() {

@@ -8,7 +8,7 @@ pub const SESSION_STOPPED: [Exchange; 1] = [
     (b"\x05\0\0\0\0\0\0\0\x03", b"\x85"),
 ];
 
-/// A later session reads its first cell, and waits for the other.
+/// A later session reads the transfer's first cell, and finds the other pending.
 const READ_PENDING: [Exchange; 3] = [
     // Begin: 5
     (b"\x01", b"\x81\0\0\0\0\0\0\0\x05"),
@@ -215,7 +215,7 @@ pub const ROWS: [Row; 6] = [
     ),
     // a stamped transfer is rolled back
     (STAMPED, &[&SESSION_STOPPED, &ROLLED_BACK]),
-    // so is one that goes on
+    // a stamped transfer whose session still runs is rolled back too
     (STAMPED, &[&ROLLED_BACK, &LOST]),
     (0, &[&CLEANED_WHILE_HOLDING]),
     (

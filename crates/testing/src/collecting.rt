@@ -14,7 +14,7 @@ const BLOCKED: [Exchange; 2] = [
     ),
 ];
 
-/// It goes on when the lock is cleaned.
+/// It continues after the lock was cleaned.
 const COLLECTED: [Exchange; 2] = [
     // CollectStep 1 6: More
     (b"\x09\0\0\0\0\0\0\0\x01\0\0\0\x06", b"\x89\x01"),
@@ -95,7 +95,7 @@ const PRIMARY_GONE: [Exchange; 2] = [
     ),
 ];
 
-/// What an old session reads stays until it stops.
+/// Old versions are kept until an old session stops.
 const OLD_READER: [Exchange; 22] = [
     // Begin: 1
     (b"\x01", b"\x81\0\0\0\0\0\0\0\x01"),
@@ -161,7 +161,7 @@ const OLD_READER: [Exchange; 22] = [
     ),
 ];
 
-/// Nothing is there to be collected.
+/// There is nothing to collect.
 const EMPTY: [Exchange; 5] = [
     // CollectBegin: 1, floor 1
     (b"\x08", b"\x88\0\0\0\0\0\0\0\x01\0\0\0\0\0\0\0\x01"),
@@ -177,7 +177,7 @@ const EMPTY: [Exchange; 5] = [
 
 /// Rows of collectors.
 pub const ROWS: [Row; 4] = [
-    // a collector is blocked by a lock that a stopped session left, and goes on when it is cleaned
+    // a collector is blocked by a lock that a stopped session left, and continues after it was cleaned
     (
         COMMITTED,
         &[
@@ -188,7 +188,7 @@ pub const ROWS: [Row; 4] = [
             &OLD_GONE,
         ],
     ),
-    // a record of the first cell stays as long as a lock of its transaction stands, and goes then
+    // the first cell's commit record is kept while a lock of its transaction remains, and is collected afterwards
     (
         COMMITTED,
         &[

@@ -2,7 +2,7 @@
 
 use crate::rows::{CELL_COMMITTED, CELL_HELD, CELL_STAMPED, Exchange, Row};
 
-/// A second session deletes the cell. A reader below its commit sees the value, and one above sees nothing.
+/// A second session deletes the cell. A session that began before its commit reads the value, a later one nothing.
 const DELETED: [Exchange; 13] = [
     // Begin: 3
     (b"\x01", b"\x81\0\0\0\0\0\0\0\x03"),
@@ -47,7 +47,7 @@ const DELETED: [Exchange; 13] = [
     ),
 ];
 
-/// The older record goes first, and then the deletion.
+/// The older record is collected first, and then the deletion.
 const COLLECTED: [Exchange; 10] = [
     // Stop 4: stopped
     (b"\x05\0\0\0\0\0\0\0\x04", b"\x85"),
@@ -83,7 +83,7 @@ const COLLECTED: [Exchange; 10] = [
     (b"\x02\0\0\0\0\0\0\0\x06\0\0\0\x01r\0\0\0\x01c", b"\x82\0"),
 ];
 
-/// A session below the deletion keeps it, and what it reads.
+/// While an older session runs, neither the deletion nor the value that the session reads is collected.
 const KEPT: [Exchange; 11] = [
     // CollectBegin: 1, floor 4
     (b"\x08", b"\x88\0\0\0\0\0\0\0\x01\0\0\0\0\0\0\0\x04"),
@@ -175,7 +175,8 @@ const SET_AGAIN: [Exchange; 16] = [
     ),
 ];
 
-/// Of the writes of a cell in one session the last one is made, in the place of the first. What was never set is deleted.
+/// If a session writes a cell more than once, the last write counts, at the first one's position. A cell that was never
+/// set is deleted.
 const REPLACED: [Exchange; 29] = [
     // Begin: 1
     (b"\x01", b"\x81\0\0\0\0\0\0\0\x01"),
@@ -273,7 +274,7 @@ const REPLACED: [Exchange; 29] = [
     ),
 ];
 
-/// A deletion is a write: who sets the cell beside it meets a conflict.
+/// A deletion is a write: a concurrent write of the cell is a conflict.
 const CLASHES: [Exchange; 19] = [
     // Begin: 1
     (b"\x01", b"\x81\0\0\0\0\0\0\0\x01"),
@@ -345,7 +346,7 @@ const SECOND_DELETED: [Exchange; 7] = [
     (b"\x04\0\0\0\0\0\0\0\x03", b"\x84\x03\0\0\0\0\0\0\0\x04"),
 ];
 
-/// It stops when it has committed, and a cleaner makes the deletion.
+/// It stops after its commit, and a cleaner rolls the deletion forward.
 const ROLLED_FORWARD: [Exchange; 11] = [
     // Step 3: Committed 4
     (b"\x04\0\0\0\0\0\0\0\x03", b"\x84\x04\0\0\0\0\0\0\0\x04"),
@@ -386,7 +387,7 @@ const ROLLED_FORWARD: [Exchange; 11] = [
     ),
 ];
 
-/// A cleaner comes before its commit, which is lost.
+/// A cleaner runs before the commit, and the commit is lost.
 const ROLLED_BACK: [Exchange; 9] = [
     // Begin: 5
     (b"\x01", b"\x81\0\0\0\0\0\0\0\x05"),
@@ -417,7 +418,7 @@ const ROLLED_BACK: [Exchange; 9] = [
     ),
 ];
 
-/// A cleaner takes the lock of a deletion that is a session's first cell.
+/// A cleaner erases the lock of a deletion that is a session's first write.
 const LOST: [Exchange; 13] = [
     // Begin: 3
     (b"\x01", b"\x81\0\0\0\0\0\0\0\x03"),
@@ -456,7 +457,7 @@ const LOST: [Exchange; 13] = [
     ),
 ];
 
-/// Each refusal, of those that apply the first.
+/// Each refusal. If several apply, the first is answered.
 const REFUSED: [Exchange; 12] = [
     // Delete 1 "" :: refused 1
     (b"\x13\0\0\0\0\0\0\0\x01\0\0\0\0\0\0\0\x01:", b"\xFF\x01"),

@@ -35,7 +35,7 @@ fn edit(alloc: Global, row: &Row, stamp: Stamp, value: Option<&[u8]>) -> Result<
     }
 }
 
-/// One such edit, and an erasure at another stamp if there is one.
+/// One such edit, and an erasure at the stamp `erased` if there is one.
 pub fn edits_of(
     alloc: Global,
     row: &Row,

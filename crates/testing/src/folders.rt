@@ -3,7 +3,7 @@
 use std::rt::Files as Folders;
 use std::{fs, io};
 
-/// A new folder in the machine's temporary folder, named by a process's number and this name.
+/// A new folder in the machine's temporary folder, named after the process number and this name.
 pub fn new_folder<R: AllocGlobal + Folders>(
     rt: &R,
     process: u32,

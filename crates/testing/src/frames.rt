@@ -19,7 +19,7 @@ pub fn stream_of(alloc: Global, bodies: &[&[u8]]) -> Result<Vec<u8>, AllocError>
     Ok(stream)
 }
 
-/// The stream of a row's requests, and that of its replies.
+/// The streams of a row's requests and of its replies.
 pub fn streams_of(alloc: Global, row: &Row) -> Result<(Vec<u8>, Vec<u8>), AllocError> {
     let mut requests = Vec::new(alloc);
     let mut replies = Vec::new(alloc);

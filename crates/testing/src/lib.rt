@@ -1,5 +1,5 @@
-//! What the crates of tests share: requests with their replies, edits, readers and writers, folders, and calls that are made
-//! again if memory was refused.
+//! Shared code of the test crates: requests with their replies, edits, readers and writers, folders, and calls that are
+//! repeated after a refused allocation.
 #![tactic(auto)]
 
 pub mod cleaning;
@@ -15,7 +15,7 @@ pub mod script;
 pub mod streams;
 pub mod upkeep;
 
-/// The most bytes of a sorted file.
+/// The maximum size of a sorted file in bytes.
 pub const FILE_LIMIT: u64 = 68_719_476_736;
 
 /// The root of a new store.

@@ -1,45 +1,45 @@
-//! Calls that take memory: what each answers, and what is read before and after it. If an allocation was refused, what is
-//! read is as before, and the call is then made again. `scripts/refuse_allocations` refuses them.
+//! Tables of calls that allocate: the answer of each, and the state read before and after it. If an allocation was
+//! refused, the state is unchanged, and the call is made again. `scripts/refuse_allocations` refuses allocations.
 
 use cell_key::Refusal;
 use std::alloc::Global;
 
-/// The answer of a call, and what is read after it.
+/// The answer of a call, and the state read after it.
 pub type Call = (&'static [u8], &'static [u8]);
 
-/// What is read before a call, and the calls by their numbers.
+/// The state read before each call, and the calls by their numbers.
 pub type Table = (&'static [u8], &'static [Call]);
 
-/// What calls are made on.
+/// A subject that calls are made on.
 pub trait Subject: Sized + Drop {
-    /// What stands before a call.
+    /// The subject as it is before a call.
     fn set_up(alloc: Global) -> Result<Self, Refusal>;
 
-    /// Makes a call: whether it gives this answer. Once the call has changed something this takes no more memory.
+    /// Makes a call, and returns whether it gave this answer. Allocates nothing once the call has changed something.
     fn answers(&mut self, alloc: Global, number: usize, wanted: &[u8]) -> Result<bool, Refusal>;
 
-    /// What is read.
+    /// Reads the state.
     fn read(&mut self, alloc: Global) -> Result<Vec<u8>, Refusal>;
 }
 
-/// What came of a call.
+/// The outcome of a call.
 #[derive(Clone, Copy, Debug)]
 pub enum Came {
     /// The right answer, at once.
     Answered,
-    /// The refusal NoMemory, with all as before, and then the right answer.
+    /// The refusal NoMemory with the state unchanged, and then the right answer.
     AnsweredLater,
-    /// Something else is read before the call.
+    /// The state before the call was wrong.
     WrongBefore,
-    /// Something else was answered.
+    /// The answer was wrong.
     WrongAnswer,
-    /// Something else is read after a refusal.
+    /// The state had changed after a refusal.
     WrongRefused,
-    /// Something else is read after the answer.
+    /// The state after the answer was wrong.
     WrongAfter,
 }
 
-/// What comes of a call, on a subject of its own. It is made once more if it was refused for memory.
+/// The outcome of a call, on a subject of its own. The call is made once more if it was refused with NoMemory.
 pub fn tried<S: Subject>(alloc: Global, table: Table, number: usize) -> Result<Came, Refusal> {
     let Some((answer, after)) = table.1.get(number) else {
         return Ok(Came::WrongAnswer);
@@ -66,7 +66,7 @@ pub fn tried<S: Subject>(alloc: Global, table: Table, number: usize) -> Result<C
     Ok(came)
 }
 
-/// Whether each call of a table is answered as it must be.
+/// Whether each call of a table gives the right answer at once, with the right states before and after it.
 pub fn are_answered<S: Subject>(alloc: Global, table: Table) -> Result<bool, Refusal> {
     for number in 0..table.1.len() {
         if !matches!(tried::<S>(alloc, table, number)?, Came::Answered) {

@@ -1,9 +1,9 @@
-//! Requests with their replies, as bodies of frames: transactions without and with others beside them.
+//! Requests with their replies, as bodies of frames: single and concurrent transactions.
 
 /// A request's body and its reply's.
 pub type Exchange = (&'static [u8], &'static [u8]);
 
-/// A row of exchanges: how many of the transfer come first, and the parts after them.
+/// A row of exchanges: the number of the transfer's exchanges that come first, and the parts after them.
 pub type Row = (usize, &'static [&'static [Exchange]]);
 
 /// A session holds the one cell that it sets.
@@ -117,16 +117,16 @@ pub const TRANSFER: [Exchange; 22] = [
     (b"\x04\0\0\0\0\0\0\0\x03", b"\xFF\x01"),
 ];
 
-/// Where the transfer is when its cells have their first values.
+/// The number of the transfer's exchanges until both cells have their first values.
 pub const BALANCES: usize = 8;
 
-/// When it holds both cells.
+/// Until it holds both cells.
 pub const HELD: usize = 15;
 
-/// When it has its commit stamp.
+/// Until it has its commit stamp.
 pub const STAMPED: usize = 16;
 
-/// When its first cell is committed.
+/// Until its first cell is committed.
 pub const COMMITTED: usize = 17;
 
 /// The commit point is the first cell: the other follows.
@@ -187,7 +187,7 @@ const FIRST_COMMITTER: [Exchange; 3] = [
     (b"\x04\0\0\0\0\0\0\0\x02", b"\xFF\x01"),
 ];
 
-/// The same, and the later session is the first.
+/// The same, but the later session is the first.
 const SECOND_COMMITTER: [Exchange; 4] = [
     // Step 2: Held 1 1
     (b"\x04\0\0\0\0\0\0\0\x02", b"\x84\x01\0\x01\0\x01"),
@@ -233,7 +233,7 @@ const ORACLE_RANGES: [Exchange; 7] = [
     (b"\x01", b"\x81\0\0\0\0\0\0\x07\xD1"),
 ];
 
-/// Two sessions that write what the other reads both commit.
+/// Write skew: two concurrent sessions that write different cells both commit.
 const WRITE_SKEW: [Exchange; 21] = [
     // Begin: 1
     (b"\x01", b"\x81\0\0\0\0\0\0\0\x01"),

@@ -2,7 +2,7 @@
 
 use crate::rows::{BALANCES, Exchange, Row};
 
-/// A session that writes two cells holds the first. A scan names its lock in place of a value, and goes on after it.
+/// A session that writes two cells holds the first. A scan names its lock instead of a value, and continues after it.
 const HELD: [Exchange; 9] = [
     // Begin: 3
     (b"\x01", b"\x81\0\0\0\0\0\0\0\x03"),
@@ -42,7 +42,8 @@ const HELD: [Exchange; 9] = [
     ),
 ];
 
-/// The holder commits above the scan's session, which goes on seeing what was there. A later session sees both cells.
+/// The holder commits after the scan's session began, and this session still sees the old values. A later session sees
+/// both new values.
 const COMMITTED_ABOVE: [Exchange; 10] = [
     // Step 3: Held 2 2
     (b"\x04\0\0\0\0\0\0\0\x03", b"\x84\x01\0\x02\0\x02"),
@@ -100,7 +101,7 @@ const COMMITTED_ABOVE: [Exchange; 10] = [
     ),
 ];
 
-/// The holder is rolled back by a cleaner, and has left nothing.
+/// The holder is rolled back by a cleaner, and leaves nothing behind.
 const CLEANED: [Exchange; 4] = [
     // CleanBegin Bob bal: Cleaner 1 3
     (
@@ -121,7 +122,7 @@ const CLEANED: [Exchange; 4] = [
     ),
 ];
 
-/// A scan of four cells, of which it looks at two.
+/// A scan of two of four cells.
 const BATCH: [Exchange; 16] = [
     // Begin: 1
     (b"\x01", b"\x81\0\0\0\0\0\0\0\x01"),
@@ -175,7 +176,7 @@ const BATCH: [Exchange; 16] = [
     ),
 ];
 
-/// Between two batches a cell comes, one is set, and one is deleted.
+/// Between two batches one cell is added, one is set, and one is deleted.
 const BETWEEN: [Exchange; 11] = [
     // Begin: 4
     (b"\x01", b"\x81\0\0\0\0\0\0\0\x04"),
@@ -207,7 +208,7 @@ const BETWEEN: [Exchange; 11] = [
     (b"\x04\0\0\0\0\0\0\0\x04", b"\x84\x06\0\x03\0\x03"),
 ];
 
-/// The second batch is as of the same start. Another session sees what came.
+/// The second batch reads as of the same start. A later session sees the changes.
 const NO_PHANTOM: [Exchange; 5] = [
     // Scan 3 after b c 1000: d c 4; e c 5; End
     (
@@ -241,7 +242,7 @@ const NO_PHANTOM: [Exchange; 5] = [
     ),
 ];
 
-/// Tablets are cut behind two rows: ranges end at a tablet's last row, after it and within a tablet.
+/// Tablets are split behind two rows: ranges end at a tablet's last row, after it and within a tablet.
 const SPLIT: [Exchange; 8] = [
     // Split b: 2
     (b"\x0D\0\0\0\x01b", b"\x8D\0\0\0\x02"),
@@ -323,7 +324,7 @@ const COLLECTED: [Exchange; 7] = [
     ),
 ];
 
-/// Nothing is there.
+/// The store is empty.
 const NOTHING: [Exchange; 3] = [
     // Begin: 1
     (b"\x01", b"\x81\0\0\0\0\0\0\0\x01"),
@@ -420,7 +421,7 @@ const FAMILIES: [Exchange; 20] = [
     ),
 ];
 
-/// Keys alone, of cells with a value; a lock is named as ever.
+/// Keys only, of cells with a value. Locks are named as in any scan.
 const KEYS: [Exchange; 6] = [
     // Scan 3 keys 1000: a c Unsent; a d Unsent; b c Unsent; b d Unsent; End
     (
@@ -453,7 +454,7 @@ const KEYS: [Exchange; 6] = [
     ),
 ];
 
-/// Ranges without a cell: after the last one, before the first, between two, and from a row down.
+/// Ranges without a cell: after the last one, before the first, between two, and with an end before the start.
 const EMPTY_RANGES: [Exchange; 6] = [
     // Scan 3 after b d 1000: End
     (
@@ -487,7 +488,7 @@ const EMPTY_RANGES: [Exchange; 6] = [
     ),
 ];
 
-/// What is refused, in the order in which it is looked for.
+/// Refusals, in the order of the checks.
 const REFUSED: [Exchange; 15] = [
     // Scan 1 after '' : end '' family : 0: refused 1
     (
@@ -550,10 +551,10 @@ const REFUSED: [Exchange; 15] = [
 
 /// Rows of scans.
 pub const ROWS: [Row; 8] = [
-    // a lock is named in its place
+    // a lock is named instead of a value
     (BALANCES, &[&HELD, &COMMITTED_ABOVE]),
     (BALANCES, &[&HELD, &CLEANED]),
-    // what is committed between two batches doesn't come
+    // a commit between two batches isn't seen
     (0, &[&BATCH, &BETWEEN, &NO_PHANTOM]),
     (0, &[&BATCH, &BETWEEN, &SPLIT]),
     (0, &[&BATCH, &BETWEEN, &COLLECTED]),

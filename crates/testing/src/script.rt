@@ -2,7 +2,7 @@
 
 use crate::rows::Exchange;
 
-/// What is in the memtable is written to a file.
+/// The memtable is written to a file.
 pub const FLUSHED: [Exchange; 1] = [
     // Minor 1: done
     (b"\x0A\0\0\0\x01", b"\x8A"),
@@ -56,7 +56,7 @@ pub const COLLECTED: [Exchange; 7] = [
     (b"\x10", b"\x90"),
 ];
 
-/// What both cells hold in their three columns.
+/// The three columns of both cells.
 pub const COLUMNS: [Exchange; 6] = [
     // Raw Bob bal data 0..9: stamp 3, 3
     (
@@ -90,5 +90,5 @@ pub const COLUMNS: [Exchange; 6] = [
     ),
 ];
 
-/// A store is written.
+/// A checkpoint.
 pub const WRITTEN: [Exchange; 1] = [(b"\x12", b"\x92")];

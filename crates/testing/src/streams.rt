@@ -7,8 +7,8 @@ use std::cell::Cell;
 use std::io;
 use std::io::{Read, Write};
 
-/// A reader of bytes. A read gives at most `most` of them, and none past `cut` in the same call as one before it. It
-/// fails at `fails_at`.
+/// A reader of bytes. A read gives at most `most` of them, and doesn't cross the offset `cut`. It fails at the offset
+/// `fails_at`.
 #[derive(Drop)]
 pub struct Pieces {
     pub bytes: Vec<u8>,
@@ -19,7 +19,7 @@ pub struct Pieces {
 }
 
 impl Pieces {
-    /// A reader that gives all that is asked for.
+    /// A reader that gives all bytes asked for.
     pub fn new(alloc: Global, bytes: &[u8]) -> Result<Pieces, AllocError> {
         Ok(Pieces {
             bytes: bytes.to_vec(alloc)?,
@@ -50,7 +50,7 @@ impl Read for Pieces {
     }
 }
 
-/// A reader that gives all that is asked for, and records how many bytes each read asks for.
+/// A reader that gives all bytes asked for, and records the size of each read's buffer.
 #[derive(Drop)]
 pub struct Recording<'a> {
     pub rest: &'a [u8],
@@ -64,7 +64,7 @@ impl Read for Recording<'_> {
     }
 }
 
-/// A writer that takes a byte a call, and after this many calls fails, or takes nothing more.
+/// A writer that takes one byte a call. After `calls_left` calls it fails or, if it `stalls`, takes nothing more.
 #[derive(Drop)]
 pub struct Narrow {
     pub written: Vec<u8>,
@@ -93,7 +93,7 @@ impl Write for Narrow {
     }
 }
 
-/// A reader of two requests that gives the second only when the reply to the first has left.
+/// A reader of two requests that fails if the second is asked for before the reply to the first was flushed.
 #[derive(Drop)]
 pub struct Asking<'a> {
     pub first: &'a [u8],
@@ -113,7 +113,7 @@ impl Read for Asking<'_> {
     }
 }
 
-/// A writer that says when bytes were flushed.
+/// A writer that sets `left` when it flushes bytes.
 #[derive(Drop)]
 pub struct Telling<'a> {
     pub written: Vec<u8>,
@@ -132,7 +132,7 @@ impl Write for Telling<'_> {
     }
 }
 
-/// A writer that keeps bytes back until it is flushed, and fails after this many flushes.
+/// A writer that holds bytes until a flush, and fails after `flushes_left` flushes.
 #[derive(Drop)]
 pub struct Holding {
     pub held: Vec<u8>,

@@ -55,7 +55,7 @@ const TABLETS: [Exchange; 16] = [
     (b"\x0F", b"\x8F\0\0\0\0\0\0\0\0"),
 ];
 
-/// After one cell is held: a merge of the newest files keeps the erasure of a lock that stands in an older one.
+/// After one cell is held: a merge of the newest files keeps the erasure of a lock in an older file.
 const ERASURES: [Exchange; 24] = [
     // Minor 1: done
     (b"\x0A\0\0\0\x01", b"\x8A"),
@@ -137,7 +137,7 @@ const ERASURES: [Exchange; 24] = [
     ),
 ];
 
-/// A session whose cells are held goes on over a split and two moves.
+/// A session that holds cells continues across a split and two moves.
 const SPLIT_UNDER_A_SESSION: [Exchange; 11] = [
     // Split Bob: 2
     (b"\x0D\0\0\0\x03Bob", b"\x8D\0\0\0\x02"),
@@ -172,7 +172,8 @@ const SPLIT_UNDER_A_SESSION: [Exchange; 11] = [
     ),
 ];
 
-/// The parts of a split share the parent's files: each sees and writes its own rows, and a file goes when neither has it.
+/// The tablets of a split share the parent's files: each reads and writes its own rows, and a file is removed when
+/// neither has it any more.
 const SHARED_FILES: [Exchange; 36] = [
     // Stop 3: stopped
     (b"\x05\0\0\0\0\0\0\0\x03", b"\x85"),
@@ -293,7 +294,7 @@ const SHARED_FILES: [Exchange; 36] = [
     ),
 ];
 
-/// Each operation is refused in each of its ways, and accepted.
+/// Each operation is refused in each possible way, and accepted.
 const REFUSALS: [Exchange; 50] = [
     // Get 1 r c: refused 1
     (b"\x02\0\0\0\0\0\0\0\x01\0\0\0\x01r\0\0\0\x01c", b"\xFF\x01"),
@@ -427,7 +428,7 @@ const REFUSALS: [Exchange; 50] = [
     (b"\x05\0\0\0\0\0\0\x03\xE9", b"\xFF\x01"),
 ];
 
-/// Bodies outside the form are answered, and the server goes on.
+/// Malformed bodies are answered, and the server goes on.
 const OUTSIDE_THE_FORM: [Exchange; 17] = [
     // Minor without its field: refused 22
     (b"\x0A", b"\xFF\x16"),
@@ -477,7 +478,7 @@ const OUTSIDE_THE_FORM: [Exchange; 17] = [
     (b"\x0D\0\0\0\x01m", b"\x8D\0\0\0\x02"),
 ];
 
-/// Two cells that were committed are read when their tablet was split and both parts compacted.
+/// Two committed cells are read after their tablet was split and both parts were compacted.
 const SPLIT_AND_COMPACT: [Exchange; 8] = [
     // Split Bob: 2
     (b"\x0D\0\0\0\x03Bob", b"\x8D\0\0\0\x02"),
@@ -517,31 +518,31 @@ pub const ROWS: [Row; 7] = [
     (BALANCES, &[&SPLIT_AND_COMPACT]),
 ];
 
-/// There are no two files.
+/// The tablet has fewer than two files.
 const NOT_MERGED: [Exchange; 1] = [
     // Merge 1 2: refused 14
     (b"\x0B\0\0\0\x01\0\0\0\x02", b"\xFF\x0E"),
 ];
 
-/// There are two, and they are merged.
+/// The tablet has two files, and they are merged.
 const MERGED: [Exchange; 1] = [
     // Merge 1 2: done
     (b"\x0B\0\0\0\x01\0\0\0\x02", b"\x8B"),
 ];
 
-/// No file is left behind.
+/// No file is swept.
 const NONE_SWEPT: [Exchange; 1] = [
     // Sweep: 0
     (b"\x0F", b"\x8F\0\0\0\0\0\0\0\0"),
 ];
 
-/// Two files are.
+/// Two files are swept.
 const TWO_SWEPT: [Exchange; 1] = [
     // Sweep: 2
     (b"\x0F", b"\x8F\0\0\0\0\0\0\0\x02"),
 ];
 
-/// A commit of one cell, when a memtable of two entries is compacted after the reply.
+/// A commit of one cell: a memtable of two entries is compacted after the reply.
 pub const COMPACTED: Row = (
     0,
     &[
@@ -554,7 +555,7 @@ pub const COMPACTED: Row = (
     ],
 );
 
-/// The same when two files are merged after it.
+/// The same, and two files are then merged.
 pub const MERGED_AT_TWO: Row = (
     0,
     &[
@@ -567,7 +568,7 @@ pub const MERGED_AT_TWO: Row = (
     ],
 );
 
-/// The same if it takes more entries.
+/// The same with a higher limit, so that nothing is compacted.
 pub const NOT_COMPACTED: Row = (
     0,
     &[
@@ -580,13 +581,13 @@ pub const NOT_COMPACTED: Row = (
     ],
 );
 
-/// The memtable is written, and the root.
+/// The memtable and the root are written.
 const CHECKPOINT: [Exchange; 1] = [
     // Checkpoint: done
     (b"\x12", b"\x92"),
 ];
 
-/// A commit of one cell, with a checkpoint before and after.
+/// A commit of one cell, with a checkpoint before and after it.
 pub const CHECKPOINTED: Row = (
     0,
     &[
@@ -600,7 +601,7 @@ pub const CHECKPOINTED: Row = (
     ],
 );
 
-/// The same when two files are merged after the second one.
+/// The same, and two files are merged after the second checkpoint.
 pub const CHECKPOINTED_AND_MERGED: Row = (
     0,
     &[
@@ -642,7 +643,7 @@ const BOTH_HALVES: [Exchange; 9] = [
     (b"\x04\0\0\0\0\0\0\0\x01", b"\x84\x06\0\x02\0\x02"),
 ];
 
-/// Each of both tablets has two files.
+/// Each of the two tablets has two files.
 const BOTH_MERGED: [Exchange; 3] = [
     // Merge 2 2: done
     (b"\x0B\0\0\0\x02\0\0\0\x02", b"\x8B"),
@@ -652,7 +653,7 @@ const BOTH_MERGED: [Exchange; 3] = [
     (b"\x0F", b"\x8F\0\0\0\0\0\0\0\x04"),
 ];
 
-/// Neither has two files any more.
+/// Neither tablet has two files any more.
 const NEITHER_MERGED: [Exchange; 3] = [
     // Merge 2 2: refused 14
     (b"\x0B\0\0\0\x02\0\0\0\x02", b"\xFF\x0E"),
@@ -665,5 +666,5 @@ const NEITHER_MERGED: [Exchange; 3] = [
 /// A commit of a cell in each of two tablets, whose memtables of two entries are compacted after the replies.
 pub const BOTH_COMPACTED: Row = (0, &[&BOTH_HALVES, &BOTH_MERGED]);
 
-/// The same when two files are merged after it.
+/// The same, and two files are then merged.
 pub const BOTH_MERGED_AT_TWO: Row = (0, &[&BOTH_HALVES, &NEITHER_MERGED]);

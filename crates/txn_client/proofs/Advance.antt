@@ -1,4 +1,4 @@
--- The machine's steps of a session, where the cell map shows its state.
+-- The machine's steps of a session, if the cell map shows its state.
 use Rattle.std.proofs.Common.{◌≡◌, ℕ, ◌+◌, ◌<◌, ◌≤◌, ◌⊎◌, inl, inr, ◌∷◌, length, None, refl, sym, subst, ◌∙◌, arith}
 use Rattle.std.specs.FinMap.{insert, remove}
 use Rattle.std.proofs.lemmas.Option.{none-some, slice_get_within}
@@ -27,7 +27,7 @@ some_write : (ws : Writes) (k : ℕ) (x : Cell) (v : Change) → Puts ws k x v �
 some_write ws k x v puts = let low = slice_get_within ws k (x, v) puts in omega arith
 
 module _ (cells : Cells) (st : State) (reached : IsReached st) (shown : ShowsCells cells st) where
-  -- a commit's start comes before it, and its writes are its start's
+  -- a commit is later than its start, and its writes are its start's
   made : (a : Commit) → a ∈ st.commits → a.start < a.stamp
   made a i = ((reached_sound reached).fair a i).later
 
@@ -56,7 +56,7 @@ module _ (cells : Cells) (st : State) (reached : IsReached st) (shown : ShowsCel
     ]
   ]
 
-  -- the clash test holds: the session ends
+  -- the clash test succeeds: the session ends
   pub conflicts_at : (x : Cell) (v : Change) (t k : ℕ) (ws : Writes) → HasHeld st t k → Wrote st t ws → Puts ws k x v → IsTaken cells x t
       → Step st (Advance t) (Conflict (k + 1)) (record st { active = remove st.active t }) × ShowsCells cells (record st { active = remove st.active t })
   conflicts_at x v t k ws held w puts taken =
@@ -110,7 +110,7 @@ module _ (cells : Cells) (st : State) (reached : IsReached st) (shown : ShowsCel
     abbrev pub after_commit : State
     after_commit = record st { commits = commit_of ∷ st.commits; marks = (without st.marks (x, t)).0; active = finishing st.active t c 1 (length ws) }
 
-    -- the primary's lock stands: the session commits
+    -- the primary's lock is there: the session commits
     pub commits_at : IsThere cells x Lock t → (next : State) × Step st (Advance t) (Committed c) next × ShowsCells (recorded_cells cells x t c (kind_of_change v)) next
         × (next.begun ≡ st.begun) × (next.active ≡ finishing st.active t c 1 (length ws)) × (next.top ≡ st.top)
     commits_at lock = (after_commit, s, shows_recorded cells st after_commit (goes reached s) shown x t commit_of v marked less here refl later (0, puts) value (λ b i. there i) (λ b i. either b i) one_start joined, refl, refl, refl)
@@ -161,7 +161,7 @@ module _ (cells : Cells) (st : State) (reached : IsReached st) (shown : ShowsCel
     abbrev made_of : Commit
     made_of = record { start = t; stamp = c; writes = committed.0 }
 
-    -- the cell's lock is gone: the session goes on
+    -- the cell's lock is gone: the session continues
     pub finishes_gone : at cells x Lock t ≡ None → (next : State) × Step st (Advance t) (Finished (k + 1) (length ws)) next × ShowsCells cells next
         × (next.begun ≡ st.begun) × (next.active ≡ finishing st.active t c (k + 1) (length ws)) × (next.top ≡ st.top)
     finishes_gone gone = (after_gone, s, shows_beside cells st after_gone (goes reached s) shown (λ y u m. m) (λ y u m. m) refl, refl, refl, refl)
@@ -175,7 +175,7 @@ module _ (cells : Cells) (st : State) (reached : IsReached st) (shown : ShowsCel
         s : Step st (Advance t) (Finished (k + 1) (length ws)) after_gone
         s = accepts able_on (step.finishes h w puts less)
 
-    -- the cell's lock stands: its record takes its place
+    -- the cell's lock is there: it is replaced by its record
     pub finishes_at : IsThere cells x Lock t → (next : State) × Step st (Advance t) (Finished (k + 1) (length ws)) next × ShowsCells (recorded_cells cells x t c (kind_of_change v)) next
         × (next.begun ≡ st.begun) × (next.active ≡ finishing st.active t c (k + 1) (length ws)) × (next.top ≡ st.top)
     finishes_at lock = (after_finish, s, shows_recorded cells st after_finish (goes reached s) shown x t made_of v marked (without st.marks (x, t)).1 is_in refl later gives value (λ b i. i) (λ b i. inl i) one_start (λ y names left. is_in), refl, refl, refl)

@@ -1,4 +1,4 @@
--- What is told of a session that isn't there, and of one without writes.
+-- The answers for a session that isn't active, and for a session without writes.
 use Rattle.std.proofs.Common.{◌≡◌, ◌<◌, ◌≤◌, ℕ, [], length, Option, Some, None, refl, sym, ap, subst, ◌∙◌, arith}
 use Rattle.std.proofs.lemmas.List.{length-map}
 use Rattle.std.proofs.lemmas.Option.{none-some, same_Some}
@@ -31,24 +31,24 @@ module _ (clients : Clients) (t : ℕ) (st : State) (shown : ShowsClients client
   kept_at : (session : Session) → btree.get nat_cmp clients.sessions t ≡ Some session → ShowsSession session t st
   kept_at session there = subst (λ (o : Option Session). ShowsAt o t st) there (shown.sessions t)
 
-  -- a session that is kept is active
+  -- a stored session is active
   pub is_kept : IsInactive st t → (session : Session) → btree.get nat_cmp clients.sessions t ≡ Some session → ⊥
   is_kept gone session there = absurd (none-some _ (sym gone ∙ (kept_at session there).phase))
 
   pub is_open : IsInactive st t → IsOpenSession clients t → ⊥
   is_open gone kept = is_kept gone kept.0 kept.1
 
-  -- a request to a session that isn't there is told so
+  -- a request to a session that isn't active is answered so
   pub cell_unknown : (x : Cell) (e : Refusal) → IsInactive st t → IsCellRefusal clients t x e → e ≡ UnknownSession
   cell_unknown x UnknownSession gone h = refl
   cell_unknown x WrongPhase gone h = absurd (is_kept gone h.0 h.1)
   cell_unknown x _ gone h = absurd (is_open gone h.0)
 
-  -- one that is open is kept
+  -- an open session is stored
   pub is_there : IsUnwritten st t → btree.get nat_cmp clients.sessions t ≡ None → ⊥
   is_there none gone = absurd (none-some _ (sym (subst (λ (o : Option Session). ShowsAt o t st) gone (shown.sessions t)) ∙ none.0))
 
-  -- one without writes is kept so
+  -- a session without writes is stored so
   pub unwritten_phase : IsUnwritten st t → (session : Session) → btree.get nat_cmp clients.sessions t ≡ Some session → session.phase ≡ Open
   unwritten_phase none session there = by session.phase (same_Some (phase_of session.phase session.commit) machine.Open (sym (kept_at session there).phase ∙ none.0))
     where
@@ -63,6 +63,6 @@ module _ (clients : Clients) (t : ℕ) (st : State) (shown : ShowsClients client
       let same : writes_of session ≡ [] = same_Some (writes_of session) [] (sym (kept_at session there).writes ∙ none.1) in
       omega (arith, ap (λ (ws : Writes). length ws) same, length-map session.writes write_of)
 
--- if there is room for a session more, no state that is shown is crowded
+-- if there is room for one more session, no shown state is crowded
 pub not_crowded : (clients : Clients) (st : State) → ShowsClients clients st → btree.btree_map_len clients.sessions < 1024 → IsCrowded st → ⊥
 not_crowded clients st shown few many = let count = shown.count in omega (arith, count, few, many)

@@ -1,4 +1,4 @@
--- What a scan has gathered, before and after one cell more.
+-- The state of a scan, before and after one more cell.
 use Rattle.std.proofs.Common.{◌≡◌, ℕ, ◌+◌, ◌<◌, ◌≤◌, ◌⊎◌, Bool, true, false, List, [], ◌∷◌, ◌++◌, length, map, Option, Some, None, IsSome, Result, Ok, Err, refl, sym, ap, subst, ◌∙◌, arith, length-append}
 use Rattle.std.specs.Bool.{OnFalse, OnTrue}
 use Rattle.std.specs.List.{AllByRecursion, last_or}
@@ -24,7 +24,7 @@ use Rattle.txn_client.specs.declared.scan.Gathered.{Gathered}
 use Rattle.txn_client.specs.declared.scan.Scan.{Scan}
 use Rattle.txn_client.proofs.Scanned.{ends, names, passes, stops_at}
 
--- ---- what an answer says of its flag
+-- ---- the meaning of an answer's flag
 
 pub fits_so : (r : Result Bool Refusal) (P Q : Type 0) → (P → Q) → IfOk r (λ b. OnTrue b P) → IfOk r (λ b. OnTrue b Q)
 fits_so (Ok true) P Q so p = so p
@@ -67,7 +67,7 @@ limits_more old new x item limits named room items bytes short cells looked last
   last = λ y is. subst IsNamed (same_Some x y (sym last ∙ is)) named;
 }
 
--- ---- what it has gathered
+-- ---- the items and the progress
 
 pub gathers_past : (cells : Cells) (scan : Scan) (old new : Gathered) (x : Cell) → Gathers cells scan old → IsNextIn cells scan old x → (IsOfFamily scan.range.family x.family → IsFound cells x scan.start Nothing)
     → new.items ≡ old.items → new.looked ≡ old.looked + 1 → last_of new ≡ Some x → Gathers cells scan new
@@ -85,7 +85,7 @@ gathers_more cells scan old new x item g next family read (items, looked, last) 
     (subst (λ (is : List (Cell × Item)). HasGathered cells scan.start (range_named scan.range) scan.keys_only is (old.looked + 1) (Some x)) (sym items)
     (names cells scan.start (range_named scan.range) scan.keys_only (items_in old) old.looked (last_of old) x g next.next next.up_to item family read)))
 
--- ---- what a call of such cells says of them
+-- ---- the answer of a call for these cells
 
 pub at_call : (cells cells' : Cells) (scan : Scan) (old : Gathered) (x : Cell) (P : Cells → Type 0) → cells' ≡ cells → (Gathers cells' scan old → IsNextIn cells' scan old x → P cells') → Gathers cells scan old → IsNextIn cells scan old x → P cells
 at_call cells cells' scan old x P same said = subst (λ (m : Cells). Gathers m scan old → IsNextIn m scan old x → P m) same said
@@ -125,7 +125,7 @@ stopped_found cells scan gathered count items reach limits same g some why are i
         (subst (λ (o : Option Cell). HasGathered cells scan.start (range_named scan.range) scan.keys_only (items_in gathered) gathered.looked o) e g) some
         (subst (λ (o : Option Cell). (gathered.looked ≡ count) ⊎ DoesNotFit cells scan.start (range_named scan.range) scan.keys_only (items_in gathered) o) e why)))
 
--- so it is where that is answered
+-- the same for the call's answer
 pub stopped_ok : (cells : Cells) (scan : Scan) (gathered : Gathered) (count : ℕ) (r : Result ScanReply Refusal) → IsInLimits gathered → gathered.cells ≡ count → Gathers cells scan gathered → 1 ≤ gathered.looked
     → (gathered.looked ≡ count) ⊎ DoesNotFit cells scan.start (range_named scan.range) scan.keys_only (items_in gathered) (last_of gathered)
     → IfOk r (λ reply. map item_of reply.items.items ≡ items_in gathered) → IfOk r (λ reply. (x : Cell) → last_of gathered ≡ Some x → reach_of reply.reach ≡ UpTo x)
@@ -133,7 +133,7 @@ pub stopped_ok : (cells : Cells) (scan : Scan) (gathered : Gathered) (count : �
 stopped_ok cells scan gathered count (Ok reply) limits same g some why are is = stopped_found cells scan gathered count (map item_of reply.items.items) (reach_of reply.reach) limits same g some why are is
 stopped_ok cells scan gathered count (Err e) limits same g some why are is = tt
 
--- the rows of a call hold what they held before
+-- a call leaves the contents of the rows unchanged
 pub come_at : (cells cells' : Cells) (scan : Scan) (old new : Gathered) (batch to : Batch) → cells' ≡ cells → batch ≡ to → (Gathers cells' scan old → HasCome cells' scan new batch) → Gathers cells scan old → HasCome cells scan new to
 come_at cells cells' scan old new batch to same is come =
     subst (λ (b : Batch). Gathers cells scan old → HasCome cells scan new b) is (subst (λ (m : Cells). Gathers m scan old → HasCome m scan new batch) same come)

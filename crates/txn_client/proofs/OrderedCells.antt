@@ -1,4 +1,4 @@
--- What a search in the order of cells finds, and the order after a new write or another value.
+-- The result of a search in the order of cells, and the order after a new write or another value.
 use Rattle.std.proofs.Common.{◌≡◌, ◌≢◌, ℕ, zero, suc, ◌+◌, ◌<◌, ◌≤◌, List, [], ◌∷◌, ◌++◌, length, get_or, set, Option, Some, None, inl, inr, refl, sym, ap, ◌∙◌, arith}
 use Rattle.std.specs.List.{AllPairs, AllWithin, Contains, insert, slice_get}
 use Rattle.std.specs.List.Sorted.{IsSortedBy, IsNonDecreasingBy, IsPermutation}
@@ -24,11 +24,11 @@ use Rattle.txn_client.specs.declared.writes.Write.{Write}
 
 -- ---- the order of cells
 
--- it is total, also with an index of no write below all cells
+-- it is total, with an index without a write below all cells
 at_total : IsTotalOrder (option_cmp cell_cmp)
 at_total = options_total (then_total (on_total (λ (x : Cell). x.row) nat_list_cmp_total) (on_total (λ (x : Cell). x.family) nat_list_cmp_total))
 
--- cells that compare alike are one
+-- cells that compare equal are the same
 same_cell : (x y : Cell) → cell_cmp x y ≡ Equal → x ≡ y
 same_cell x y e =
     let both = both_Equal (byte_cmp x.row y.row) (byte_cmp x.family y.family) e in
@@ -36,7 +36,7 @@ same_cell x y e =
     let family = slice_cmp-IsAntisymmetric nat_cmp-IsAntisymmetric x.family y.family both.1 in
     λ i. record { row = row i; family = family i }
 
--- an index at which the cells compare alike is that of a write to the cell
+-- an index whose cell compares equal is an index of a write to the cell
 here : (ws : List Write) (x : Cell) (i : ℕ) → order_at ws x i ≡ Equal → (w : Write) × (slice_get ws i ≡ Some w) × (w.cell ≡ x)
 here ws x i e = go (slice_get ws i) refl e
   where
@@ -63,11 +63,11 @@ module _ (ws : List Write) (order : List ℕ) (x : Cell) (o : IsOrder ws order) 
       let turned = at_total.antisymm (cell_at ws (get_or order (k + 1) d)) (cell_at ws (get_or order k d)) in
       ap is_lt (turned ∙ ap ordering_reverse less)
 
-  -- the comparisons with a cell rise along the order, as a binary search asks
+  -- the comparisons with a cell ascend along the order, as a binary search needs
   pub comparisons_rise : IsNonDecreasingBy (λ i. ordering_index (order_at ws x i)) order
   comparisons_rise = searchable_from_sorted at_total (cell_at ws) order (Some x) sorted
 
-  -- at one place alone is an index of the cell
+  -- only one place has an index of the cell
   one_place : (p q : ℕ) (d : ℕ) → p < length order → q < length order → cell_at ws (get_or order p d) ≡ Some x → cell_at ws (get_or order q d) ≡ Some x → p ≡ q
   one_place p q d lt lt' at at' = elim (cases_lt p q) [
     | inl below ↦ absurd (tied ws x (get_or order p d) (get_or order q d) at at' (o.rises p q d below lt'))
@@ -110,7 +110,7 @@ module _ (ws : List Write) (order : List ℕ) (x : Cell) (o : IsOrder ws order) 
 
 -- ---- other writes
 
--- the order depends on the cells alone, and a write behind the others may be in none
+-- the order depends only on the cells, and an appended write may be in none
 kept : (ws us : List Write) (order : List ℕ) → length ws ≤ length us → ((i : ℕ) → i < length ws → cell_at us i ≡ cell_at ws i)
     → ((i : ℕ) → 8 ≤ i → i < length us → Contains order i) → IsOrder ws order → IsOrder us order
 kept ws us order longer same each o = record {
@@ -140,13 +140,13 @@ at_last (u ∷ ws) w = at_last ws w
 pub none_ordered : IsOrder [] []
 none_ordered = record { within = λ k d lt. absurd (omega arith); rises = λ i j d lt in_order. absurd (omega arith); each = λ i low lt. absurd (omega arith) }
 
--- one of the first few takes no place
+-- one of the first few has no place in the order
 pub pushed_first : (ws : List Write) (order : List ℕ) (w : Write) → length ws < 8 → IsOrder ws order → IsOrder (ws ++ w ∷ []) order
 pushed_first ws order w few o =
     let more = length-last ws w in
     kept ws (ws ++ w ∷ []) order (omega arith) (before_last ws w) (λ i low lt. absurd (omega arith)) o
 
--- an insert between what R has before it and what R has behind it
+-- an insertion between elements that are before it by R, and elements that are after it
 pairs_insert : {X : Type 0} (R : X → X → Type 0) (y : X) (xs : List X) (p : ℕ) → p ≤ length xs → AllPairs R xs → AllWithin (λ x. R x y) xs 0 p → AllWithin (R y) xs p (length xs) → AllPairs R (insert xs p y)
 pairs_insert R y xs zero le pairs below above = AllPairs-cons R y xs (λ k d lt. above k d (omega arith) lt) pairs
 pairs_insert R y [] (suc p) le pairs below above = absurd (omega arith)
@@ -188,7 +188,7 @@ pushed ws order w place n is_n many is o = record {
     moved : IsPermutation (n ∷ order) (insert order place n)
     moved = IsPermutation-insert order place n
 
--- another value of a cell leaves the order as it is
+-- another value of a cell leaves the order unchanged
 length-replaced : (ws : List Write) (k : ℕ) (w : Write) → length (set ws k w) ≡ length ws
 length-replaced [] k w = refl
 length-replaced (u ∷ ws) zero w = refl

@@ -1,4 +1,4 @@
--- What a call tells where the one that it ends with was refused, or wasn't.
+-- The answers of a call that ends with another call, by whether that one was refused.
 use Rattle.std.proofs.Common.{◌≡◌, ◌<◌, ◌≤◌, ℕ, List, sym, subst, ap, ◌∙◌, arith}
 use Rattle.std.proofs.lemmas.Option.{none-some}
 use Rattle.std.specs.FinMap.{get}
@@ -29,7 +29,7 @@ at_most_more n k none = omega arith
 pub not_past : (n k : ℕ) → k < n → n ≤ k → ⊥
 not_past n k there past = omega arith
 
--- a refusal that is passed on is none that the call doesn't answer
+-- a refusal that is passed on is one of the call's refusals
 pub refused_not : {B : Type 0} (r : Result B Refusal) (e n : Refusal) (P : Refusal → Type 0) → (P n → ⊥) → IsErrAnd r (λ f. f ≡ e) → P e → IsErrOf r n → ⊥
 refused_not (Ok x) e n P none by h is = absurd by
 refused_not (Err f) e n P none by h is = let same : e ≡ n = cc in none (subst P same h)
@@ -37,7 +37,7 @@ refused_not (Err f) e n P none by h is = let same : e ≡ n = cc in none (subst 
 pub no_memory_only : {B : Type 0} (r : Result B Refusal) (e n : Refusal) → (n ≡ NoMemory → ⊥) → IsErrAnd r (λ f. f ≡ e) → e ≡ NoMemory → IsErrOf r n → ⊥
 no_memory_only r e n = refused_not r e n (λ f. f ≡ NoMemory)
 
--- no such refusal is for want of memory
+-- MemtableFull is not NoMemory
 pub full_not : MemtableFull ≡ NoMemory → ⊥
 full_not is = cc
 
@@ -51,11 +51,11 @@ apply_no_device r e = refused_not r e Device IsApplyRefusal (λ u. u)
 pub read_not_full : {B : Type 0} (r : Result B Refusal) (e : Refusal) (Holds : Type 0) → IsErrAnd r (λ f. f ≡ e) → IsRefusalOfRead Holds e → IsErrOf r MemtableFull → ⊥
 read_not_full r e H = refused_not r e MemtableFull (IsRefusalOfRead H) (λ u. u)
 
--- after a call that was answered, one that touches no device
+-- after a call that was answered, a call that touches no device
 pub reason_untouched : {A B : Type 0} (x : A) (r : Result B Refusal) (before now now' : ℕ) → now' ≡ now → (IsErrOf r Device → ⊥) → HasReason before now (Ok x) → HasReason before now' r
 reason_untouched x r before now now' same none had = subst (λ (n : ℕ). HasReason before n r) (sym same) (reason_kept x r before now none had)
 
--- what a row transaction is refused with
+-- the refusals of a row transaction
 pub read_row : (Holds : Type 0) (e : Refusal) → IsRefusalOfRead Holds e → IsRowRefusal Holds e
 read_row H Device u = tt
 read_row H NoMemory u = tt
@@ -70,7 +70,7 @@ apply_row H _ u = absurd u
 pub want_row : (Holds : Type 0) (e : Refusal) → e ≡ NoMemory → IsRowRefusal Holds e
 want_row H e is = subst (IsRowRefusal H) (sym is) tt
 
--- that a step on a cell is
+-- they are refusals of a step on a cell
 pub row_step : (Row At None : Type 0) (e : Refusal) → (At → Row) → IsRowRefusal Row e → IsCellStepRefusal At None e
 row_step R A P MemtableFull so u = tt
 row_step R A P Device so u = tt
@@ -87,7 +87,7 @@ advance_step H P NoMemory u = tt
 advance_step H P Damaged u = tt
 advance_step H P _ u = absurd u
 
--- a commit of nothing is refused, and nothing else is told of it
+-- an empty commit is refused with EmptyCommit alone
 pub empty_not_full : {A : Type 0} → IsErrOf {T = A} (Err EmptyCommit) MemtableFull → ⊥
 empty_not_full is = cc
 
@@ -97,7 +97,7 @@ empty_no_device is = cc
 pub damaged_no_device : {A : Type 0} → IsErrOf {T = A} (Err Damaged) Device → ⊥
 damaged_no_device is = cc
 
--- cells that stay are touched by nothing
+-- unchanged cells are touched by nothing
 pub touches_kept : (cells cells' : Cells) (row : List ℕ) (s c : ℕ) → cells' ≡ cells → Touches cells cells' row s c
 touches_kept cells cells' row s c same =
     let at : (q : CellKey) → get cells' q ≡ get cells q = λ q. ap (λ (cs : Cells). get cs q) same in

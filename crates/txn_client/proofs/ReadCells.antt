@@ -1,4 +1,4 @@
--- What a read finds of a cell, by the newest versions of its columns.
+-- The result of a read of a cell, by the newest versions of its columns.
 use Rattle.std.proofs.Common.{ap, ◌≡◌, ℕ, ◌≤◌, List, Option, Some, None, inr, arith, refl, subst}
 use Rattle.std.specs.Prelude.{option_map}
 use Rattle.std.specs.FinMap.{get}
@@ -18,7 +18,7 @@ use Rattle.txn_client.specs.Reads.{IsDamaged, ReadsDeletion, ReadsValue}
 pub nothing : {Z : Type 0} (cells : Cells) (at : ℕ → CellKey) (lo hi : ℕ) (found : Option (ℕ × Vec ℕ Z)) → found ≡ None → IsNewest cells at lo hi (option_map stamped found) → (s : ℕ) → lo ≤ s → s ≤ hi → get cells (at s) ≡ None
 nothing cells at lo hi found e is = subst (λ (f : Option (ℕ × Vec ℕ _)). IsNewest cells at lo hi (option_map stamped f)) e is
 
--- the newest record of a cell up to a stamp is its last there
+-- the newest record of a cell up to a stamp is its last one there
 pub last_record : (cells : Cells) (x : Cell) (s c : ℕ) (last : Option (ℕ × List ℕ)) (text : List ℕ) → last ≡ Some (c, text) → IsNewest cells (key_of x Write) 0 s last → IsLast cells x s c text
 last_record cells x s c last text is found =
     let written : IsNewest cells (key_of x Write) 0 s (Some (c, text)) = subst (λ (f : Option (ℕ × List ℕ)). IsNewest cells (key_of x Write) 0 s f) is found in

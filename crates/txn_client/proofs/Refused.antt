@@ -1,4 +1,4 @@
--- Refusals of the store: of rows, of the oracle, and for want of memory.
+-- Refusals of the store: of rows, of the oracle, and for lack of memory.
 use Rattle.std.proofs.Common.{◌≡◌, ◌⊎◌, inl, inr, refl}
 use Rattle.cell_key.specs.declared.refusals.Refusal.{Refusal}
 use Rattle.cell_key.specs.declared.refusals.Refusal.TheVariants.{EmptyCommit, MemtableFull, Exhausted, Device, NoMemory, Damaged}

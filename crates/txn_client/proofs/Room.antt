@@ -1,4 +1,4 @@
--- What a step does to the rows, as session and state show it.
+-- The effect of a step on the rows, from its session and from the state.
 use Rattle.std.proofs.Common.{◌≡◌, ◌∙◌, ℕ, List, [], ◌∷◌, length, Some, None, refl, inl, inr, sym, subst}
 use Rattle.std.specs.Ordering.{nat_cmp}
 use Rattle.std.specs.BTreeMap as btree
@@ -27,7 +27,7 @@ use Rattle.txn_client.proofs.Passed.{touches_kept}
 use Rattle.txn_client.proofs.SessionSteps.{held_of, puts_of, count_of}
 use Rattle.txn_client.proofs.Table.{shown_some}
 
--- ---- what the edits of a row transaction make of the cells
+-- ---- the effect of a row transaction's edits on the cells
 
 pub holding_makes : (cells : Cells) (x first : Cell) (t : ℕ) (v : Change) (edits : List Edit) → IsHolding x t v first edits → after_edits cells edits ≡ held_cells cells x t v first
 holding_makes cells x first t (Some v) [] is = absurd is
@@ -38,9 +38,9 @@ holding_makes cells x first t None [] is = absurd is
 holding_makes cells x first t None (a ∷ []) lock = put_so cells a [] _ _ lock
 holding_makes cells x first t None (a ∷ b ∷ es) is = absurd is
 
--- ---- what a step does
+-- ---- the effect of a step
 
--- edits that are of one kind are of another
+-- edits with one property have another
 pub no_room_so : {R : Type 0} (overfills : R → List ℕ → List Edit → Type 0) (rows : R) {P Q : List ℕ → List Edit → Type 0} → ((row : List ℕ) (edits : List Edit) → P row edits → Q row edits) → HasNoRoom overfills rows P → HasNoRoom overfills rows Q
 no_room_so overfills rows so (row, edits, changes, full) = (row, edits, so row edits changes, full)
 
@@ -48,7 +48,7 @@ module _ {R : Type 0} (seen : View R) (old new : R) where
   abbrev Made : (List ℕ → List Edit → Type 0) → Type 0
   Made P = AppliesSuch seen P old new
 
-  -- edits that are of one kind are of another
+  -- edits with one property have another
   pub does_so : {P Q : List ℕ → List Edit → Type 0} (p : Progress) → ((row : List ℕ) (edits : List Edit) → P row edits → Q row edits) → Does seen P p old new → Does seen Q p old new
   does_so (progress.Held k n) so made = such_so so made
   does_so (progress.Committed c) so made = such_so so made
@@ -80,7 +80,7 @@ module _ {R : Type 0} (seen : View R) (old new : R) where
     does_make P (progress.Stamped c) reads = reads.kept
     does_make P progress.Lost reads = reads.kept
 
-    -- what joins or goes stands where edits such as these touch it
+    -- edits of this kind touch the keys that are added or erased
     pub does_touch : (P : List ℕ → List Edit → Type 0) (p : Progress) (T : Type 0) → ((row : List ℕ) (edits : List Edit) → P row edits → seen.cells new ≡ after_edits (seen.cells old) edits → T) → (seen.cells new ≡ seen.cells old → T) → Does seen P p old new → T
     does_touch P (progress.Held k n) T changed kept made = changed made.row made.edits made.such (made.applied.made (seen.each_readable old held made.row))
     does_touch P (progress.Committed c) T changed kept made = changed made.row made.edits made.such (made.applied.made (seen.each_readable old held made.row))
@@ -115,11 +115,11 @@ stamped_does seen rows P progress.Lost is = absurd is
 stamped_does seen rows P (progress.Finished k n) is = absurd is
 
 module _ (Holds : Type 0) (cells : Cells) (session : Session) where
-  -- the edits of a phase that is known
+  -- the edits of a known phase
   pub edits_in : (phase : Phase) → session.phase ≡ phase → (row : List ℕ) (edits : List Edit) → EditsIn phase Holds cells session row edits → EditsOf Holds cells session row edits
   edits_in phase is row edits = subst (λ (p : Phase). EditsIn p Holds cells session row edits) (sym is)
 
-  -- which row they touch, and at which stamps
+  -- the row that they touch, and at which stamps
   holding_touches : (k : ℕ) (new : Cells) (row : List ℕ) (edits : List Edit) → HoldsAt Holds cells session k row edits → new ≡ after_edits cells edits → TouchesOneRow cells new session.start session.start
   holding_touches k new row edits (w, first, e, e0, free, at) after =
       (w.cell.row, subst (λ (cs : Cells). Touches cells cs w.cell.row session.start session.start) (sym (after ∙ holding_makes cells w.cell first.cell session.start w.value edits at.1)) (touches_held cells w.cell session.start session.start w.value first.cell))
@@ -140,16 +140,16 @@ module _ (Holds : Type 0) (cells : Cells) (session : Session) where
   same_touch Stamped new same = ([], touches_kept cells new [] _ _ same)
   same_touch (Finishing k) new same = ([], touches_kept cells new [] _ _ same)
 
-  -- ---- where a state is shown
+  -- ---- if a state is shown
 
   module _ (held : Holds) (st : State) (reached : IsReached st) (shown : ShowsCells cells st) (mine : ShowsSession session session.start st) where
-    -- a cell that is free may be held
+    -- a free cell may be held
     holds_next : (k : ℕ) → HasHeldSo session.phase k → (row : List ℕ) (edits : List Edit) → HoldsAt Holds cells session k row edits → HoldsNext st (writes_of session) k session.start row edits
     holds_next k so row edits (w, first, e, e0, free, at) =
         let phase = held_phase st session.start k (held_of session st k mine so) in
         (w.cell, first.cell, w.value, first.value, puts_of session k w e, puts_of session 0 first e0, free_open cells st reached shown w.cell session.start phase.p phase.is (free held), at.0, at.1)
 
-    -- if a lock stands, the mark does
+    -- if there is a lock, there is a mark
     records_next : (k : ℕ) (row : List ℕ) (edits : List Edit) → RecordsAt Holds cells session k row edits → RecordsNext st (writes_of session) k session.start session.commit row edits
     records_next k row edits (w, e, at) =
         let stands = at.1 held in
@@ -161,7 +161,7 @@ module _ (Holds : Type 0) (cells : Cells) (session : Session) where
     changes_in Stamped is = records_next 0
     changes_in (Finishing k) is = records_next k
 
--- the edits of the session that is kept are those that a shown state changes next
+-- the stored session's edits are the edits of its next step in a shown state
 pub changes_shown : (Holds : Type 0) (cells : Cells) (clients : Clients) (t : ℕ) → Holds → (st : State) → IsReached st → ShowsCells cells st → ShowsClients clients st → (row : List ℕ) (edits : List Edit) → EditsOfStep Holds cells clients t row edits → ChangesNext st t row edits
 changes_shown Holds cells clients t held st reached shown kept row edits (session, was, is) =
     let mine = shown_some clients t st session kept was in

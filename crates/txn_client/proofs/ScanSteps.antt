@@ -25,7 +25,7 @@ use Rattle.txn_client.proofs.Refused.{read_storage, refused_storage}
 use Rattle.txn_client.proofs.ShownReads.{after_scan, scans, undamaged}
 use Rattle.txn_client.proofs.Table.{late_phase, open_phase, shown_none, shown_some, shows_other, stays}
 
--- a count outside its limits is 0 or too great
+-- a count outside its limits is 0 or too large
 bad_count : (n : ℕ) → ¬ IsScanCount n → (n < 1) ⊎ (machine.most_scanned < n)
 bad_count n bad = elim (cases_lt n 1) [
   | inl none ↦ inl none
@@ -50,14 +50,14 @@ pub scan_refused_at : (cells : Cells) (clients : Clients) (last t : ℕ) (range 
     → Steps cells clients last (machine.ScanFrom t range keys_only n) (Refused e) cells clients last
 scan_refused_at cells clients last t range keys_only n e u = stays cells clients last (machine.ScanFrom t range keys_only n) e (λ st reached shown. scan_refused clients t range keys_only n st shown.sessions e u)
 
--- a session that isn't there is told so
+-- a session that isn't active is reported
 pub scan_unknown : (clients : Clients) (t : ℕ) (st : State) → ShowsClients clients st → (range : Range) (n : ℕ) (e : Refusal) → IsInactive st t → IsScanCause clients t range n e → e ≡ UnknownSession
 scan_unknown clients t st shown range n UnknownSession gone u = refl
 scan_unknown clients t st shown range n WrongPhase gone u = absurd (is_kept clients t st shown gone u.0 u.1)
 scan_unknown clients t st shown range n BadCount gone u = absurd (is_open clients t st shown gone u.0)
 scan_unknown clients t st shown range n _ gone u = absurd (is_open clients t st shown gone u.0)
 
--- what is found is the machine's answer
+-- the scan's answer is the machine's
 pub scans_at : (cells : Cells) (clients : Clients) (last t : ℕ) (range : Range) (keys_only : Bool) (n : ℕ) (r : Result ScanReply Refusal) → IsOpenSession clients t → HasRows range → HasFamilies range → IsScanCount n
     → IfOk r (λ reply. IsScanFound cells t range keys_only n (map item_of reply.items.items) (reach_of reply.reach)) → IfErr r IsReadRefusal
     → Steps cells clients last (machine.ScanFrom t range keys_only n) (result_reply scan_reply r) cells clients last
@@ -74,12 +74,12 @@ scans_at cells clients last t range keys_only n (Ok reply) kept rows families co
       },
     )
 
--- what is shown isn't damaged
+-- shown cells aren't damaged
 pub scan_undamaged_at : (cells : Cells) (range : Range) (t : ℕ) (r : Result ScanReply Refusal) → IfErr r (λ e. e ≡ Damaged → IsScanDamaged cells range t) → (st : State) → IsReached st → ShowsCells cells st → ¬ (IsErrOf r Damaged)
 scan_undamaged_at cells range t (Ok reply) h st reached shown is = cc
 scan_undamaged_at cells range t (Err e) h st reached shown is = let found : IsScanDamaged cells range t = h cc in undamaged cells st reached shown found.0 t found.2
 
--- what is so of what was asked
+-- properties of the request, as it was made
 pub as_asked : (P : ℕ → Range → Bool → Type 0) (s s' : ℕ) (range range' : Range) (keys_only keys_only' : Bool) → s' ≡ s → range' ≡ range → keys_only' ≡ keys_only → P s' range' keys_only' → P s range keys_only
 as_asked P s s' range range' keys_only keys_only' start names keys so =
     subst (λ (k : Bool). P s range k) keys (subst (λ (r : Range). P s r keys_only') names (subst (λ (t : ℕ). P t range' keys_only') start so))

@@ -1,4 +1,4 @@
--- How a scan goes on from one cell to the next, and what it has found in the end.
+-- The progress of a scan from one cell to the next, and its result at the end.
 use Rattle.std.proofs.Common.{◌≡◌, ◌≢◌, ℕ, ◌+◌, ◌-◌, ◌≤◌, ◌⊎◌, inl, inr, Bool, List, [], ◌∷◌, ◌++◌, length, Option, Some, None, IsSome, refl, sym, ap, subst, ◌∙◌, arith}
 use Rattle.std.specs.Prelude.{option_map}
 use Rattle.std.specs.Cmp.{tied_itself}
@@ -63,7 +63,7 @@ is_after (Some z) x = by (place_cmp (place_at z) (place_at x)) refl
     by Equal e = inr (λ l. let f : ⊥ = cc in f)
     by Greater e = inr (λ l. let f : ⊥ = cc in f)
 
--- a cell that isn't after another one is before it, or is it
+-- a cell that isn't after another one is before it, or the same
 before_or_same : (x y : Cell) → ¬ IsAfterCell (Some x) y → (place_cmp (place_at y) (place_at x) ≡ Less) ⊎ (y ≡ x)
 before_or_same x y not_after = by (place_cmp (place_at y) (place_at x)) refl
   where
@@ -75,7 +75,7 @@ before_or_same x y not_after = by (place_cmp (place_at y) (place_at x)) refl
 not_itself : (x : Cell) → place_cmp (place_at x) (place_at x) ≡ Less → ⊥
 not_itself x l = let e = tied_itself place_cmp_total (place_at x) in let f : ⊥ = cc in f
 
--- what isn't after the last comes before what is
+-- a cell that isn't after the last one comes before a cell that is
 before_it : (last : Option Cell) (y x : Cell) → ¬ IsAfterCell last y → IsAfterCell last x → IsAfterCell (Some y) x
 before_it None y x n a = absurd (n tt)
 before_it (Some z) y x n a = elim (before_or_same z y n) [
@@ -96,7 +96,7 @@ first_less Less o h e = cc
 first_less Equal o h e = cc
 first_less Greater o h e = cc
 
--- what comes before a cell up to the end is up to it too
+-- a cell before a cell up to the end is up to it too
 earlier_too : (end : Option (List ℕ)) (x y : Cell) → place_cmp (place_at x) (place_at y) ≡ Less → IsUpToRow end y.row → IsUpToRow end x.row
 earlier_too None x y before up = tt
 earlier_too (Some e) x y before up = λ past. by past (byte_cmp x.row y.row) refl
@@ -127,7 +127,7 @@ has_nothing cells x s none = (λ n lo hi. no_key cells x none Lock n, inl (λ n 
 pub none_left : (cells : Cells) (range : Range) (last : Option Cell) → IsNextCell cells (option_map place_at last) None → IsLastCell cells range last
 none_left cells range last none x after has up = none (place_at x) (after_as last x after) has
 
--- the next cell comes after the end
+-- the next cell is after the end
 pub past_end : (cells : Cells) (range : Range) (last : Option Cell) (x : Cell) → IsNextCell cells (option_map place_at last) (Some (place_at x)) → ¬ IsUpToRow range.end x.row → IsLastCell cells range last
 past_end cells range last x next past y after has up = by (place_cmp (place_at y) (place_at x)) refl
   where
@@ -152,7 +152,7 @@ none_next cells after most (p ∷ ps) next none some = absurd (omega arith)
 
 -- ---- the cells that were looked at
 
--- what comes after the last of them comes after the beginning of the range
+-- each cell after the last of them is after the beginning of the range
 pub looks_after : (cells : Cells) (range : Range) (n : ℕ) (last : Option Cell) → LooksAt cells range n last → (y : Cell) → IsAfterCell last y → IsAfterCell range.after y
 looks_after cells range n last begins y a = a
 looks_after cells range n last (goes_on {n = m} {last = before} {x = x} looks next up_to) y a = looks_after cells range m before looks y (after_then before x y (as_after before x next.0) a)
@@ -162,13 +162,13 @@ looked_between cells range n last begins some x is = absurd (omega arith)
 looked_between cells range n last (goes_on {n = m} {last = before} {x = y} looks next up_to) some x is =
     subst (λ (z : Cell). IsBetween range z) (same_Some y x is) (record { after = looks_after cells range m before looks y (as_after before y next.0); up_to = up_to })
 
--- the rows from the last of them on are rows from the beginning of the range on
+-- each row from the last of them on is a row from the beginning of the range on
 pub looks_from : (cells : Cells) (range : Range) (n : ℕ) (last : Option Cell) → LooksAt cells range n last → (row : List ℕ) → IsRowFrom (option_map place_at last) row → IsRowFrom (option_map place_at range.after) row
 looks_from cells range n last begins row from = from
 looks_from cells range n last (goes_on {n = m} {last = before} {x = x} looks next up_to) row from =
     from_later (option_map place_at range.after) (place_at x) (after_as range.after x (looks_after cells range m before looks x (as_after before x next.0))) row from
 
--- ---- one cell more
+-- ---- one more cell
 
 module _ (cells : Cells) (s : ℕ) (range : Range) (keys_only : Bool) where
   -- a cell that isn't named has nothing
@@ -224,7 +224,7 @@ module _ (cells : Cells) (s : ℕ) (range : Range) (keys_only : Bool) where
       abbrev more : List (Cell × Item)
       more = items ++ ((x, item) ∷ [])
 
-      -- what is named now was named before, or is this cell
+      -- each named cell was named before, or is this cell
       each_more : (P : Cell → Item → Type 0) → ((y : Cell) (i : Item) → (y, i) ∈ items → P y i) → P x item → (y : Cell) (i : Item) → (y, i) ∈ more → P y i
       each_more P old new y i among = elim (snoc_in items (x, item) (y, i) among) [
         | inl k ↦ old y i k

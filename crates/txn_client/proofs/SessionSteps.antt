@@ -1,4 +1,4 @@
--- The steps of a session, where store and session show the machine's state.
+-- The steps of a session, if store and session show the machine's state.
 use Rattle.std.proofs.Common.{◌≡◌, ℕ, ◌+◌, ◌<◌, ◌^◌, ◌⊎◌, inl, inr, Bool, true, false, cond, ◌∷◌, length, Some, None, refl, sym, ap, subst, ◌∙◌, arith}
 use Rattle.std.specs.Prelude.{slice_get, nat_eq}
 use Rattle.std.specs.Option.{option_map}
@@ -122,7 +122,7 @@ module _ (cells : Cells) (session : Session) (last : ℕ) where
       goes_on : machine.finishing st.active session.start session.commit (k + 1) (length (writes_of session)) ≡ cond ended (remove st.active session.start) (insert st.active session.start (machine.Finishing session.commit (k + 1)))
       goes_on = ap (λ (b : Bool). cond b (remove st.active session.start) (insert st.active session.start (machine.Finishing session.commit (k + 1)))) (ap (nat_eq (k + 1)) counted ∙ sym end)
 
--- what holds of an accepted step for each x holds at one
+-- a property of an accepted step for each x holds for one x
 pub ok_at : {T E X : Type 0} (P : T → X → Type 0) (r : Result T E) → IfOk r (λ o. (x : X) → P o x) → (x : X) → IfOk r (λ o. P o x)
 ok_at P (Ok o) h x = h x
 ok_at P (Err e) h x = tt

@@ -1,4 +1,4 @@
--- The machine's reads, where the cell map shows its state.
+-- The machine's reads, if the cell map shows its state.
 use Rattle.std.proofs.Common.{◌≡◌, ℕ, zero, suc, ◌+◌, ◌<◌, ◌≤◌, ◌^◌, ◌⊎◌, inl, inr, Bool, true, List, ◌∷◌, Option, Some, None, refl, sym, ap, subst, ◌∙◌, arith}
 use Rattle.std.proofs.lemmas.Option.{none-some}
 use Rattle.cell_key.specs.Names.{IsRow, IsFamily}
@@ -40,7 +40,7 @@ module _ (cells : Cells) (st : State) (reached : IsReached st) (shown : ShowsCel
       let top = (reached_bounds reached).top in
       omega arith
 
-  -- below a session's start and without locks, each commit of a cell has its record or a later one, or is one that is forgotten
+  -- below a session's start and without locks, each commit of a cell has its record or a later one, or is forgotten
   latest : (x : Cell) (s : ℕ) → IsClear cells x Lock 0 s → st.floor ≤ s → (n : ℕ) (a : Commit) → a ∈ st.commits → Names a.writes x → a.stamp ≤ s → s < a.stamp + n
       → (b : Commit) × (b ∈ st.commits) × (a.stamp ≤ b.stamp) × (b.stamp ≤ s) × (IsThere cells x Write b.stamp ⊎ IsForgotten cells st x b)
   latest x s clear floor zero a i names le h = absurd (omega arith)
@@ -55,7 +55,7 @@ module _ (cells : Cells) (st : State) (reached : IsReached st) (shown : ShowsCel
       unmarked : ¬ Marked st x a.start
       unmarked m = let before = ((reached_sound reached).fair a i).later in none-some _ (sym (clear a.start (omega arith) (omega arith)) ∙ (shown.marks x a.start m).lock)
 
-  -- no commit lies between the last record and the start
+  -- no commit is between the last record and the start
   greatest : (x : Cell) (s c : ℕ) (text : List ℕ) → IsClear cells x Lock 0 s → st.floor ≤ s → IsLast cells x s c text → (b : Commit) → b ∈ st.commits → Names b.writes x → b.stamp ≤ s → b.stamp ≤ c
   greatest x s c text clear floor last b i names le =
       let m = latest x s clear floor (s + 1) b i names le (omega arith) in
@@ -66,11 +66,11 @@ module _ (cells : Cells) (st : State) (reached : IsReached st) (shown : ShowsCel
       ] in
       omega arith
 
-  -- what a record names
+  -- the names in a record
   names_it : (x : Cell) (c : ℕ) (text : List ℕ) → (k : NamesCommit cells st x c text) → NamesWrite text k.commit.start (kind_of_change k.change)
   names_it x c text k = names_of k.commit.start (kind_of_change k.change) text (start_low k.commit k.is_in) k.is_text
 
-  -- a lock stands at or below the start
+  -- there is a lock at or below the start
   pub waits_at : (x : Cell) (s t : ℕ) → IsRow x.row → IsFamily x.family → InPhase st s Open → t ≤ s → IsThere cells x Lock t → Step st (Get s x) (Pending t) st
   waits_at x s t row family h le lock = accepts (get_ok h row family) (tells (step.waits h (shown.locks x t lock.0 lock.1) le))
 
@@ -86,7 +86,7 @@ module _ (cells : Cells) (st : State) (reached : IsReached st) (shown : ShowsCel
       let k = accepts (get_ok h row family) (step.reads h (above x s clear) snapshot) in
       (k, shows_beside cells st (after_read s x v) (goes reached k) shown (λ y u m. m) (λ y u m. m) refl)
 
-  -- nothing was written, or the last record was that of a deletion, and is forgotten
+  -- nothing was written, or the last record was a deletion's, and is forgotten
   shows_nothing : (x : Cell) (s : ℕ) → InPhase st s Open → IsClear cells x Lock 0 s → IsClear cells x Write 0 s → IsSnapshot st.commits s x None
   shows_nothing x s h clear none = snapshot (snapshot_of st.commits s x).1
     where
@@ -150,7 +150,7 @@ module _ (cells : Cells) (st : State) (reached : IsReached st) (shown : ShowsCel
       → Step st (Get s x) (Answered None) (after_read s x None) × ShowsCells cells (after_read s x None)
   reads_deletion x s row family h clear r = answers x s None row family h clear (shows_deletion x s h clear r)
 
-  -- ---- what a scan says
+  -- ---- the answers of a scan
 
   said_so : (x : Cell) (s : ℕ) (keys_only : Bool) → InPhase st s Open → (said : Option Item) → IsReadAs cells s keys_only x said → IsSaid st s x said
   said_so x s keys_only h None found = (above x s found.0, elim found.1 [ inl none ↦ shows_nothing x s h found.0 none | inr deleted ↦ shows_deletion x s h found.0 deleted ])
@@ -185,7 +185,7 @@ module _ (cells : Cells) (st : State) (reached : IsReached st) (shown : ShowsCel
       let k = accepts (scan_ok h rows families count.0 count.1) (step.scans h (is_scanned s range keys_only n items reach h found)) in
       (k, shows_beside cells st (after_scan s range items reach) (goes reached k) shown (λ y u m. m) (λ y u m. m) refl)
 
-  -- what is shown isn't damaged
+  -- shown cells aren't damaged
   pub undamaged : (x : Cell) (s : ℕ) → ¬ IsDamaged cells x s
   undamaged x s (c, text, last, fault) = elim fault [
     | inl never ↦ never k.commit.start (kind_of_change k.change) (names_it x c text k)

@@ -44,14 +44,14 @@ use Rattle.txn_client.specs.declared.session.Session.{Session}
 use Rattle.txn_client.proofs.ShownReads.{after_read, waits_at, reads_nothing, reads_deletion, reads_value, undamaged}
 use Rattle.txn_client.proofs.Refused.{refused_storage, read_storage, advance_storage}
 
--- what a map holds after one key has changed
+-- the entries of a map after one key has changed
 upd_at : (old new : ℕ → Option Session) (k : ℕ) (w : Option Session) → ((q : ℕ) → new q ≡ cond (is_eq (nat_cmp k q)) w (old q)) → new k ≡ w
 upd_at old new k w h = h k ∙ ap (λ (b : Bool). cond b w (old k)) (eq_test k k refl)
 
 upd_off : (old new : ℕ → Option Session) (k : ℕ) (w : Option Session) → ((q : ℕ) → new q ≡ cond (is_eq (nat_cmp k q)) w (old q)) → (q : ℕ) → q ≢ k → new q ≡ old q
 upd_off old new k w h q ne = h q ∙ ap (λ (b : Bool). cond b w (old q)) (ne_test k q (λ e. ne (sym e)))
 
--- nothing changes where a key gets what it has
+-- nothing changes if a key gets the value that it has
 pub same_each : (old new : ℕ → Option Session) (k : ℕ) (session w : Session) → old k ≡ Some session → w ≡ session → ((q : ℕ) → new q ≡ cond (is_eq (nat_cmp k q)) (Some w) (old q)) → (q : ℕ) → new q ≡ old q
 same_each old new k session w was same h q = elim (cases_eq q k) [
   | inl e ↦ subst (λ (n : ℕ). new n ≡ old n) (sym e) (upd_at old new k (Some w) h ∙ ap (λ (s : Session). Some s) same ∙ sym was)
@@ -62,17 +62,17 @@ same_each old new k session w was same h q = elim (cases_eq q k) [
 pub entries_each : (old new : Clients) → new.sessions.entries ≡ old.sessions.entries → (t : ℕ) → btree.get nat_cmp new.sessions t ≡ btree.get nat_cmp old.sessions t
 entries_each old new same t = ap (λ es. lookup (btree.is_at (nat_cmp t)) es) same
 
--- what an error leaves, by what the call that failed left
+-- the effect of an error, from the effect of the call that failed
 pub on_err_then : {A : Type 0} (P Q : Type 0) (r : Result A Refusal) → (P → Q) → OnErr r P → OnErr r Q
 on_err_then P Q (Ok x) go h = tt
 on_err_then P Q (Err e) go h = go h
 
--- if the machine keeps phase and writes of t, what is shown at t stays shown
+-- if the machine keeps phase and writes of t, the entry at t is still shown
 pub shows_other : (st next : State) (o : Option Session) (t : ℕ) → finmap.get next.active t ≡ finmap.get st.active t → finmap.get next.begun t ≡ finmap.get st.begun t → ShowsAt o t st → ShowsAt o t next
 shows_other st next None t a b h = a ∙ h
 shows_other st next (Some s) t a b h = record { start = h.start; phase = a ∙ h.phase; writes = b ∙ h.writes }
 
--- one session changes, and the others stay
+-- one session changes, and the others are unchanged
 shows_changed : (st next : State) (old new : ℕ → Option Session) (k : ℕ) (w : Option Session) → ((q : ℕ) → new q ≡ cond (is_eq (nat_cmp k q)) w (old q))
     → ((t : ℕ) → t ≢ k → finmap.get next.active t ≡ finmap.get st.active t) → ((t : ℕ) → t ≢ k → finmap.get next.begun t ≡ finmap.get st.begun t)
     → ((t : ℕ) → ShowsAt (old t) t st) → ShowsAt w k next → (t : ℕ) → ShowsAt (new t) t next
@@ -132,7 +132,7 @@ module _ (cells : Cells) (old new : Clients) (last last' start : ℕ) where
             ∙ (ap (λ n. n + 1) shown.sessions.count ∙ sym (len ∙ ap (λ (o : Option Session). btree.btree_map_len old.sessions + (if is_some o then 0 else 1)) unused)));
       }
 
--- the same sessions show the same
+-- equal sessions show the same
 pub shows_same : (cells : Cells) (old new : Clients) (last last' : ℕ) (st : State) → Shows cells old last st → new.top ≡ old.top → new.sessions.entries ≡ old.sessions.entries → last ≤ last' → Shows cells new last' st
 shows_same cells old new last last' st shown top same le = record {
   store = shown.store;
@@ -228,7 +228,7 @@ no_items : {X : Type 0} (xs : List X) → length xs ≤ 0 → xs ≡ []
 no_items [] h = refl
 no_items (x ∷ xs) h = absurd (omega arith)
 
--- a step that has no write to take is that of an Open session without writes
+-- a step without a next write is a step of an Open session without writes
 empty_step : (st : State) (t : ℕ) (session : Session) → IsReached st → ShowsSession session t st → HasNoNext session.phase (length session.writes) → Step st (machine.Advance t) (Refused EmptyCommit) st
 empty_step st t session reached mine = by session.phase refl
   where
@@ -244,7 +244,7 @@ empty_step st t session reached mine = by session.phase refl
     by Stamped e none = let f = fits Stamped e in absurd (omega arith)
     by (Finishing k) e none = let f = fits (Finishing k) e in absurd (omega arith)
 
--- a refused step: the session is as it was
+-- a refused step: the session is unchanged
 pub steps_refused : (Holds : Type 0) (cells : Cells) (old new : Clients) (last last' t : ℕ) (session session' : Session) (e : Refusal) → btree.get nat_cmp old.sessions t ≡ Some session → session' ≡ session → new.top ≡ old.top
     → ((q : ℕ) → btree.get nat_cmp new.sessions q ≡ cond (is_eq (nat_cmp t q)) (Some session') (btree.get nat_cmp old.sessions q))
     → btree.btree_map_len new.sessions ≡ btree.btree_map_len old.sessions → last ≤ last'
@@ -326,7 +326,7 @@ get_refused clients t x st shown _ u = absurd u.1
 pub get_refused_at : (cells : Cells) (clients : Clients) (last t : ℕ) (x : Cell) (e : Refusal) → IsCellRefusal clients t x e → Steps cells clients last (machine.Get t x) (Refused e) cells clients last
 get_refused_at cells clients last t x e u = stays cells clients last (machine.Get t x) e (λ st reached shown. get_refused clients t x st shown.sessions e u)
 
--- a Set is refused before its value is looked at
+-- a Set is refused before its value is checked
 set_refused : (clients : Clients) (t : ℕ) (x : Cell) (v : List ℕ) (st : State) → ShowsClients clients st → (e : Refusal) → IsCellRefusal clients t x e → Step st (machine.Set t x v) (Refused e) st
 set_refused clients t x v st shown UnknownSession u = refuses (set_unknown_first (shown_none clients t st shown u))
 set_refused clients t x v st shown WrongPhase u = refuses (set_late_first (phase_of u.0.phase u.0.commit) (shown_some clients t st u.0 shown u.1).phase (late_phase u.0.phase u.0.commit u.2))
@@ -377,54 +377,43 @@ pub begin_storage_at : (cells : Cells) (old new : Clients) (last last' : ℕ) (e
     → Steps cells old last machine.Begin (Refused e) cells new last'
 begin_storage_at cells old new last last' e u top same le st reached shown = (st, refused_storage u, shows_same cells old new last last' st shown top same le)
 
--- a Begin is refused where its start isn't drawn: the session that was made for it goes again
-pub begin_undone_at : (cells : Cells) (old made new : Clients) (last last' start : ℕ) (e : Refusal) (r : Option Session) → IsStorageRefusal e → start ≡ last + 1 → last ≤ last' → new.top ≡ old.top
-    → ((q : ℕ) → btree.get nat_cmp made.sessions q ≡ cond (is_eq (nat_cmp start q)) (Some (open_session start)) (btree.get nat_cmp old.sessions q))
-    → btree.btree_map_len made.sessions ≡ btree.btree_map_len old.sessions + (if is_some (btree.get nat_cmp old.sessions start) then 0 else 1)
-    → r ≡ btree.get nat_cmp made.sessions start
-    → ((q : ℕ) → btree.get nat_cmp new.sessions q ≡ cond (is_eq (nat_cmp start q)) None (btree.get nat_cmp made.sessions q))
-    → btree.btree_map_len new.sessions + (if is_some r then 1 else 0) ≡ btree.btree_map_len made.sessions
+-- a Begin is refused where its start isn't drawn: what stood at its start stands there again
+module _ (old made new : Clients) (key : ℕ) (replaced : Option Session) (was : replaced ≡ btree.get nat_cmp old.sessions key)
+    (put : (q : ℕ) → btree.get nat_cmp made.sessions q ≡ cond (is_eq (nat_cmp key q)) (Some (open_session key)) (btree.get nat_cmp old.sessions q))
+    (back : (q : ℕ) → btree.get nat_cmp new.sessions q ≡ cond (is_eq (nat_cmp key q)) replaced (btree.get nat_cmp made.sessions q)) where
+  pub undone_each : (t : ℕ) → btree.get nat_cmp new.sessions t ≡ btree.get nat_cmp old.sessions t
+  undone_each t = elim (cases_eq t key) [
+    | inl e ↦ subst (λ (n : ℕ). btree.get nat_cmp new.sessions n ≡ btree.get nat_cmp old.sessions n) (sym e) (upd_at (btree.get nat_cmp made.sessions) (btree.get nat_cmp new.sessions) key replaced back ∙ was)
+    | inr ne ↦ upd_off (btree.get nat_cmp made.sessions) (btree.get nat_cmp new.sessions) key replaced back t ne ∙ upd_off (btree.get nat_cmp old.sessions) (btree.get nat_cmp made.sessions) key (Some (open_session key)) put t ne
+  ]
+
+undone_count : (n m k : ℕ) (o r : Option Session) → r ≡ o → m ≡ n + (if is_some o then 0 else 1) → k + (if is_some r then 0 else 1) ≡ m → n ≡ k
+undone_count n m k None None same more less = omega arith
+undone_count n m k (Some o) (Some r) same more less = omega arith
+undone_count n m k None (Some r) same more less = cc
+undone_count n m k (Some o) None same more less = cc
+
+pub begin_undone_at : (cells : Cells) (old made new : Clients) (last last' key : ℕ) (e : Refusal) (replaced : Option Session) → IsStorageRefusal e → last ≤ last' → new.top ≡ old.top
+    → replaced ≡ btree.get nat_cmp old.sessions key
+    → ((t : ℕ) → btree.get nat_cmp new.sessions t ≡ btree.get nat_cmp old.sessions t)
+    → btree.btree_map_len made.sessions ≡ btree.btree_map_len old.sessions + (if is_some (btree.get nat_cmp old.sessions key) then 0 else 1)
+    → btree.btree_map_len new.sessions + (if is_some replaced then 0 else 1) ≡ btree.btree_map_len made.sessions
     → Steps cells old last machine.Begin (Refused e) cells new last'
-begin_undone_at cells old made new last last' start e r u next le top put more taken gone less st reached shown = (
+begin_undone_at cells old made new last last' key e replaced u le top was each more less st reached shown = (
   st,
   refused_storage u,
   record {
     store = shown.store;
     sessions = record {
       top = top ∙ shown.sessions.top;
-      sessions = shows_changed st st (btree.get nat_cmp old.sessions) (btree.get nat_cmp new.sessions) start None
-          (λ q. gone q ∙ (ap (λ (o : Option Session). cond (is_eq (nat_cmp start q)) None o) (put q) ∙ twice (is_eq (nat_cmp start q)) None (Some (open_session start)) (btree.get nat_cmp old.sessions q)))
-          (λ t ne. refl) (λ t ne. refl) shown.sessions.sessions (fresh_start cells old last start st reached shown next);
-      count = shown.sessions.count ∙ count;
+      sessions = λ t. subst (λ (o : Option Session). ShowsAt o t st) (sym (each t)) (shown.sessions.sessions t);
+      count = shown.sessions.count ∙ undone_count _ _ _ _ replaced was more less;
     };
     top = (let t = shown.top in omega arith);
   },
 )
-  where
-    one_more : btree.btree_map_len made.sessions ≡ btree.btree_map_len old.sessions + 1
-    one_more = more ∙ ap (λ (o : Option Session). btree.btree_map_len old.sessions + (if is_some o then 0 else 1)) (unused_start cells old last start st reached shown next)
 
-    found : r ≡ Some (open_session start)
-    found = taken ∙ upd_at (btree.get nat_cmp old.sessions) (btree.get nat_cmp made.sessions) start (Some (open_session start)) put
-
-    one_less : btree.btree_map_len new.sessions + 1 ≡ btree.btree_map_len made.sessions
-    one_less = ap (λ (o : Option Session). btree.btree_map_len new.sessions + (if is_some o then 1 else 0)) (sym found) ∙ less
-
-    count : btree.btree_map_len old.sessions ≡ btree.btree_map_len new.sessions
-    count = let a = one_more in let b = one_less in omega arith
-
-pub begin_undone_key : (cells : Cells) (old made new : Clients) (last last' start key : ℕ) (e : Refusal) (r : Option Session) → key ≡ start → IsStorageRefusal e → start ≡ last + 1 → last ≤ last' → new.top ≡ old.top
-    → ((q : ℕ) → btree.get nat_cmp made.sessions q ≡ cond (is_eq (nat_cmp start q)) (Some (open_session start)) (btree.get nat_cmp old.sessions q))
-    → btree.btree_map_len made.sessions ≡ btree.btree_map_len old.sessions + (if is_some (btree.get nat_cmp old.sessions start) then 0 else 1)
-    → r ≡ btree.get nat_cmp made.sessions key
-    → ((q : ℕ) → btree.get nat_cmp new.sessions q ≡ cond (is_eq (nat_cmp key q)) None (btree.get nat_cmp made.sessions q))
-    → btree.btree_map_len new.sessions + (if is_some r then 1 else 0) ≡ btree.btree_map_len made.sessions
-    → Steps cells old last machine.Begin (Refused e) cells new last'
-begin_undone_key cells old made new last last' start key e r same u next le top put more taken gone less =
-    begin_undone_at cells old made new last last' start e r u next le top put more (taken ∙ ap (btree.get nat_cmp made.sessions) same)
-    (λ q. gone q ∙ ap (λ (k : ℕ). cond (is_eq (nat_cmp k q)) None (btree.get nat_cmp made.sessions q)) same) less
-
--- the session that is kept at an open session's start is open
+-- the stored session at an open session's start is open
 pub open_same : (clients : Clients) (t : ℕ) (session : Session) → btree.get nat_cmp clients.sessions t ≡ Some session → IsOpenSession clients t → session.phase ≡ Open
 open_same clients t session was (open_session', at, is_open) = ap (λ (s : Session). s.phase) (same_Some session open_session' (sym was ∙ at)) ∙ is_open
 
@@ -436,7 +425,7 @@ shows_new clients st top none empty = record {
   count = ap (λ m. finmap.len m) none ∙ (finmap.len-empty nat_cmp machine.Phase ∙ ap (λ es. length es) (sym empty));
 }
 
--- the least start that is kept, or one more than the top
+-- the least start that is stored, or the top plus one
 kept_phase : (clients : Clients) (st : State) → ShowsClients clients st → (t : ℕ) (p : machine.Phase) → InPhase st t p → (o : Option Session) → btree.get nat_cmp clients.sessions t ≡ o → (session : Session) × (btree.get nat_cmp clients.sessions t ≡ Some session)
 kept_phase clients st shown t p h None e = absurd (none-some p (sym (shown_none clients t st shown e) ∙ h))
 kept_phase clients st shown t p h (Some session) e = (session, e)
@@ -461,7 +450,7 @@ some_none (x ∷ xs) h = absurd (no_both (h (omega arith)))
 pub none_kept : (clients : Clients) → (0 < btree.btree_map_len clients.sessions → false ≡ true) → (t : ℕ) → btree.get nat_cmp clients.sessions t ≡ None
 none_kept clients h t = ap (lookup (btree.is_at (nat_cmp t))) (some_none clients.sessions.entries h)
 
--- one more than the top is no more than a number of eight bytes holds
+-- the top plus one fits a number of eight bytes
 pub within_words : (clients : Clients) (st : State) → IsReached st → ShowsClients clients st → min (clients.top + 1) (2 ^ 64 - 1) ≡ clients.top + 1
 within_words clients st reached shown = let low = (reached_bounds reached).top in let same = shown.top in omega arith
 
@@ -481,7 +470,7 @@ pub reads_open_at : (cells : Cells) (clients : Clients) (last t : ℕ) (x : Cell
     → IfOk r (IsFound cells x t) → IfErr r IsReadRefusal → Steps cells clients last (machine.Get t x) (result_reply found_reply r) cells clients last
 reads_open_at cells clients last t x r (session, was, is_open) row family ok refused = reads_at cells clients last t session x r was is_open row family ok refused
 
--- a step of the session that is shown at t touches what it may
+-- a step of the session that is shown at t touches only permitted keys
 pub touches_at : (clients : Clients) (t : ℕ) (session : Session) (cells cells' : Cells) → btree.get nat_cmp clients.sessions t ≡ Some session → TouchesBy session.phase cells cells' session.start session.commit
     → (st : State) → ShowsClients clients st → TouchesFor st t cells cells'
 touches_at clients t session cells cells' was touched st shown = by session.phase refl touched
@@ -498,7 +487,7 @@ touches_at clients t session cells cells' was touched st shown = by session.phas
     by Stamped e h = inr (inr (session.commit, inl (in_phase Stamped e), subst (λ (n : ℕ). TouchesOneRow cells cells' n session.commit) mine.start h))
     by (Finishing k) e h = inr (inr (session.commit, inr (k, in_phase (Finishing k) e), subst (λ (n : ℕ). TouchesOneRow cells cells' n session.commit) mine.start h))
 
--- if the machine is about to draw, the session that is shown is too
+-- if the machine is about to draw, so is the session that is shown
 held_count : (p : Phase) (c n : ℕ) → phase_of p c ≡ machine.Holding n → p ≡ Holding n
 held_count Open c n e = cc
 held_count (Holding k) c n e = ap Holding (same_held k n e)
@@ -553,7 +542,7 @@ module _ (cells : Cells) (old new : Clients) (last t : ℕ) (session session' : 
       mine : ShowsSession session t st
       mine = shown_some old t st session shown.sessions was
 
-  -- a refusal leaves the writes
+  -- a refusal leaves the writes unchanged
   keeps : (q : Request) (e : Refusal) → session'.writes ≡ session.writes → ((st : State) → Shows cells old last st → Step st q (Refused e) st) → Steps cells old last q (Refused e) cells new last
   keeps q e same steps st reached shown = (
     st,
@@ -579,7 +568,7 @@ module _ (cells : Cells) (old new : Clients) (last t : ℕ) (session session' : 
   few : Names (writes_of session) x ⊎ (length session.writes < 256) → Names (writes_of session) x ⊎ (length (writes_of session) < 256)
   few room = elim room [ inl named ↦ inl named | inr less ↦ inr (omega (arith, counts)) ]
 
-  -- what the call of `set` tells
+  -- the result of the call of `set`
   abbrev Told : Change → Result (Unit {0}) Refusal → Type 0
   Told v r = OnOk r (Sets x v (writes_of session) (writes_of session'))
 

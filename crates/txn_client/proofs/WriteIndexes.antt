@@ -15,7 +15,7 @@ none_yet ws x n u at ne before k w h e = elim (cases_eq k n) [
   | inr not ↦ before k w (omega arith) e
 ]
 
--- no write is to a cell if there are none
+-- an empty list has no write to a cell
 pub none_there : (ws : List Write) → length ws ≡ 0 → (x : Cell) → IsIndexOf ws x None
 none_there [] none x = λ k w e. absurd (none-some w e)
 none_there (u ∷ ws) none x = absurd (omega (arith, none))

@@ -1,4 +1,4 @@
--- What a scan has gathered, and how far it has come.
+-- The state of a scan: its items and its progress.
 use Rattle.std.specs.Prelude.{◌≡◌, ℕ, ◌≤◌, Bool, List, length, map, Option, Some, None, IsSome, option_map}
 use Rattle.std.specs.List.{AllByRecursion, last_or}
 use Rattle.std.specs.Option.{option_or}
@@ -19,12 +19,12 @@ use Rattle.txn_client.specs.declared.scan.Scan.{Scan}
 abbrev pub items_in : Gathered → List (Cell × Item)
 items_in gathered = map item_of gathered.items.items
 
--- the last cell: the one that was passed by since the last item, or else the last item's
+-- the last cell: the one skipped since the last item, or else the last item's
 abbrev pub last_of : Gathered → Option Cell
 last_of gathered =
     option_or gathered.passed (option_map (λ item. item.0) (last_or None (items_in gathered)))
 
--- its counts are right, and no limit is passed
+-- its counts are right, and no limit is exceeded
 pub record IsInLimits (gathered : Gathered) : Type 0 where
   pub bytes : gathered.bytes ≡ items_length (items_in gathered)
   pub short : gathered.bytes ≤ most_items
@@ -34,7 +34,7 @@ pub record IsInLimits (gathered : Gathered) : Type 0 where
   pub begun : 1 ≤ gathered.looked → IsSome (last_of gathered)
   pub last : (x : Cell) → last_of gathered ≡ Some x → IsNamed x
 
--- the cells of the range up to the last one were looked at, and are named as reads find them
+-- the cells of the range up to the last one were looked at, and the items say what reads find
 pub record HasGathered (cells : Cells) (s : ℕ) (range : Range) (keys_only : Bool)
     (items : List (Cell × Item)) (looked : ℕ) (last : Option Cell) : Type 0 where
   pub said : (x : Cell) → IsAfterCell range.after x → ¬ IsAfterCell last x
@@ -46,18 +46,18 @@ pub record HasGathered (cells : Cells) (s : ℕ) (range : Range) (keys_only : Bo
   pub rises : Rise range.after items
   pub looks : LooksAt cells range looked last
 
--- so it is with what this scan has gathered
+-- the same for the state of this scan
 abbrev pub Gathers : Cells → Scan → Gathered → Type 0
 Gathers cells scan gathered =
     HasGathered cells scan.start (range_named scan.range) scan.keys_only (items_in gathered)
     gathered.looked (last_of gathered)
 
--- the cell is the next one, and doesn't come after the end of the range
+-- the cell is the next one, and is not after the end of the range
 pub record IsNextIn (cells : Cells) (scan : Scan) (gathered : Gathered) (x : Cell) : Type 0 where
   pub next : IsNextCell cells (option_map place_at (last_of gathered)) (Some (place_at x))
   pub up_to : IsUpToRow scan.range.end x.row
 
--- what a batch came to
+-- the outcome of a batch
 abbrev pub HasCome : Cells → Scan → Gathered → Batch → Type 0
 HasCome cells scan gathered Done = Gathers cells scan gathered
 HasCome cells scan gathered End =

@@ -1,4 +1,4 @@
--- The range of a scan by its names, and why they are refused.
+-- The range of a scan by its names, and when they are refused.
 use Rattle.std.specs.Prelude.{⊤}
 use Rattle.cell_key.specs.declared.refusals.Refusal.{Refusal}
 use Rattle.cell_key.specs.declared.refusals.Refusal.TheVariants.{BadRow, BadColumn, NoMemory}
@@ -9,7 +9,7 @@ use Rattle.txn_client.specs.declared.range.Range.{Range}
 abbrev pub range_named : Range → machine.Range
 range_named range = record { after = range.after; end = range.end; family = range.family }
 
--- rows come first
+-- rows are checked first
 abbrev pub IsRangeRefusal : machine.Range → Refusal → Type 0
 IsRangeRefusal range BadRow = ¬ HasRows range
 IsRangeRefusal range BadColumn = HasRows range × ¬ HasFamilies range

@@ -1,4 +1,4 @@
--- What a read and a test of a cell find in the cell map.
+-- Results of reads and conflict tests, in terms of the cell map.
 use Rattle.std.specs.Prelude.{◌≡◌, ⊤, ℕ, ◌≤◌, ◌^◌, ◌-◌, ◌⊎◌, List, length, Some, None, option_map}
 use Rattle.cell_key.specs.Cells.{Cells, IsNewest}
 use Rattle.cell_key.specs.Versions.{stamped}
@@ -13,7 +13,7 @@ use Rattle.si_model.specs.declared.replies.Found.{Found}
 use Rattle.si_model.specs.declared.replies.Found.TheVariants.{Value, Nothing, Pending}
 use Rattle.txn_client.specs.declared.newest_read.Newest.{Newest}
 
--- what a session that began at s finds of x (Percolator, Get): the last record is a set's
+-- a session that began at s reads this value of x (Percolator, Get): the last record is a set's
 pub record ReadsValue (cells : Cells) (x : Cell) (s : ℕ) (value : List ℕ) : Type 0 where
   pub unlocked : IsClear cells x Lock 0 s
   pub stamp : ℕ
@@ -23,7 +23,7 @@ pub record ReadsValue (cells : Cells) (x : Cell) (s : ℕ) (value : List ℕ) : 
   pub names : NamesWrite text start write.Set
   pub data_is : at cells x Data start ≡ Some value
 
--- the last record is a deletion's
+-- a session that began at s finds x deleted: the last record is a deletion's
 pub record ReadsDeletion (cells : Cells) (x : Cell) (s : ℕ) : Type 0 where
   pub stamp : ℕ
   pub text : List ℕ
@@ -43,14 +43,14 @@ IsFound cells x s Nothing =
     IsClear cells x Lock 0 s × (IsClear cells x Write 0 s ⊎ ReadsDeletion cells x s)
 IsFound cells x s (Value value) = ReadsValue cells x s value.items
 
--- a write record that isn't one, or a set's whose data is missing
+-- the last write record is malformed, or is a set's whose data is missing
 abbrev pub IsDamaged : Cells → Cell → ℕ → Type 0
 IsDamaged cells x s =
     (c : ℕ) × (text : List ℕ) × IsLast cells x s c text
     × (((t : ℕ) (kind : WriteKind) → ¬ NamesWrite text t kind)
     ⊎ ((t : ℕ) × NamesWrite text t write.Set × (at cells x Data t ≡ None)))
 
--- a lock of x stands, or a write record at s or later (Percolator, Prewrite)
+-- x has a lock, or a write record at s or later (Percolator, Prewrite)
 abbrev pub IsTaken : Cells → Cell → ℕ → Type 0
 IsTaken cells x s =
     ((t : ℕ) × IsThere cells x Lock t) ⊎ ((c : ℕ) × (s ≤ c) × IsThere cells x Write c)
@@ -58,7 +58,7 @@ IsTaken cells x s =
 abbrev pub IsFree : Cells → Cell → ℕ → Type 0
 IsFree cells x s = IsClear cells x Lock 0 (2 ^ 64 - 1) × IsClear cells x Write s (2 ^ 64 - 1)
 
--- a value that is answered has at most 65,536 bytes
+-- a value in the answer has at most 65,536 bytes
 abbrev pub IsShort : Found → Type 0
 IsShort (Value value) = length value.items ≤ 65536
 IsShort Nothing = ⊤

@@ -1,4 +1,4 @@
--- Which refusals a call answers, why a step of a session is refused, and what it leaves then.
+-- The refusals of each call, the reasons to refuse a step of a session, and the effects of a refused step.
 use Rattle.std.specs.Prelude.{◌≡◌, ◌⊎◌, ◌^◌, ◌-◌, ⊤, ℕ, IfErr, IsErrOf, Option, Result, Some, slice_get}
 use Rattle.std.specs.BTreeMap as btree
 use Rattle.std.specs.Ordering.{nat_cmp}
@@ -73,7 +73,7 @@ IsStepRefusal NoMemory = ⊤
 IsStepRefusal Damaged = ⊤
 IsStepRefusal _ = ⊥
 
--- A row transaction is refused by the rows: damage is answered only if what it reads isn't in order.
+-- The refusals of a row transaction: Damaged only if the row isn't readable.
 abbrev pub IsRowRefusal : Type 0 → Refusal → Type 0
 IsRowRefusal Readable MemtableFull = ⊤
 IsRowRefusal Readable Device = ⊤
@@ -81,37 +81,37 @@ IsRowRefusal Readable NoMemory = ⊤
 IsRowRefusal Readable Damaged = ¬ Readable
 IsRowRefusal Readable _ = ⊥
 
--- So is a step of a session on a cell, or the session has no cell to take.
+-- The refusals of a session's step on a cell: the same, or EmptyCommit if the session has no next cell.
 abbrev pub IsCellStepRefusal : Type 0 → Type 0 → Refusal → Type 0
 IsCellStepRefusal Readable HasNone EmptyCommit = HasNone
 IsCellStepRefusal Readable HasNone refusal = IsRowRefusal Readable refusal
 
--- A step of a session is refused so, or by the oracle.
+-- The refusals of any step of a session: the same, or Exhausted from the oracle.
 abbrev pub IsAdvanceRefusal : Type 0 → Type 0 → Refusal → Type 0
 IsAdvanceRefusal Readable HasNone Exhausted = ⊤
 IsAdvanceRefusal Readable HasNone refusal = IsCellStepRefusal Readable HasNone refusal
 
--- ---- what a step of a session reads
+-- ---- the row that a step of a session reads
 
--- the cell that it is at, counted among the session's writes
+-- the index of the step's cell in the session's writes
 abbrev pub next_cell : Phase → ℕ
 next_cell Open = 0
 next_cell (Holding k) = k
 next_cell Stamped = 0
 next_cell (Finishing k) = k
 
--- what a read of the row of the session's cell k reads is in order
+-- the row of the session's cell k is readable
 abbrev pub IsReadableAt : {R : Type 0} → View R → R → Session → ℕ → Type 0
 IsReadableAt seen rows session k =
     (write : Write) → slice_get session.writes k ≡ Some write → seen.readable rows write.cell.row
 
--- so it is with the cell that the session at t is at
+-- the same for the next cell of the session at t
 abbrev pub IsNextReadable : {R : Type 0} → View R → R → Clients → ℕ → Type 0
 IsNextReadable seen rows clients t =
     (session : Session) → btree.get nat_cmp clients.sessions t ≡ Some session
     → IsReadableAt seen rows session (next_cell session.phase)
 
--- A device's fault is answered if one of two counts has risen. The other count stays.
+-- A device's fault is answered only if one of two counts has risen. The other count is unchanged.
 abbrev pub HasOneReason : {T : Type 0} → ℕ → ℕ → ℕ → ℕ → Result T Refusal → Type 0
 HasOneReason before now before' now' result =
     (HasReason before now result × (now' ≡ before'))
@@ -119,8 +119,8 @@ HasOneReason before now before' now' result =
 
 -- ---- a refused step of a session
 
--- It leaves the rows as they were, the last stamp and the range. The mark stays too, or it is the
--- end of the next range.
+-- It leaves the rows, the last stamp and the range unchanged. The mark is unchanged too, or it is the end of the next
+-- range.
 pub record StepLeaves {R M : Type 0} (seen : View R) (mark_of : M → Option ℕ) (old new : R)
     (oracle oracle' : OracleState M) : Type 0 where
   pub same : OnlyReads seen old new
@@ -128,15 +128,14 @@ pub record StepLeaves {R M : Type 0} (seen : View R) (mark_of : M → Option ℕ
   pub range : oracle'.range_end ≡ oracle.range_end
   pub mark : MayHold (next_range_end oracle.range_end) (mark_of oracle.marks) (mark_of oracle'.marks)
 
--- Why a step of t is refused in this state: no session that began at t is active, or it has no
--- writes. A step that draws the commit stamp takes no memory.
+-- Why a step of t is refused in this state: no session that began at t is active, or it has no writes. A step that
+-- draws the commit stamp allocates nothing.
 pub record StepCauses {T : Type 0} (st : State) (t : ℕ) (result : Result T Refusal) : Type 0 where
   pub unknown : IsInactive st t → IsErrOf result UnknownSession
   pub empty : IsUnwritten st t → IsErrOf result EmptyCommit
   pub drawing : IsAboutToDraw st t → IfErr result IsDrawRefusal
 
--- The greatest stamp was drawn before. Only a step that draws comes to this, and it leaves the
--- oracle as it is.
+-- The greatest stamp has been drawn. Only a step that draws meets this, and it leaves the oracle unchanged.
 pub record HasNoStamp {M : Type 0} (Draws : Type 0) (oracle oracle' : OracleState M) : Type 0 where
   pub exhausted : oracle.last ≡ 2 ^ 63 - 1
   pub draw_only : Draws

@@ -1,4 +1,4 @@
--- What a step of a session changes in the rows, and what the cells and the room in memory are then.
+-- The edits of a session's step, and their effect on the cells and on the room in memory.
 use Rattle.std.specs.Prelude.{◌≡◌, ◌⊎◌, ℕ, List, [], ◌∷◌, Some, None, slice_get, ⊤}
 use Rattle.std.specs.Ordering.{nat_cmp}
 use Rattle.std.specs.BTreeMap as btree
@@ -24,11 +24,11 @@ use Rattle.txn_client.specs.declared.session.Phase.TheVariants.{Open, Holding, S
 use Rattle.txn_client.specs.declared.session.Session.{Session}
 use Rattle.txn_client.specs.declared.writes.Write.{Write as Writing}
 
--- the lock of t on x, which names the place of the first cell and the kind of the write
+-- the lock of t on x, which names the row and family of the first cell and the kind of the write
 abbrev pub IsLocking : Cell → ℕ → Change → Cell → Edit → Type 0
 IsLocking x t v first lock = IsPut lock (key_of x Lock t) (lock_text first.row first.family (kind_of_change v))
 
--- the edits that hold x for t: its data, if it is given a value, and its lock
+-- the edits that hold x for t: its lock, and its data if it is a set
 abbrev pub IsHolding : Cell → ℕ → Change → Cell → List Edit → Type 0
 IsHolding x t (Some v) first (value ∷ lock ∷ []) =
     IsPut value (key_of x Data t) v × IsLocking x t (Some v) first lock
@@ -39,9 +39,9 @@ IsHolding x t v first edits = ⊥
 abbrev pub HoldsCell : Cell → ℕ → Change → Cell → List ℕ → List Edit → Type 0
 HoldsCell x t v first row edits = (row ≡ x.row) × IsHolding x t v first edits
 
--- ---- the edits of a session's next step, as its phase, its commit stamp and its writes name them
+-- ---- the edits of a session's next step, from its phase, its commit stamp and its writes
 
--- the row and the edits by which a session holds its cell k; if the rows hold, the cell is free
+-- the row and the edits by which a session holds its cell k; if the rows are intact, the cell is free
 abbrev pub HoldsAt : Type 0 → Cells → Session → ℕ → List ℕ → List Edit → Type 0
 HoldsAt Holds cells session k row edits =
     (write first : Writing)
@@ -65,14 +65,14 @@ EditsIn (Finishing k) Holds cells session row edits = RecordsAt Holds cells sess
 abbrev pub EditsOf : Type 0 → Cells → Session → List ℕ → List Edit → Type 0
 EditsOf Holds cells session row edits = EditsIn session.phase Holds cells session row edits
 
--- those of the session that is stored at t
+-- the row and the edits of the next step of the session stored at t
 abbrev pub EditsOfStep : Type 0 → Cells → Clients → ℕ → List ℕ → List Edit → Type 0
 EditsOfStep Holds cells clients t row edits =
     (session : Session) × (btree.get nat_cmp clients.sessions t ≡ Some session)
     × EditsOf Holds cells session row edits
 
--- A step that holds a cell or commits makes such edits, and one that finishes a cell makes them or
--- none. No other changes a cell or takes room.
+-- A step that holds a cell or commits makes these edits; a step that finishes a cell makes them or none. No other step
+-- changes a cell or takes room.
 abbrev pub Does : {R : Type 0} → View R → (List ℕ → List Edit → Type 0) → Progress → R → R → Type 0
 Does seen Such (progress.Held k n) old new = AppliesSuch seen Such old new
 Does seen Such (progress.Committed c) old new = AppliesSuch seen Such old new
@@ -80,24 +80,23 @@ Does seen Such (progress.Finished k n) old new =
     AppliesSuch seen Such old new ⊎ OnlyReads seen old new
 Does seen Such p old new = OnlyReads seen old new
 
--- ---- as a state of the machine shows them
+-- ---- the same edits, from a state of the machine
 
--- the row and the edits by which t holds its cell k, as it does if it may
+-- the row and the edits by which t holds its cell k, which nothing blocks
 abbrev pub HoldsNext : State → Writes → ℕ → ℕ → List ℕ → List Edit → Type 0
 HoldsNext st ws k t row edits =
     (x first : Cell) × (v u : Change) × Puts ws k x v
     × Puts ws 0 first u × (¬ Clashes st x t) × (row ≡ x.row) × IsHolding x t v first edits
 
--- the row and the edits by which t puts the write record of its cell k,
--- as it does if its mark stands
+-- the row and the edits by which t puts the write record of its cell k, whose mark is still there
 abbrev pub RecordsNext : State → Writes → ℕ → ℕ → ℕ → List ℕ → List Edit → Type 0
 RecordsNext st ws k t c row edits =
     (x : Cell)
     × (v : Change) × Puts ws k x v × Marked st x t
     × (row ≡ x.row) × IsRecording x.row x.family t c (kind_of_change v) edits
 
--- the row and the edits of the next step of t, in this phase and with these writes;
--- a step that makes none has none
+-- the row and the edits of the next step of t, in this phase and with these writes; empty for a step that makes no
+-- edits
 abbrev pub ChangesIn : State → machine.Phase → Writes → ℕ → List ℕ → List Edit → Type 0
 ChangesIn st machine.Open ws t row edits = HoldsNext st ws 0 t row edits
 ChangesIn st (machine.Holding k) ws t row edits = HoldsNext st ws k t row edits
@@ -109,8 +108,8 @@ ChangesNext st t row edits =
     (phase : machine.Phase)
     × (ws : Writes) × InPhase st t phase × Wrote st t ws × ChangesIn st phase ws t row edits
 
--- A step that holds a cell or commits made such edits of a row, and one that finishes a cell made
--- them or none. No other changes a cell.
+-- A step that holds a cell or commits made these edits of a row; a step that finishes a cell made them or none. No
+-- other step changes a cell.
 abbrev pub Makes : (List ℕ → List Edit → Type 0) → Progress → Cells → Cells → Type 0
 Makes Changes (progress.Held k n) old new = AreAfter Changes old new
 Makes Changes (progress.Committed c) old new = AreAfter Changes old new
@@ -122,7 +121,7 @@ abbrev pub IsStamped : Progress → Type 0
 IsStamped (progress.Stamped c) = ⊤
 IsStamped p = ⊥
 
--- A step that makes such edits takes their room, and no other takes any.
+-- A step that makes these edits takes their room; no other step takes any.
 abbrev pub TakesRoom : {R : Type 0}
     → (R → List ℕ → List Edit → Type 0) → (List ℕ → List Edit → Type 0) → Progress → R → R → Type 0
 TakesRoom overfills Changes (progress.Held k n) old new = TakesRoomOf overfills Changes old new
@@ -130,11 +129,11 @@ TakesRoom overfills Changes (progress.Committed c) old new = TakesRoomOf overfil
 TakesRoom overfills Changes (progress.Finished k n) old new = TakesRoomOf overfills Changes old new
 TakesRoom overfills Changes p old new = TakesNoRoom overfills old new
 
--- ---- all that an accepted step makes
+-- ---- all effects of an accepted step
 
--- It makes the edits that the session names, or changes nothing. In each state that is shown these
--- are the edits of the session's next step, and it takes their room and no other. A stamp that it
--- draws is the next one, and is the last one from then on.
+-- It makes the edits of the session's next step, or changes nothing. In each state that is shown, they are also the
+-- machine's edits of that step, and it takes their room and no more. A stamp that it draws is the next one, and becomes
+-- the last one.
 pub record StepMakes {R : Type 0} (seen : View R) (clients : Clients) (t : ℕ) (progress : Progress)
     (old new : R) (before now : ℕ) : Type 0 where
   pub does : Does seen (EditsOfStep (seen.holds old) (seen.cells old) clients t) progress old new

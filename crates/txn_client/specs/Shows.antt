@@ -1,4 +1,4 @@
--- What it means that the sessions show those of a state of the snapshot machine.
+-- When cells and sessions show a state of the snapshot machine.
 use Rattle.std.specs.Prelude.{◌≡◌, ◌≢◌, ℕ, ◌+◌, ◌≤◌, ◌⊎◌, ⊤, cond, [], map, length, Option, Some, None}
 use Rattle.std.specs.Ordering.{nat_cmp}
 use Rattle.std.specs.BTreeMap as btree
@@ -40,7 +40,7 @@ pub record ShowsSession (session : Session) (t : ℕ) (st : State) : Type 0 wher
   pub phase : InPhase st t (phase_of session.phase session.commit)
   pub writes : Wrote st t (writes_of session)
 
--- what is stored at t is the session that began at t, if one is active
+-- the entry at t is the session that began at t, if one is active
 abbrev pub ShowsAt : Option Session → ℕ → State → Type 0
 ShowsAt None t st = finmap.get st.active t ≡ None
 ShowsAt (Some session) t st = ShowsSession session t st
@@ -49,27 +49,26 @@ ShowsAt (Some session) t st = ShowsSession session t st
 abbrev pub open_session : ℕ → Session
 open_session start = record { start = start; commit = start; phase = Open; writes = [] }
 
--- the sessions that are stored are those that are active,
--- and the top is the greatest stamp that was answered
+-- the stored sessions are the active ones, and the top is the greatest stamp answered
 pub record ShowsClients (clients : Clients) (st : State) : Type 0 where
   pub top : clients.top ≡ st.top
   pub sessions : (t : ℕ) → ShowsAt (btree.get nat_cmp clients.sessions t) t st
   pub count : finmap.len st.active ≡ btree.btree_map_len clients.sessions
 
--- Cells and sessions show the state, and the oracle has come to its top.
+-- Cells and sessions show the state, and the oracle's last stamp is not below its top.
 pub record Shows (cells : Cells) (clients : Clients) (last : ℕ) (st : State) : Type 0 where
   pub store : ShowsCells cells st
   pub sessions : ShowsClients clients st
   pub top : st.top ≤ last
 
--- From each reached state that is shown before, the machine may answer so,
--- and goes to a state that is shown after.
+-- From each reached state that is shown before, the machine may give this reply, and goes to a state that is shown
+-- after.
 abbrev pub Steps : Cells → Clients → ℕ → Request → Reply → Cells → Clients → ℕ → Type 0
 Steps cells clients last request reply cells' clients' last' =
     (st : State) → IsReached st → Shows cells clients last st
     → (next : State) × Step st request reply next × Shows cells' clients' last' next
 
--- so it is in each reached state that cells and sessions show
+-- it holds in each reached state that cells and sessions show
 abbrev pub InEachShown : Cells → Clients → (State → Type 0) → Type 0
 InEachShown cells clients IsSo =
     (st : State) → IsReached st → ShowsCells cells st → ShowsClients clients st → IsSo st
@@ -79,8 +78,7 @@ abbrev pub HasDrawn : State → ℕ → ℕ → Type 0
 HasDrawn st t c =
     InPhase st t (machine.Stamped c) ⊎ ((k : ℕ) × InPhase st t (machine.Finishing c k))
 
--- No key changes, or those of one row: the keys that join have the stamp of t,
--- or the commit stamp that it has drawn.
+-- At most one row's keys change, and each added key has the stamp of t, or the commit stamp that t has drawn.
 abbrev pub TouchesFor : State → ℕ → Cells → Cells → Type 0
 TouchesFor st t cells cells' =
     (cells' ≡ cells) ⊎ (TouchesOneRow cells cells' t t
@@ -101,7 +99,7 @@ pub record SameClients (old new : Clients) : Type 0 where
   pub top : new.top ≡ old.top
   pub each : (t : ℕ) → btree.get nat_cmp new.sessions t ≡ btree.get nat_cmp old.sessions t
 
--- as many sessions are active as there may be
+-- the most sessions are active
 abbrev pub IsCrowded : State → Type 0
 IsCrowded st = machine.most_sessions ≤ finmap.len st.active
 
@@ -117,19 +115,19 @@ IsUnwritten st t = InPhase st t machine.Open × Wrote st t []
 abbrev pub IsAboutToDraw : State → ℕ → Type 0
 IsAboutToDraw st t = (ws : Writes) × Wrote st t ws × InPhase st t (machine.Holding (length ws))
 
--- a session that is stored, and takes reads and writes
+-- a stored session that takes reads and writes
 abbrev pub IsOpenSession : Clients → ℕ → Type 0
 IsOpenSession clients t =
     (session : Session)
     × (btree.get nat_cmp clients.sessions t ≡ Some session) × (session.phase ≡ Open)
 
--- a session that is stored, and takes none
+-- a stored session that takes no more reads and writes
 abbrev pub IsLate : Clients → ℕ → Type 0
 IsLate clients t =
     (session : Session)
     × (btree.get nat_cmp clients.sessions t ≡ Some session) × (session.phase ≢ Open)
 
--- why a request on a cell is refused before it is looked at further
+-- why a request on a cell is refused before the cell is read
 abbrev pub IsCellRefusal : Clients → ℕ → Cell → Refusal → Type 0
 IsCellRefusal clients t x UnknownSession = btree.get nat_cmp clients.sessions t ≡ None
 IsCellRefusal clients t x WrongPhase = IsLate clients t
@@ -143,8 +141,7 @@ IsScanCause clients t range cells BadCount =
     IsOpenSession clients t × HasRows range × HasFamilies range × ¬ IsScanCount cells
 IsScanCause clients t range cells refusal = IsOpenSession clients t × IsRangeRefusal range refusal
 
--- what a step of one session does: the machine takes the step,
--- and goes to a state with this session
+-- the effect of a step of one session: the machine takes the step, and goes to a state with this session
 pub record Follows (st next : State) (session : Session) (outcome : Outcome) : Type 0 where
   pub begun : next.begun ≡ st.begun
   pub active : next.active ≡ cond outcome.ended (finmap.remove st.active session.start)
@@ -163,14 +160,14 @@ Advances cells session last outcome cells' session' last' =
 abbrev pub HasHeldSo : Phase → ℕ → Type 0
 HasHeldSo phase k = (phase ≡ Holding k) ⊎ ((phase ≡ Open) × (k ≡ 0))
 
--- the session has no cell for its next step
+-- the session has no cell left for its next step
 abbrev pub HasNoNext : Phase → ℕ → Type 0
 HasNoNext Open n = n ≤ 0
 HasNoNext (Holding k) n = (n ≤ k) × (k ≢ n)
 HasNoNext Stamped n = n ≤ 0
 HasNoNext (Finishing k) n = n ≤ k
 
--- which row a step of a session in this phase changes, and at which stamps
+-- the row and the stamps that a step of a session in this phase changes
 abbrev pub TouchesBy : Phase → Cells → Cells → ℕ → ℕ → Type 0
 TouchesBy Open cells cells' s c = TouchesOneRow cells cells' s s
 TouchesBy (Holding k) cells cells' s c = TouchesOneRow cells cells' s s

@@ -11,7 +11,7 @@ write_of w = (w.cell, w.value)
 abbrev pub NoneBefore : List Write → Cell → ℕ → Type 0
 NoneBefore ws x n = (k : ℕ) (w : Write) → k < n → slice_get ws k ≡ Some w → w.cell ≢ x
 
--- the index is that of the first write to the cell, or no write is to it
+-- the index is the first write's to the cell; None if no write is to it
 abbrev pub IsIndexOf : List Write → Cell → Option ℕ → Type 0
 IsIndexOf ws x None = (k : ℕ) (w : Write) → slice_get ws k ≡ Some w → w.cell ≢ x
 IsIndexOf ws x (Some index) =

@@ -9,10 +9,10 @@ use cell_key::{Refusal, compare_texts};
 use si_model::Cell;
 use std::cmp::Ordering;
 
-/// How many of the first writes are looked at one after the other. They are in no order.
+/// The number of first writes that are searched linearly. They are not in the order.
 pub(crate) const FEW: usize = 8;
 
-/// The order of two cells: that of their rows, and of one row that of their families.
+/// Compares two cells by row, then by family.
 fn compare_cells(cell: &Cell, other: &Cell) -> Ordering
     ensures { result ≡ cell_cmp cell.now other.now }
 {
@@ -23,7 +23,7 @@ fn compare_cells(cell: &Cell, other: &Cell) -> Ordering
     compare_texts(cell.family.as_bytes(), other.family.as_bytes())
 }
 
-/// The order of the cell of a write and another one. An index of no write comes first.
+/// Compares the cell of the write at an index with another cell. An index without a write comes first.
 fn compare_at(writes: &[Write], index: u16, cell: &Cell) -> Ordering
     ensures { result ≡ order_at writes.now cell.now index }
 {
@@ -33,7 +33,8 @@ fn compare_at(writes: &[Write], index: u16, cell: &Cell) -> Ordering
     }
 }
 
-/// The place of a cell in the order, found by halving: the index of its write, or where that of a new write goes.
+/// The place of a cell in the order, by binary search: the index of its write, or the place to insert a new write's
+/// index.
 pub(crate) fn search(writes: &[Write], order: &[u16], cell: &Cell) -> Result<usize, usize>
     requires order { IsOrder writes.now order.now }
     requires few { NoneBefore writes.now cell.now 8 }
@@ -47,7 +48,7 @@ pub(crate) fn search(writes: &[Write], order: &[u16], cell: &Cell) -> Result<usi
     }
 }
 
-/// Puts a write behind the others, and its index, if it isn't one of the first few, at its place in the order.
+/// Appends a write. Unless it is one of the first few, its index is inserted at its place in the order.
 pub(crate) fn push(
     writes: &mut Vec<Write>,
     order: &mut Vec<u16>,

@@ -25,7 +25,7 @@ use rows::Rows;
 use si_model::{Cell, Found};
 use std::alloc::Global;
 
-/// What a session that began at `start` reads of a cell (Percolator, Get).
+/// Reads a cell for a session that began at `start` (Percolator, Get).
 pub(crate) fn read_cell<R: Rows>(rows: &mut R, cell: &Cell, start: Stamp) -> Result<Found, Refusal>
     ensures found { R.seen.readable rows.old cell.now.row
         → IfOk result (IsFound (R.seen.cells rows.old) cell.now start) }
@@ -59,7 +59,8 @@ pub(crate) fn read_cell<R: Rows>(rows: &mut R, cell: &Cell, start: Stamp) -> Res
     }
 }
 
-/// Whether a session that began at `start` may not hold the cell (Percolator, Prewrite).
+/// Whether a lock, or a write record at or after `start`, keeps a session that began at `start` from holding the cell
+/// (Percolator, Prewrite).
 pub(crate) fn is_taken<R: Rows>(rows: &mut R, cell: &Cell, start: Stamp) -> Result<bool, Refusal>
     ensures taken { R.seen.holds rows.old
         → IfOk result (λ taken. OnTrue taken (IsTaken (R.seen.cells rows.old) cell.now start)) }
@@ -76,7 +77,7 @@ pub(crate) fn is_taken<R: Rows>(rows: &mut R, cell: &Cell, start: Stamp) -> Resu
     rows.has_version(&cell.row, &cell.family, Qualifier::Write, start, u64::MAX)
 }
 
-/// The two edits that hold a cell which is given a value.
+/// The two edits that hold a cell for a set: data and lock.
 fn setting(
     alloc: Global,
     cell: &Cell,
@@ -102,7 +103,7 @@ fn setting(
     Ok(edits)
 }
 
-/// The edit that holds a cell which is deleted: there is no data.
+/// The edit that holds a cell for a deletion: the lock alone, without data.
 fn deleting(alloc: Global, cell: &Cell, start: Stamp, lock: Vec<u8>) -> Result<Vec<Edit>, Refusal>
     requires from { 1 ≤ start }
     requires to { start < 2 ^ 63 }
@@ -119,7 +120,7 @@ fn deleting(alloc: Global, cell: &Cell, start: Stamp, lock: Vec<u8>) -> Result<V
     Ok(edits)
 }
 
-/// The edits that hold a cell for a write: its data, if it is given a value, and its lock.
+/// The edits that hold a cell for a write: its lock, and its data if it is a set.
 fn holding(alloc: Global, write: &Write, start: Moment, first: &Cell) -> Result<Vec<Edit>, Refusal>
     ensures holding { IfOk result (λ edits.
         IsHolding write.now.cell start write.now.value first.now edits.items) }
@@ -138,8 +139,8 @@ fn holding(alloc: Global, write: &Write, start: Moment, first: &Cell) -> Result<
     }
 }
 
-/// Puts the data and the lock of a cell; the lock names the place of the first cell and the kind of
-/// the write. A cell that is deleted gets no data.
+/// Puts the data and the lock of a cell. The lock names the row and family of the first cell and the kind of the write.
+/// A deletion puts no data.
 pub(crate) fn hold<R: Rows>(
     alloc: Global,
     rows: &mut R,
@@ -160,7 +161,7 @@ pub(crate) fn hold<R: Rows>(
     Ok(())
 }
 
-/// Puts the write record in the place of the lock, if that stands.
+/// Replaces the lock by the write record, if the lock is still there.
 pub(crate) fn record<R: Rows>(
     alloc: Global,
     rows: &mut R,

@@ -1,4 +1,4 @@
-//! Reads of a cell of which the newest versions are known.
+//! Reads of a cell whose newest versions are known.
 
 ghost use Rattle.std.specs.Prelude.{◌≡◌, ℕ, IfErr, IfOk, option_map};
 ghost use Rattle.cell_key.specs.Cells.{IsNewest};
@@ -21,7 +21,8 @@ pub(crate) struct Newest {
     pub(crate) write: Option<CellVersion>,
 }
 
-/// The data of a cell at a stamp. It is looked up only if `newest`, the newest data up to some stamp, isn't it.
+/// The data of a cell at a stamp. It is looked up only if `newest`, the newest data up to some stamp, has another
+/// stamp.
 fn data_at<R: Rows>(
     rows: &mut R,
     cell: &Cell,
@@ -47,8 +48,8 @@ fn data_at<R: Rows>(
     }
 }
 
-/// What a session that began at `start` reads of a cell of which the newest versions at or below `start` are these
-/// (Percolator, Get). Only data that isn't the newest is looked up.
+/// Reads a cell for a session that began at `start`, given the cell's newest versions at or below `start` (Percolator,
+/// Get). Data is looked up only if the record names a version that is not the newest.
 pub(crate) fn read_newest<R: Rows>(
     rows: &mut R,
     cell: &Cell,

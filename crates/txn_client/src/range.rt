@@ -1,4 +1,4 @@
-//! The cells of a scan, by names within their limits.
+//! The range of a scan, with its names checked.
 
 ghost use Rattle.std.specs.Prelude.{◌≡◌, ◌↔◌, ◌⊎◌, IfErr, IfOk, IfSome, IsSomeAnd, IsTrue, OnOk, option_map};
 ghost use Rattle.cell_key.specs.Names.{IsFamily, IsRow};
@@ -11,7 +11,8 @@ use cell_key::{Family, Refusal, Row};
 use si_model::{Cell, ScanRange};
 use std::alloc::Global;
 
-/// The cells after one or from the first on, up to and with a row or to the last, of one family or of all.
+/// The cells after `after` (or from the first), up to and including the row `end` (or to the last), of one family or of
+/// all.
 #[derive(Drop)]
 pub(crate) struct Range {
     pub(crate) after: Option<Cell>,
@@ -19,7 +20,7 @@ pub(crate) struct Range {
     pub(crate) family: Option<Family>,
 }
 
-/// The cell of these names, if there are any: `BadRow`, `BadColumn` or `NoMemory`.
+/// The cell with these names, if they are given. Refusals: `BadRow`, `BadColumn`, `NoMemory`.
 fn cell_named(alloc: Global, names: Option<(&[u8], &[u8])>) -> Result<Option<Cell>, Refusal>
     ensures ok { IfOk result (λ cell. cell
         ≡ option_map (λ names. cell_of names.0.now names.1.now) names.entry) }
@@ -34,7 +35,7 @@ fn cell_named(alloc: Global, names: Option<(&[u8], &[u8])>) -> Result<Option<Cel
     }
 }
 
-/// The row of this name, if there is one: `BadRow` or `NoMemory`.
+/// The row with this name, if it is given. Refusals: `BadRow`, `NoMemory`.
 fn row_named(alloc: Global, name: Option<&[u8]>) -> Result<Option<Row>, Refusal>
     ensures ok { IfOk result (λ row. row ≡ option_map (λ name. name.now) name.entry) }
     ensures valid { OnOk result (IfSome name.entry (λ name. IsRow name.now)) }
@@ -47,7 +48,7 @@ fn row_named(alloc: Global, name: Option<&[u8]>) -> Result<Option<Row>, Refusal>
     }
 }
 
-/// The family of this name, if there is one: `BadColumn` or `NoMemory`.
+/// The family with this name, if it is given. Refusals: `BadColumn`, `NoMemory`.
 fn family_named(alloc: Global, name: Option<&[u8]>) -> Result<Option<Family>, Refusal>
     ensures ok { IfOk result (λ family. family ≡ option_map (λ name. name.now) name.entry) }
     ensures valid { OnOk result (IfSome name.entry (λ name. IsFamily name.now)) }
@@ -61,8 +62,8 @@ fn family_named(alloc: Global, name: Option<&[u8]>) -> Result<Option<Family>, Re
 }
 
 impl Range {
-    /// The range of these names. Answers `BadRow` if a row is outside its limits, then `BadColumn` if a family is, and
-    /// `NoMemory` if there is no memory for them.
+    /// The range with these names. Answers `BadRow` if a row is outside its limits, then `BadColumn` if a family is,
+    /// and `NoMemory` if allocation fails.
     pub(crate) fn new(alloc: Global, range: ScanRange<'_>) -> Result<Range, Refusal>
         ensures ok { IfOk result (λ named. range_named named ≡ range_of range.entry) }
         ensures rows { OnOk result (HasRows (range_of range.entry)) }
@@ -75,7 +76,7 @@ impl Range {
         Ok(Range { after, end, family })
     }
 
-    /// Whether the row is the end or comes before it.
+    /// Whether the row is at or before the end.
     pub(crate) fn is_up_to(&self, row: &Row) -> bool
         ensures { IsTrue result ↔ IsUpToRow self.now.end row.now }
     {
@@ -85,7 +86,7 @@ impl Range {
         }
     }
 
-    /// Whether cells of the family are asked for.
+    /// Whether the range includes the family.
     pub(crate) fn is_of_family(&self, family: &Family) -> bool
         ensures { IsTrue result ↔ IsOfFamily self.now.family family.now }
     {

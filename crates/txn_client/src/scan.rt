@@ -1,4 +1,4 @@
-//! A scan: batches of cells with their newest versions, each of which is read, or passed by if it is of another family.
+//! Scans: batches of cells with their newest versions; each cell is read, or skipped if it is of another family.
 
 ghost use Rattle.std.specs.Prelude.{◌≡◌, ◌+◌, ◌-◌, ◌<◌, ◌≤◌, ◌++◌, [], ◌∷◌, ℕ, Option, Some, IsSome, length, map, option_copied, option_map, IfErr, IfOk, IfSome, OnOk};
 ghost use Rattle.std.specs.Bool.{OnFalse, OnTrue};
@@ -24,16 +24,16 @@ use rows::{BatchLimits, CellVersions, Rows, VersionBatch};
 use si_model::{Cell, Found, ScanFound, ScanItem, ScanReach, ScanReply};
 use std::alloc::Global;
 
-/// How many cells are asked for at first: a short range has no more.
+/// The size of the first batch in cells: few, since the range may be short.
 const LEAST_CELLS: usize = 16;
 
-/// The most cells that are asked for at once.
+/// The most cells of a batch.
 const MOST_CELLS: usize = 256;
 
 /// The most bytes that the items of a reply take.
 const MOST_BYTES: usize = 61_440;
 
-/// What is scanned: the cells of a range as of the start of a session, or their keys alone.
+/// A scan's start, its range, and whether it answers keys without values.
 #[derive(Drop)]
 pub(crate) struct Scan {
     pub(crate) start: Stamp,
@@ -41,9 +41,9 @@ pub(crate) struct Scan {
     pub(crate) keys_only: bool,
 }
 
-/// What a scan has gathered: items, and how many bytes they take in a reply; how many cells it may look
-/// at, and how many it has looked at; and the cell that was passed by since the last item, if there is
-/// one, which is at first the cell after which the range begins.
+/// The state of a scan: its items, and their bytes in a reply; the number of cells it may look at, and the number it
+/// has looked at; and the cell skipped last since the last item, if any. At first that is the cell after which the
+/// range begins.
 #[derive(Drop)]
 struct Gathered {
     items: Vec<ScanItem>,
@@ -53,10 +53,10 @@ struct Gathered {
     passed: Option<Cell>,
 }
 
-/// What a batch of cells came to.
+/// The outcome of a batch of cells.
 #[derive(Clone, Copy, Drop)]
 enum Batch {
-    /// Each of its cells was looked at.
+    /// All of its cells were looked at.
     Done,
     /// No cell of the range is left.
     End,
@@ -64,7 +64,7 @@ enum Batch {
     Full,
 }
 
-/// Another cell of the same names. Answers `NoMemory` if there is no memory for it.
+/// A copy of a cell. Answers `NoMemory` if allocation fails.
 fn copy_of(cell: &Cell) -> Result<Cell, Refusal>
     ensures copy { IfOk result (λ copy. copy ≡ cell.now) }
     ensures refusal { IfErr result (λ refusal. refusal ≡ Refusal.NoMemory) }
@@ -75,8 +75,8 @@ fn copy_of(cell: &Cell) -> Result<Cell, Refusal>
     })
 }
 
-/// How many bytes an item takes in a reply: its names and its value with their lengths, or a stamp, and
-/// a byte for its kind.
+/// The bytes of an item in a reply: its names and its value with their lengths, or a stamp instead of the value, and a
+/// byte for its kind.
 fn item_bytes(cell: &Cell, found: &ScanFound) -> usize
     ensures bytes { result ≡ item_length (cell.now, found_item found.now) }
     ensures named { IsNamed cell.now }
@@ -89,8 +89,8 @@ fn item_bytes(cell: &Cell, found: &ScanFound) -> usize
     }
 }
 
-/// What is said of a cell that has a value. That is left out if keys alone are asked for, or if its item
-/// alone would be too long.
+/// The answer for a cell that has a value. The value is left out if only keys are asked for, or if its item alone would
+/// be too long.
 fn value_said(cell: &Cell, value: Vec<u8>, keys_only: bool) -> ScanFound
     requires { IsNamed cell.now }
     ensures said { (cells : Cells) (s : ℕ) → ReadsValue cells cell.now s value.items
@@ -104,7 +104,7 @@ fn value_said(cell: &Cell, value: Vec<u8>, keys_only: bool) -> ScanFound
     found
 }
 
-/// What is said of a cell of which a read found this, if it has anything.
+/// The answer for a cell, from the result of its read; `None` if the cell has nothing.
 fn said(cell: &Cell, found: Found, keys_only: bool) -> Option<ScanFound>
     requires { IsNamed cell.now }
     ensures said { (cells : Cells) (s : ℕ) → IsFound cells cell.now s found
@@ -118,7 +118,7 @@ fn said(cell: &Cell, found: Found, keys_only: bool) -> Option<ScanFound>
     }
 }
 
-/// The same batch, which is the last one only if it has fewer cells than were asked for.
+/// The same batch, but as the last one only if it has fewer cells than were asked for.
 fn last_if_fewer(batch: VersionBatch, limits: BatchLimits) -> VersionBatch
     ensures next { (map : Cells) (after : Option Place) (s : ℕ) → AreNextVersions map after s batch
         → AreNextVersions map after s result }
@@ -137,7 +137,8 @@ fn last_if_fewer(batch: VersionBatch, limits: BatchLimits) -> VersionBatch
 }
 
 impl Gathered {
-    /// Nothing yet, before the first cell of the range, with room for as many items as it may have, but no more than 256.
+    /// An empty state before the first cell of the range, with room for one item per cell that may be looked at, up to
+    /// 256.
     fn new(alloc: Global, scan: &Scan, cells: u32) -> Result<Gathered, Refusal>
         requires rows { HasRows (range_named scan.now.range) }
         requires families { HasFamilies (range_named scan.now.range) }
@@ -161,7 +162,7 @@ impl Gathered {
         })
     }
 
-    /// The last cell: the one that was passed by since the last item, or else the last item's.
+    /// The last cell: the one skipped since the last item, or else the last item's.
     fn last(&self) -> Option<&Cell>
         ensures { option_copied result ≡ last_of self.now }
     {
@@ -174,8 +175,8 @@ impl Gathered {
         }
     }
 
-    /// How many cells are asked for, and how many bytes of values: as many as it has looked at, but 16 to 256 and no more
-    /// than it may look at; and what is left in a reply and one more.
+    /// The limits of the next batch. Cells: the number looked at so far, but at least 16, at most 256, and no more than
+    /// may still be looked at. Bytes of values: the bytes left in the reply, and one more.
     fn limits(&self) -> BatchLimits
         requires limits { IsInLimits self.now }
         requires room { self.now.looked < self.now.cells }
@@ -218,7 +219,7 @@ impl Gathered {
         Ok(last_if_fewer(batch, limits))
     }
 
-    /// Goes past a cell of which nothing is said.
+    /// Skips a cell that gives no item.
     fn pass(&mut self, cell: Cell)
         requires limits { IsInLimits self.old }
         requires room { self.old.looked < self.old.cells }
@@ -233,7 +234,7 @@ impl Gathered {
         self.passed = Some(cell);
     }
 
-    /// Names a cell, if its item fits.
+    /// Adds the item of a cell, if it fits.
     fn name(&mut self, cell: Cell, found: ScanFound) -> Result<bool, Refusal>
         requires limits { IsInLimits self.old }
         requires room { self.old.looked < self.old.cells }
@@ -259,7 +260,7 @@ impl Gathered {
         Ok(true)
     }
 
-    /// Looks at the next cell, whose newest versions are these. Whether its item fits, if it has one.
+    /// Looks at the next cell, whose newest versions are given. Returns false if it has an item that does not fit.
     fn look<R: Rows>(
         &mut self,
         rows: &mut R,
@@ -311,7 +312,7 @@ impl Gathered {
         }
     }
 
-    /// Looks at the cells of the next batch: at most 256, and no more than it may look at.
+    /// Looks at the cells of the next batch: at most 256, and no more than may still be looked at.
     fn take_batch<R: Rows>(&mut self, rows: &mut R, scan: &Scan) -> Result<Batch, Refusal>
         requires limits { IsInLimits self.old }
         requires room { self.old.looked < self.old.cells }
@@ -353,7 +354,7 @@ impl Gathered {
         Ok(if is_last { Batch::End } else { Batch::Done })
     }
 
-    /// The reply of a scan that went over all of its range.
+    /// The reply of a scan that covered all of its range.
     fn ended(self) -> ScanReply
         requires { IsInLimits self }
         ensures items { map item_of result.items.items ≡ items_in self }
@@ -367,7 +368,7 @@ impl Gathered {
         }
     }
 
-    /// The reply of a scan that went as far as the last cell. Answers `NoMemory` if there is no memory for a copy of it.
+    /// The reply of a scan that stopped after the last cell. Answers `NoMemory` if there is no memory for a copy of it.
     fn stopped(self) -> Result<ScanReply, Refusal>
         requires limits { IsInLimits self }
         requires some { IsSome (last_of self) }
@@ -388,11 +389,11 @@ impl Gathered {
 }
 
 impl Scan {
-    /// Looks at the cells of the range in order, at most at `cells` of them.
+    /// Looks at the cells of the range in order, at most `cells` of them.
     ///
     /// # Errors
     ///
-    /// `Device`, `NoMemory`, or `Damaged` if bytes that were read are outside their form.
+    /// `Device`, `NoMemory`, or `Damaged` if bytes that were read are malformed.
     pub(crate) fn run<R: Rows>(
         &self,
         alloc: Global,

@@ -4,7 +4,7 @@ use crate::writes::Writes;
 use cell_key::Moment;
 use si_model::Progress;
 
-/// How far a session is. A count is of the cells that are held, or that are clear.
+/// The phase of a session. The number is of cells held, or of cells finished.
 #[derive(Clone, Copy, Drop)]
 pub(crate) enum Phase {
     Open,
@@ -13,7 +13,7 @@ pub(crate) enum Phase {
     Finishing(u16),
 }
 
-/// A session: its start, its commit stamp, which is the start until one is drawn, its phase and its writes.
+/// A session: its start; its commit stamp, equal to the start until one is drawn; its phase and its writes.
 #[derive(Drop)]
 pub(crate) struct Session {
     pub(crate) start: Moment,
@@ -22,7 +22,7 @@ pub(crate) struct Session {
     pub(crate) writes: Writes,
 }
 
-/// What a step of a session did, and whether the session has ended with it.
+/// The outcome of a session's step, and whether the session has ended with it.
 #[derive(Clone, Copy, Drop)]
 pub(crate) struct Outcome {
     pub(crate) progress: Progress,

@@ -1,6 +1,6 @@
-//! The table of active sessions. Its type is named for those that run them: clients (Percolator).
+//! The table of active sessions. Its type is named for those who run them: clients (Percolator).
 
-ghost use Rattle.std.specs.Prelude.{◌≡◌, ◌+◌, ◌<◌, ◌^◌, ◌⊎◌, ℕ, IfErr, IfOk, IsErrOf, OnErr, OnOk};
+ghost use Rattle.std.specs.Prelude.{◌≡◌, ◌+◌, ◌<◌, ◌^◌, ◌⊎◌, ℕ, IfErr, IfOk, IsErrOf, IsSome, OnErr, OnOk};
 ghost use Rattle.std.specs.Prelude.{◌≤◌, Some, is_some, if◌then◌else◌, map};
 ghost use Rattle.std.specs.BTreeMap as btree;
 ghost use Rattle.std.specs.BTreeMap.{Updates, btree_map_len};
@@ -45,11 +45,11 @@ const MOST_SESSIONS: usize = 1024;
 /// The most cells that a scan may look at.
 const MOST_SCANNED: u32 = 1000;
 
-/// The active sessions by their starts, and the greatest stamp that was answered.
+/// The active sessions by their starts, and the greatest stamp answered.
 ///
-/// Each call is a step of the snapshot machine: if cells, sessions and oracle show one of its
-/// states, the answer is one that the machine may give there, and they show its next state after.
-/// A refusal leaves all as it was, and the same call may be made again.
+/// Each call is a step of the snapshot machine: if cells, sessions and oracle show one of its states, the machine may
+/// give the same answer there, and they show its next state afterwards. A refusal changes nothing, and the call may be
+/// repeated.
 #[derive(Drop)]
 pub struct Clients {
     alloc: Global,
@@ -57,7 +57,7 @@ pub struct Clients {
     sessions: BTreeMap<Stamp, Session>,
 }
 
-/// The greatest stamp that was answered, after a step.
+/// The greatest stamp answered, after a step.
 fn top_after_step(top: Stamp, progress: Progress) -> Stamp
     ensures { result ≡ top_after top progress }
 {
@@ -68,7 +68,7 @@ fn top_after_step(top: Stamp, progress: Progress) -> Stamp
 }
 
 impl Clients {
-    /// No sessions. The top is 0 or the greatest stamp that was answered.
+    /// No sessions. The top is the greatest stamp answered, or 0.
     pub fn new(alloc: Global, top: Stamp) -> Clients
         requires { top < 2 ^ 63 }
         ensures shown { (st : State) → st.top ≡ top → st.active ≡ empty → ShowsClients result st }
@@ -80,7 +80,7 @@ impl Clients {
         }
     }
 
-    /// The greatest stamp that was answered, and 0 before the first.
+    /// The greatest stamp answered, or 0 before the first.
     pub fn top(&self) -> Stamp
         ensures top { result ≡ self.now.top }
         ensures shown { (st : State) → ShowsClients self.now st → result ≡ st.top }
@@ -88,8 +88,8 @@ impl Clients {
         self.top
     }
 
-    /// The least start of an active session, or one more than the top: no session has a start below
-    /// it, and none will have one.
+    /// The smallest start of an active session, or the top plus one. No session has a lower start, and none will get
+    /// one.
     pub fn floor(&self) -> Stamp
         ensures { (st : State) → IsReached st → ShowsClients self.now st
             → machine.IsFloor st result }
@@ -100,14 +100,13 @@ impl Clients {
         }
     }
 
-    /// Begins a session (Percolator, the start of a transaction): its start, which is the next
-    /// stamp of the oracle and names the session.
+    /// Begins a session (Percolator, the start of a transaction). Returns its start, which is the next stamp of the
+    /// oracle and names the session.
     ///
     /// # Errors
     ///
-    /// `TooManySessions` if 1,024 are active, `Exhausted` after the greatest stamp, `Device`
-    /// if the oracle's mark could not be stored, `NoMemory`. There is room for the session
-    /// before its start is drawn.
+    /// `TooManySessions` if 1,024 are active, `Exhausted` after the greatest stamp, `Device` if the oracle's mark could
+    /// not be stored, `NoMemory`. The session is allocated before its start is drawn.
     pub fn begin<M: MarkStore>(&mut self, oracle: &mut Oracle<M>) -> Result<Stamp, Refusal>
         ensures step { (cells : Cells) → Steps cells self.old oracle.old.last
             machine.Begin (result_reply machine.Begun result) cells self.new oracle.new.last }
@@ -115,15 +114,16 @@ impl Clients {
             × (oracle.new.last ≡ start)) }
         ensures stays { OnErr result (oracle.new.last ≡ oracle.old.last) }
         ensures range { OnErr result (oracle.new.range_end ≡ oracle.old.range_end) }
-        // A refusal leaves the mark, or it is the end of the next range.
+        // A refusal leaves the mark unchanged, or at the end of the next range.
         ensures mark { OnErr result (MayHold (next_range_end oracle.old.range_end)
             (M.mark oracle.old.marks) (M.mark oracle.new.marks)) }
         ensures refusal { IfErr result IsBeginRefusal }
         ensures crowded { (st : State) → ShowsClients self.old st → IsCrowded st
             → IsErrOf result Refusal.TooManySessions }
+        ensures same { OnErr result (SameClients self.old self.new) }
         ensures undrawn { IsErrOf result Refusal.TooManySessions
             ⊎ (IsErrOf result Refusal.Exhausted ⊎ IsErrOf result Refusal.NoMemory)
-            → (oracle.new ≡ oracle.old) × SameClients self.old self.new }
+            → oracle.new ≡ oracle.old }
         ensures exhausted { IsErrOf result Refusal.Exhausted → oracle.old.last ≡ MOST_STAMP }
         ensures reason { HasReason (M.faults oracle.old.marks) (M.faults oracle.new.marks) result }
     {
@@ -131,21 +131,23 @@ impl Clients {
             return Err(Refusal::TooManySessions);
         }
         let start = Moment::after(oracle.last())?;
-        self.make_session(start)?;
+        let replaced = self.make_session(start)?;
         match oracle.draw() {
             Ok(start) => {
                 self.top = start;
                 Ok(start)
             }
             Err(refusal) => {
-                self.sessions.remove(&start.stamp());
+                self.undo_session(start, replaced);
                 Err(refusal)
             }
         }
     }
 
-    /// Puts an open session without writes at its start.
-    fn make_session(&mut self, start: Moment) -> Result<(), Refusal>
+    /// Puts an open session without writes at its start, and answers what stood there.
+    fn make_session(&mut self, start: Moment) -> Result<Option<Session>, Refusal>
+        ensures replaced { IfOk result (λ replaced.
+            replaced ≡ btree.get nat_cmp self.old.sessions start) }
         ensures made { OnOk result (Updates
             nat_cmp self.old.sessions self.new.sessions start (Some (open_session start))) }
         ensures len { OnOk result (btree_map_len self.new.sessions ≡ btree_map_len self.old.sessions
@@ -160,11 +162,29 @@ impl Clients {
             phase: Phase::Open,
             writes: Writes::new(self.alloc),
         };
-        self.sessions.insert(start.stamp(), session)?;
-        Ok(())
+        let replaced = self.sessions.insert(start.stamp(), session)?;
+        Ok(replaced)
     }
 
-    /// Ends a session. No memory is taken.
+    /// Puts back what stood at the start of a session that was made. No memory is taken.
+    fn undo_session(&mut self, start: Moment, replaced: Option<Session>)
+        requires { IsSome (btree.get nat_cmp self.old.sessions start) }
+        ensures undone { Updates nat_cmp self.old.sessions self.new.sessions start replaced }
+        ensures len { btree_map_len self.new.sessions + (if is_some replaced then 0 else 1)
+            ≡ btree_map_len self.old.sessions }
+        ensures top { self.new.top ≡ self.old.top }
+    {
+        match replaced {
+            Some(session) => {
+                let _ = self.sessions.insert(start.stamp(), session);
+            }
+            None => {
+                self.sessions.remove(&start.stamp());
+            }
+        }
+    }
+
+    /// Ends a session. Allocates nothing.
     ///
     /// # Errors
     ///
@@ -183,7 +203,7 @@ impl Clients {
         Ok(())
     }
 
-    /// The cell of a request to an open session: UnknownSession, WrongPhase, BadRow, BadColumn, NoMemory.
+    /// The cell of a request to an open session. Refusals: UnknownSession, WrongPhase, BadRow, BadColumn, NoMemory.
     fn open_cell(&self, start: Stamp, row: &[u8], family: &[u8]) -> Result<Cell, Refusal>
         ensures ok { IfOk result (λ cell. cell ≡ cell_of row.now family.now) }
         ensures open { OnOk result (IsOpenSession self.now start) }
@@ -200,14 +220,13 @@ impl Clients {
         }
     }
 
-    /// Reads a cell as of the session's start (Percolator, Get): the value that was committed last
-    /// by then, nothing, or the stamp of a lock that keeps the answer back.
+    /// Reads a cell as of the session's start (Percolator, Get). Returns the value that was committed last by then,
+    /// nothing, or the stamp of a lock that blocks the read.
     ///
     /// # Errors
     ///
-    /// In this order: `UnknownSession`, `WrongPhase` after the session's first step, `BadRow`,
-    /// `BadColumn`; then `Device`, `NoMemory`, or `Damaged` if bytes that were read are outside
-    /// their form.
+    /// In this order: `UnknownSession`, `WrongPhase` after the session's first step, `BadRow`, `BadColumn`; then
+    /// `Device`, `NoMemory`, or `Damaged` if bytes that were read are malformed.
     pub fn get<R: Rows>(
         &self,
         rows: &mut R,
@@ -218,11 +237,11 @@ impl Clients {
         ensures step { R.seen.holds rows.old → (last : ℕ) → Steps
             (R.seen.cells rows.old) self.now last (machine.Get start (cell_of row.now family.now))
             (result_reply found_reply result) (R.seen.cells rows.new) self.now last }
-        // What is answered stands in the cells, whatever they hold.
+        // The answer is right for the cells, whatever they contain.
         ensures found { R.seen.readable rows.old row.now → IfOk result
             (IsFound (R.seen.cells rows.old) (cell_of row.now family.now) start) }
         ensures reads { OnlyReads R.seen rows.old rows.new }
-        // What is shown is never answered as damaged.
+        // Cells that show a reached state never give Damaged.
         ensures undamaged { R.seen.readable rows.old row.now → (st : State) → IsReached st
             → ShowsCells (R.seen.cells rows.old) st → ¬ (IsErrOf result Refusal.Damaged) }
         ensures damaged { R.seen.readable rows.old row.now → IfErr result (λ refusal.
@@ -238,8 +257,8 @@ impl Clients {
         cells::read_cell(rows, &cell, start)
     }
 
-    /// What is to be scanned for an open session: UnknownSession, WrongPhase, BadRow, BadColumn,
-    /// BadCount, NoMemory.
+    /// Checks a scan's request to an open session. Refusals: UnknownSession, WrongPhase, BadRow, BadColumn, BadCount,
+    /// NoMemory.
     fn open_scan(
         &self,
         start: Stamp,
@@ -274,20 +293,19 @@ impl Clients {
         })
     }
 
-    /// Reads the cells of a range as of the session's start, in the order of rows and then of families.
-    /// It names each cell that has a value, with the value, and each that a lock keeps back, with the
-    /// lock's stamp. A cell that it goes over and doesn't name has nothing. A value is left out if keys
-    /// alone are asked for, or if its item alone would take more than 61,440 bytes of a reply.
+    /// Reads the cells of a range as of the session's start, by row and then by family. It names each cell that has a
+    /// value, with the value, and each cell that a lock blocks, with the lock's stamp. A cell that it passes without
+    /// naming has nothing. A value is left out if only keys are asked for, or if its item alone would take more than
+    /// 61,440 bytes of a reply.
     ///
-    /// It goes over the whole range (`End`), or stops after a cell (`More`): when it has looked at
-    /// `cells` cells, those of other families among them, or before a cell whose item would make the
-    /// items take more than 61,440 bytes. It goes on by one cell at least.
+    /// It covers the whole range (`End`), or stops after a cell (`More`): when it has looked at `cells` cells, cells of
+    /// other families included, or before a cell whose item would make the items take more than 61,440 bytes. It
+    /// advances by at least one cell.
     ///
     /// # Errors
     ///
-    /// In this order: `UnknownSession`, `WrongPhase` after the session's first step, `BadRow`,
-    /// `BadColumn`, `BadCount` if `cells` is 0 or above 1,000; then `Device`, `NoMemory`, or `Damaged`
-    /// if bytes that were read are outside their form.
+    /// In this order: `UnknownSession`, `WrongPhase` after the session's first step, `BadRow`, `BadColumn`, `BadCount`
+    /// if `cells` is 0 or above 1,000; then `Device`, `NoMemory`, or `Damaged` if bytes that were read are malformed.
     pub fn scan<R: Rows>(
         &self,
         rows: &mut R,
@@ -300,13 +318,13 @@ impl Clients {
             (R.seen.cells rows.old) self.now last
             (machine.ScanFrom start (range_of range.entry) keys_only cells)
             (result_reply scan_reply result) (R.seen.cells rows.new) self.now last }
-        // What is answered stands in the cells, whatever they hold.
+        // The answer is right for the cells, whatever they contain.
         ensures found { IsScanReadable R.seen rows.old (range_of range.entry)
             → IfOk result (λ reply. IsScanFound (R.seen.cells rows.old) start
             (range_of range.entry) keys_only cells
             (map item_of reply.items.items) (reach_of reply.reach)) }
         ensures reads { OnlyReads R.seen rows.old rows.new }
-        // What is shown is never answered as damaged.
+        // Cells that show a reached state never give Damaged.
         ensures undamaged { IsScanReadable R.seen rows.old (range_of range.entry)
             → (st : State) → IsReached st → ShowsCells (R.seen.cells rows.old) st
             → ¬ (IsErrOf result Refusal.Damaged) }
@@ -325,8 +343,8 @@ impl Clients {
         scan.run(self.alloc, rows, cells)
     }
 
-    /// Buffers a write of a cell (Percolator, Set). A cell that has one keeps its place and takes
-    /// the new value; another one comes last, and the first of all is the primary.
+    /// Buffers a write of a cell (Percolator, Set). If the cell already has a write, that write keeps its place and
+    /// gets the new value; otherwise the new write comes last. The first write is the primary.
     ///
     /// # Errors
     ///
@@ -356,8 +374,8 @@ impl Clients {
         })
     }
 
-    /// Buffers the deletion of a cell, as `set` buffers a write: one of the same cell keeps its place
-    /// and becomes the deletion.
+    /// Buffers the deletion of a cell, in the same way as `set`: an earlier write of the cell keeps its place and
+    /// becomes the deletion.
     ///
     /// # Errors
     ///
@@ -377,16 +395,15 @@ impl Clients {
         session.writes.set(Write { cell, value: None })
     }
 
-    /// Takes the next step of a session's commit (Percolator, Prewrite and Commit): it holds the
-    /// next cell, draws the commit stamp, commits at the first cell, or finishes the next cell.
-    /// It changes one row at most. A step that draws takes no memory.
+    /// Takes the next step of a session's commit (Percolator, Prewrite and Commit): holds the next cell, draws the
+    /// commit stamp, commits at the first cell, or finishes the next cell. It changes one row at most. A step that
+    /// draws allocates nothing.
     ///
     /// # Errors
     ///
-    /// In this order: `UnknownSession`, `EmptyCommit` if the session has no writes; then
-    /// `MemtableFull` if the step has edits to make and the rows have no room for them (a
-    /// conflict, a loss or a lock that is gone is answered at full rows too), `Exhausted`,
-    /// `Device`, `NoMemory` or `Damaged`, if bytes that were read are outside their form.
+    /// In this order: `UnknownSession`, `EmptyCommit` if the session has no writes; then `MemtableFull` if the step has
+    /// edits to make and the rows have no room for them (a conflict, a loss or a missing lock is answered even when the
+    /// rows are full), `Exhausted`, `Device`, `NoMemory`, or `Damaged` if bytes that were read are malformed.
     pub fn step<R: Rows, M: MarkStore>(
         &mut self,
         rows: &mut R,
@@ -402,25 +419,25 @@ impl Clients {
             rows.old rows.new oracle.old oracle.new) }
         ensures err { OnErr result (SameClients self.old self.new) }
         ensures below { KeepsBelow R.seen rows.old rows.new }
-        // One row changes, and what joins stands at the session's start or its commit stamp.
+        // At most one row changes, and each added key has the session's start or its commit stamp.
         ensures touched { R.seen.holds rows.old → (st : State) → ShowsClients self.old st
             → TouchesFor st start (R.seen.cells rows.old) (R.seen.cells rows.new) }
-        // A step that doesn't draw leaves the oracle as it is.
+        // A step that doesn't draw leaves the oracle unchanged.
         ensures aside { (st : State) → ShowsClients self.old st → ¬ IsAboutToDraw st start
             → oracle.new ≡ oracle.old }
-        // One that draws doesn't come to the rows.
+        // A step that draws doesn't touch the rows.
         ensures drawn { (st : State) → ShowsClients self.old st → IsAboutToDraw st start
             → rows.new ≡ rows.old }
         ensures refusal { IfErr result IsStepRefusal }
-        // It answers damage only of the row of the cell that it is at.
+        // Damage is answered only for the row of the next cell.
         ensures undamaged { IsNextReadable R.seen rows.old self.old start
             → ¬ (IsErrOf result Refusal.Damaged) }
         ensures causes { (st : State) → ShowsClients self.old st → StepCauses st start result }
-        // A step that draws is refused Exhausted after the greatest stamp, and no other one is.
+        // Exhausted is answered only by a step that draws, after the greatest stamp.
         ensures no_stamp { IsErrOf result Refusal.Exhausted
             → HasNoStamp ((st : State) → ShowsClients self.old st → IsAboutToDraw st start)
             oracle.old oracle.new }
-        // MemtableFull comes only if the rows have no room for the edits that the session names.
+        // MemtableFull comes only if the rows have no room for the edits of the session's next step.
         ensures full { IsErrOf result Refusal.MemtableFull → HasNoRoom R.seen.overfills
             rows.old (EditsOfStep (R.seen.holds rows.old) (R.seen.cells rows.old) self.old start) }
         ensures full_shown { R.seen.holds rows.old → IsErrOf result Refusal.MemtableFull

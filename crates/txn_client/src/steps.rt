@@ -21,7 +21,7 @@ use si_model::Progress;
 use std::alloc::Global;
 
 impl Session {
-    /// Holds cell `k`, if no session does and none wrote it since this one began.
+    /// Holds cell `k`, if it has no lock and was not written since this session began.
     fn hold_next<R: Rows>(
         &mut self,
         alloc: Global,
@@ -100,7 +100,7 @@ impl Session {
         })
     }
 
-    /// Puts the write record of the first cell in the place of its lock: the commit.
+    /// Commits: replaces the lock of the first cell by its write record.
     fn commit_first<R: Rows>(&mut self, alloc: Global, rows: &mut R) -> Result<Outcome, Refusal>
         requires { self.old.phase ≡ phase.Stamped }
         ensures step { R.seen.holds rows.old
@@ -140,7 +140,7 @@ impl Session {
         })
     }
 
-    /// Puts the write record of cell `k` in the place of its lock, if that stands.
+    /// Replaces the lock of cell `k` by its write record, if the lock is still there.
     fn finish_next<R: Rows>(
         &mut self,
         alloc: Global,

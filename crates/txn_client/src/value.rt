@@ -1,4 +1,4 @@
-//! A value within its limits.
+//! A value of checked length.
 
 ghost use Rattle.std.specs.Prelude.{◌≡◌, ◌↔◌, ◌⊎◌, ◌<◌, ◌≤◌, length, IfOk, IfErr, OnOk, IsErrOf};
 

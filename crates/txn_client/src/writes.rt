@@ -1,4 +1,4 @@
-//! What a session writes.
+//! The buffered writes of a session.
 
 ghost use Rattle.std.specs.Prelude.{◌≡◌, ◌≢◌, ◌↔◌, ◌⊎◌, ◌≤◌, ◌<◌, ℕ, [], map, length, slice_get, Some, None, IsTrue, false, IfOk, IfErr, OnOk, OnErr, IsErrOf, IfSome, IfNone, OnSome};
 ghost use Rattle.si_model.specs.Machine.{Names, Sets};
@@ -13,7 +13,7 @@ use si_model::Cell;
 use std::alloc::Global;
 use std::marker::Model;
 
-/// What a session writes to a cell: a value, or none if it deletes the cell.
+/// A session's write of a cell: a value, or `None` for a deletion.
 #[derive(Drop)]
 pub(crate) struct Write {
     pub(crate) cell: Cell,
@@ -36,7 +36,7 @@ impl Write {
 #[derive(Drop)]
 pub(crate) struct Writes {
     entries: Vec<Write>,
-    /// The indices of all but the first few entries in the order of their cells.
+    /// The indices of all but the first few entries, sorted by cell.
     order: Vec<u16>,
 }
 
@@ -53,8 +53,7 @@ impl Model for Writes {
         × IsOrder writes.entries.items writes.order.items };
 }
 
-/// Whether two names, neither of which is empty, may be the same. Of those that aren't, most differ in how long they are or
-/// in their last byte.
+/// False only if two nonempty names differ. Most different names differ in their length or their last byte.
 #[inline(always)]
 fn may_be_same(name: &[u8], other: &[u8]) -> bool
     requires first { 1 ≤ length name.now }
@@ -74,7 +73,7 @@ fn is_same(cell: &Cell, other: &Cell) -> bool
         && cell == other
 }
 
-/// The index of the cell's write, if it is one of the first few.
+/// The index of the cell's write, if it is among the first few.
 fn index_among_few(writes: &[Write], cell: &Cell) -> Option<usize>
     ensures found { IfSome result (λ index. IsIndexOf writes.now cell.now (Some index)) }
     ensures none { IfNone result (NoneBefore writes.now cell.now 8) }
@@ -90,7 +89,7 @@ fn index_among_few(writes: &[Write], cell: &Cell) -> Option<usize>
     None
 }
 
-/// The index of the cell's write, or the place where that of a new one goes in the order.
+/// The index of the cell's write, or the place to insert a new write's index in the order.
 fn find(writes: &[Write], order: &[u16], cell: &Cell) -> Result<usize, usize>
     requires { IsOrder writes.now order.now }
     ensures found { IfOk result (λ index. IsIndexOf writes.now cell.now (Some index)) }
@@ -117,7 +116,7 @@ impl Writes {
         }
     }
 
-    /// How many there are.
+    /// The number of writes.
     pub(crate) fn len(&self) -> u16
         ensures len { result ≡ length self.now }
         ensures few { result ≤ 256 }
@@ -125,7 +124,7 @@ impl Writes {
         self.entries.len() as u16
     }
 
-    /// The write at an index, from 0 on.
+    /// The write at an index, counted from 0.
     pub(crate) fn get(&self, index: u16) -> Option<&Write>
         ensures found { IfSome result (λ write. slice_get self.now index ≡ Some write.now) }
         ensures few { OnSome result (index < 256) }
@@ -135,7 +134,8 @@ impl Writes {
         self.entries.get(usize::from(index))
     }
 
-    /// A cell that is there keeps its place and takes the new value or deletion; another one comes last.
+    /// Sets the write of a cell. An earlier write of the same cell keeps its place and gets the new value or deletion;
+    /// otherwise the write comes last.
     pub(crate) fn set(&mut self, write: Write) -> Result<(), Refusal>
         ensures ok { OnOk result (Sets
             write.cell write.value (map write_of self.old) (map write_of self.new)) }

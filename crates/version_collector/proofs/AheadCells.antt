@@ -1,4 +1,4 @@
--- What lies ahead of a position, when a place is taken, and when keys of a cell are erased.
+-- The cells ahead of a position, after a place is taken and after keys of a cell are erased.
 use Rattle.std.proofs.Common.{◌≡◌, ◌≢◌, ◌<◌, ◌≤◌, ◌+◌, ◌-◌, ℕ, Bool, true, false, List, [], ◌∷◌, ◌++◌, length, Option, Some, None, IsSome, inl, inr, refl, sym, ap, ◌∙◌, subst, arith}
 use Rattle.std.specs.Option.{option_to_list}
 use Rattle.std.specs.Prelude.{IfSome, if◌then◌else◌, is_some}
@@ -50,7 +50,7 @@ after_after : (start : Option Place) (p q : Place) → IsAfter start p → IsAft
 after_after None p q h k = tt
 after_after (Some start) p q h k = total.trans start p q h k
 
--- ---- places that follow
+-- ---- places after a position
 
 follow_nothing : (cells : Cells) (after : Option Place) → Follow cells after [] false
 follow_nothing cells after = λ wanted. absurd (omega (arith, wanted))
@@ -67,7 +67,7 @@ module _ (IsNext : Option Place → Option Place → Type 0) where
     next_fewer (most - 1) (m - 1) (Some p) places (omega (arith, few)) (λ wanted. let more = less (omega (arith, wanted)) in omega (arith, more)) some.2,
   )
 
--- what was found follows; it is the end if there were fewer than were wanted
+-- the places found follow; they reach the end if there are fewer than were asked for
 pub follow_found : (cells : Cells) (after : Option Place) (most : ℕ) (places : List Place) (is_end : Bool) → AreNextCells cells after most places → (is_end ≡ true → length places < most) → Follow cells after places is_end
 follow_found cells after most places true some ends = next_fewer (IsNextCell cells) most (length places + 1) after places (omega arith) (λ wanted. ends refl) some
 follow_found cells after most places false some ends = next_fewer (IsNextCell cells) most (length places + 0) after places (omega arith) (λ wanted. absurd (omega (arith, wanted))) some
@@ -117,23 +117,23 @@ module _ (cells : Cells) (after : Option Place) (x : Cell) where
       by (Some found) newest is = record { key = key_of x q found.0; at = refl; some = subst (λ (o : Option (List ℕ)). IsSome o) (sym newest.2) refl }
 
   module _ (first : IsFirst cells after (place_at x)) where
-    -- it is next if it has one
+    -- it is the next cell if it has a key
     pub next_of_has : HasCell cells (place_at x) → IsNextCell cells after (Some (place_at x))
     next_of_has has = (first.behind, has, first.none)
 
     pub is_next : OneNextCell → (found : Option Place) → IsNextCell cells after found → HasCell cells (place_at x) → found ≡ Some (place_at x)
     is_next law found next has = law cells after found (Some (place_at x)) next (next_of_has has)
 
-    -- and what follows it follows the position if it has none
+    -- if it has none, the places after it follow the position
     pub doubted_gone : (places : List Place) (is_end : Bool) → ¬ HasCell cells (place_at x) → Follow cells (Some (place_at x)) places is_end → Follow cells after places is_end
     doubted_gone places is_end none follow = begin_before cells after (place_at x) first.behind (far_behind cells after (place_at x) first none) (length places + (if is_end then 1 else 0)) places follow
 
 pub doubted_none : (cells : Cells) (after : Option Place) (doubted : Option Cell) (places : List Place) (is_end : Bool) → doubted ≡ None → AreAhead cells after doubted places is_end → Follow cells after places is_end
 doubted_none cells after doubted places is_end none h = subst (λ (o : Option Cell). AreAhead cells after o places is_end) none h
 
--- ---- keys of a cell that are erased
+-- ---- erased keys of a cell
 
--- keys of other places stay, and no key is new
+-- keys of other places are unchanged, and no key is new
 record OnlyErases (x : Cell) (old new : Cells) : Type 0 where
   others : (k : CellKey) → place_of k ≢ place_at x → get new k ≡ get old k
   fewer : (k : CellKey) → IsSome (get new k) → IsSome (get old k)
@@ -198,7 +198,7 @@ module _ (x : Cell) (old new : Cells) (erases : OnlyErases x old new) where
   first_still : (after : Option Place) → IsNextCell old after (Some (place_at x)) → IsFirst new after (place_at x)
   first_still after next = record { behind = next.0; none = λ place behind less cell. next.2 place behind less (had place cell) }
 
--- the cell is doubted then, and what follows it still follows it
+-- the cell is doubted then, and the places still follow it
 pub erased_ahead : (Holds : Type 0) (x : Cell) (floor : ℕ) (edits : List Edit) (shown old new : Cells) → Erases Holds shown x floor edits → new ≡ after_edits old edits → (after : Option Place) (places : List Place) (is_end : Bool)
     → IsNextCell old after (Some (place_at x)) → Follow old (Some (place_at x)) places is_end → AreAhead new after (Some x) places is_end
 erased_ahead Holds x floor edits shown old new erased made after places is_end next follow =

@@ -1,4 +1,4 @@
--- The edits that erase what was found in a cell, and when nothing is left to erase.
+-- The edits that erase old versions of a cell, and when nothing is left to erase.
 use Rattle.std.proofs.Common.{Bool, true, false, ◌==◌, IfOk, ◌≡◌, ◌≢◌, ◌∙◌, ◌⊎◌, inl, inr, ℕ, zero, suc, ◌+◌, ◌<◌, ◌≤◌, ◌^◌, List, [], ◌∷◌, ◌++◌, length, take, get_or, Option, Some, None, Result, Ok, Err, IfErr, append_assoc, add-one, refl, sym, ap, subst, arith}
 use Rattle.std.proofs.Math.Seq.{take-suc}
 use Rattle.std.proofs.lemmas.Bool.{cases_lt, eqb-true}
@@ -30,7 +30,7 @@ use Rattle.version_collector.specs.Versions.{AreFound, AreNear, AreShown, AreUnn
 use Rattle.version_collector.specs.declared.versions.NearStarts.{NearStarts}
 use Rattle.version_collector.proofs.Starts.{lone_deletion}
 
--- ---- edits one after another
+-- ---- edits in sequence
 
 record_erasures_push : (x : Cell) (vs : List (ℕ × ℕ)) (v : ℕ × ℕ) → record_erasures x (vs ++ v ∷ []) ≡ record_erasures x vs ++ Erase (key_of x Write v.0) ∷ Erase (key_of x Data v.1) ∷ []
 record_erasures_push x [] v = refl
@@ -85,7 +85,7 @@ same_or_not (x ∷ xs) (y ∷ ys) = elim (eqb_tells x y) [
   | inr other ↦ inr (λ e. other.1 cc)
 ]
 
--- a text has the start t, or it hasn't
+-- a text either has the start t or not
 names_or_not : (t : ℕ) (b : List ℕ) → ((kind : WriteKind) × IsRecordText t kind b) ⊎ ((kind : WriteKind) → ¬ IsRecordText t kind b)
 names_or_not t b = elim (same_or_not b (record_text t write.Set)) [
   | inl set ↦ inl (write.Set, inl set)
@@ -151,14 +151,14 @@ shown_low cells (st, reached, shown) x c b stands =
 tidy_where_none : (cells : Cells) → AreShown cells → (x : Cell) (floor : ℕ) → AreUnnamed cells x floor [] → IsLastDeletion cells x floor None → IsTidy cells x floor
 tidy_where_none cells shown x floor none not_deleted = tidy_below cells x floor (2 ^ 63) (shown_low cells shown x) none not_deleted
 
--- ---- what the edits erase
+-- ---- the effects of the edits
 
 pub erases_records : (Holds : Type 0) (cells : Cells) (x : Cell) (floor : ℕ) (vs : List (ℕ × ℕ)) (edits : List Edit) → vs ≢ [] → edits ≡ record_erasures x vs → length vs ≤ 128
     → (Holds → AreShown cells → AreFound cells x floor vs) → ErasesOrIsTidy Holds cells x floor edits
 erases_records Holds cells x floor [] edits some are few found = absurd (some refl)
 erases_records Holds cells x floor (v ∷ vs) edits some are few found = subst (ErasesOrIsTidy Holds cells x floor) (sym are) (inl (record { vs = v ∷ vs; are = refl; some = some; few = few; old = found }))
 
--- data that no record names, where there are no old records
+-- data that no record names, if there are no old records
 pub unnamed_where_none : (Holds : Type 0) (cells : Cells) (x : Cell) (floor : ℕ) (vs : List (ℕ × ℕ)) (ts : List ℕ) → vs ≡ [] → (Holds → AreShown cells → AreFound cells x floor vs)
     → (Holds → AreShown cells → HasOneRecord cells x floor → AreUnnamed cells x floor ts) → Holds → AreShown cells → AreUnnamed cells x floor ts
 unnamed_where_none Holds cells x floor vs ts none first then held shown = then held shown (subst (AreFound cells x floor) none (first held shown))
@@ -187,7 +187,7 @@ erases_some Holds cells x floor (e ∷ es) some erases = erases
 pub tidy_where_empty : (Holds : Type 0) (cells : Cells) (x : Cell) (floor : ℕ) (edits : List Edit) → edits ≡ [] → ErasesOrIsTidy Holds cells x floor edits → Holds → AreShown cells → IsTidy cells x floor
 tidy_where_empty Holds cells x floor edits none erases = subst (ErasesOrIsTidy Holds cells x floor) none erases
 
--- ---- what is answered
+-- ---- the answer
 
 not_true : false ≡ true → ⊥
 not_true e = cc
@@ -216,7 +216,7 @@ pub deletion_answered : {Z : Type 0} (Holds : Type 0) (cells : Cells) (x : Cell)
 deletion_answered Holds cells x floor ts deletion (Err e) none are first found = tt
 deletion_answered Holds cells x floor ts deletion (Ok edits) none are first found = erases_deletion Holds cells x floor ts deletion edits.items none are first found
 
--- what was found after reads that left the cells as they were
+-- the result after reads that left the cells unchanged
 pub last_after : (Before Now : Type 0) (old new : Cells) (x : Cell) (floor : ℕ) (deletion : Option ℕ) → (Before → Now) → new ≡ old
     → (Now → AreShown new → IsLastDeletion new x floor deletion) → Before → AreShown old → IsLastDeletion old x floor deletion
 last_after Before Now old new x floor deletion still kept found held shown =

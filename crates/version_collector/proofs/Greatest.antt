@@ -1,4 +1,4 @@
--- The greatest numbers of which something is so, as a search from above finds them.
+-- The greatest numbers with a property, as a search from above finds them.
 use Rattle.std.proofs.Common.{◌≡◌, ℕ, zero, suc, ◌+◌, ◌<◌, ◌≤◌, ◌⊎◌, inl, inr, List, [], ◌∷◌, ◌++◌, length, Some, refl, sym, ap, subst, arith}
 use Rattle.std.specs.Prelude.{slice_get}
 use Rattle.std.proofs.lemmas.Bool.{cases_lt}
@@ -6,7 +6,7 @@ use Rattle.std.proofs.lemmas.Option.{none-some, same_Some, slice_get_within}
 use Rattle.si_model.specs.Sets.{◌∈◌, here, there}
 use Rattle.version_collector.specs.Versions.{AreGreatest}
 
--- all numbers from low on of which something is so, in falling order
+-- all numbers from low on with a property, in descending order
 pub record AreAll (IsSo : ℕ → Type 0) (low : ℕ) (found : List ℕ) : Type 0 where
   pub falling : (i j a b : ℕ) → i < j → slice_get found i ≡ Some a → slice_get found j ≡ Some b → b < a
   pub each : (s : ℕ) → s ∈ found → IsSo s × (low ≤ s)
@@ -92,7 +92,7 @@ all_past IsSo low s found all below none = record {
   ];
 }
 
--- the search ends where none is left
+-- the search ends when none is left
 pub greatest_all : (n : ℕ) (IsSo : ℕ → Type 0) (low : ℕ) (found : List ℕ) → AreAll IsSo low found → length found ≤ n → ((u : ℕ) → u < low → ¬ IsSo u) → AreGreatest n IsSo found
 greatest_all n IsSo low found all few none = record {
   falling = all.falling;

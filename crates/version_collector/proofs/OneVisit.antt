@@ -1,4 +1,4 @@
--- One visit, by what was found.
+-- One visit, by the result of its reads.
 use Rattle.std.proofs.Common.{◌≡◌, ℕ, List, [], ◌∷◌, Some, None, inl, inr, refl, sym, ap, subst, ◌∙◌}
 use Rattle.std.specs.FinMap.{remove}
 use Rattle.cell_key.specs.Cells.{Cells, after_edits}

@@ -12,7 +12,7 @@ use Rattle.version_collector.specs.Versions.{AreShown}
 pub not_device : (e : Refusal) → e ≡ Damaged → e ≢ Device
 not_device e is other = cc
 
--- damage is answered if something doesn't hold
+-- damage is answered if a premise doesn't hold
 pub refused_damaged : {B : Type 0} (Readable : Type 0) (r : Result B Refusal) (e : Refusal) → IsErrAnd r (λ f. f ≡ e) → e ≡ Damaged → ¬ Readable → IfErr r (IsRefusalOfRead Readable)
 refused_damaged Readable (Ok x) e by is none = tt
 refused_damaged Readable (Err f) e by is none = subst (IsRefusalOfRead Readable) (sym (by ∙ is)) none
@@ -21,12 +21,12 @@ pub refused_named : {B : Type 0} (Readable None : Type 0) (r : Result B Refusal)
 refused_named Readable None (Ok x) is none so = tt
 refused_named Readable None (Err f) is none so = subst (IsRefusalOfRead Readable) (sym is) (so none)
 
--- what is readable and shown before a read is readable and shown after it
+-- a row that is readable and shown before a read is readable and shown after it
 pub shown_later : {R : Type 0} {seen : View R} {a b : R} (row : List ℕ)
     → OnlyReads seen a b → seen.readable a row × AreShown (seen.cells a) → seen.readable b row × AreShown (seen.cells b)
 shown_later row reads was = (reads.readable row was.0, subst AreShown (sym (reads.kept)) was.1)
 
--- what is readable isn't refused as damaged
+-- a read of a readable row isn't refused as damaged
 pub read_not_damaged : {B : Type 0} (r : Result B Refusal) (Readable : Type 0) → IfErr r (IsRefusalOfRead Readable) → Readable → ¬ IsErrOf r Damaged
 read_not_damaged (Ok x) Readable h whole is = not_refused x Damaged is
 read_not_damaged (Err e) Readable h whole is = read_undamaged Readable e h whole (let same : e ≡ Damaged = cc in same)

@@ -1,4 +1,4 @@
--- From which place on visits read, which came after one another.
+-- The place from which visits in sequence read.
 use Rattle.std.proofs.Common.{◌≡◌, ℕ, ◌⊎◌, List, Option, None, inl, inr, refl, sym, subst, ◌∙◌}
 use Rattle.cell_key.specs.Cells.{Cells}
 use Rattle.cell_key.specs.Places.{Place}
@@ -26,7 +26,7 @@ is_second : (p : Pass) → pass_of p ≡ SecondPass → p ≡ Second
 is_second First e = cc
 is_second Second e = refl
 
--- a visit stays in its pass and at its position, or behind it; or the second pass begins before all cells
+-- a visit keeps its pass, and keeps its position or moves it forward; or the second pass begins before all cells
 abbrev Moves : model.Pass → Option Place → model.Pass → Option Place → Type 0
 Moves p after p' after' =
     ((p' ≡ p) × ((row : List ℕ) → IsRowFrom after' row → IsRowFrom after row))
@@ -42,7 +42,7 @@ moves cells floor p after reply cells' p' after' (erases_deletion next lone) = i
 moves cells floor p after reply cells' p' after' (tidies {after = at} {x = x} next tidy) = inl (refl, from_later at (place_at x) next.0)
 moves cells floor p after reply cells' p' after' (ends next) = inl (refl, λ row from. from)
 
--- what visits have left, and the rows that are still to be read
+-- d is c after visits: a second pass is kept, and the rows from its position on are among the rows read
 pub record IsLater (c d : Collector) : Type 0 where
   pub forward : c.pass ≡ Second → d.pass ≡ Second
   pub rows : (row : List ℕ) → IsRowFrom (position_of d.after) row → IsRowFrom (read_from c d) row
@@ -82,11 +82,11 @@ module _ {R : Type 0} (seen : View R) where
       λ row from. each row tt
   earlier rows Second q q' after is readable = readable
 
-  -- what a later visit needs to be readable an earlier one needs
+  -- an earlier visit also needs the rows to be readable that a later one needs
   pub from_earlier : (rows : R) (c d e : Collector) → GoesOn d e → AreReadableFrom seen rows (read_from c e) → AreReadableFrom seen rows (read_from c d)
   from_earlier rows c d e (inl same) readable = subst (λ (p : Pass). AreReadableFrom seen rows (read_in c.pass p (position_of c.after))) same readable
   from_earlier rows c d e (inr second) readable = earlier rows c.pass d.pass e.pass (position_of c.after) second readable
 
-  -- after visits, what the next one reads is still readable
+  -- after visits, the rows that the next one reads are still readable
   pub readable_now : {cells : Cells} {c : Collector} {k : ℕ} {cells' : Cells} {d : Collector} (old now : R) → KeepsBelow seen old now → AreVisits cells c k cells' d → AreReadableFrom seen old (read_from c d) → AreReadableFrom seen now (position_of d.after)
   readable_now {cells} {c} {k} {cells'} {d} old now keeps visits readable = λ row from. keeps.readable row (readable row ((visits_later cells c k cells' d visits).rows row from))

@@ -1,4 +1,5 @@
--- The records and the data of a cell, where a reached state is shown: what its records name, and what a search from above finds.
+-- The records and the data of a cell in a shown reached state: the starts that its records name, and the result of a
+-- search from above.
 use Rattle.std.proofs.Common.{◌≡◌, ◌≢◌, ℕ, suc, ◌+◌, ◌-◌, ◌<◌, ◌≤◌, ◌^◌, inl, inr, List, [], ◌∷◌, ◌++◌, length, map, Option, Some, None, Result, Ok, Err, IfErr, IfOk, refl, sym, ap, subst, ◌∙◌, arith}
 use Rattle.std.proofs.lemmas.Bool.{cases_lt}
 use Rattle.std.proofs.lemmas.List.{map-append}
@@ -32,9 +33,9 @@ use Rattle.version_collector.specs.Versions.{AreFound, AreGreatest, AreNear, Are
 use Rattle.version_collector.specs.declared.versions.NearStarts.{NearStarts}
 use Rattle.version_collector.proofs.Greatest.{AreAll, all_more, all_none, all_past, greatest_all, greatest_full, in_last, length-last}
 
--- ---- what records name
+-- ---- the starts in records
 
--- the start that a record's text has, and the record's stamp, are within the limits of stamps
+-- the start in a record's text, and the record's stamp, are within the limits of stamps
 record IsRecord (c : ℕ) (b : List ℕ) : Type 0 where
   start : ℕ
   kind : WriteKind
@@ -53,7 +54,7 @@ shown_record cells (st, reached, shown) x c b there =
     let same = k.stamp in
     record { start = k.commit.start; kind = kind_of_change k.change; from = from; to = to; text = k.is_text; stamp = omega arith }
 
--- a record's text is read as it is
+-- a record's text is decoded to its start and kind
 text_read : (b : List ℕ) (t : ℕ) (kind : WriteKind) → IsRecordText t kind b → t < 2 ^ 63 → NamesWrite b t kind
 text_read b t kind is low = names_of t kind b (omega arith) is
 
@@ -72,7 +73,7 @@ named_text cells shown x c t b there (read, names) =
 pub one_start : (b : List ℕ) (t u : ℕ) (kind : WriteKind) → NamesWrite b t kind → NamesStart b u → t ≡ u
 one_start b t u kind first second = (one_write b t u kind second.0 first second.1).0
 
--- so none that is shown names no start
+-- so each shown record names a start
 pub not_damaged : (cells : Cells) (x : Cell) (c : ℕ) (b : List ℕ) → at cells x Write c ≡ Some b → ((t : ℕ) → 1 ≤ t → t < 2 ^ 63 → ¬ NamesStart b t) → ¬ AreShown cells
 not_damaged cells x c b there none shown =
     let r : IsRecord c b = shown_record cells shown x c b there in
@@ -80,7 +81,7 @@ not_damaged cells x c b there none shown =
 
 -- ---- old records
 
--- all records from below on that are older than the newest one at or below the floor
+-- all records from this stamp on that are older than the newest one at or below the floor
 pub record AreOldFrom (cells : Cells) (x : Cell) (floor below : ℕ) (vs : List (ℕ × ℕ)) : Type 0 where
   pub w : ℕ
   pub kept : IsLastRecord cells x floor w
@@ -161,11 +162,11 @@ pub old_full : (cells : Cells) (x : Cell) (floor below : ℕ) (vs : List (ℕ ×
 old_full cells x floor below vs old full = old_are cells x floor below vs old
     (greatest_full 128 (λ c. IsThere cells x Write c × (c < old.w)) below (map (λ v. v.0) vs) old.stamps (length-map vs ∙ full))
 
--- the newest of the versions that are left
+-- the newest of the remaining versions
 pub latest_left : (cells : Cells) (x : Cell) (q : Qualifier) (below most : ℕ) (v : ℕ × List ℕ) (vs : List (ℕ × List ℕ)) → 1 ≤ below → AreNewestFirst cells (key_of x q) (below - 1) most (v ∷ vs) → IsLatestBelow cells x q below (Some v)
 latest_left cells x q below most v vs from (some, (low, high, there, above), one, rest) = (omega (arith, high), there, λ s up less. above s up (omega arith))
 
--- old records were found, and these versions are left
+-- old records were found, and these versions remain
 pub record HasOlder (cells : Cells) (x : Cell) (floor : ℕ) (vs : List (ℕ × ℕ)) (left : List (ℕ × List ℕ)) : Type 0 where
   pub below : ℕ
   pub from : 1 ≤ below
@@ -195,7 +196,7 @@ older_end cells x floor vs few h = elim (cases_lt (length vs) 128) [
   | inr most ↦ old_full cells x floor h.below vs h.old (omega arith)
 ]
 
--- a cell has one record at most, unless one stands below the newest
+-- a cell has at most one record, unless there is one below the newest
 pub one_unless : {Z : Type 0} (cells : Cells) (x : Cell) (floor w : ℕ) (b : List ℕ) (next : Option (ℕ × Vec ℕ Z)) (has : Bool) → has ≡ is_some next → IsNewest cells (key_of x Write) 0 floor (Some (w, b))
     → IsLatestBelow cells x Write w (option_map stamped next) → OnFalse has (HasOneRecord cells x floor)
 one_unless cells x floor w b None has is newest none = subst (λ (h : Bool). OnFalse h (HasOneRecord cells x floor)) (sym is) (old_all cells x floor w [] (old_begin cells x floor w b newest) (omega arith) none)
@@ -205,19 +206,19 @@ pub nothing_left : {A : Type 0} (xs : List A) → length xs ≡ 0 → xs ≡ []
 nothing_left [] none = refl
 nothing_left (x ∷ xs) none = absurd (omega (arith, none))
 
--- if fewer are found than were asked for, no more are left
+-- if fewer are found than were asked for, none remain
 pub all_newest : (cells : Cells) (at : ℕ → CellKey) (hi n most : ℕ) (vs : List (ℕ × List ℕ)) → AreNewestFirst cells at hi n vs → length vs < n → n ≤ most → AreNewestFirst cells at hi most vs
 all_newest cells at hi n most [] h few fits = λ _. h (omega (arith, few))
 all_newest cells at hi n most (v ∷ vs) h few fits = (omega (arith, few, fits), h.1, h.2, all_newest cells at (v.0 - 1) (n - 1) (most - 1) vs h.3 (omega (arith, few)) (omega (arith, fits)))
 
--- what is found after reads that changed nothing
+-- the result after reads that changed nothing
 pub newest_then : {R : Type 0} {Z : Type 0} {seen : View R} {a b : R} (x : Cell) (floor most : ℕ) → OnlyReads seen a b → seen.readable a x.row
     → (r : Result (Vec (ℕ × Vec ℕ Z) Z) Refusal) → (seen.readable b x.row → IfOk r (λ found. AreNewestFirst (seen.cells b) (key_of x Write) floor most (map stamped found.items)))
     → IfOk r (λ found. AreNewestFirst (seen.cells a) (key_of x Write) floor most (map stamped found.items))
 newest_then {seen = seen} x floor most reads held (Ok found) h = subst (λ (cs : Cells). AreNewestFirst cs (key_of x Write) floor most (map stamped found.items)) reads.kept (h (reads.readable x.row held))
 newest_then x floor most reads held (Err e) h = tt
 
--- the same of versions as they are read
+-- the same for decoded versions
 pub older_first : {Z : Type 0} (cells : Cells) (x : Cell) (floor : ℕ) (items older : List (ℕ × Vec ℕ Z)) (v : ℕ × Vec ℕ Z) → items ≡ v ∷ older → AreNewestFirst cells (key_of x Write) floor 129 (map stamped items) → HasOlder cells x floor [] (map stamped older)
 older_first {Z} cells x floor items older v is newest = older_begin cells x floor v.0 v.1.items (map stamped older) (subst (λ (vs : List (ℕ × Vec ℕ Z)). AreNewestFirst cells (key_of x Write) floor 129 (map stamped vs)) is newest)
 
@@ -245,7 +246,7 @@ module _ (cells : Cells) (shown : AreShown cells) (x : Cell) (floor : ℕ) (one 
       let e : text ≡ b = same_Some text b (sym named ∙ there) in
       ap (λ (n : ℕ). Some n) (sym (read_text b t s kind by.0 (subst (λ (bs : List ℕ). IsRecordText t kind bs) e is) low by.1).0)
 
-  -- what either names is named
+  -- a start that either names is named
   last_named : (start : Option ℕ) (t : ℕ) → NamesLast cells x floor start → start ≡ Some t → IsNamed cells x t
   last_named start t (last, newest, by) e =
       let n = named_one last start t by e in
@@ -258,7 +259,7 @@ module _ (cells : Cells) (shown : AreShown cells) (x : Cell) (floor : ℕ) (one 
       let is = subst (IsOldest cells (key_of x Write) (floor + 1) (2 ^ 64 - 1)) n.2 oldest in
       (n.0, (named_text cells shown x n.0 t n.1 is.2 n.3).0)
 
-  -- and no other start below the floor is
+  -- and no other start below the floor is named
   last_names : (last : Option (ℕ × List ℕ)) (start : Option ℕ) (t c : ℕ) → IsNewest cells (key_of x Write) 0 floor last → IsNamedBy last start
       → c ≤ floor → NamesAt cells x c t → t < 2 ^ 63 → start ≡ Some t
   last_names None start t c none by most named low = absurd (none-some named.0 (sym (none c (omega arith) most) ∙ named.2))
@@ -292,7 +293,7 @@ module _ (cells : Cells) (shown : AreShown cells) (x : Cell) (floor : ℕ) (one 
     | inr most ↦ inl (last_names are.last.0 near.last t c are.last.1 are.last.2 most named low)
   ]
 
--- data from below on that no record names
+-- data from this stamp on that no record names
 pub data_begin : (cells : Cells) (x : Cell) (floor : ℕ) → AreAll (IsUnnamed cells x floor) floor []
 data_begin cells x floor = all_none (IsUnnamed cells x floor) floor (λ s so. so.0)
 
@@ -323,7 +324,7 @@ pub data_full : (cells : Cells) (x : Cell) (floor below : ℕ) (ts : List ℕ) �
     → AreUnnamed cells x floor ts
 data_full cells x floor below ts one all full = record { one = one; starts = greatest_full 256 (IsUnnamed cells x floor) below ts all full }
 
--- the records nearest to the floor, as they are read
+-- the records nearest to the floor, as decoded
 pub near_read : (cells : Cells) (x : Cell) (floor w t : ℕ) (b : List ℕ) (kind : WriteKind) (next : Option ℕ) → IsNewest cells (key_of x Write) 0 floor (Some (w, b)) → NamesWrite b t kind → NamesNext cells x floor next
     → AreNear cells x floor (record { last = Some t; next = next })
 near_read cells x floor w t b kind next newest names after = record { last = (Some (w, b), newest, (kind, names)); next = after }
@@ -333,7 +334,7 @@ near_read cells x floor w t b kind next newest names after = record { last = (So
 not_set : write.Set ≡ write.Delete → ⊥
 not_set e = cc
 
--- a record that is read as a deletion's, or as a set's, is one
+-- a record that is decoded as a deletion's, or as a set's, is one
 pub deletes : (cells : Cells) → AreShown cells → (x : Cell) (c t : ℕ) (b : List ℕ) → at cells x Write c ≡ Some b → NamesWrite b t write.Delete
     → (u : ℕ) × (at cells x Write c ≡ Some (record_text u write.Delete))
 deletes cells shown x c t b there names = (r.start, there ∙ ap (λ (bs : List ℕ). Some bs) (newer r.kind kind r.text))
@@ -372,7 +373,7 @@ deletion_at cells shown x floor w t b kind (Some c) newest names some none =
     let d = deletes cells shown x w t b newest.2 (subst (λ (k : WriteKind). NamesWrite b t k) some.1 names) in
     subst (λ (n : ℕ). IsLastDeletion cells x floor (Some n)) (sym some.0) (last_record cells x floor w b newest, d.0, d.1)
 
--- if no old records stand, it is the oldest
+-- if there are no old records, it is the oldest
 pub lone_deletion : (cells : Cells) (x : Cell) (floor c : ℕ) → AreUnnamed cells x floor [] → IsLastDeletion cells x floor (Some c) → IsLoneDeletion cells x floor c
 lone_deletion cells x floor c none (last, start, there) = record {
   none = none;
@@ -387,7 +388,7 @@ lone_deletion cells x floor c none (last, start, there) = record {
     stands_none None not = refl
     stands_none (Some b) not = absurd (not b refl)
 
--- ---- what a read found is there
+-- ---- the result of a read is in the cells
 
 pub newest_there : (cells : Cells) (x : Cell) (lo hi : ℕ) (found : Option (ℕ × List ℕ)) → IsNewest cells (key_of x Write) lo hi found
     → (v : ℕ × List ℕ) → found ≡ Some v → at cells x Write v.0 ≡ Some v.1

@@ -41,16 +41,16 @@ use Rattle.version_collector.specs.declared.collector.Pass.TheVariants.{First}
 use Rattle.version_collector.specs.declared.collectors.Collectors.{Collectors}
 use Rattle.version_collector.proofs.VisitedCells.{VisitsLeave, request_is}
 
--- what a map holds after one key has changed
+-- the entries of a map after one key has changed
 upd_at : (old new : ℕ → Option Collector) (k : ℕ) (w : Option Collector) → ((q : ℕ) → new q ≡ cond (is_eq (nat_cmp k q)) w (old q)) → new k ≡ w
 upd_at old new k w h = h k ∙ ap (λ (b : Bool). cond b w (old k)) (eq_test k k refl)
 
 upd_off : (old new : ℕ → Option Collector) (k : ℕ) (w : Option Collector) → ((q : ℕ) → new q ≡ cond (is_eq (nat_cmp k q)) w (old q)) → (q : ℕ) → q ≢ k → new q ≡ old q
 upd_off old new k w h q ne = h q ∙ ap (λ (b : Bool). cond b w (old q)) (ne_test k q (λ e. ne (sym e)))
 
--- ---- how far each has come
+-- ---- the progress of each
 
--- how far a collector with such a floor has come stays so
+-- the progress of a collector with such a floor is kept
 abbrev KeepsCome : Cells → State → Cells → State → Type 0
 KeepsCome cells st cells' next = (floor : ℕ) → floor ≤ st.floor → (pass : model.Pass) (after : Option Place) → HasCome cells st floor pass after → HasCome cells' next floor pass after
 
@@ -62,7 +62,7 @@ shows_other cells cells' st next reached keeps (Some c) i same h = record {
   come = keeps c.floor ((reached_floors reached).each i c.floor h.kept) (pass_of c.pass) (position_of c.after) h.come;
 }
 
--- what others do leaves what collectors show
+-- steps of others leave the state that collectors show unchanged
 pub shows_on : AreShownOn
 shows_on cells cells' collectors st next q r reached store step kind changes shown =
     let same = (leaves_others st next q r step).collectors kind in
@@ -78,12 +78,12 @@ come_marks : (cells : Cells) (st next : State) → ((x : Cell) (t : ℕ) → Mar
 come_marks cells st next fewer floor FirstPass after come = λ x t passed m. come x t passed (fewer x t m)
 come_marks cells st next fewer floor SecondPass after come = (λ x t m. come.0 x t (fewer x t m), come.1)
 
--- a collection, after which no mark joins
+-- a collection, after which no mark is added
 keeps_collected : (cells cells' : Cells) (st next : State) → ShowsCells cells st → Collects cells cells' st → ((x : Cell) (t : ℕ) → Marked next x t → Marked st x t) → KeepsCome cells st cells' next
 keeps_collected cells cells' st next store collects fewer floor low pass after come =
     come_marks cells' st next fewer floor pass after (come_collected cells cells' st store collects floor pass after come)
 
--- ---- what is shown of a collector that is kept, and of one that isn't
+-- ---- the state of a stored collector, and of a collector that isn't stored
 
 pub shown_none : (cells : Cells) (collectors : Collectors) (i : ℕ) (st : State) → ShowsCollectors cells collectors st → kept_at collectors i ≡ None → finmap.get st.collectors i ≡ None
 shown_none cells collectors i st shown none = subst (λ (o : Option Collector). ShowsAt cells o i st) none (shown.each i)
@@ -115,7 +115,7 @@ removed_count : (m : finmap.FinMap nat_cmp ℕ) (k n n' f : ℕ) → finmap.get 
 removed_count m k n n' f there e g = finmap.len-remove nat_cmp_total m k ∙ (ap (λ o. cond (is_some o) (finmap.len m - 1) (finmap.len m)) there ∙ omega arith)
 
 module _ (cells cells' : Cells) (old new : Collectors) (i n : ℕ) (c c' : Collector) (was : kept_at old i ≡ Some c) (one : ChangesOne i old new) where
-  -- the collector goes on
+  -- the collector stays open
   open_shown : (st : State) → IsReached st → ShowsCells cells st → ShowsCollectors cells old st → VisitsLeave n cells c cells' c' st → kept_at new i ≡ Some c'
       → btree.btree_map_len new.collectors ≡ btree.btree_map_len old.collectors → ShowsCollectors cells' new st
   open_shown st reached store shown leaves now len = record {
@@ -177,7 +177,7 @@ module _ (cells cells' : Cells) (old new : Collectors) (i n : ℕ) (c c' : Colle
 
 -- ---- refusals before any visit
 
--- collectors that are the same show the same
+-- equal collectors show the same states
 pub shows_same : (cells : Cells) (old new : Collectors) (st : State) → SameCollectors old new → ShowsCollectors cells old st → ShowsCollectors cells new st
 shows_same cells old new st same shown = record {
   next = same.next ∙ shown.next;
@@ -265,7 +265,7 @@ module _ (old new : Collectors) (floor : ℕ) (room : btree.btree_map_len old.co
     others = upd_off (kept_at old) (kept_at new) old.next (Some collector) at;
   }
 
--- a refused begin leaves what it found
+-- a refused begin changes nothing
 pub begin_refused : (old new : Collectors) (e : Refusal) → SameCollectors old new → IsStorageRefusal e
     → (cells : Cells) (st : State) → ShowsCells cells st → ShowsCollectors cells old st → Begins cells new (Refused e) st
 begin_refused old new e same u cells st store shown = (st, refused_storage u, store, shows_same cells old new st same shown)
@@ -274,7 +274,7 @@ pub begin_full : (old : Collectors) → 64 ≤ btree.btree_map_len old.collector
     → (cells : Cells) (st : State) → ShowsCells cells st → ShowsCollectors cells old st → Begins cells old (Refused TooManySessions) st
 begin_full old full cells st store shown = (st, refuses (collect_full_first (let n = shown.count in omega arith)), store, shown)
 
--- the same entries are the same collectors
+-- equal entries are equal collectors
 entries_each : (old new : Collectors) → new.collectors.entries ≡ old.collectors.entries → (i : ℕ) → kept_at new i ≡ kept_at old i
 entries_each old new same i = ap (λ es. lookup (btree.is_at (nat_cmp i)) es) same
 
@@ -300,7 +300,7 @@ is_full n m same many = omega arith
 pub is_room : (n m : ℕ) → n ≡ m → n < 64 → m < 64
 is_room n m same few = omega arith
 
--- ---- a request, as its collector is lent and given back
+-- ---- a request, with its collector borrowed from the map
 
 pub is_count : (n : ℕ) → n ≢ 0 → n ≤ 1000 → IsCount n
 is_count zero ne le = absurd (ne refl)
@@ -326,7 +326,7 @@ module _ (old new : Collectors) (i : ℕ) (o : Option Collector) (next : new.nex
   pub now_at : kept_at new i ≡ o
   now_at = upd_at (kept_at old) (kept_at new) i o at
 
--- a collector that is as it was, in collectors that are as they were
+-- an unchanged collector, in unchanged collectors
 pub same_lent : (old new : Collectors) (i : ℕ) (c w : Collector) → kept_at old i ≡ Some c → w ≡ c → new.next ≡ old.next → new.greatest_floor ≡ old.greatest_floor
     → ((q : ℕ) → kept_at new q ≡ cond (is_eq (nat_cmp i q)) (Some w) (kept_at old q)) → btree.btree_map_len new.collectors ≡ btree.btree_map_len old.collectors → SameCollectors old new
 same_lent old new i c w was same next floor at len = record {
@@ -339,7 +339,7 @@ same_lent old new i c w was same next floor at len = record {
   count = len;
 }
 
--- ---- what a refused step leaves
+-- ---- the effects of a refused step
 
 module _ {R : Type 0} {seen : View R} (old new : Collectors) (i n : ℕ) (before now : R) where
   pub same_leaves : SameCollectors old new → OnlyReads seen before now → StepLeaves seen i n old new before now

@@ -1,4 +1,4 @@
--- What the edits of visits leave, whatever the cells hold.
+-- The effects of the visits' edits, whatever the cells hold.
 use Rattle.std.proofs.Common.{◌≡◌, ◌≢◌, ℕ, List, [], ◌∷◌, None, ◌⊎◌, inl, inr, refl, sym, ap, subst, ◌∙◌, arith}
 use Rattle.std.specs.FinMap.{get, remove}
 use Rattle.cell_key.specs.Cells.{Cells, after_edits}
@@ -15,7 +15,7 @@ use Rattle.version_collector.specs.Erasing.{CollectsCell, data_erasures, record_
 use Rattle.version_collector.specs.Visits.{Thins}
 use Rattle.version_collector.proofs.VisitedCells.{thins_none}
 
--- keys of x alone change, none of a lock, and each that does is gone
+-- only keys of x change, none of them a lock, and each change is an erasure
 record Leaves (x : Cell) (cells cells' : Cells) : Type 0 where
   others : (k : CellKey) → k.row ≢ x.row → get cells' k ≡ get cells k
   fewer : (k : CellKey) → (get cells' k ≡ get cells k) ⊎ (get cells' k ≡ None)

@@ -1,4 +1,4 @@
--- What visits leave, and that what they tell is so.
+-- The effects of visits, and that their answers are true.
 use Rattle.std.proofs.Common.{◌≡◌, ◌≢◌, ℕ, ◌+◌, ◌<◌, ◌≤◌, List, [], ◌∷◌, ◌++◌, length, Option, Some, None, Result, Ok, Err, IfOk, ◌⊎◌, inl, inr, refl, sym, ap, subst, ◌∙◌, arith}
 use Rattle.std.specs.Prelude.{IsSome, is_some}
 use Rattle.std.proofs.lemmas.Option.{none-some}
@@ -25,8 +25,8 @@ use Rattle.version_collector.specs.Versions.{AreOld, AreShown, AreUnnamed, IsLon
 use Rattle.version_collector.specs.Visits.{AreVisits, Comes, EndsWith, HasVisited, IsTold, IsVisit, Thins, Visits, ends, erases_data, erases_deletion, erases_records, none, passes, pass_of, position_of, left_by, stops, then, tidies, turns}
 use Rattle.version_collector.specs.declared.collector.Collector.{Collector}
 
--- What n visits at the most leave: what sessions read is kept, keys of at most n rows are gone, and
--- the collector has come so far.
+-- The effects of at most n visits: sessions read the same, keys of at most n rows are erased, and the collector has
+-- made this progress.
 pub record VisitsLeave (n : ℕ) (cells : Cells) (c : Collector) (cells' : Cells) (c' : Collector)
     (st : State) : Type 0 where
   pub collects : Collects cells cells' st
@@ -34,7 +34,7 @@ pub record VisitsLeave (n : ℕ) (cells : Cells) (c : Collector) (cells' : Cells
   pub floor : c'.floor ≡ c.floor
   pub come : Comes cells' st c'
 
--- ---- keys that stand, and keys that are gone, where versions of x are erased
+-- ---- unchanged keys, and erased keys, when versions of x are erased
 
 other_row : (k : CellKey) (x : Cell) (q : Qualifier) (s : ℕ) → k.row ≢ x.row → k ≢ key_of x q s
 other_row k x q s ne e = ne (ap (λ (l : CellKey). l.row) e)
@@ -122,7 +122,7 @@ module _ (a b c : Cells) (st : State) (first : Collects a b st) (second : Collec
     ];
   }
 
--- each key stands as it was, or is gone
+-- each key is unchanged or erased
 pub each_key : (cells cells' : Cells) (st : State) → Collects cells cells' st → (k : CellKey) → (get cells' k ≡ get cells k) ⊎ (get cells' k ≡ None)
 each_key cells cells' st collects k = by_column k.qualifier (record { row = k.row; family = k.family }) k.stamp
   where
@@ -131,7 +131,7 @@ each_key cells cells' st collects k = by_column k.qualifier (record { row = k.ro
     by_column Lock x s = inl (collects.locks x s)
     by_column Write x s = elim (collects.records x s) [ inl same ↦ inl same | inr left ↦ inr left.0 ]
 
--- each lock stands as it was
+-- each lock is unchanged
 each_lock : (cells cells' : Cells) (st : State) → Collects cells cells' st → (k : CellKey) → k.qualifier ≡ Lock → get cells' k ≡ get cells k
 each_lock cells cells' st collects k is =
     let x : Cell = record { row = k.row; family = k.family } in
@@ -181,7 +181,7 @@ thins_few m n a b le p = record { rows = p.rows; few = let few = p.few in omega 
 
 -- ---- one visit
 
--- what is told, by pass and position
+-- the meaning of an answer, by pass and position
 abbrev ToldAt : CollectReply → Cells → Cells → State → ℕ → model.Pass → Option Place → model.Pass → Option Place → Type 0
 ToldAt More cells cells' st floor pass after pass' after' = left_of cells' pass' after' + 1 ≤ left_of cells pass after
 ToldAt (Blocked x t) cells cells' st floor pass after pass' after' = IsThere cells' x Lock t × (t < floor)
@@ -265,7 +265,7 @@ module _ (st : State) (reached : IsReached st) where
         told_by reply cells c cells' c' l.told,
       )
 
-  -- ---- visits after one another
+  -- ---- visits in sequence
 
   leaves_then : (m n : ℕ) (a : Cells) (c : Collector) (b : Cells) (d : Collector) (e : Cells) (f : Collector) → VisitsLeave m a c b d st → VisitsLeave n b d e f st → VisitsLeave (m + n) a c e f st
   leaves_then m n a c b d e f first second = record {
@@ -295,7 +295,7 @@ module _ (st : State) (reached : IsReached st) where
     come = l.come;
   }
 
-  -- what the last visit tells, the request does
+  -- the request gives the last visit's answer
   last_told : (n : ℕ) (reply : CollectReply) (cells mid : Cells) (c d : Collector) (cells' : Cells) (c' : Collector) → reply ≢ More → d.floor ≡ c.floor
       → IsTold 1 reply mid d cells' c' st → IsTold n reply cells c cells' c' st
   last_told n More cells mid c d cells' c' ne same told = absurd (ne refl)
@@ -320,6 +320,6 @@ module _ (st : State) (reached : IsReached st) where
       let few = did.few in
       (leaves_few did.count n cells c cells' c' (omega arith) (visits_are cells c shown low come did.count cells' c' did.visits).0, tt)
 
-  -- what visits leave shows the same state
+  -- cells after visits show the same state
   pub still_shown : (cells : Cells) (c : Collector) → ShowsCells cells st → c.floor ≤ st.floor → Comes cells st c → (k : ℕ) (cells' : Cells) (c' : Collector) → AreVisits cells c k cells' c' → AreShown cells'
   still_shown cells c shown low come k cells' c' did = (st, reached, shows_collected cells cells' st shown (visits_are cells c shown low come k cells' c' did).0.collects)

@@ -1,4 +1,4 @@
--- The edits of a row by which a second pass erases what it found in a cell.
+-- The edits by which a second pass erases versions of a cell.
 use Rattle.std.specs.Prelude.{◌≡◌, ◌≢◌, ◌≤◌, ◌⊎◌, ℕ, List, [], ◌∷◌, length, Option, Some, None}
 use Rattle.cell_key.specs.Cells.{Cells}
 use Rattle.cell_key.specs.declared.edits.Edit.{Edit}
@@ -23,8 +23,8 @@ abbrev pub deletion_erasures : Cell → Option ℕ → List Edit
 deletion_erasures x None = []
 deletion_erasures x (Some c) = Erase (key_of x Write c) ∷ []
 
--- The edits erase records, each with the data that it names. If the row is readable and the cells
--- show a reached state, these are the old ones.
+-- The edits erase records, each with the data that it names. If the row is readable and the cells show a reached state,
+-- these are the old records.
 pub record ErasesRecords (Readable : Type 0) (cells : Cells) (x : Cell) (floor : ℕ) (edits : List Edit)
     : Type 0 where
   pub vs : List (ℕ × ℕ)
@@ -33,8 +33,8 @@ pub record ErasesRecords (Readable : Type 0) (cells : Cells) (x : Cell) (floor :
   pub few : length vs ≤ 128
   pub old : Readable → AreShown cells → AreOld cells x floor vs
 
--- They erase data. If the row is readable and the cells show a reached state, this is data that no
--- record names, and there are no old records.
+-- The edits erase data. If the row is readable and the cells show a reached state, no record names this data, and there
+-- are no old records.
 pub record ErasesData (Readable : Type 0) (cells : Cells) (x : Cell) (floor : ℕ) (edits : List Edit)
     : Type 0 where
   pub ts : List ℕ
@@ -43,25 +43,25 @@ pub record ErasesData (Readable : Type 0) (cells : Cells) (x : Cell) (floor : �
   pub few : length ts ≤ 256
   pub unnamed : Readable → AreShown cells → AreUnnamed cells x floor ts
 
--- They erase one record. If the row is readable and the cells show a reached state, it is that of a
--- deletion, and nothing else of the cell is to be erased.
+-- The edit erases one record. If the row is readable and the cells show a reached state, it is a deletion's record, and
+-- nothing else of the cell is to be erased.
 pub record ErasesDeletion (Readable : Type 0) (cells : Cells) (x : Cell) (floor : ℕ)
     (edits : List Edit) : Type 0 where
   pub c : ℕ
   pub are : edits ≡ deletion_erasures x (Some c)
   pub lone : Readable → AreShown cells → IsLoneDeletion cells x floor c
 
--- they erase something of the cell
+-- the edits erase something of the cell
 abbrev pub Erases : Type 0 → Cells → Cell → ℕ → List Edit → Type 0
 Erases Readable cells x floor edits = ErasesRecords Readable cells x floor edits
     ⊎ (ErasesData Readable cells x floor edits ⊎ ErasesDeletion Readable cells x floor edits)
 
--- the row and such edits
+-- the row and these edits
 abbrev pub CollectsCell : Type 0 → Cells → Cell → ℕ → List ℕ → List Edit → Type 0
 CollectsCell Readable cells x floor row edits = (row ≡ x.row) × Erases Readable cells x floor edits
 
--- the edits erase something, or there are none: if the row is readable and the cells show a reached
--- state, the cell is tidy then
+-- the edits erase something, or there are none: in that case, if the row is readable and the cells show a reached
+-- state, the cell is tidy
 abbrev pub ErasesOrIsTidy : Type 0 → Cells → Cell → ℕ → List Edit → Type 0
 ErasesOrIsTidy Readable cells x floor [] = Readable → AreShown cells → IsTidy cells x floor
 ErasesOrIsTidy Readable cells x floor (edit ∷ edits) = Erases Readable cells x floor (edit ∷ edits)

@@ -1,4 +1,4 @@
--- Which refusals a call answers.
+-- The refusals of each call.
 use Rattle.std.specs.Prelude.{⊤}
 use Rattle.cell_key.specs.declared.refusals.Refusal.{Refusal}
 use Rattle.cell_key.specs.declared.refusals.Refusal.TheVariants.{TooManySessions, UnknownCollector, BadCount, MemtableFull, Exhausted, Device, NoMemory, Damaged}

@@ -1,4 +1,4 @@
--- What it means that the collectors show those of a state of the snapshot machine.
+-- When the collectors show a state of the snapshot machine.
 use Rattle.std.specs.Prelude.{◌≡◌, ◌≢◌, ⊤, ℕ, ◌+◌, ◌≤◌, max, Bool, true, false, Option, Some, None, Result, Ok}
 use Rattle.std.specs.Ordering.{nat_cmp}
 use Rattle.std.specs.BTreeMap as btree
@@ -18,81 +18,80 @@ use Rattle.version_collector.specs.declared.collector.Collector.{Collector}
 use Rattle.version_collector.specs.declared.collector.Pass.TheVariants.{First}
 use Rattle.version_collector.specs.declared.collectors.Collectors.{Collectors}
 
--- the collector with this number is this one, and has come as far as it says
+-- the collector with this number is this one, and its progress is as it says
 pub record ShowsCollector (cells : Cells) (c : Collector) (i : ℕ) (st : State) : Type 0 where
   pub kept : finmap.get st.collectors i ≡ Some c.floor
   pub come : Comes cells st c
 
--- what is stored at a number is the collector that has it, if one is open
+-- the entry at a number is the collector with this number, if one is open
 abbrev pub ShowsAt : Cells → Option Collector → ℕ → State → Type 0
 ShowsAt cells None i st = finmap.get st.collectors i ≡ None
 ShowsAt cells (Some c) i st = ShowsCollector cells c i st
 
--- the collectors that are stored are those that are open, and the next number and the greatest
--- floor are the machine's
+-- the stored collectors are the open ones, and the next number and the greatest floor are the machine's
 pub record ShowsCollectors (cells : Cells) (collectors : Collectors) (st : State) : Type 0 where
   pub next : collectors.next ≡ st.next_collector
   pub floor : collectors.greatest_floor ≡ st.floor
   pub each : (i : ℕ) → ShowsAt cells (btree.get nat_cmp collectors.collectors i) i st
   pub count : finmap.len st.collectors ≡ btree.btree_map_len collectors.collectors
 
--- From each reached state that is shown before, the machine may answer so, and goes to a state that
--- is shown after.
+-- From each reached state that is shown before, the machine may give this reply, and goes to a state that is shown
+-- after.
 abbrev pub Steps : Cells → Collectors → Request → Reply → Cells → Collectors → Type 0
 Steps cells collectors request reply cells' collectors' =
     (st : State) → IsReached st → ShowsCells cells st → ShowsCollectors cells collectors st
     → (next : State) × Step st request reply next × ShowsCells cells' next
     × ShowsCollectors cells' collectors' next
 
--- so it is in each reached state that cells and collectors show
+-- it holds in each reached state that cells and collectors show
 abbrev pub InEachShown : Cells → Collectors → (State → Type 0) → Type 0
 InEachShown cells collectors IsSo =
     (st : State) → IsReached st → ShowsCells cells st → ShowsCollectors cells collectors st
     → IsSo st
 
--- From this state, shown before, the machine may answer a CollectBegin so, and goes to a state that
--- is shown after.
+-- From this state, shown before, the machine may give this reply to a CollectBegin, and goes to a state that is shown
+-- after.
 abbrev pub Begins : Cells → Collectors → Reply → State → Type 0
 Begins cells collectors' reply st =
     (next : State) × Step st CollectBegin reply next × ShowsCells cells next
     × ShowsCollectors cells collectors' next
 
--- the collector that is stored at this number
+-- the collector stored at this number
 abbrev pub kept_at : Collectors → ℕ → Option Collector
 kept_at collectors i = btree.get nat_cmp collectors.collectors i
 
--- what is stored of a collector after a step: it is closed if all is collected
+-- the entry of a collector after a step: it is closed if all is collected
 abbrev pub kept_after : Result CollectReply Refusal → Collector → Option Collector
 kept_after (Ok Collected) c = None
 kept_after result c = Some c
 
--- The collector with this number has made visits for a request of n, and is stored as they left it.
+-- The collector with this number has made visits for a request of n, and the stored collector is the one after them.
 abbrev pub VisitsAt : ℕ → ℕ → Result CollectReply Refusal → Cells → Collectors → Cells → Collectors
     → Type 0
 VisitsAt i n result cells old cells' new = (c : Collector) → kept_at old i ≡ Some c
     → (c' : Collector) × HasVisited n result cells c cells' c'
     × (kept_at new i ≡ kept_after result c')
 
--- and what it answered is true
+-- and its answer is true
 abbrev pub TellsAt : ℕ → ℕ → CollectReply → Cells → Collectors → Cells → Collectors → State → Type 0
 TellsAt i n reply cells old cells' new st =
     (c c' : Collector) → kept_at old i ≡ Some c → kept_at new i ≡ kept_after (Ok reply) c'
     → IsTold n reply cells c cells' c' st
 
--- What the visits of a step read is in order. They leave the collector with this number at the
+-- The rows that the visits of a step read are readable. After the visits, the collector with this number is at the
 -- place where the last of them began.
 abbrev pub IsStepReadable : {R : Type 0} → View R → R → Collectors → Collectors → ℕ → Type 0
 IsStepReadable seen rows old new i =
     (c c' : Collector) → kept_at old i ≡ Some c → kept_at new i ≡ Some c'
     → AreReadableFrom seen rows (read_from c c')
 
--- no collector but the one with this number changes, and none begins
+-- only the collector with this number changes, and none begins
 pub record ChangesOne (i : ℕ) (old new : Collectors) : Type 0 where
   pub next : new.next ≡ old.next
   pub floor : new.greatest_floor ≡ old.greatest_floor
   pub others : (j : ℕ) → j ≢ i → kept_at new j ≡ kept_at old j
 
--- a collector begins with this floor and the next number, and all others stay
+-- a collector begins with this floor and the next number, and all others are unchanged
 pub record Opens (floor i : ℕ) (old new : Collectors) : Type 0 where
   pub number : i ≡ old.next
   pub next : new.next ≡ i + 1
@@ -105,11 +104,11 @@ abbrev pub is_last : CollectReply → Bool
 is_last Collected = true
 is_last _ = false
 
--- a number of visits that a request may ask for
+-- a permitted number of visits
 abbrev pub IsCount : ℕ → Type 0
 IsCount n = (1 ≤ n) × (n ≤ most_visits)
 
--- refusals that come before any visit
+-- refusals before any visit
 abbrev pub IsEarlyRefusal : Refusal → Type 0
 IsEarlyRefusal UnknownCollector = ⊤
 IsEarlyRefusal BadCount = ⊤
@@ -122,13 +121,12 @@ pub record SameCollectors (old new : Collectors) : Type 0 where
   pub each : (i : ℕ) → btree.get nat_cmp new.collectors i ≡ btree.get nat_cmp old.collectors i
   pub count : btree.btree_map_len new.collectors ≡ btree.btree_map_len old.collectors
 
--- if a collector with this number was open, one is, with its floor
+-- a collector with this number that was open is still open, with the same floor
 abbrev pub StaysOpen : ℕ → Collectors → Collectors → Type 0
 StaysOpen i old new = (c : Collector) → kept_at old i ≡ Some c
     → (c' : Collector) × (kept_at new i ≡ Some c') × (c'.floor ≡ c.floor)
 
--- What a refused step for n visits leaves: its collector stays open. If one visit was asked for,
--- nothing is changed.
+-- After a refused step for n visits the collector is still open. If one visit was requested, nothing is changed.
 pub record StepLeaves {R : Type 0} (seen : View R) (i n : ℕ) (old new : Collectors) (before now : R)
     : Type 0 where
   pub stays : StaysOpen i old new
@@ -143,7 +141,7 @@ IsUnopened st i = finmap.get st.collectors i ≡ None
 abbrev pub IsUsedUp : State → Type 0
 IsUsedUp st = end_of_stamps ≤ st.next_collector
 
--- what others do leaves what collectors show
+-- steps of others leave the state that collectors show unchanged
 abbrev pub AreShownOn : Type 0
 AreShownOn =
     (cells cells' : Cells) (collectors : Collectors) (st next : State) (q : Request) (r : Reply)
@@ -151,7 +149,7 @@ AreShownOn =
     → ChangesCells cells st cells'
     → ShowsCollectors cells collectors st → ShowsCollectors cells' collectors next
 
--- collectors that are the same show the same
+-- equal collectors show the same states
 abbrev pub AreShownSame : Type 0
 AreShownSame =
     (cells : Cells) (old new : Collectors) (st : State) → SameCollectors old new

@@ -1,5 +1,4 @@
--- What a visit of a collector does, what many do after one another, and how far the collector has
--- come then.
+-- The visits of a collector, one or many in sequence, and the collector's progress after them.
 use Rattle.std.specs.Prelude.{◌≡◌, ◌≢◌, ◌⊎◌, ℕ, ◌+◌, ◌<◌, ◌≤◌, List, [], length, Option, Some, None, Result, Ok, Err}
 use Rattle.std.specs.FinMap.{get}
 use Rattle.cell_key.specs.Cells.{Cells}
@@ -20,11 +19,11 @@ use Rattle.version_collector.specs.declared.collector.Collector.{Collector}
 use Rattle.version_collector.specs.declared.collector.Pass.{Pass}
 use Rattle.version_collector.specs.declared.collector.Pass.TheVariants.{First, Second}
 
--- One visit: the next cell after the position that has any key is looked at.
+-- One visit: it looks at the next cell with a key after the position.
 pub data IsVisit (cells : Cells) (floor : ℕ) : model.Pass → Option Place → CollectReply → Cells
     → model.Pass → Option Place → Type 0 where
-  -- First pass. At a lock below the floor it stops, and the position stays. Past a cell without one
-  -- the position moves.
+  -- First pass. It stops at a lock below the floor, without moving the position. The position moves past a cell without
+  -- one.
   stops : {after : Option Place} {x : Cell} {t : ℕ} → IsNextCell cells after (Some (place_at x))
       → IsThere cells x column.Lock t → t < floor
       → IsVisit cells floor FirstPass after (Blocked x t) cells FirstPass after
@@ -34,8 +33,8 @@ pub data IsVisit (cells : Cells) (floor : ℕ) : model.Pass → Option Place →
   -- with no next cell the second pass begins
   turns : {after : Option Place} → IsNextCell cells after None
       → IsVisit cells floor FirstPass after More cells SecondPass None
-  -- Second pass. Old records are erased with their data, or else data that no record names, or else
-  -- the record of a deletion, and the position stays.
+  -- Second pass. It erases old records with their data, or else data that no record names, or else the record of a
+  -- deletion, and the position is unchanged.
   erases_records : {after : Option Place} {x : Cell} {vs : List (ℕ × ℕ)}
       → IsNextCell cells after (Some (place_at x)) → AreOld cells x floor vs → vs ≢ []
       → IsVisit cells floor SecondPass after More (collected_cells cells x vs) SecondPass after
@@ -45,7 +44,7 @@ pub data IsVisit (cells : Cells) (floor : ℕ) : model.Pass → Option Place →
   erases_deletion : {after : Option Place} {x : Cell} {c : ℕ}
       → IsNextCell cells after (Some (place_at x)) → IsLoneDeletion cells x floor c
       → IsVisit cells floor SecondPass after More (forgotten_cells cells x c) SecondPass after
-  -- past a tidy cell it moves
+  -- the position moves past a tidy cell
   tidies : {after : Option Place} {x : Cell} → IsNextCell cells after (Some (place_at x))
       → IsTidy cells x floor
       → IsVisit cells floor SecondPass after More cells SecondPass (Some (place_at x))
@@ -61,12 +60,12 @@ abbrev pub position_of : Option Cell → Option Place
 position_of None = None
 position_of (Some x) = Some (place_at x)
 
--- a collector stays in its pass, or is in the second one
+-- a collector stays in its pass, or enters the second one
 abbrev pub GoesOn : Collector → Collector → Type 0
 GoesOn c c' = (c'.pass ≡ c.pass) ⊎ (c'.pass ≡ Second)
 
--- The place from which on visits read that leave it in the second of these passes. They read from its
--- position on; if the second pass has begun, they read from the start on.
+-- The place from which visits between these passes read: from the position, or from the start if the second pass has
+-- begun meanwhile.
 abbrev pub read_in : Pass → Pass → Option Place → Option Place
 read_in First Second after = None
 read_in First First after = after
@@ -75,7 +74,7 @@ read_in Second pass after = after
 abbrev pub read_from : Collector → Collector → Option Place
 read_from c c' = read_in c.pass c'.pass (position_of c.after)
 
--- a visit of this collector is answered so, and leaves these cells and it so
+-- a visit of this collector gives this reply, these cells and this collector
 pub record Visits (cells : Cells) (c : Collector) (reply : CollectReply) (cells' : Cells)
     (c' : Collector) : Type 0 where
   pub floor : c'.floor ≡ c.floor
@@ -88,14 +87,14 @@ pub data AreVisits (cells : Cells) (c : Collector) : ℕ → Cells → Collector
   then : {k : ℕ} {mid cells' : Cells} {d c' : Collector} → AreVisits cells c k mid d
       → Visits mid d More cells' c' → AreVisits cells c (k + 1) cells' c'
 
--- visits, fewer than n
+-- fewer than n visits
 pub record AreFewVisits (n : ℕ) (cells : Cells) (c : Collector) (cells' : Cells) (c' : Collector)
     : Type 0 where
   pub count : ℕ
   pub few : count < n
   pub visits : AreVisits cells c count cells' c'
 
--- visits, fewer than n, and then one that is answered so
+-- fewer than n visits, and then one with this reply
 pub record EndsWith (n : ℕ) (reply : CollectReply) (cells : Cells) (c : Collector) (cells' : Cells)
     (c' : Collector) : Type 0 where
   pub mid : Cells
@@ -103,21 +102,20 @@ pub record EndsWith (n : ℕ) (reply : CollectReply) (cells : Cells) (c : Collec
   pub visits : AreFewVisits n cells c mid before
   pub last : Visits mid before reply cells' c'
 
--- What a request for n visits did. More comes after all of them. What was done before a refusal
--- stays.
+-- The visits of a request for n visits. More comes after all of them. Visits before a refusal are kept.
 abbrev pub HasVisited : ℕ → Result CollectReply Refusal → Cells → Collector → Cells → Collector
     → Type 0
 HasVisited n (Ok More) cells c cells' c' = AreVisits cells c n cells' c'
 HasVisited n (Ok reply) cells c cells' c' = EndsWith n reply cells c cells' c'
 HasVisited n (Err refusal) cells c cells' c' = AreFewVisits n cells c cells' c'
 
--- ---- what that comes to
+-- ---- their effect
 
--- how far this collector has come, and how much it has left
+-- the progress of this collector, and its remaining work
 abbrev pub Comes : Cells → State → Collector → Type 0
 Comes cells st c = HasCome cells st c.floor (pass_of c.pass) (position_of c.after)
 
--- so it is if a reached state is shown, in which this collector has come so far
+-- it holds if a reached state is shown in which this is the collector's progress
 abbrev pub WhereCome : State → Cells → Collector → Type 0 → Type 0
 WhereCome st cells c IsSo =
     IsReached st → ShowsCells cells st → c.floor ≤ st.floor → Comes cells st c → IsSo
@@ -125,7 +123,7 @@ WhereCome st cells c IsSo =
 abbrev pub left_by : Cells → Collector → ℕ
 left_by cells c = left_of cells (pass_of c.pass) (position_of c.after)
 
--- keys of at most n rows change, none of a lock, and each that does is gone
+-- keys of at most n rows change, none of them a lock, and each change is an erasure
 pub record Thins (n : ℕ) (cells cells' : Cells) : Type 0 where
   pub rows : List (List ℕ)
   pub few : length rows ≤ n
@@ -133,8 +131,8 @@ pub record Thins (n : ℕ) (cells cells' : Cells) : Type 0 where
   pub fewer : (k : CellKey) → (get cells' k ≡ get cells k) ⊎ (get cells' k ≡ None)
   pub locks : (k : CellKey) → k.qualifier ≡ column.Lock → get cells' k ≡ get cells k
 
--- What is answered is so. After More at least n less is left. If it is Blocked, a lock below the floor
--- stands on the cell. If all is Collected, no mark stands below the floor, and each cell is tidy.
+-- The answer is true. After More, the remaining work is less by at least n. After Blocked, the cell has a lock below
+-- the floor. After Collected, no mark is below the floor, and each cell is tidy.
 abbrev pub IsTold : ℕ → CollectReply → Cells → Collector → Cells → Collector → State → Type 0
 IsTold n More cells c cells' c' st = left_by cells' c' + n ≤ left_by cells c
 IsTold n (Blocked x t) cells c cells' c' st = IsThere cells' x column.Lock t × (t < c.floor)

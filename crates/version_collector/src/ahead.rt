@@ -1,4 +1,4 @@
-//! The cells ahead of a collector, which are found many at a time.
+//! The cells ahead of a collector, which are found in batches.
 
 ghost use Rattle.std.specs.Prelude.{◌≡◌, ◌≤◌, ◌↔◌, [], None, Option, Some, true, option_map, IfErr, IfOk, IfSome, IsTrue, OnOk};
 ghost use Rattle.std.specs.Vec.Iter.{into_iter_items};
@@ -17,17 +17,17 @@ use si_model::Cell;
 use std::alloc::Global;
 use std::vec::IntoIter;
 
-/// The most places that are found at a time.
+/// The most places of a batch.
 const MOST_AHEAD: usize = 64;
 
-/// Cells ahead of a position, as they were found: those that follow it, or that follow the cell there of which
-/// something was erased. Between two requests nothing is kept of them.
+/// The cells found ahead of a position: they follow the position, or the cell there that lost a version. They are not
+/// kept from one request to the next.
 #[derive(Drop)]
 pub(crate) struct Ahead {
-    /// A cell of which something was erased: it is the next one if it still has a key.
+    /// A cell that lost a version: it is the next cell if it still has a key.
     pub(crate) doubted: Option<Cell>,
     places: IntoIter<(Row, Family)>,
-    /// No cell lies behind the last of the places.
+    /// No cell comes after the last of the places.
     is_end: bool,
 }
 
@@ -57,8 +57,8 @@ fn place_after(after: &Option<Cell>) -> Option<(&Row, &Family)>
     }
 }
 
-/// Whether a cell has a key. It is the first cell behind a position that may have one. One look-up says whether it has a
-/// record; only if it has none is the next cell looked for.
+/// Whether a cell has a key. It is the first place after a position that may have one. One lookup tells whether it has
+/// a record; only if it has none is the next cell searched for.
 fn has_key<R: Rows>(rows: &mut R, after: &Option<Cell>, cell: &Cell) -> Result<bool, Refusal>
     ensures has { AreReadableFrom R.seen rows.old (position_of after.now)
         → IsFirst (R.seen.cells rows.old) (position_of after.now) (place_at cell.now)
@@ -81,7 +81,7 @@ fn has_key<R: Rows>(rows: &mut R, after: &Option<Cell>, cell: &Cell) -> Result<b
 }
 
 impl Ahead {
-    /// Nothing was found yet.
+    /// Nothing found yet.
     pub(crate) fn new(alloc: Global) -> Ahead
         ensures { (cells : Cells) (after : Option Place) → IsAhead cells after result }
     {
@@ -92,7 +92,7 @@ impl Ahead {
         }
     }
 
-    /// The doubted cell, if there is one and it still has a key. There is none then.
+    /// Removes the doubted cell, and returns it if it still has a key.
     fn still_there<R: Rows>(
         &mut self,
         rows: &mut R,
@@ -118,7 +118,7 @@ impl Ahead {
         Ok(None)
     }
 
-    /// Finds the places that this number of visits needs.
+    /// Finds the places needed for this number of visits.
     fn find<R: Rows>(
         &mut self,
         rows: &mut R,
@@ -143,7 +143,7 @@ impl Ahead {
         Ok(())
     }
 
-    /// Finds places if there are none, unless no cell is left.
+    /// Finds places if none are at hand, unless no cell is left.
     fn fill<R: Rows>(
         &mut self,
         rows: &mut R,
@@ -172,7 +172,7 @@ impl Ahead {
         self.find(rows, after, visits)
     }
 
-    /// Takes the first of the places, which are found if there are none.
+    /// Takes the first of the places, and finds more if none are at hand.
     fn first<R: Rows>(
         &mut self,
         rows: &mut R,
@@ -200,7 +200,7 @@ impl Ahead {
         Ok(cell_at(self.places.next()))
     }
 
-    /// Takes the next cell after a position. If none is known, those of this number of visits are looked for.
+    /// Takes the next cell after a position. If none is at hand, finds those for this number of visits.
     pub(crate) fn next<R: Rows>(
         &mut self,
         rows: &mut R,

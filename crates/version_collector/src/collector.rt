@@ -24,15 +24,14 @@ use rows::Rows;
 use si_model::{Cell, CollectReply};
 use std::alloc::Global;
 
-/// What a collector looks for: locks first, and then versions to erase.
+/// The aim of a collector's visits: locks first, and then versions to erase.
 #[derive(Clone, Copy, Drop)]
 pub(crate) enum Pass {
     First,
     Second,
 }
 
-/// A collector: its floor, its pass, and its position: the cell that it was at last, or before all
-/// cells.
+/// A collector: its floor, its pass, and its position: the last cell that it passed, or none before the first cell.
 #[derive(Drop)]
 pub(crate) struct Collector {
     pub(crate) floor: Stamp,
@@ -40,7 +39,7 @@ pub(crate) struct Collector {
     pub(crate) after: Option<Cell>,
 }
 
-/// The start of a lock of the cell below the floor, if one stands.
+/// The start of a lock of the cell below the floor, if there is one.
 fn low_lock<R: Rows>(rows: &mut R, cell: &Cell, floor: Stamp) -> Result<Option<Stamp>, Refusal>
     ensures found { R.seen.readable rows.old cell.now.row
         → IfOk result (IsLowLock (R.seen.cells rows.old) cell.now floor) }
@@ -56,7 +55,7 @@ fn low_lock<R: Rows>(rows: &mut R, cell: &Cell, floor: Stamp) -> Result<Option<S
 }
 
 impl Collector {
-    /// With no next cell: the second pass begins before all cells, or all is collected.
+    /// Handles the end of the cells: the second pass begins before all cells, or all is collected.
     fn turn(&mut self) -> CollectReply
         ensures turned { (cells : Cells)
             → IsNextCell cells (position_of self.old.after) None
@@ -97,7 +96,7 @@ impl Collector {
         Ok(CollectReply::More)
     }
 
-    /// Visits the next cell in the second pass: erases old versions of it, which may be all its keys, or goes past it.
+    /// Visits the next cell in the second pass: erases old versions of it, possibly all its keys, or moves past it.
     fn collect<R: Rows>(
         &mut self,
         alloc: Global,
@@ -140,12 +139,12 @@ impl Collector {
         Ok(CollectReply::More)
     }
 
-    /// Makes one visit, of the `visits` that are still to be made. `More` says that the next visit may follow.
+    /// Makes one visit; `visits` are still to be made, this one included. `More` says that the next visit may follow.
     ///
     /// # Errors
     ///
-    /// `MemtableFull` if the rows have no room for its edits, `Device`, `NoMemory`, or `Damaged`
-    /// if bytes that were read are outside their form. The collector and all cells are then as before.
+    /// `MemtableFull` if the rows have no room for its edits, `Device`, `NoMemory`, or `Damaged` if bytes that were
+    /// read are malformed. The collector and all cells are then unchanged.
     pub(crate) fn visit<R: Rows>(
         &mut self,
         alloc: Global,
@@ -159,7 +158,7 @@ impl Collector {
             → IsAhead (R.seen.cells rows.old) (position_of self.old.after) ahead.old
             → IfOk result (λ reply.
             Visits (R.seen.cells rows.old) self.old reply (R.seen.cells rows.new) self.new) }
-        // What was found ahead is still ahead.
+        // The cells found ahead are still ahead.
         ensures ahead { AreReadableFrom R.seen rows.old (position_of self.old.after)
             → IsAhead (R.seen.cells rows.old) (position_of self.old.after) ahead.old
             → IfOk result (λ reply. reply ≡ CollectReply.More
@@ -173,7 +172,7 @@ impl Collector {
         ensures err { OnErr result (self.new ≡ self.old) }
         ensures same { OnErr result (OnlyReads R.seen rows.old rows.new) }
         ensures refusal { IfErr result IsVisitRefusal }
-        // What is shown is never answered as damaged.
+        // Cells that show a reached state never give Damaged.
         ensures undamaged { AreReadableFrom R.seen rows.old (position_of self.old.after)
             → AreShown (R.seen.cells rows.old)
             → IsAhead (R.seen.cells rows.old) (position_of self.old.after) ahead.old
@@ -192,12 +191,12 @@ impl Collector {
         }
     }
 
-    /// Makes visits until one is answered otherwise than `More`, or is refused, or this many are made. Their cells are
-    /// found many at a time.
+    /// Makes visits until one gives another reply than `More`, or is refused, or this many are made. Their cells are
+    /// found in batches.
     ///
     /// # Errors
     ///
-    /// As for one visit. The visits that were made before stay.
+    /// The same as for one visit. The visits before the refused one are kept.
     pub(crate) fn advance<R: Rows>(
         &mut self,
         alloc: Global,
@@ -209,7 +208,7 @@ impl Collector {
             (HasVisited visits result (R.seen.cells rows.old) self.old (R.seen.cells rows.new)
             self.new) }
         ensures floor { self.new.floor ≡ self.old.floor }
-        // A first visit that is refused changes nothing.
+        // A refused first visit changes nothing.
         ensures first { visits ≡ 1
             → OnErr result ((self.new ≡ self.old) × OnlyReads R.seen rows.old rows.new) }
         ensures thins { R.seen.holds rows.old

@@ -1,4 +1,4 @@
-//! The collectors that are open.
+//! The open collectors.
 
 ghost use Rattle.std.specs.Prelude.{◌≡◌, ◌⊎◌, IfErr, IfOk, IsErrOf, OnErr};
 ghost use Rattle.std.specs.FinMap.{empty, get};
@@ -32,12 +32,12 @@ const MOST_NUMBER: u64 = 9_223_372_036_854_775_807;
 /// The most visits of a request.
 const MOST_VISITS: u32 = 1000;
 
-/// The open collectors by their numbers, the number of the next one, and the greatest floor that one
-/// began with.
+/// The open collectors by their numbers, the number of the next one, and the greatest floor that a collector began
+/// with.
 ///
-/// Each call is a step of the snapshot machine: if cells and collectors show one of its states, the
-/// answer is one that the machine may give there, and they show its next state after. A refused step
-/// leaves that state as it was, and keeps the visits that it made before.
+/// Each call is a step of the snapshot machine: if cells and collectors show one of its states, the machine may give
+/// the same answer there, and they show its next state afterwards. A refused step leaves that state unchanged, and
+/// keeps the visits made before the refusal.
 #[derive(Drop)]
 pub struct Collectors {
     alloc: Global,
@@ -46,7 +46,7 @@ pub struct Collectors {
     collectors: BTreeMap<u64, Collector>,
 }
 
-/// Whether a step that is answered so was the collector's last.
+/// Whether a step with this reply was the collector's last.
 fn closes(reply: &CollectReply) -> bool
     ensures { result ≡ is_last reply.now }
 {
@@ -54,8 +54,7 @@ fn closes(reply: &CollectReply) -> bool
 }
 
 impl Collectors {
-    /// No collectors. The first one gets the number 1. `floor` is the greatest one that a collector
-    /// began with, 0 if none did.
+    /// No collectors. The first one gets the number 1. `floor` is the greatest floor that a collector began with, or 0.
     pub fn new(alloc: Global, floor: Stamp) -> Collectors
         ensures shown { (cells : Cells) (st : State)
             → st.next_collector ≡ 1 → st.collectors ≡ empty → st.floor ≡ floor
@@ -70,7 +69,7 @@ impl Collectors {
         }
     }
 
-    /// The greatest floor that a collector began with, 0 if none did.
+    /// The greatest floor that a collector began with, or 0 if none did.
     pub fn greatest_floor(&self) -> Stamp
         ensures floor { result ≡ self.now.greatest_floor }
         ensures shown { (cells : Cells) (st : State) → ShowsCollectors cells self.now st
@@ -79,20 +78,20 @@ impl Collectors {
         self.greatest_floor
     }
 
-    /// Opens a collector with this floor, which is the least start of an active session, or one more
-    /// than the greatest stamp that was answered if none is active. Its number, from 1 on.
+    /// Opens a collector with this floor, which is the smallest start of an active session, or the greatest stamp
+    /// answered plus one if none is active. Returns its number, from 1 on.
     ///
     /// # Errors
     ///
-    /// `TooManySessions` when 64 collectors are open; then `Exhausted` after the greatest number, or
-    /// `NoMemory`. There is room for the collector before its number is drawn.
+    /// `TooManySessions` when 64 collectors are open; then `Exhausted` after the greatest number, or `NoMemory`. The
+    /// collector is allocated before its number is drawn.
     pub fn begin(&mut self, floor: Stamp) -> Result<u64, Refusal>
         ensures step { (cells : Cells) (st : State)
             → IsReached st → ShowsCells cells st → ShowsCollectors cells self.old st
             → IsFloor st floor
             → Begins cells self.new
             (result_reply (λ number. machine.Collecting number floor) result) st }
-        // One collector opens, and all others stay, whatever the cells hold.
+        // One collector opens, and all others are unchanged, whatever the cells hold.
         ensures opens { IfOk result (λ number. Opens floor number self.old self.new) }
         ensures refusal { IfErr result IsBeginRefusal }
         ensures err { OnErr result (SameCollectors self.old self.new) }
@@ -122,10 +121,10 @@ impl Collectors {
     ///
     /// # Errors
     ///
-    /// `UnknownCollector` if none is open with this number, then `BadCount` for a number of visits
-    /// outside 1 to 1,000; then `MemtableFull` if the rows have no room for the edits of a visit,
-    /// `Device`, `NoMemory`, or `Damaged` if bytes that were read are outside their form. The
-    /// visits that were made before stay: the cells and the position are those after them.
+    /// `UnknownCollector` if none is open with this number, then `BadCount` for a number of visits outside 1 to 1,000;
+    /// then `MemtableFull` if the rows have no room for the edits of a visit, `Device`, `NoMemory`, or `Damaged` if
+    /// bytes that were read are malformed. The visits before the refused one are kept: cells and position are as after
+    /// them.
     pub fn step<R: Rows>(
         &mut self,
         rows: &mut R,
@@ -135,20 +134,21 @@ impl Collectors {
         ensures step { R.seen.holds rows.old
             → Steps (R.seen.cells rows.old) self.old (machine.CollectStep number visits)
             (result_reply collect_reply result) (R.seen.cells rows.new) self.new }
-        // What is done are visits, by the rules of collection.
+        // Only visits are made, by the rules of collection.
         ensures visited { R.seen.holds rows.old
             → IsCount visits
             → InEachShown (R.seen.cells rows.old) self.old (λ st.
             VisitsAt number visits result (R.seen.cells rows.old) self.old (R.seen.cells rows.new)
             self.new) }
-        // All that sessions read, each lock and each fate stays.
+        // Every read of a session, each lock and each fate are unchanged.
         ensures leaves { R.seen.holds rows.old
             → InEachShown (R.seen.cells rows.old) self.old (λ st.
             Collects (R.seen.cells rows.old) (R.seen.cells rows.new) st) }
-        // Keys of at most this many rows go, none of a lock, and none is added, whatever the cells hold.
+        // Keys of at most this many rows are erased, none of them a lock, and none is added, whatever the cells hold.
         ensures thins { R.seen.holds rows.old
             → Thins visits (R.seen.cells rows.old) (R.seen.cells rows.new) }
-        // Collected: each cell is tidy. More: so much less is left. Blocked: a lock below the floor stands there.
+        // Collected: each cell is tidy. More: at least this much less is left. Blocked: the cell has a lock below the
+        // floor.
         ensures told { R.seen.holds rows.old
             → IfOk result (λ reply. InEachShown (R.seen.cells rows.old) self.old (λ st.
             TellsAt number visits reply (R.seen.cells rows.old) self.old (R.seen.cells rows.new)
@@ -158,12 +158,12 @@ impl Collectors {
         // Nothing is read or changed if no collector has this number, or the number of visits is bad.
         ensures early { IfErr result (λ refusal. IsEarlyRefusal refusal
             → SameCollectors self.old self.new × (rows.new ≡ rows.old)) }
-        // A refused step leaves its collector open with its floor, and its first visit changes nothing.
+        // A refused step leaves its collector open, with its floor. If it asked for one visit, it changes nothing.
         ensures refused { OnErr result (StepLeaves R.seen number visits
             self.old self.new rows.old rows.new) }
         ensures below { KeepsBelow R.seen rows.old rows.new }
         ensures room { TakesRoomOfVisits R.seen.overfills visits rows.old rows.new }
-        // What is shown is never answered as damaged.
+        // Cells that show a reached state never give Damaged.
         ensures undamaged { IsStepReadable R.seen rows.old self.old self.new number
             → InEachShown (R.seen.cells rows.old) self.old (λ st.
             ¬ IsErrOf result Refusal.Damaged) }
@@ -173,7 +173,7 @@ impl Collectors {
             → IsErrOf result Refusal.UnknownCollector }
         ensures count { ¬ IsCount visits
             → IsErrOf result Refusal.UnknownCollector ⊎ IsErrOf result Refusal.BadCount }
-        // A step is refused MemtableFull if the rows have no room for edits of such visits.
+        // A step is refused MemtableFull only if the rows have no room for edits of this many visits.
         ensures full { IsErrOf result Refusal.MemtableFull
             → HasNoRoom R.seen.overfills rows.old (AreOfVisitsIn visits) }
         ensures reason { HasReason (R.faults rows.old) (R.faults rows.new) result }

@@ -1,4 +1,4 @@
-//! What a second pass erases of a cell, in one row transaction.
+//! The erasures of a second pass in a cell, in one row transaction.
 
 ghost use Rattle.std.specs.Prelude.{◌≡◌, ◌≢◌, [], IfErr, IfOk, IsErrOf, OnErr};
 ghost use Rattle.std.specs.Bool.{OnFalse, OnTrue};
@@ -19,8 +19,7 @@ use rows::Rows;
 use si_model::Cell;
 use std::alloc::Global;
 
-/// The edits that erase records, each with the data that it names. Answers `NoMemory` if there is no
-/// room for them.
+/// The edits that erase records, each with the data that it names. Answers `NoMemory` if allocation fails.
 fn record_edits(
     alloc: Global,
     cell: &Cell,
@@ -40,7 +39,7 @@ fn record_edits(
     Ok(edits)
 }
 
-/// The edits that erase data. Answers `NoMemory` if there is no room for them.
+/// The edits that erase data. Answers `NoMemory` if allocation fails.
 fn data_edits(alloc: Global, cell: &Cell, starts: &[Moment]) -> Result<Vec<Edit>, Refusal>
     ensures edits { IfOk result (λ edits. edits.items ≡ data_erasures cell.now starts.now) }
     ensures under { IfOk result (λ edits. AllByRecursion (IsEditOf cell.now.row) edits.items) }
@@ -54,8 +53,8 @@ fn data_edits(alloc: Global, cell: &Cell, starts: &[Moment]) -> Result<Vec<Edit>
     Ok(edits)
 }
 
-/// The edit that erases the record of a deletion; none if there is no such record. Answers `NoMemory`
-/// if there is no room for it.
+/// The edit that erases the record of a deletion; none if there is no such record. Answers `NoMemory` if allocation
+/// fails.
 fn deletion_edits(
     alloc: Global,
     cell: &Cell,
@@ -105,16 +104,15 @@ fn old_edits<R: Rows>(
     deletion_edits(alloc, cell, deletion)
 }
 
-/// Erases old versions of a cell in one row transaction, and says whether there were any: the
-/// newest 128 records older than the newest one at or below the floor, with the data that they name;
-/// if there are none, the newest 256 data below the floor that no record names; if there are
-/// none of those either, the record at or below the floor if it is a deletion's. If there is
-/// nothing of these, the cell is tidy.
+/// Erases old versions of a cell in one row transaction, and returns whether there were any. These are the newest 128
+/// records older than the newest one at or below the floor, with the data that they name; else the newest 256 data
+/// below the floor that no record names; else the record at or below the floor if it is a deletion's. A cell without
+/// any of these is tidy.
 ///
 /// # Errors
 ///
-/// `MemtableFull` if the rows have no room for the edits, `Device`, `NoMemory`, or `Damaged` if
-/// bytes that were read are outside their form.
+/// `MemtableFull` if the rows have no room for the edits, `Device`, `NoMemory`, or `Damaged` if bytes that were read
+/// are malformed.
 pub(crate) fn erase_old<R: Rows>(
     alloc: Global,
     rows: &mut R,
@@ -131,7 +129,7 @@ pub(crate) fn erase_old<R: Rows>(
         → IfOk result (λ erased. OnFalse erased (IsTidy (R.seen.cells rows.old) cell.now floor)) }
     ensures err { OnErr result (OnlyReads R.seen rows.old rows.new) }
     ensures refusal { IfErr result IsVisitRefusal }
-    // What is shown is never answered as damaged.
+    // Cells that show a reached state never give Damaged.
     ensures undamaged { R.seen.readable rows.old cell.now.row → AreShown (R.seen.cells rows.old)
         → ¬ IsErrOf result Refusal.Damaged }
     ensures full { IsErrOf result Refusal.MemtableFull

@@ -1,4 +1,4 @@
-//! What a second pass finds in a cell: records that are old, data that no record names, or the record of a deletion.
+//! The finds of a second pass in a cell: old records, data that no record names, or the record of a deletion.
 
 ghost use Rattle.std.specs.Prelude.{◌≡◌, ◌↔◌, ◌⊎◌, ℕ, ◌<◌, ◌≤◌, ◌^◌, Some, length, map, IfErr, IfNone, IfOk, IfSome, IsTrue, option_map};
 ghost use Rattle.std.specs.List.{AllByRecursion};
@@ -19,16 +19,16 @@ use rows::{Rows, oldest};
 use si_model::Cell;
 use std::alloc::Global;
 
-/// The most records that are erased at once, each with the data that it names.
+/// The most records erased at once, each with the data that it names.
 const MOST_RECORDS: usize = 128;
 
-/// How many records are looked up one by one.
+/// The number of records that are looked up one by one.
 const FEW_RECORDS: usize = 32;
 
-/// The most data that is erased at once if no record names it.
+/// The most data without a record erased at once.
 const MOST_DATA: usize = 256;
 
-/// The version of a cell's column with the greatest stamp below this one. `None` if there is none.
+/// The version of a cell's column with the greatest stamp below this one, if there is one.
 fn latest_below<R: Rows>(
     rows: &mut R,
     cell: &Cell,
@@ -69,8 +69,8 @@ fn write_of(text: &[u8]) -> Result<(Moment, WriteKind), Refusal>
     }
 }
 
-/// The newest records of a cell at or below the floor, newest first: 32 of them, or fewer if no more are left. Each is
-/// looked up, and the blocks that have them may be in memory.
+/// The newest records of a cell at or below the floor, newest first: at most 32. Each is looked up by itself, so that
+/// its block may come from the cache.
 fn look_up_records<R: Rows>(
     alloc: Global,
     rows: &mut R,
@@ -99,9 +99,9 @@ fn look_up_records<R: Rows>(
     Ok(found)
 }
 
-/// The newest records of a cell at or below the floor, newest first: 129 of them, or fewer if no more are left. Few are
-/// looked up one by one. If they are many, all are read by one pass, which reads a block of each file whose range has
-/// the cell.
+/// The newest records of a cell at or below the floor, newest first: at most 129. They are looked up one by one up to
+/// the 32nd. If that many are found, all are read in one pass, which reads a block of each file whose range has the
+/// cell.
 fn newest_records<R: Rows>(
     alloc: Global,
     rows: &mut R,
@@ -125,8 +125,8 @@ fn newest_records<R: Rows>(
     rows.versions(&cell.row, &cell.family, Qualifier::Write, floor, most)
 }
 
-/// The newest 128 records older than the newest one at or below the floor, newest first, each as its
-/// stamp and the start that it names; all of them, if they are fewer.
+/// The newest 128 records older than the newest one at or below the floor, newest first, each as its stamp and the
+/// start that it names; all of them, if there are fewer.
 ///
 /// # Errors
 ///
@@ -161,12 +161,12 @@ pub(crate) fn old_records<R: Rows>(
     Ok(found)
 }
 
-/// The starts that the records nearest to a floor name.
+/// The starts named by the records nearest to a floor.
 #[derive(Clone, Copy, Drop)]
 pub(crate) struct NearStarts {
-    /// That of the newest record at or below the floor, if there is one.
+    /// The start named by the newest record at or below the floor, if there is one.
     last: Option<Stamp>,
-    /// That of the oldest record above the floor, if there is one.
+    /// The start named by the oldest record above the floor, if there is one.
     next: Option<Stamp>,
 }
 
@@ -177,7 +177,7 @@ fn is_among(start: Stamp, near: NearStarts) -> bool
     near.last == Some(start) || near.next == Some(start)
 }
 
-/// The start that a record names, if there is one. `Damaged` if it names none.
+/// The start that a record names; `None` if there is no record. `Damaged` if it names no start.
 fn named_by(found: Option<(Stamp, Vec<u8>)>) -> Result<Option<Stamp>, Refusal>
     ensures named { IfOk result (IsNamedBy (option_map stamped found)) }
     ensures refusal { IfErr result (λ refusal. refusal ≡ Refusal.Damaged) }
@@ -189,7 +189,7 @@ fn named_by(found: Option<(Stamp, Vec<u8>)>) -> Result<Option<Stamp>, Refusal>
     }
 }
 
-/// The start that the oldest record above a stamp names, if there is one.
+/// The start named by the oldest record above a stamp, if there is one.
 fn next_start<R: Rows>(rows: &mut R, cell: &Cell, floor: Stamp) -> Result<Option<Stamp>, Refusal>
     ensures named { R.seen.readable rows.old cell.now.row
         → IfOk result (NamesNext (R.seen.cells rows.old) cell.now floor) }
@@ -223,12 +223,12 @@ fn deletion_at(commit: Moment, kind: WriteKind) -> Option<Moment>
     }
 }
 
-/// The starts that the records nearest to the floor name, and the stamp of the newest record at or
-/// below the floor if that is a deletion's.
+/// The starts named by the records nearest to the floor, and the stamp of the newest record at or below the floor if it
+/// is a deletion's.
 ///
 /// # Errors
 ///
-/// As for `old_records`.
+/// The same as for `old_records`.
 pub(crate) fn near_records<R: Rows>(
     rows: &mut R,
     cell: &Cell,
@@ -256,9 +256,8 @@ pub(crate) fn near_records<R: Rows>(
     Ok((NearStarts { last, next }, deletion))
 }
 
-/// The newest 256 data below the floor that no record names, newest first; all of them, if they are
-/// fewer. The cell has at most one record at or below the floor, and `near` has the starts that the
-/// records nearest to the floor name.
+/// The newest 256 data below the floor that no record names, newest first; all of them, if there are fewer. The cell
+/// has at most one record at or below the floor, and `near` has the starts named by the records nearest to the floor.
 ///
 /// # Errors
 ///

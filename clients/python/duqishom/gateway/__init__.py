@@ -2,10 +2,10 @@
 
     python3 -m duqishom serve --socket PATH [--admin PATH] [--tcp PORT] [--dir DIR] ..
 
-`docs/GATEWAY.md` says what it does. The parts: `passages` knows of each operation what the gateway must know to pass it on,
-`things` the sessions, cleaners and collectors that are open, and whose they are; a `client` is a connection, and the
-`household` asks what the gateway asks for itself; `verdicts` says what the gateway answers itself, `turns` gives turns, and the
-`upstream` is the program. `heirs` ends what a dead client had open, and the `keeper` holds replies back until a checkpoint.
-`backups` are copies of the folder that clients ask for.
-`turned_away` is a connection that there is no place for, a `failure` ends all at once, and `service` starts and ends it all.
+`docs/GATEWAY.md` describes it. The parts: `passages` has each operation's costs and fields, `things` the open sessions,
+cleaners and collectors with their owners; a `client` is a connection, and the `household` makes the gateway's own
+requests; `verdicts` decides which requests the gateway answers itself, `turns` schedules askers, and the `upstream` is
+the program. `heirs` ends the sessions, cleaners and collectors of a dead client, and the `keeper` holds replies back
+until a checkpoint. `backups` are copies of the folder that clients ask for. `turned_away` is a connection for which
+there is no place, a `failure` ends everything at once, and `service` starts and ends the gateway.
 """

@@ -1,4 +1,4 @@
-"""Copies of the folder that clients ask for, which are made beside all else."""
+"""Copies of the folder that clients ask for, made while other requests go on."""
 
 from __future__ import annotations
 
@@ -14,8 +14,9 @@ from duqishom.program import ProgramEnded
 
 
 class Backups:
-    """Makes copies, each of a checkpoint of its own, in threads. Whatever root is read behind that, its files are there as long as
-    none is removed, and only a Sweep removes files: none is passed on while a copy is made. `ended` is called behind each copy."""
+    """Makes copies, each of a checkpoint of its own, in threads. Whichever root is read after it, its files exist as
+    long as none is removed, and only a Sweep removes files: no Sweep is passed on while a copy is made. `ended` is
+    called after each copy."""
 
     def __init__(self, folder: str | None, keeper: Keeper, ended: Callable[[], None]) -> None:
         self._folder, self._keeper, self._ended = folder, keeper, ended
@@ -28,14 +29,15 @@ class Backups:
         return bool(self._works)
 
     def begin(self, path: str, done: Callable[[str], None]) -> threading.Event:
-        """Begins a copy at a path: what stops it. `done` gets why it wasn't made, and nothing where it was."""
+        """Begins a copy at a path, and returns the event that stops it. `done` gets the reason if it failed, or an
+        empty text."""
         stop = threading.Event()
         work = begin(self._make(path, stop, done))
         self._works[work] = stop
         return stop
 
     async def settle(self, seconds: float) -> None:
-        """Stops all copies, and waits until they have ended, so many seconds at most."""
+        """Stops all copies, and waits at most this many seconds until they have ended."""
         self.stop()
         if self._works:
             await asyncio.wait(list(self._works), timeout=seconds)
@@ -46,7 +48,7 @@ class Backups:
             stop.set()
 
     async def _make(self, path: str, stop: threading.Event, done: Callable[[str], None]) -> None:
-        """Makes a copy, and says what came of it."""
+        """Makes a copy, and reports the result."""
         work = asyncio.current_task()
         try:
             why = await self._copy(path, stop)
@@ -57,7 +59,7 @@ class Backups:
         self._ended()
 
     async def _copy(self, path: str, stop: threading.Event) -> str:
-        """Why a copy wasn't made: nothing where it was."""
+        """Makes a copy. Returns the reason if it failed, or an empty text."""
 
         def go_on() -> None:
             if stop.is_set():

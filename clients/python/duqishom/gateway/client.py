@@ -1,4 +1,4 @@
-"""A connection: its requests wait for their turns, and it gets its own replies, in its order."""
+"""A connection: its requests wait for their turns, and it gets its own replies in their order."""
 
 from __future__ import annotations
 
@@ -34,12 +34,12 @@ if TYPE_CHECKING:
 # The process, user and group at the other end of a socket.
 CREDENTIALS = Struct("3i")
 
-# What all connections read into, one after the other.
+# The read buffer shared by all connections.
 READ_BUFFER = memoryview(bytearray(READ_SIZE))
 
 
 class Client(asyncio.BufferedProtocol):
-    """One connection, with what it has open.
+    """One connection, with its open sessions, cleaners and collectors.
 
     A request that the gateway answers itself is answered when all before it are, so replies keep their order.
     """
@@ -62,7 +62,7 @@ class Client(asyncio.BufferedProtocol):
         self._has_ended = False
         self._is_reading = True
 
-    # What comes from the client.
+    # Data from the client.
 
     def connection_made(self, transport: asyncio.BaseTransport) -> None:
         self.transport = cast(asyncio.Transport, transport)
@@ -70,7 +70,7 @@ class Client(asyncio.BufferedProtocol):
         self.is_alive = self.exchange.admit(self)
 
     def is_of_owner(self) -> bool:
-        """Whether the process that connected is one of the gateway's own user, or of root. Of one over TCP nobody knows."""
+        """Whether the connecting process belongs to the gateway's own user or to root. Over TCP this isn't known."""
         connected = self.transport.get_extra_info("socket")
         if connected.family != socket.AF_UNIX:
             return False
@@ -115,12 +115,12 @@ class Client(asyncio.BufferedProtocol):
         self.transport.abort()
 
     def has_whole_frame(self) -> bool:
-        """Whether the first frame that waits is whole, or is too long for ever to be."""
+        """Whether the first waiting frame is whole, or too long ever to be."""
         return self._frame_end(0) is not None
 
     def _frame_end(self, at: int) -> int | None:
-        """The end of the frame that begins here, None where it isn't whole. That of one that is too long is the end of its
-        length."""
+        """The end of the frame that begins here, or None if it isn't whole. If it is too long, the end of its length
+        field."""
         waiting = self.waiting
         if len(waiting) < at + HEAD:
             return None
@@ -135,7 +135,7 @@ class Client(asyncio.BufferedProtocol):
         self._is_reading = False
 
     def _choose_reading(self) -> None:
-        """Reads on where little waits, or where no frame is whole."""
+        """Continues to read if few bytes wait, or if no frame is whole."""
         reads = len(self.waiting) < READ_AHEAD or not self.has_whole_frame()
         if reads == self._is_reading or self._has_ended or not self.is_alive or self.exchange.is_closing:
             return
@@ -146,11 +146,11 @@ class Client(asyncio.BufferedProtocol):
             self.transport.pause_reading()
 
     def _forget(self, count: int) -> None:
-        """Drops so many bytes of the front of what waits."""
+        """Drops this many bytes from the front of the waiting bytes."""
         del self.waiting[:count]
         self.exchange.bounds.requests -= count
 
-    # What goes to the program.
+    # Data to the program.
 
     def take_turn(self) -> bool:
         self.needs_idle = False
@@ -169,8 +169,8 @@ class Client(asyncio.BufferedProtocol):
         return goes_on
 
     def _gather(self, runs: list[Run]) -> tuple[int, bytes | None]:
-        """Gathers requests that pass, as many as one turn allows: where they end, and what the request behind them is answered
-        by the gateway, where it is."""
+        """Gathers requests to pass on, up to the limit of one turn. Returns their end, and the gateway's answer to the
+        request after them, if the gateway answers it."""
         waiting, table, counts = self.waiting, self.exchange.table, self.exchange.counts.requests
         at, weight, room, size, plain = 0, 0, self._room(), len(waiting), None
         while weight < TURN_WEIGHT and size - at >= HEAD:
@@ -210,7 +210,7 @@ class Client(asyncio.BufferedProtocol):
         return Run(self, passage, name, 1, weight, passage.room)
 
     def _send(self, at: int, runs: list[Run]) -> None:
-        """Sends what was gathered."""
+        """Sends the gathered requests."""
         room = sum(run.room for run in runs)
         self.in_flight += sum(run.left for run in runs)
         self.room += room
@@ -219,14 +219,15 @@ class Client(asyncio.BufferedProtocol):
         self._forget(at)
 
     def _settle(self) -> None:
-        """Reads on, or not, and ends, after what waits has changed."""
+        """Continues or stops reading, or ends the connection, after the waiting bytes have changed."""
         if not self._is_reading:
             self._choose_reading()
         if self._has_ended:
             self._end_where_done()
 
     def _room(self) -> int:
-        """The bytes of replies that may be asked for now. One may always, where none is untaken or to come."""
+        """The bytes of replies that may be asked for now. One request is always allowed if no reply is untaken or still
+        to come."""
         if self.untaken > 0:
             self._measure(self.transport.get_write_buffer_size())
         held = self.room + self.untaken + self.kept_size + self._out_size
@@ -234,12 +235,12 @@ class Client(asyncio.BufferedProtocol):
         return max(room, READ_ROOM) if held == 0 else room
 
     def body(self, at: int, end: int) -> bytes:
-        """The body of a request that waits, by where its frame begins and ends."""
+        """The body of a waiting request, by the offsets of its frame."""
         return bytes(self.waiting[at + HEAD : end])
 
     def _answer(self, verdict: bytes) -> None:
-        """Answers the first request that waits, where nothing that came before it is without its reply. The next waits for
-        another turn of the event loop, so that nobody waits for many."""
+        """Answers the first waiting request, if all requests before it have their replies. The next request waits for
+        another turn of the event loop, so that no other client waits for many."""
         end = self._frame_end(0)
         if verdict is TOO_LARGE or end is None:
             self._has_ended = True
@@ -254,8 +255,8 @@ class Client(asyncio.BufferedProtocol):
         asyncio.get_running_loop().call_soon(self.exchange.turns.add, self)
 
     def _back_up(self, path: str) -> None:
-        """Has a copy made, behind which this client is answered and goes on. It is stopped where the client's requests end, for
-        nobody may wait for it then."""
+        """Begins a copy. After it this client gets its answer and continues. The copy is stopped if the client's
+        requests end, since then nobody may be waiting for it."""
         self.in_flight += 1
         self._copying = self.exchange.backups.begin(path, self._copied)
         if self._has_ended:
@@ -266,12 +267,12 @@ class Client(asyncio.BufferedProtocol):
             self._copying.set()
 
     def _copied(self, why: str) -> None:
-        """Answers what came of a copy."""
+        """Answers with the result of a copy."""
         self._copying = None
         reply = frame(bytes((BACKUP_REPLY,)) + why.encode(errors="replace"))
         self.receive(Run(self, self.exchange.table[BACKUP], b"", 0, 0, 0), reply, 1)
 
-    # What goes to the client.
+    # Data to the client.
 
     def receive(self, run: Run, frames: bytes, count: int) -> None:
         exchange = self.exchange
@@ -302,14 +303,14 @@ class Client(asyncio.BufferedProtocol):
         self.exchange.bounds.replies += len(frames)
 
     def hold(self) -> bool:
-        """Keeps replies back from now on. Gives whether that is new."""
+        """Holds replies back from now on. Returns whether they weren't held back before."""
         if self.kept is not None or not self.is_alive:
             return False
         self.kept = []
         return True
 
     def release(self) -> None:
-        """Lets go the replies that were kept back."""
+        """Releases the replies that were held back."""
         kept, self.kept = self.kept, None
         self.exchange.bounds.replies -= self.kept_size
         self.kept_size = 0
@@ -318,7 +319,7 @@ class Client(asyncio.BufferedProtocol):
             self.exchange.turns.add(self)
 
     def write(self) -> None:
-        """Writes all replies that have come for this client, in one piece."""
+        """Writes all replies received for this client, in one piece."""
         frames = b"".join(self._out)
         self._out.clear()
         self.exchange.bounds.replies -= self._out_size
@@ -330,7 +331,7 @@ class Client(asyncio.BufferedProtocol):
             self._end_where_done()
 
     def _measure(self, untaken: int) -> None:
-        """Notes how many bytes of replies the client hasn't taken."""
+        """Updates the number of reply bytes that the client hasn't taken."""
         self.exchange.bounds.replies += untaken - self.untaken
         self.untaken = untaken
 
@@ -341,14 +342,15 @@ class Client(asyncio.BufferedProtocol):
     # Its end.
 
     def _end_where_done(self) -> None:
-        """Closes the connection where the client has ended its requests and all are answered."""
+        """Closes the connection if the client has ended its requests and all are answered."""
         if not self._has_ended or self.in_flight > 0 or self.kept is not None or self._out:
             return
         if not self.has_whole_frame():
             self.transport.close()
 
     def _bequeath(self) -> None:
-        """Gives what is open to the heirs, once all replies are in that may say more of it."""
+        """Passes the open sessions, cleaners and collectors to the heirs, after all replies that may change them have
+        come."""
         if self.in_flight == 0:
             self.release()
             self.exchange.bequeath(self)

@@ -13,7 +13,7 @@ from duqishom.gateway.service import Places, Service
 from duqishom.gateway.sockets import NoSocket
 from duqishom.program import default_program
 
-# The status where the words are refused, which is the parser's own, or where the gateway can't begin.
+# The status if the words are refused, which is the parser's own, or if the gateway can't start.
 REFUSED = 2
 
 PORTS = 65_536
@@ -27,7 +27,7 @@ def octal(text: str) -> int:
 
 
 def port(text: str) -> int:
-    """A number of a port."""
+    """A port number."""
     number = int(text)
     if not 0 < number < PORTS:
         raise ValueError
@@ -89,9 +89,9 @@ def service_of(options: argparse.Namespace) -> Service:
 
 
 def main(words: Sequence[str]) -> int:
-    """Serves. The status is 0 where a signal has ended the gateway and all is kept, 1 where the last checkpoint was refused, 2
-    where the words are refused, the socket can't be taken or the program can't be started, 70 where the gateway has failed, and
-    the program's where that has ended."""
+    """Serves. The status is 0 if a signal has ended the gateway and everything is durable, 1 if the last checkpoint was
+    refused, 2 if the words are refused, the socket can't be taken or the program can't be started, 70 if the gateway
+    has failed, and the program's status if the program has ended."""
     parsing = parser()
     options = parsing.parse_args(words)
     for word in ("durable", "log"):

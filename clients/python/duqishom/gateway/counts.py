@@ -1,4 +1,4 @@
-"""What the gateway counts, and what it tells of itself and of the program."""
+"""Counts of the gateway, and statistics of itself and of the program."""
 
 from __future__ import annotations
 
@@ -38,13 +38,13 @@ NAMES = (
 PAGE = os.sysconf("SC_PAGE_SIZE")
 TICKS = os.sysconf("SC_CLK_TCK")
 
-# Where a process's two times of a processor stand in its line of /proc, behind its name.
+# The positions of a process's two processor times in its line of /proc, after its name.
 USER_TIME, SYSTEM_TIME = 11, 12
 
 
 class Counts:
-    """Counts since the gateway's start: requests by their first byte, bytes from and to clients, connections, those that were
-    turned away for want of a place, and those that were closed because too much waited."""
+    """Counts since the gateway's start: requests by their first byte, bytes from and to clients, connections,
+    connections turned away because there was no place, and connections closed because too many bytes waited."""
 
     def __init__(self) -> None:
         self.requests = [0] * 256
@@ -56,7 +56,7 @@ class Counts:
         self.began = time.monotonic()
 
     def by_name(self) -> dict[str, int]:
-        """How many requests of each operation clients have sent."""
+        """The number of requests that clients have sent, by operation."""
         known = {name: self.requests[code] for code, name in enumerate(NAMES, start=1)}
         known["Scan"] = self.requests[SCAN]
         known["Statistics"] = self.requests[STATISTICS]
@@ -66,7 +66,7 @@ class Counts:
 
 
 def process(number: int) -> dict[str, float]:
-    """The memory of a process in bytes and the processor time that it has taken in seconds: zeros where it has ended."""
+    """The memory of a process in bytes and its processor time in seconds, zeros if it has ended."""
     try:
         fields = Path(f"/proc/{number}/stat").read_text().rpartition(")")[2].split()
         pages = int(Path(f"/proc/{number}/statm").read_text().split()[1])

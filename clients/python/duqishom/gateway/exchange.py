@@ -1,4 +1,4 @@
-"""The gateway's middle: the clients, the program, and what goes between them."""
+"""The gateway's core: the clients, the program, and the traffic between them."""
 
 from __future__ import annotations
 
@@ -28,9 +28,9 @@ from duqishom.recording import Recording
 
 @dataclass(frozen=True)
 class Rules:
-    """How clients are served: whether the store is in a folder and whether that has a log, whether replies wait for checkpoints,
-    whether what a dead client had open is left, whether clients may use each other's, and whether the administrator has a
-    socket."""
+    """How clients are served: whether the store is in a folder and whether that has a log, whether replies wait for
+    checkpoints, whether a dead client's sessions, cleaners and collectors are left open, whether clients may use each
+    other's, and whether the administrator has a socket."""
 
     has_folder: bool = False
     has_log: bool = False
@@ -73,17 +73,18 @@ class Exchange:
         self.need_room: set[Client] = set()
 
     async def start(self, command: Sequence[str]) -> None:
-        """Starts the program, and waits until it has answered. OSError where it can't be started, ProgramEnded where it ends first.
+        """Starts the program, and waits until it has answered. OSError if it can't be started, ProgramEnded if it ends
+        first.
 
-        What it answers is an empty body, which is no request and changes nothing.
+        The request is an empty body, which isn't in the protocol and changes nothing.
         """
         await self.upstream.start(command)
         await self.household.ask(b"")
 
-    # What clients do.
+    # Events of clients.
 
     def admit(self, client: Client) -> bool:
-        """Takes a client in, where there is a place for it. Another one is told so."""
+        """Accepts a client if there is a place for it. Otherwise it is told so."""
         if not self.is_closing and len(self.clients) < self.bounds.clients:
             self.clients.add(client)
             self.counts.connections += 1
@@ -96,7 +97,8 @@ class Exchange:
         return False
 
     def came(self, client: Client, count: int) -> None:
-        """Notes so many bytes that came from a client. Where all have too many waiting, the one with the most is closed."""
+        """Counts bytes that came from a client. If all clients together have too many waiting, the client with the most
+        is closed."""
         self.counts.bytes_in += count
         self.bounds.requests += count
         if self.bounds.requests > REQUESTS_OF_ALL:
@@ -105,14 +107,14 @@ class Exchange:
         self.turns.add(client)
 
     def send(self, frames: bytes, runs: Sequence[Run]) -> None:
-        """Sends frames on. In a folder without a log, a checkpoint goes right behind a sweep, for the root names what the sweep
-        removes."""
+        """Sends frames to the program. In a folder without a log, a checkpoint follows a sweep immediately, since the
+        root names the files that the sweep removes."""
         self.upstream.send(frames, runs)
         if self.rules.has_folder and not self.rules.has_log and runs[-1].passage.code == SWEEP:
             self.household.send_next(bytes((CHECKPOINT,)))
 
     def note(self, client: Client, run: Run, reply: bytes) -> None:
-        """Notes what a reply says, before the client has it."""
+        """Records the effects of a reply, before the client gets it."""
         self.things.note(run.passage, run.name, reply, client)
         self.keeper.note(client, run, reply)
         if reply == MEMTABLE_FULL and self.rules.has_admin and not client.is_admin:
@@ -120,8 +122,8 @@ class Exchange:
             self._relief = self._relief or begin(self._make_room())
 
     async def _make_room(self) -> None:
-        """Writes memtables, which clients can't where the administrator has a socket. Those that need room have no turn
-        meanwhile."""
+        """Writes memtables, which clients can't do if the administrator has a socket. Clients that need room get no
+        turn meanwhile."""
         with suppress(ProgramEnded):
             await self.household.make_room()
         self._relief = None
@@ -130,21 +132,22 @@ class Exchange:
             self.turns.add(client)
 
     def _copied(self) -> None:
-        """Gives turns behind a copy, for a Sweep may have waited for it."""
+        """Gives turns after a copy, since a Sweep may have waited for it."""
         for client in self.clients:
             self.turns.add(client)
         self.turns.call()
 
     def lost(self, client: Client) -> None:
-        """Lets a client go."""
+        """Removes a client."""
         self.clients.discard(client)
 
     def bequeath(self, client: Client) -> None:
-        """Has the heirs end what a client that is gone had open, unless that is left."""
+        """Has the heirs end the sessions, cleaners and collectors of a client that is gone, unless they are to be left
+        open."""
         if not self.gone.done():
             self.heirs.take(client, self.rules.leaves)
 
-    # What the program does.
+    # Events of the program.
 
     def _taken(self) -> None:
         self._flush()
@@ -153,7 +156,7 @@ class Exchange:
             self._idle.set()
 
     def _flush(self) -> None:
-        """Writes what was gathered: for the program, and for each client."""
+        """Writes the gathered bytes to the program and to each client."""
         self.upstream.flush()
         outs, self.outs = self.outs, []
         for client in outs:
@@ -176,7 +179,7 @@ class Exchange:
     # The end.
 
     def handle(self, loop: asyncio.AbstractEventLoop, context: dict[str, Any]) -> None:
-        """Has the gateway fail where the event loop met an exception that nothing has caught."""
+        """Makes the gateway fail if the event loop met an exception that nothing has caught."""
         error = context.get("exception")
         if error is None or not is_own(error):
             loop.default_exception_handler(context)
@@ -188,8 +191,8 @@ class Exchange:
             os._exit(FAILED)
 
     def fail(self, error: BaseException) -> ProgramEnded:
-        """Ends all at once, for a reply may be on its way to somebody else from here on: no client gets another byte. Gives what
-        has ended the exchange, which may have been before."""
+        """Ends everything at once, since from here on a reply might go to the wrong client: no client gets another
+        byte. Returns the reason why the exchange has ended, which may be an earlier one."""
         self.upstream.abandon()
         self.outs.clear()
         for client in self.clients:
@@ -198,7 +201,7 @@ class Exchange:
         return self.gone.result()
 
     def _end(self, ended: ProgramEnded) -> None:
-        """Ends all waiting. What comes first tells why."""
+        """Ends all waiting. The first reason given counts."""
         self.is_closing = True
         self._idle.set()
         self.backups.stop()
@@ -208,11 +211,11 @@ class Exchange:
             self._ended(ended)
 
     async def shut(self, grace: float) -> bool:
-        """Takes no new frame, lets all replies out, ends what is open, makes a checkpoint in a folder, and ends the program's
-        input.
+        """Takes no new frames, sends all replies, ends open sessions, cleaners and collectors, makes a checkpoint in a
+        folder, and ends the program's input.
 
-        Gives whether the store is kept: a refused last checkpoint is told, and with a log nothing is lost by it. No client holds
-        this up for longer than the seconds of grace.
+        Returns whether the store is durable: a refused last checkpoint is reported, and with a log nothing is lost by
+        it. No client delays this for longer than the seconds of grace.
         """
         self.is_closing = True
         for client in list(self.clients):
@@ -236,7 +239,7 @@ class Exchange:
             await self._idle.wait()
 
     async def leave(self, grace: float) -> None:
-        """Waits until all clients have taken their replies, so many seconds at most."""
+        """Waits at most `grace` seconds until all clients have taken their replies."""
         loop = asyncio.get_running_loop()
         end = loop.time() + grace
         while self.clients and loop.time() < end:

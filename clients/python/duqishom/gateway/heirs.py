@@ -1,4 +1,4 @@
-"""What becomes of the sessions, cleaners and collectors of a client that is gone."""
+"""The end of the sessions, cleaners and collectors of a client that is gone."""
 
 from __future__ import annotations
 
@@ -12,10 +12,10 @@ from duqishom.gateway.passages import CLEAN_BEGIN, CLEAN_STEP, COLLECT_STEP, MEM
 from duqishom.gateway.things import Owner, Thing, Things
 from duqishom.program import ProgramEnded
 
-# How many visits a collector makes in one request for nobody: few, so that nobody waits long.
+# The visits of an abandoned collector in one request: few, so that no client waits long.
 VISITS = 100
 
-# How often a request that is refused is asked again, and the seconds between.
+# How often a refused request is repeated, and the seconds between the attempts.
 TRIES = 5
 PAUSE = 0.2
 
@@ -23,8 +23,8 @@ BLOCKED = b"\x89\x02"
 
 
 class Heirs:
-    """Takes what dead clients had open to its end: a session that has committed is finished, any other is stopped; a cleaner and a
-    collector, which no request gives up, take their steps."""
+    """Ends the sessions, cleaners and collectors of dead clients: a session that has committed is finished, any other
+    is stopped; a cleaner and a collector, which no request can close, take their remaining steps."""
 
     def __init__(self, household: Household, things: Things) -> None:
         self._household = household
@@ -32,7 +32,7 @@ class Heirs:
         self._works: dict[asyncio.Task[None], Kind] = {}
 
     def take(self, owner: Owner, leaves: bool) -> None:
-        """Takes over all that an owner has open, to end it or to leave it as it is."""
+        """Takes over everything that an owner has open, to end it or to leave it open."""
         for thing in list(owner.things):
             self._things.give(thing, self._household)
             if not leaves:
@@ -41,7 +41,8 @@ class Heirs:
                 work.add_done_callback(self._works.pop)
 
     async def settle(self, seconds: float) -> None:
-        """Waits until all is ended, so many seconds at most. Collectors are not waited for: they end with the program."""
+        """Waits at most this many seconds until everything has ended. Collectors are not waited for: they end with the
+        program."""
         works = [work for work, kind in self._works.items() if kind != Kind.COLLECTOR]
         if works:
             await asyncio.wait(works, timeout=seconds)
@@ -53,7 +54,7 @@ class Heirs:
         return thing in self._household.things
 
     async def _end(self, thing: Thing) -> None:
-        """Asks for a thing's steps until it has ended. One that is refused too often in a row is left."""
+        """Takes a thing's steps until it has ended. A thing that is refused too often in a row is left open."""
         tries = 0
         with suppress(ProgramEnded):
             while self.is_open(thing) and tries < TRIES:
@@ -66,14 +67,14 @@ class Heirs:
                     await self._cure(reply)
 
     async def _cure(self, reply: bytes) -> None:
-        """Does what can be done about a refusal: makes room, or waits a little."""
+        """Reacts to a refusal: makes room, or waits a little."""
         if reply == body_of(MEMTABLE_FULL):
             await self._household.make_room()
         else:
             await asyncio.sleep(PAUSE)
 
     async def _unblock(self, reply: bytes) -> None:
-        """Where a collector is blocked, opens a cleaner at the lock and takes its steps."""
+        """If a collector is blocked, opens a cleaner at the lock and takes its steps."""
         if reply[:2] != BLOCKED:
             return
         fields = FieldReader(reply[2:])
@@ -85,7 +86,7 @@ class Heirs:
 
 
 def next_step(thing: Thing) -> bytes:
-    """The body of the request that takes a thing towards its end."""
+    """The body of the next request towards a thing's end."""
     match thing.kind:
         case Kind.SESSION:
             return bytes((STEP if thing.has_committed else STOP,)) + thing.name

@@ -1,4 +1,4 @@
-"""What the gateway asks for itself, in turn with its clients."""
+"""The gateway's own requests, which take turns with its clients' requests."""
 
 from __future__ import annotations
 
@@ -23,12 +23,12 @@ from duqishom.gateway.turns import Turns
 from duqishom.gateway.upstream import Run, Upstream
 from duqishom.program import ProgramEnded
 
-# As many tablets as a store may have. They have the numbers from 1 on.
+# The maximum number of tablets of a store. Tablets are numbered from 1.
 MOST_TABLETS = 1024
 
 
 class Household:
-    """An asker whose requests are awaited. What dead clients had open is its own."""
+    """An asker whose requests are awaited. It owns the sessions, cleaners and collectors of dead clients."""
 
     def __init__(
         self, upstream: Upstream, turns: Turns, things: Things, table: tuple[Passage, ...], has_log: bool = False
@@ -45,9 +45,9 @@ class Household:
         self._end: ProgramEnded | None = None
 
     async def ask(self, body: bytes, then: bytes | None = None) -> bytes:
-        """Asks, and gives the frame of the reply. ProgramEnded where the program ends in place of it.
+        """Sends a request, and returns the frame of its reply. ProgramEnded if the program ends instead.
 
-        Where another body is given, that request goes right behind, whatever comes of it.
+        If another body is given, that request follows immediately, and its reply is ignored.
         """
         if self._end is not None:
             raise self._end
@@ -69,7 +69,7 @@ class Household:
         return bool(self._waiting)
 
     def send_next(self, body: bytes) -> None:
-        """Sends a request right behind what was sent last, whatever comes of it."""
+        """Sends a request immediately after the last one sent. Its reply is ignored."""
         self._send(body, asyncio.get_running_loop().create_future())
 
     def _send(self, body: bytes, reply: asyncio.Future[bytes]) -> None:
@@ -88,7 +88,7 @@ class Household:
             reply.set_result(frames)
 
     def fail(self, ended: ProgramEnded) -> None:
-        """Ends all waiting, for the program has ended, or the gateway has failed."""
+        """Ends all waiting, since the program has ended or the gateway has failed."""
         self._end = ended
         for reply in (*self._asked, *(reply for _, _, reply in self._waiting)):
             if not reply.done():
@@ -98,8 +98,8 @@ class Household:
         self._waiting.clear()
 
     async def make_room(self) -> None:
-        """Writes the memtable of each tablet to a file. Where a tablet has too many files, all of them become one. A log is emptied
-        by a checkpoint behind that."""
+        """Writes the memtable of each tablet to a file. If a tablet has too many files, they are merged into one. A
+        checkpoint after that empties the log, if there is one."""
         async with self._room_lock:
             for tablet in range(1, MOST_TABLETS + 1):
                 reply = await self.ask(of_tablet(MINOR, tablet))
@@ -111,7 +111,7 @@ class Household:
                 await self.ask(bytes((CHECKPOINT,)))
 
     async def join_files(self) -> None:
-        """Makes all files of each tablet one."""
+        """Merges all files of each tablet into one."""
         async with self._room_lock:
             for tablet in range(1, MOST_TABLETS + 1):
                 if await self.ask(of_tablet(MAJOR, tablet)) == UNKNOWN_TABLET:
@@ -119,10 +119,10 @@ class Household:
 
 
 def of_tablet(code: int, tablet: int) -> bytes:
-    """The body of a request that names a tablet alone."""
+    """The body of a request whose only field is a tablet."""
     return bytes((code,)) + tablet.to_bytes(4, "big")
 
 
 def body_of(reply: bytes) -> bytes:
-    """The body in a reply's frame."""
+    """The body of a reply's frame."""
     return reply[HEAD:]

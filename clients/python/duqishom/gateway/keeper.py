@@ -1,4 +1,4 @@
-"""Holds replies back until a checkpoint has kept what they show, and makes checkpoints."""
+"""Durable answers: replies are held back until a checkpoint has made the commits that they show durable."""
 
 from __future__ import annotations
 
@@ -20,17 +20,18 @@ if TYPE_CHECKING:
 CHECKPOINT_MADE = frame(b"\x92")
 STEP_REPLY, CLEANER_REPLIES = 0x84, (0x86, 0x87)
 
-# The seconds before a refused checkpoint is asked again.
+# The seconds before a refused checkpoint is repeated.
 PAUSE = 1.0
 
 
 class Keeper:
-    """With durable answers, each reply that shows a commit waits until a checkpoint has kept that commit.
+    """With durable answers, each reply that shows a commit waits until a checkpoint has made that commit durable.
 
-    The program does one request after the other, so a checkpoint keeps all commits that were answered before it. From an
-    answered commit on to the next answered checkpoint there are commits that aren't kept: the first of them is at `unkept`.
-    Meanwhile these replies wait, and all that come behind them for the same client: of a commit and its steps after it, of a
-    Conflict, of a cleaner, of a raw read, and of a Get or a Scan in a session that began after the first commit that isn't kept.
+    The program does one request after the other, so a checkpoint makes all commits durable that were answered before
+    it. From an answered commit to the next answered checkpoint there are commits that aren't durable: the first has the
+    stamp `unkept`. Meanwhile these replies wait, with all later ones for the same client: to a commit and its later
+    steps, a Conflict, to a cleaner, to a raw read, and to a Get or a Scan in a session that began after the first
+    commit that isn't durable.
     """
 
     def __init__(self, household: Household, is_durable: bool) -> None:
@@ -44,7 +45,8 @@ class Keeper:
         household.sees = self._see
 
     def note(self, client: Client, run: Run, reply: bytes) -> None:
-        """Notes a reply, and has the client's replies wait from this one on, where it shows what isn't kept."""
+        """Records a reply, and holds the client's replies back from this one on if it shows a commit that isn't
+        durable."""
         self._see(reply)
         if self._is_durable and self._shows(run, reply) and client.hold():
             self._holding.append(client)
@@ -52,7 +54,7 @@ class Keeper:
                 self._work = begin(self._keep())
 
     def _see(self, reply: bytes) -> None:
-        """Notes commits and checkpoints."""
+        """Records commits and checkpoints."""
         if reply == CHECKPOINT_MADE:
             self.count += 1
             self.unkept = None
@@ -63,7 +65,7 @@ class Keeper:
             self.unkept = reply[FIELDS:]
 
     def _shows(self, run: Run, reply: bytes) -> bool:
-        """Whether a reply shows a commit that isn't kept, or may."""
+        """Whether a reply shows, or may show, a commit that isn't durable."""
         if self.unkept is None:
             return False
         if run.passage.code in (GET, SCAN):
@@ -73,8 +75,8 @@ class Keeper:
         return reply[CODE] in CLEANER_REPLIES or run.passage.code == RAW
 
     async def _keep(self) -> None:
-        """Makes checkpoints as long as replies wait. Where one is refused, clients aren't told what may be lost: those that
-        wait are closed."""
+        """Makes checkpoints as long as replies wait. If one is refused, the waiting clients are closed, so that they
+        aren't told of commits that may be lost."""
         try:
             with suppress(ProgramEnded):
                 while self._holding:
@@ -90,9 +92,9 @@ class Keeper:
             client.cut()
 
     async def checkpoint(self) -> bool:
-        """Makes a checkpoint, and gives whether it was made. Where a tablet has too many files, all of each tablet's become one
-        first, and those that nothing names any more are removed, unless a copy is being made. A refusal is told on the standard
-        error."""
+        """Makes a checkpoint, and returns whether it was made. If a tablet has too many files, the files of each tablet
+        are first merged into one, and files that nothing names any more are removed, unless a copy is being made. A
+        refusal is reported on the standard error."""
         reply = await self._ask(CHECKPOINT)
         if reply == TOO_MANY_FILES:
             await self._household.join_files()
@@ -105,7 +107,7 @@ class Keeper:
         return reply == CHECKPOINT_MADE
 
     async def _sweep(self) -> None:
-        """Removes files, with a checkpoint right behind."""
+        """Removes files, with a checkpoint immediately after."""
         await self._household.ask(bytes((SWEEP,)), then=bytes((CHECKPOINT,)))
 
     async def _ask(self, code: int) -> bytes:

@@ -1,4 +1,5 @@
-"""What the gateway must know of each operation to pass its frame on: what it names, what it opens, what it costs."""
+"""A table of the operations, by which the gateway passes their frames on: the names in them, the things that they open,
+and their costs."""
 
 from __future__ import annotations
 
@@ -9,22 +10,23 @@ from enum import IntEnum
 LENGTH = struct.Struct(">I")
 PLACES = struct.Struct(">HH")
 
-# The bytes that a frame's length takes, those of a name, and where the name ends in a body that has one.
+# The size of a frame's length field, the size of a name, and the end of the name in a body that has one.
 HEAD = 4
 NAME = 8
 NAME_END = 1 + NAME
 
-# The most weight that the program may have before it, which one request may exceed: a cheap request and a cell of a scan weigh
-# 1, a visit of a collector 3, and whatever writes files weighs as much as all. One asker's turn ends with the lesser weight.
+# The maximum weight of the requests before the program, which one request may exceed: a cheap request and a cell of a
+# scan weigh 1, a visit of a collector 3, and a request that writes files weighs the maximum. One asker's turn ends at
+# the lesser weight.
 MOST_WEIGHT = 2048
 TURN_WEIGHT = 64
 VISIT_WEIGHT = 3
 CELL_WEIGHT = 1
 
-# The most visits of a collector's step, and the most cells of a scan.
+# The maximum visits of a collector's step, and the maximum cells of a scan.
 MOST_COUNT = 1000
 
-# The longest reply frames: of a read or a scan, of a collector that is blocked, and of all others.
+# The longest reply frames: of a read or a scan, of a blocked collector, and of all other requests.
 READ_ROOM = 65_558
 BLOCKED_ROOM = 4_085
 SMALL_ROOM = 32
@@ -36,7 +38,7 @@ def frame(body: bytes) -> bytes:
 
 
 def refusal(number: int) -> bytes:
-    """The reply frame that refuses by this number."""
+    """The reply frame of the refusal with this number."""
     return frame(bytes((0xFF, number)))
 
 
@@ -47,7 +49,7 @@ BEGIN, GET, SET, STEP, STOP, CLEAN_BEGIN, CLEAN_STEP, COLLECT_BEGIN, COLLECT_STE
 MINOR, MERGE, MAJOR, SPLIT, MOVE, SWEEP, ORACLE_RESTART, RAW, CHECKPOINT, DELETE = range(10, 20)
 SCAN = 0x31
 
-# The operations whose answers show what was committed, of sessions and of none.
+# The operations whose answers show commits, in sessions and outside them.
 READS = (GET, RAW, SCAN)
 
 # The two requests that the gateway answers itself. The program refuses them as no requests.
@@ -56,7 +58,7 @@ STATISTICS_REPLY, BACKUP_REPLY = STATISTICS | 0x80, BACKUP | 0x80
 
 
 class Kind(IntEnum):
-    """What a client may have open. Each is named by a number of its kind."""
+    """The kinds of things that a client may have open. Each thing is named by a number of its kind."""
 
     SESSION = 0
     CLEANER = 1
@@ -68,10 +70,11 @@ UNKNOWN = (refusal(1), refusal(9), refusal(10))
 
 @dataclass(frozen=True, slots=True)
 class Passage:
-    """An operation as it passes: its number, its weight, the room that its reply may take, what it names or opens, what stands
-    behind that (so many counted fields, so many bytes that are 00 or 01, so many counted fields behind each byte 01 in place of
-    a 00, and other bytes), how much each weighs that its last number counts, whether its reply is looked at, whether it is for
-    the socket of the administrator, and whether the gateway may answer it."""
+    """An operation as the gateway passes it on: its number, its weight, the maximum length of its reply, the kind of
+    thing that it names or opens, the fields after that (the number of counted fields, the number of bytes 00 or 01, the
+    numbers of counted fields after each option's byte 01, and the number of other bytes), the weight of each unit of
+    its last number, whether its reply is looked at, whether it is only for the administrator's socket, and whether the
+    gateway may answer it."""
 
     code: int
     weight: int = 1
@@ -88,7 +91,7 @@ class Passage:
     is_judged: bool = False
 
     def has_form(self, body: bytes) -> bool:
-        """Whether a body has the fields of this operation, and ends where they end."""
+        """Whether a body has exactly the fields of this operation."""
         at = past_counted(body, 1 if self.names is None else NAME_END, self.counted)
         for _ in range(self.flags):
             at = at + 1 if body[at : at + 1] in FLAGS else NOWHERE
@@ -105,13 +108,14 @@ class Passage:
         return 1 + self.weight_each * min(count, MOST_COUNT)
 
 
-# What a byte of two values is, and a place behind the end of any body.
+# The values of a boolean byte, and an offset behind the end of any body.
 FLAGS = (b"\0", b"\1")
 NOWHERE = 1 << 32
 
 
 def past_counted(body: bytes, at: int, count: int) -> int:
-    """Where so many counted fields of a body end that begin here: behind its end where they aren't there."""
+    """The end of `count` counted fields that begin here in a body, or an offset behind the body's end if they aren't
+    there."""
     for _ in range(count):
         if len(body) < at + HEAD:
             return NOWHERE
@@ -129,8 +133,8 @@ def of_files(code: int) -> Passage:
     return Passage(code, weight=MOST_WEIGHT, is_for_admin=True, is_noted=True)
 
 
-# Its fields are whether keys alone are asked for, the cell behind which it begins, its last row, its family, and how many cells
-# are looked at.
+# Its fields are whether only keys are asked for, the cell after which it begins, its last row, its family, and the
+# number of cells visited.
 SCANNING = Passage(
     SCAN,
     room=READ_ROOM,
@@ -161,7 +165,7 @@ KNOWN = (
 
 
 def passages(notes_reads: bool) -> tuple[Passage, ...]:
-    """The passage of each first byte of a body. Replies to reads are looked at where that is asked for."""
+    """The passage of each first byte of a body. Replies to reads are looked at if `notes_reads` is set."""
     table = [Passage(code) for code in range(256)]
     for passage in KNOWN:
         is_noted = passage.is_noted or (notes_reads and passage.code in READS)

@@ -1,4 +1,4 @@
-"""The gateway's life: it starts the program, listens, serves until a signal or the program's end, and ends what it began."""
+"""The gateway's life: it starts the program, listens, serves until a signal or the program's end, and shuts down."""
 
 from __future__ import annotations
 
@@ -19,10 +19,10 @@ from duqishom.gateway.sockets import BACKLOG, NoSocket, SocketFile, inherited, l
 from duqishom.program import ProgramEnded
 from duqishom.recording import Recording
 
-# Files that the gateway needs beside a connection for each client.
+# The number of open files that the gateway needs besides one connection for each client.
 FILES_BESIDE = 64
 
-# The status of a program that a signal has ended is that signal's number and this, as a shell has it.
+# The status of a program that a signal has ended is the signal's number plus this, as in a shell.
 BY_SIGNAL = 128
 
 
@@ -39,9 +39,9 @@ class Places:
 
 @dataclass(frozen=True)
 class Service:
-    """A gateway as it is asked for: the program's command, where it listens, how it serves, the seconds between two
-    checkpoints (0 for none) and those that a client may take for its last replies, the folder of a recording, and that of the
-    store."""
+    """A gateway's configuration: the program's command, where it listens, how it serves, the seconds between two
+    checkpoints (0 for none), the seconds that a client may take for its last replies, the folder of a recording, and
+    the store's folder."""
 
     command: Sequence[str]
     places: Places
@@ -53,7 +53,7 @@ class Service:
     folder: str | None = None
 
     def run(self) -> int:
-        """Serves until the end, and gives the exit status."""
+        """Serves until the end, and returns the exit status."""
         raise_file_limit(self.bounds.clients + FILES_BESIDE)
         return asyncio.run(self._serve())
 
@@ -88,7 +88,8 @@ class Service:
         return await self._end(exchange, ended)
 
     def _listen(self, stack: ExitStack) -> list[tuple[socket.socket, bool]]:
-        """The listening sockets, each with whether it is the administrator's. Those that are made here go with the stack."""
+        """The listening sockets, each with whether it is the administrator's. Sockets created here are closed with the
+        stack."""
         listening = inherited(os.environ)
         places = self.places
         for path, mode, is_admin in ((places.socket, places.mode, False), (places.admin, places.admin_mode, True)):
@@ -103,7 +104,7 @@ class Service:
         return listening
 
     async def _until(self, exchange: Exchange, stopped: asyncio.Future[ProgramEnded | None]) -> ProgramEnded | None:
-        """Waits for a signal, or for the program's end. Meanwhile checkpoints are made where they are asked for."""
+        """Waits for a signal, or for the program's end. Meanwhile makes periodic checkpoints, if configured."""
         while not stopped.done():
             await asyncio.wait({stopped}, timeout=self.checkpoint or None)
             if not stopped.done():
@@ -116,8 +117,8 @@ class Service:
         return stopped.result()
 
     async def _end(self, exchange: Exchange, ended: ProgramEnded | None) -> int:
-        """Ends the gateway: with 0 where all is kept, and with the program's status, or its own, where that has ended or it has
-        failed."""
+        """Ends the gateway, and returns the status: 0 if everything is durable, the program's if the program has ended,
+        or the gateway's own if it has failed."""
         if ended is None:
             try:
                 is_kept = await exchange.shut(self.grace)
@@ -135,13 +136,13 @@ class Service:
 
 
 def resolve(future: asyncio.Future[ProgramEnded | None], result: ProgramEnded | None) -> None:
-    """Gives a future its result, where it has none yet."""
+    """Sets a future's result, if it has none yet."""
     if not future.done():
         future.set_result(result)
 
 
 async def accept(exchange: Exchange, listening: socket.socket, is_admin: bool) -> asyncio.Server:
-    """Takes connections from a socket."""
+    """Accepts connections from a socket."""
     loop = asyncio.get_running_loop()
 
     def client() -> Client:
@@ -153,7 +154,7 @@ async def accept(exchange: Exchange, listening: socket.socket, is_admin: bool) -
 
 
 def raise_file_limit(wanted: int) -> None:
-    """Lets this process have so many files open, where the system lets it."""
+    """Raises this process's limit of open files, if the system allows it."""
     soft, hard = resource.getrlimit(resource.RLIMIT_NOFILE)
     if soft < wanted:
         resource.setrlimit(resource.RLIMIT_NOFILE, (min(wanted, hard), hard))

@@ -1,4 +1,4 @@
-"""The sockets that the gateway listens at: those it makes, and those that a service manager hands over."""
+"""The sockets that the gateway listens at: created here, or passed by a service manager."""
 
 from __future__ import annotations
 
@@ -15,22 +15,22 @@ from duqishom.recording import private
 # How many connections may wait to be accepted.
 BACKLOG = 512
 
-# The first socket that a service manager hands over, and the name of that of the administrator.
+# The first socket that a service manager passes, and the name of the administrator's socket.
 FIRST_INHERITED = 3
 ADMIN_NAME = "admin"
 
-# What the name of a lock has behind that of its socket.
+# The suffix that a lock's name adds to its socket's name.
 LOCK = ".lock"
 
 
 class NoSocket(Exception):
-    """There is no socket to listen at: another gateway serves at its path, something stands there that is no socket, or none is
-    named."""
+    """There is no socket to listen at: another gateway serves at its path, there is something else than a socket, or
+    none is named."""
 
 
 def lock_beside(path: str) -> BufferedWriter:
-    """The lock of a socket's path: a file beside it, which stays, and which one gateway at a time has locked as long as it has it
-    open, or lives. NoSocket where another has."""
+    """The lock of a socket's path: a file beside it, which is never removed, and which one gateway at a time holds
+    locked while it has it open. NoSocket if another gateway holds it."""
     file = private(path + LOCK)
     try:
         fcntl.flock(file, fcntl.LOCK_EX | fcntl.LOCK_NB)
@@ -41,8 +41,8 @@ def lock_beside(path: str) -> BufferedWriter:
 
 
 def unix_socket(path: str, mode: int) -> socket.socket:
-    """A listening socket at a path, which nobody may open whom the mode doesn't let, at no moment. One that nobody answers at
-    is replaced."""
+    """A listening socket at a path, which at no moment can be opened by users that the mode excludes. A socket at which
+    nobody answers is replaced."""
     remove_stale(path)
     listening = socket.socket(socket.AF_UNIX)
     before = os.umask(0o777 & ~mode)
@@ -58,7 +58,7 @@ def unix_socket(path: str, mode: int) -> socket.socket:
 
 
 def remove_stale(path: str) -> None:
-    """Removes a socket at which nobody answers. NoSocket where somebody does, or where it is no socket."""
+    """Removes a socket at which nobody answers. NoSocket if somebody does, or if it isn't a socket."""
     try:
         if not stat.S_ISSOCK(os.lstat(path).st_mode):
             raise NoSocket(f"{path} is there, and is no socket")
@@ -75,27 +75,27 @@ def remove_stale(path: str) -> None:
 
 
 def tcp_socket(port: int) -> socket.socket:
-    """A listening socket at a port of this machine, for its own users alone."""
+    """A listening socket at a port of the loopback interface."""
     return socket.create_server(("127.0.0.1", port), backlog=BACKLOG)
 
 
 class SocketFile:
-    """A socket's file, which is removed with its gateway, and with no other."""
+    """A socket's file, which only its own gateway removes."""
 
     def __init__(self, path: str) -> None:
         self._path = path
         self._is = os.lstat(path).st_ino
 
     def remove(self) -> None:
-        """Removes the file, where it is still this one."""
+        """Removes the file, if it is still this one."""
         with suppress(FileNotFoundError):
             if os.lstat(self._path).st_ino == self._is:
                 os.unlink(self._path)
 
 
 def inherited(environment: MutableMapping[str, str]) -> list[tuple[socket.socket, bool]]:
-    """The sockets that a service manager has handed over, each with whether it is the administrator's. What says so is taken
-    out of the environment, for the program isn't meant."""
+    """The sockets that a service manager has passed, each with whether it is the administrator's. Their variables are
+    removed from the environment, since they aren't meant for the program."""
     process = environment.pop("LISTEN_PID", "")
     count = environment.pop("LISTEN_FDS", "0")
     names = environment.pop("LISTEN_FDNAMES", "").split(":")
@@ -109,7 +109,7 @@ def inherited(environment: MutableMapping[str, str]) -> list[tuple[socket.socket
 
 
 def notify(environment: Mapping[str, str], state: str) -> None:
-    """Says a state to the service manager, where there is one."""
+    """Reports a state to the service manager, if there is one."""
     path = environment.get("NOTIFY_SOCKET", "")
     if path:
         address = "\0" + path[1:] if path.startswith("@") else path

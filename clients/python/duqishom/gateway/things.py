@@ -1,4 +1,4 @@
-"""Sessions, cleaners and collectors that are open, and whose they are, by what the program's replies say of them."""
+"""Open sessions, cleaners and collectors and their owners, tracked by the program's replies."""
 
 from __future__ import annotations
 
@@ -6,7 +6,7 @@ from typing import Protocol
 
 from duqishom.gateway.passages import HEAD, NAME, PLACES, STEP, STOP, Kind, Passage
 
-# Where the first byte of a reply's body stands in its frame, its tag or refusal, and the fields behind that.
+# The offsets in a reply's frame of the body's first byte, of its tag or refusal, and of the fields after that.
 CODE, TAG, FIELDS = HEAD, HEAD + 1, HEAD + 2
 REFUSED = 0xFF
 HELD, CONFLICT, COMMITTED, LOST, FINISHED = 1, 2, 4, 5, 6
@@ -16,7 +16,7 @@ NUMBERS_OF_UNKNOWN = (1, 9, 10)
 
 
 class Owner(Protocol):
-    """Who has things open: these, and how many of each kind are open or being opened."""
+    """An owner of things: its open things, and how many of each kind are open or being opened."""
 
     things: set[Thing]
     counts: list[int]
@@ -37,13 +37,13 @@ class Thing:
 
 
 class Things:
-    """All that is open in the program."""
+    """All things open in the program."""
 
     def __init__(self) -> None:
         self.by_name: tuple[dict[bytes, Thing], ...] = ({}, {}, {})
 
     def give(self, thing: Thing, heir: Owner) -> None:
-        """Makes a thing another owner's."""
+        """Passes a thing to another owner."""
         thing.owner.things.discard(thing)
         thing.owner.counts[thing.kind] -= 1
         thing.owner = heir
@@ -51,7 +51,7 @@ class Things:
         heir.counts[thing.kind] += 1
 
     def note(self, passage: Passage, name: bytes, reply: bytes, asker: Owner) -> None:
-        """Notes what a reply says of a thing: that it has opened, goes on, or has ended."""
+        """Records a reply's news of a thing: that it has opened, continues, or has ended."""
         if passage.opens is not None:
             self._note_opening(passage.opens, reply, asker)
         elif passage.names is not None:
@@ -84,7 +84,7 @@ class Things:
 
 
 def opened(kind: Kind, reply: bytes) -> bytes | None:
-    """The name of what has opened, and None where nothing has."""
+    """The name of the thing that has opened, or None if none has."""
     if reply[CODE] == REFUSED:
         return None
     if kind != Kind.CLEANER:

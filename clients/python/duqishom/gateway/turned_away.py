@@ -7,18 +7,18 @@ from contextlib import suppress
 
 from duqishom.gateway.passages import TOO_MANY
 
-# How many such connections may stay for a while, and the seconds in which each may ask something, and then take its reply. Where
-# there are more, the oldest is closed.
+# The maximum number of such connections, and the seconds that each has to send a request, and then to take its reply.
+# If there are more, the oldest is closed.
 MOST = 32
 SECONDS = 1.0
 
 
 class TurnedAway(asyncio.Protocol):
-    """Its first request is refused TooManySessions, or it is where it asks nothing. It is read until it has gone, for what is
-    sent to a connection that is closed may take the reply with it."""
+    """Its first request is refused TooManySessions, and so is the connection if it sends none. It is read until the
+    client disconnects, since data sent to a closed connection may destroy the reply."""
 
     def __init__(self, transport: asyncio.Transport, others: dict[TurnedAway, None]) -> None:
-        """Takes a connection over. The others are such ones, the oldest first."""
+        """Takes a connection over. `others` are the other turned-away connections, oldest first."""
         self._transport, self._others = transport, others
         self._has_refused = False
         self._timer = asyncio.get_running_loop().call_later(SECONDS, self._refuse)
@@ -35,7 +35,7 @@ class TurnedAway(asyncio.Protocol):
         self._others.pop(self, None)
 
     def close(self) -> None:
-        """Refuses it, where that isn't done yet, and closes it."""
+        """Refuses it, if not done yet, and closes it."""
         self._refuse()
         self._others.pop(self, None)
         self._transport.close()

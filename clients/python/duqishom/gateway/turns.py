@@ -1,4 +1,5 @@
-"""Whose turn it is: all who have something to ask take turns, and the program has no more before it than a few heavy requests."""
+"""The scheduler: all askers with waiting requests take turns, and the program has at most a few heavy requests before
+it."""
 
 from __future__ import annotations
 
@@ -11,7 +12,8 @@ from duqishom.gateway.upstream import Asker, Upstream
 
 
 class Turns:
-    """A ring of askers. `flush` is called behind the turns: what all have sent in one turn of the event loop is one write."""
+    """A ring of askers. `flush` is called after the turns: everything sent in one turn of the event loop is one
+    write."""
 
     def __init__(self, upstream: Upstream, flush: Callable[[], None]) -> None:
         self._upstream = upstream
@@ -20,20 +22,20 @@ class Turns:
         self._is_due = False
 
     def add(self, asker: Asker) -> None:
-        """Has an asker wait for its turn, where it doesn't yet."""
+        """Lets an asker wait for its turn, if it doesn't yet."""
         if not asker.is_queued:
             asker.is_queued = True
             self._waiting.append(asker)
         self.call()
 
     def call(self) -> None:
-        """Has turns given once what has come by now is read."""
+        """Schedules turns for after the data received so far is read."""
         if not self._is_due:
             self._is_due = True
             asyncio.get_running_loop().call_soon(self.give)
 
     def go_on(self) -> None:
-        """Has turns given where somebody waits for one."""
+        """Schedules turns if an asker waits for one."""
         if self._waiting:
             self.call()
 

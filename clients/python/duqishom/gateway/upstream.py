@@ -1,4 +1,4 @@
-"""The program behind the gateway: frames go to it, gathered, and each of its replies goes to whoever asked."""
+"""The program behind the gateway: gathered frames are sent to it, and each of its replies is passed to its asker."""
 
 from __future__ import annotations
 
@@ -11,31 +11,31 @@ from typing import Protocol, cast
 from duqishom.gateway.passages import HEAD, LENGTH, Passage
 from duqishom.recording import Recording
 
-# The bytes that the program may leave untaken. Beyond them nothing is sent to it.
+# The bytes that the program may leave unread. Beyond this limit nothing is sent to it.
 MOST_UNTAKEN = 1 << 20
 
 
 class Asker(Protocol):
-    """Whoever asks the program: it gets turns, and the replies to what it sent.
+    """An asker of the program: it gets turns, and the replies to its requests.
 
-    It needs the program idle where its next request is heavy: what is light would wait in the program for the heavy one behind
-    it, for replies to what the program reads in one piece leave together.
+    It needs the program idle if its next request is heavy: light requests would wait in the program for the heavy one
+    after them, since the program sends the replies to all requests of one read together.
     """
 
     is_queued: bool
     needs_idle: bool
 
     def take_turn(self) -> bool:
-        """Sends some of what waits. Gives whether more of it may go on at once."""
+        """Sends some of the waiting requests. Returns whether more of them may be sent immediately."""
 
     def receive(self, run: Run, frames: bytes, count: int) -> None:
-        """Takes so many replies to the requests of a run, each in its frame."""
+        """Takes `count` replies to the requests of a run, each in its frame."""
 
 
 class Run:
-    """Requests of one asker, one behind the other, whose replies go back in one piece: how many are without a reply yet, and
-    what they weigh and may take all together. A request whose reply is looked at is a run of its own, with the name that stands
-    in it."""
+    """Consecutive requests of one asker, whose replies go back in one piece: the number of requests without a reply
+    yet, their total weight, and the maximum total length of their replies. A request whose reply is looked at is a run
+    of its own, with the name in it."""
 
     __slots__ = ("asker", "passage", "name", "left", "weight", "room")
 
@@ -57,9 +57,9 @@ class Run:
 class Upstream(asyncio.SubprocessProtocol):
     """A running program. Its standard error is the gateway's, and a Ctrl-C at the terminal isn't for it.
 
-    `taken` is called when all replies of one read have gone to their askers, `ended` with the status when the program has
-    ended, and `eased` when the program takes frames again. What goes in and comes out is recorded where that is asked for:
-    OSError where it can't be.
+    `taken` is called when all replies of one read have gone to their askers, `ended` with the status when the program
+    has ended, and `eased` when the program takes frames again. The frames in both directions are recorded if that is
+    asked for: OSError if they can't be.
     """
 
     def __init__(
@@ -81,7 +81,7 @@ class Upstream(asyncio.SubprocessProtocol):
         self._came = b""
 
     async def start(self, command: Sequence[str]) -> None:
-        """Starts the program. OSError where it can't be started."""
+        """Starts the program. OSError if it can't be started."""
         loop = asyncio.get_running_loop()
         transport, _ = await loop.subprocess_exec(lambda: self, *command, stderr=None, process_group=0)
         self._child = transport
@@ -90,13 +90,13 @@ class Upstream(asyncio.SubprocessProtocol):
         self.process = self._child.get_pid()
 
     def send(self, frames: bytes, runs: Sequence[Run]) -> None:
-        """Takes frames to be written with the next flush, and the runs that they are."""
+        """Takes frames to be written with the next flush, and their runs."""
         self._gathered.append(frames)
         self.runs.extend(runs)
         self.weight += sum(run.weight for run in runs)
 
     def flush(self) -> None:
-        """Writes what was gathered, in one piece."""
+        """Writes the gathered frames, in one piece."""
         if self._gathered:
             frames = b"".join(self._gathered)
             self._input.write(frames)
@@ -126,7 +126,7 @@ class Upstream(asyncio.SubprocessProtocol):
         self._taken()
 
     def _hand(self, frames: bytes, count: int) -> None:
-        """Hands so many replies of the first run to its asker."""
+        """Passes `count` replies of the first run to its asker."""
         run = self.runs[0]
         if run.left == 0:
             self.runs.popleft()
@@ -141,18 +141,18 @@ class Upstream(asyncio.SubprocessProtocol):
         self._eased()
 
     def close_input(self) -> None:
-        """Ends the program's input, behind what was sent."""
+        """Ends the program's input, after everything sent."""
         self._input.close()
 
     def abandon(self) -> None:
-        """Hands out no more replies, and ends the program's input."""
+        """Passes on no more replies, and ends the program's input."""
         self._is_abandoned = True
         self._gathered.clear()
         self.runs.clear()
         self.close_input()
 
     async def settle(self, seconds: float) -> None:
-        """Waits until the program has ended. One that goes on for so many seconds is killed."""
+        """Waits until the program has ended. After this many seconds it is killed."""
         for _ in range(2):
             with suppress(TimeoutError):
                 await asyncio.wait_for(self._has_ended.wait(), seconds)

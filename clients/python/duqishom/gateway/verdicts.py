@@ -1,4 +1,4 @@
-"""Which requests the gateway answers itself, and what."""
+"""The requests that the gateway answers itself, and its answers."""
 
 from __future__ import annotations
 
@@ -23,17 +23,18 @@ from duqishom.gateway.passages import (
 if TYPE_CHECKING:
     from duqishom.gateway.client import Client
 
-# It waits for no turn where nothing of its client is before it: it is answered while the program is at something long, too.
+# It doesn't wait for a turn if its client has no requests before it, so it is also answered while the program is busy.
 STATISTICS_FRAME = frame(bytes((STATISTICS,)))
 
-# What stands for the answer to a request that has to wait, and to one for a copy, which is answered behind the copy.
+# Placeholders for the answers to a request that must wait, and to a request for a copy, which is answered after the
+# copy.
 LATER, BACK_UP = b"", b"copy"
 
 
 def verdict_on(client: Client, passage: Passage, at: int, end: int) -> bytes | None:
-    """What the gateway answers to a request of a client, by where its frame begins and ends, and None where the program answers it.
+    """The gateway's answer to a client's request, by the offsets of its frame, or None if the program answers it.
 
-    A body that isn't in its form is the program's to answer: BadRequest comes before what is unknown or too many.
+    The program answers malformed bodies: BadRequest comes before refusals of unknown or too many things.
     """
     exchange = client.exchange
     if passage.names is not None:
@@ -54,7 +55,7 @@ def verdict_on(client: Client, passage: Passage, at: int, end: int) -> bytes | N
 
 
 def owns(client: Client, kind: Kind, at: int) -> bool:
-    """Whether a client has the thing that a request names, by where its frame begins."""
+    """Whether a client owns the thing that a request names, by the offset of its frame."""
     name_at = at + HEAD + NAME_END - NAME
     thing = client.exchange.things.by_name[kind].get(bytes(client.waiting[name_at : name_at + NAME]))
     return thing is not None and thing.owner is client

@@ -15,7 +15,7 @@ const RAW: &[u8] = b"\x11\0\0\0\x01m\0\0\0\x01c\x02\0\0\0\0\0\0\0\0\0\0\0\0\0\0\
 const SCAN: &[u8] = b"\x31\0\0\0\0\0\0\0\x01\x01\x01\0\0\0\x01a\0\0\0\x03bal\
     \x01\0\0\0\x01z\x01\0\0\0\x01c\0\0\x03\xE8";
 
-/// What a scan found: a value, a lock, and a value that isn't sent.
+/// A scan's reply: a value, a lock, and a value that isn't sent.
 const SCANNED: &[u8] = b"\xB1\x02\0\0\0\x01r\0\0\0\x01c\0\0\0\x03\
     \0\0\0\x03Bob\0\0\0\x03bal\x01\0\0\0\x0210\
     \0\0\0\x03Joe\0\0\0\x03bal\x02\0\0\0\0\0\0\0\x03\
@@ -89,7 +89,7 @@ const NO_REQUESTS: [&[u8]; 34] = [
     b"\x32\0\0\0\0\0\0\0\x01\0\0\0\0\0\0\0\x01",
 ];
 
-/// Whether a body is that of a request, which is written with the same bytes.
+/// Whether a body decodes as a request that is encoded with the same bytes.
 fn is_request(alloc: Global, body: &[u8]) -> Result<bool, Refusal> {
     let Some(request) = decode_request(body) else {
         return Ok(false);
@@ -190,7 +190,7 @@ const NO_REPLIES: [&[u8]; 35] = [
     b"\xFF\x16\0",
 ];
 
-/// Whether a body is that of a reply, which is written with the same bytes.
+/// Whether a body decodes as a reply that is encoded with the same bytes.
 fn is_reply(alloc: Global, body: &[u8]) -> Result<bool, Refusal> {
     let Some(reply) = decode_reply(alloc, body)? else {
         return Ok(false);
@@ -200,7 +200,7 @@ fn is_reply(alloc: Global, body: &[u8]) -> Result<bool, Refusal> {
     Ok(out.as_slice() == body)
 }
 
-/// Whether a body is that of no reply.
+/// Whether a body doesn't decode as a reply.
 fn is_no_reply(alloc: Global, body: &[u8]) -> Result<bool, Refusal> {
     Ok(decode_reply(alloc, body)?.is_none())
 }

@@ -1,4 +1,4 @@
-//! Keys and bodies: calls that take memory.
+//! Keys and bodies: calls that allocate.
 
 pub mod keys;
 

@@ -1,4 +1,4 @@
-//! Recorded runs with one wrong reply at their end, and requests that may be answered in more ways than one, as an audit judges them.
+//! Audits of recorded runs with a wrong last reply, and of requests that may be answered in more than one way.
 
 use audit::Audit;
 use cell_key::Refusal;
@@ -14,7 +14,7 @@ const BEGUN: [Exchange; 1] = [
     (b"\x01", b"\x81\0\0\0\0\0\0\0\x05"),
 ];
 
-/// The commit's lock on the other cell finds a cleaner, which learns of the commit.
+/// A cleaner of the other cell's lock finds the commit.
 const DECIDED: [Exchange; 2] = [
     // CleanBegin Joe bal: Cleaner 1 3
     (
@@ -44,7 +44,7 @@ const COLLECTING: [Exchange; 2] = [
     (b"\x08", b"\x88\0\0\0\0\0\0\0\x01\0\0\0\0\0\0\0\x02"),
 ];
 
-/// A run: how many exchanges of the transfer come first, the parts after them, and a last exchange.
+/// A run: the number of the transfer's exchanges that come first, the parts after them, and a last exchange.
 type Recording = (usize, &'static [&'static [Exchange]], Exchange);
 
 /// Runs whose last reply is wrong.
@@ -117,7 +117,7 @@ const WRONG: [Recording; 12] = [
     (COMMITTED, &[], (b"\x05\0\0\0\0\0\0\0\x03", b"\x83")),
 ];
 
-/// Runs whose last reply may come, though this store would give another one.
+/// Runs whose last reply is allowed, though this store would give another one.
 const FREE: [Recording; 5] = [
     // Begin: 2001
     (COMMITTED, &[], (b"\x01", b"\x81\0\0\0\0\0\0\x07\xD1")),
@@ -174,7 +174,7 @@ const WRONG_SCANS: [Recording; 16] = [
         \0\0\0\x03Joe\0\0\0\x03bal\x01\0\0\0\x019",
         ),
     ),
-    // A value behind a lock, Scan 5 1000: Bob bal 3; Joe bal 2; End
+    // A value hidden by a lock, Scan 5 1000: Bob bal 3; Joe bal 2; End
     (
         COMMITTED,
         &[&SESSION_STOPPED, &BEGUN],
@@ -265,7 +265,7 @@ const WRONG_SCANS: [Recording; 16] = [
             b"\xB1\x01\0\0\0\x01\0\0\0\x03Bob\0\0\0\x03bal\x01\0\0\0\x013",
         ),
     ),
-    // A cell after the last one that it went over, Scan 5 1000: Bob bal 3; Joe bal 9; More Bob bal
+    // A cell after the one that the scan reached, Scan 5 1000: Bob bal 3; Joe bal 9; More Bob bal
     (
         COMMITTED,
         &[&SESSION_STOPPED, &BEGUN, &ROLLED_FORWARD],
@@ -289,7 +289,7 @@ const WRONG_SCANS: [Recording; 16] = [
         \0\0\0\x03Joe\0\0\0\x03bal\x01\0\0\0\x019",
         ),
     ),
-    // A value in place of a key, Scan 5 keys 1000: Bob bal 3; Joe bal Unsent; End
+    // A value instead of a key, Scan 5 keys 1000: Bob bal 3; Joe bal Unsent; End
     (
         COMMITTED,
         &[&SESSION_STOPPED, &BEGUN, &ROLLED_FORWARD],
@@ -321,7 +321,7 @@ const WRONG_SCANS: [Recording; 16] = [
     ),
 ];
 
-/// Runs whose last reply to a scan may come.
+/// Runs whose last reply, to a scan, is allowed.
 const FREE_SCANS: [Recording; 5] = [
     // Fewer cells than are asked for, Scan 5 1000: Bob bal 3; More Bob bal
     (
@@ -373,7 +373,7 @@ const FREE_SCANS: [Recording; 5] = [
     ),
 ];
 
-/// What the audit says of an exchange: no, if a body is outside its form.
+/// Whether the audit accepts an exchange. `false` if a body is malformed.
 fn takes(alloc: Global, audit: &mut Audit, exchange: &Exchange) -> Result<bool, Refusal> {
     let Some(request) = decode_request(exchange.0) else {
         return Ok(false);
@@ -384,7 +384,7 @@ fn takes(alloc: Global, audit: &mut Audit, exchange: &Exchange) -> Result<bool, 
     }
 }
 
-/// An audit that says yes to all exchanges before the last one, or none if it says no.
+/// An audit that has accepted all exchanges before the last one, or `None` if it rejected one.
 fn audit_before(alloc: Global, recording: &Recording) -> Result<Option<Audit>, Refusal> {
     let mut audit = Audit::new(alloc)?;
     for exchange in TRANSFER.iter().take(recording.0) {
@@ -402,7 +402,7 @@ fn audit_before(alloc: Global, recording: &Recording) -> Result<Option<Audit>, R
     Ok(Some(audit))
 }
 
-/// Whether the audit says yes to all exchanges before the last one, and this to that.
+/// Whether the audit accepts all exchanges before the last one, and judges the last one as `said`.
 fn is_judged(alloc: Global, recording: &Recording, said: bool) -> Result<bool, Refusal> {
     match audit_before(alloc, recording)? {
         Some(audit) => {
@@ -432,7 +432,8 @@ fn wrong_and_free_replies(rt: HostRuntime) -> Result<(), Fail> {
     Ok(())
 }
 
-/// What a session is answered before and after a restart of the store.
+/// A step that is refused after a restart of the store, because its session is gone, and a cleaner of the session's
+/// lock.
 const STOPPED_BY_RESTART: [Exchange; 2] = [
     // Step 3: refused 1
     (b"\x04\0\0\0\0\0\0\0\x03", b"\xFF\x01"),

@@ -1,5 +1,5 @@
-//! The script with a log, over devices that a kill cuts off at each of their calls: what was written are whole replies, and
-//! what opens then is what a beginning of the requests leaves that has each of those that were replied to.
+//! The script with a log, over devices that a kill cuts off at each of their calls: whole replies were written, and an
+//! open recovers the state after a prefix of the requests that contains each request replied to.
 
 use crate::tests::lasting::{Devices, ON_REQUEST, Upkeep, reads, states};
 use crate::tests::stopping::Written;
@@ -52,10 +52,10 @@ const THREE_CELLS: [Exchange; 12] = [
     ),
 ];
 
-/// Files that no tablet has are removed. Their number is forgotten.
+/// Files that no tablet has are removed. Their number is ignored.
 const SWEPT: [Exchange; 1] = [(b"\x0F", b"\x8F\0\0\0\0\0\0\0\0")];
 
-/// Another session holds a cell, which stays so.
+/// Another session holds a cell, and doesn't commit.
 const HELD: [Exchange; 3] = [
     // Begin: 1003
     (b"\x01", b"\x81\0\0\0\0\0\0\x03\xEB"),
@@ -68,7 +68,7 @@ const HELD: [Exchange; 3] = [
     (b"\x04\0\0\0\0\0\0\x03\xEB", b"\x84\x01\0\x01\0\x01"),
 ];
 
-/// What comes after the transfer's beginning: up to a checkpoint, and from there to a Sweep.
+/// The requests after the first ones of the transfer: up to a checkpoint, and from there to a Sweep.
 const FIRST_PART: [&[Exchange]; 5] = [
     &FLUSHED,
     &SESSION_STOPPED,
@@ -82,22 +82,22 @@ const SECOND_PART: [&[Exchange]; 2] = [&COLLECTED, &THREE_CELLS];
 /// A server that compacts and checkpoints on request.
 const ASKED: Upkeep = ON_REQUEST;
 
-/// One that makes a checkpoint whenever something was written down.
+/// A server that makes a checkpoint whenever the journal isn't empty.
 const CHECKPOINTS: Upkeep = Upkeep {
     flush: 10_000,
     merge: None,
     checkpoint: Some(1),
 };
 
-/// One that compacts memtables of two entries and merges two files, and makes checkpoints now and then.
+/// A server that compacts memtables of two entries and merges two files, and makes checkpoints now and then.
 const BY_ITSELF: Upkeep = Upkeep {
     flush: 2,
     merge: Some(2),
     checkpoint: Some(3_000),
 };
 
-/// How the script is cut off: how many bytes a read gives at most, whether the call at which the kill comes is made, and whether
-/// the writer is cut off too, as it is by a kill, or only the devices.
+/// How the script is cut off: the most bytes a read gives, whether the call at which the kill comes is made, and
+/// whether the writer is cut off too, as by a real kill, or only the devices.
 #[derive(Clone, Copy, Debug)]
 struct Cut {
     most: usize,
@@ -105,8 +105,8 @@ struct Cut {
     cuts_writer: bool,
 }
 
-/// The bodies of the requests, their frames, those of their replies, where each of these ends, and where the last eight bytes of
-/// the Sweep's reply stand: how many files it removes depends on when others were written.
+/// The bodies of the requests, their frames, the frames of their replies, the end of each reply, and the offset of the
+/// last eight bytes of the Sweep's reply: how many files it removes depends on when others were written.
 #[derive(Drop)]
 struct Script {
     bodies: Vec<&'static [u8]>,
@@ -152,14 +152,14 @@ impl Script {
         Ok(())
     }
 
-    /// Forgets how many files the Sweep removed, if its reply was written.
+    /// Zeroes the number of files that the Sweep removed, if its reply was written.
     fn forget_removed(&self, written: &mut [u8]) {
         for byte in written.iter_mut().skip(self.removed_at).take(8) {
             *byte = 0;
         }
     }
 
-    /// How many whole replies begin what was written.
+    /// How many whole replies the written bytes begin with.
     fn count(&self, written: &[u8]) -> usize {
         self.ends
             .iter()
@@ -167,7 +167,7 @@ impl Script {
             .count()
     }
 
-    /// Whether these are whole replies and nothing else.
+    /// Whether the written bytes are whole replies and nothing else.
     fn are_whole(&self, written: &[u8]) -> bool {
         let count = self.count(written);
         let end = match count.checked_sub(1) {
@@ -178,10 +178,10 @@ impl Script {
     }
 }
 
-/// More calls than there are.
+/// An upper bound of the number of calls.
 const MOST_CALLS: u64 = 2000;
 
-/// Steps of sessions, all of which are gone, and a Begin.
+/// Steps of sessions that are all gone, and a Begin.
 const SESSIONS: &[u8] = b"\
     \0\0\0\x09\x04\0\0\0\0\0\0\0\x03\
     \0\0\0\x09\x04\0\0\0\0\0\0\0\x05\
@@ -189,7 +189,7 @@ const SESSIONS: &[u8] = b"\
     \0\0\0\x09\x04\0\0\0\0\0\0\x03\xEB\
     \0\0\0\x01\x01";
 
-/// Each Step is refused 1, and what follows stands before the start of the Begin.
+/// The replies: each Step is refused 1, and the Begin's reply follows, up to its start.
 const GONE: &[u8] = b"\
     \0\0\0\x02\xFF\x01\
     \0\0\0\x02\xFF\x01\
@@ -197,7 +197,7 @@ const GONE: &[u8] = b"\
     \0\0\0\x02\xFF\x01\
     \0\0\0\x09\x81";
 
-/// The script, with what is asked afterwards, and what is read after each beginning of its requests.
+/// The script, the requests after it, and the state after each prefix of its requests.
 #[derive(Drop)]
 struct Trial {
     alloc: Global,
@@ -222,7 +222,7 @@ impl Trial {
         })
     }
 
-    /// What a server over these devices writes of the replies.
+    /// The replies that a server over these devices writes.
     fn written(&self, devices: &Devices, cut: Cut) -> Result<Vec<u8>, Refusal> {
         let mut writer = Written {
             bytes: Vec::new(self.alloc),
@@ -243,8 +243,8 @@ impl Trial {
         Ok(written)
     }
 
-    /// Whether the devices open with what a beginning of the requests leaves that has this many of them at least, with no session,
-    /// and the next start is the first that the mark doesn't count as drawn.
+    /// Whether the devices open with the state after a prefix of at least this many requests, without sessions, and the
+    /// next start is the first above the mark.
     fn opens(&self, devices: &Devices, count: usize) -> Result<bool, Refusal> {
         let start = devices.mark()?.saturating_add(1);
         let mut gone = Vec::from_slice(self.alloc, GONE)?;
@@ -273,7 +273,8 @@ impl Trial {
         Ok(Some(!cut.cuts_writer || self.script.are_whole(&written)))
     }
 
-    /// How many calls the devices get, if all is right after a kill at each of them, and else the first at which it isn't.
+    /// The number of calls that the devices get, if all is right after a kill at each of them; otherwise, as `Err`, the
+    /// first call at which it isn't.
     fn calls(&self, cut: Cut) -> Result<Result<u64, u64>, Refusal> {
         for at in 1..=MOST_CALLS {
             match self.survives(cut, at)? {
@@ -285,7 +286,7 @@ impl Trial {
         Ok(Err(MOST_CALLS))
     }
 
-    /// The same of an open after the whole script.
+    /// The same for an open after the whole script.
     fn open_calls(&self, makes_last: bool) -> Result<Result<u64, u64>, Refusal> {
         let devices = Devices::new(self.alloc)?;
         let cut = Cut {
@@ -311,11 +312,11 @@ impl Trial {
     }
 }
 
-/// So few bytes that a read gives one or two requests.
+/// The bytes of a read that gives one or two requests.
 const FEW: usize = 30;
 
-/// The bytes of the requests before the transfer commits its first cell. What commits it is in a batch with the Split: the log has
-/// the cell's lock then, and the root that the split puts does not.
+/// The bytes of the requests before the transfer commits its first cell. The commit is in a batch with the Split: then
+/// the log has the cell's lock, and the root that the split puts does not.
 const STAMPED_BYTES: usize = 297;
 
 /// How the script is cut off: all in one batch, in a few batches, and in batches of one or two requests.
@@ -347,8 +348,8 @@ const CUTS: [Cut; 5] = [
     },
 ];
 
-/// How many calls the devices get with each cut, and in an open after the script, whose last call is not made or made; or the
-/// first call after which something is wrong.
+/// The number of calls that the devices get with each cut, and in an open after the script, with the last call not made
+/// and made; or, as `Err`, the first call after which something is wrong.
 fn calls_of(alloc: Global, upkeep: Upkeep) -> Result<Vec<Result<u64, u64>>, Refusal> {
     let trial = Trial::new(alloc, upkeep)?;
     let mut calls = Vec::new(alloc);

@@ -1,4 +1,4 @@
-//! A server with a log over devices in memory that can be cut off, and what is read of it.
+//! A server with a log over devices in memory that can be cut off, and reads of its state.
 
 use crate::tests::FLUSH;
 use crate::tests::stopping::{Life, Stopping};
@@ -19,8 +19,8 @@ pub type StoppingServer<'a> = LastingServer<
     Stopping<'a, FileLog<MemFile>>,
 >;
 
-/// When a server compacts and checkpoints by itself: at how many entries of a memtable, at how many files of a tablet, and at
-/// how many bytes that are written down.
+/// When a server compacts and checkpoints by itself: the numbers of entries of a memtable, of files of a tablet, and of
+/// bytes of the journal.
 #[derive(Clone, Copy, Debug)]
 pub struct Upkeep {
     pub flush: u32,
@@ -28,24 +28,24 @@ pub struct Upkeep {
     pub checkpoint: Option<usize>,
 }
 
-/// It does neither.
+/// It does none of them by itself.
 pub const ON_REQUEST: Upkeep = Upkeep {
     flush: 10_000,
     merge: None,
     checkpoint: None,
 };
 
-/// The number of a store, and that of the first record of its log.
+/// The number of a store, and the number of the first record of its log.
 const STORE: u64 = 0x0102_0304_0506_0708;
 
 const FIRST: u64 = 1;
 
-/// The name of the root file, and more bytes than it has.
+/// The name of the root file, and an upper bound of its size in bytes.
 const ROOT_NAME: u64 = 0;
 
 const MOST_ROOT: usize = 256;
 
-/// Files, a mark and a log in memory, which outlast the server that they are lent to.
+/// Files, a mark and a log in memory, which outlive the server that uses them.
 #[derive(Drop)]
 pub struct Devices {
     alloc: Global,
@@ -56,7 +56,7 @@ pub struct Devices {
 }
 
 impl Devices {
-    /// Those of a new store.
+    /// The devices of a new store.
     pub fn new(alloc: Global) -> Result<Devices, Refusal> {
         let devices = Devices {
             alloc,
@@ -69,12 +69,12 @@ impl Devices {
         Ok(devices)
     }
 
-    /// Puts a new log in the place of the log.
+    /// Replaces the log with a new log.
     pub fn set_new_log(&self) -> Result<(), Refusal> {
         self.set_log(&new_log(self.alloc, STORE, FIRST)?)
     }
 
-    /// Puts a log of these bytes in the place of the log, as it is opened after a kill.
+    /// Replaces the log with one of these bytes, opened as after a kill.
     pub fn set_log(&self, bytes: &[u8]) -> Result<(), Refusal> {
         let file = MemFile::new(Vec::from_slice(self.alloc, bytes)?);
         match FileLog::open(self.alloc, file) {
@@ -113,7 +113,7 @@ impl Devices {
         Ok(Vec::from_slice(self.alloc, bytes.get(..length).unwrap_or_default())?)
     }
 
-    /// Puts these bytes in the place of the root file.
+    /// Replaces the root file with these bytes.
     pub fn set_root(&self, bytes: &[u8]) -> Result<(), Refusal> {
         let Some(mut files) = self.files.take() else {
             return Err(Refusal::Device);
@@ -123,7 +123,7 @@ impl Devices {
         put.map_err(|_| Refusal::Device)
     }
 
-    /// Puts a mark store with this number in the place of the mark store.
+    /// Replaces the mark store with one that has this number.
     pub fn set_mark(&self, number: u32) -> Result<(), Refusal> {
         let mut marks = MemMark::new();
         marks.store(u64::from(number))?;
@@ -131,7 +131,7 @@ impl Devices {
         Ok(())
     }
 
-    /// The number that the mark store has.
+    /// The number in the mark store.
     pub fn mark(&self) -> Result<u64, Refusal> {
         let Some(mut marks) = self.marks.take() else {
             return Err(Refusal::Device);
@@ -141,7 +141,7 @@ impl Devices {
         Ok(number?)
     }
 
-    /// A server that is opened over them.
+    /// A server opened over the devices.
     pub fn open(&self, upkeep: Upkeep) -> Result<StoppingServer<'_>, Refusal> {
         if upkeep.flush == 0 || upkeep.flush > 100_000 {
             return Err(Refusal::FileTooLarge);
@@ -169,7 +169,7 @@ impl Devices {
         Ok(server)
     }
 
-    /// What a server that is opened over them replies to a stream.
+    /// The replies to a stream of a server opened over the devices.
     pub fn replies(&self, upkeep: Upkeep, stream: &[u8]) -> Result<Vec<u8>, Refusal> {
         let mut server = self.open(upkeep)?;
         let mut reader = stream;
@@ -182,7 +182,7 @@ impl Devices {
     }
 }
 
-/// The rows, the columns by their numbers, and ranges of stamps that are read.
+/// The rows, the columns by their numbers, and the ranges of stamps that are read.
 const ROWS: [&[u8]; 3] = [b"Amy", b"Bob", b"Joe"];
 
 const COLUMNS: [u8; 3] = [1, 2, 3];
@@ -192,7 +192,7 @@ const RANGES: [(u64, u64); 3] = [(0, 2), (3, 1000), (1001, 3000)];
 /// How many reads there are.
 const READ_COUNT: usize = 28;
 
-/// Whether there is a second tablet: a Merge of one of its files is refused 14 if there is, and 11 if there is none.
+/// Whether there is a second tablet: a Merge of one of its files is refused 14 if there is one, and 11 if not.
 const SECOND_TABLET: &[u8] = b"\x0B\0\0\0\x02\0\0\0\x01";
 
 /// The raw read of a column between two stamps.
@@ -221,7 +221,7 @@ pub fn reads(alloc: Global) -> Result<Vec<u8>, AllocError> {
     Ok(stream)
 }
 
-/// How many bytes the first of these frames have, this many of them.
+/// The length in bytes of the first `count` of these frames.
 fn length_of(frames: &[u8], count: usize) -> usize {
     let mut rest = frames;
     for _ in 0..count {
@@ -245,7 +245,7 @@ fn reads_between(alloc: Global, requests: &[&[u8]]) -> Result<Vec<u8>, AllocErro
     Ok(stream)
 }
 
-/// What a store without a log writes for a stream.
+/// The replies to a stream of a store without a log.
 fn written(alloc: Global, stream: &[u8]) -> Result<Vec<u8>, Refusal> {
     let config = Config {
         flush: FLUSH,
@@ -261,7 +261,7 @@ fn written(alloc: Global, stream: &[u8]) -> Result<Vec<u8>, Refusal> {
     Ok(written)
 }
 
-/// What the reads give after each beginning of some requests, in a store without a log.
+/// The replies to the reads after each prefix of some requests, in a store without a log.
 pub fn states(alloc: Global, requests: &[&[u8]]) -> Result<Vec<Vec<u8>>, Refusal> {
     let stream = reads_between(alloc, requests)?;
     let written = written(alloc, &stream)?;

@@ -1,4 +1,5 @@
-//! Logs by their bytes: what a server writes, and what it opens if they are cut short, garbled or no edits.
+//! Logs by their bytes: the logs that a server writes, and opens of logs that are cut short, garbled or have records
+//! that aren't edits.
 
 use crate::tests::FLUSH;
 use crate::tests::lasting::{Devices, ON_REQUEST, StoppingServer, Upkeep, reads, states};
@@ -17,11 +18,12 @@ use testing::frames::{push_frame, streams_of};
 use testing::rows::{Exchange, FIRST_CELL, Row, TRANSFER};
 use testing::streams::{Holding, Pieces};
 
-/// A new log, over whichever root is there.
+/// A new log, for any root.
 const NEW_LOG: &[u8] = b"TABLOG02\x01\x02\x03\x04\x05\x06\x07\x08\
     \0\0\0\x11\x41\xC1\x6C\xCA\0\0\0\0\0\0\0\x01\x02\0\0\0\0\0\0\0\0";
 
-/// The log after a cell was held and committed, one record for each: a value and a lock, and a record and no lock.
+/// The log after a cell was held and committed, one record for each: a value and a lock, and a commit record and the
+/// lock's erasure.
 const TWO_RECORDS: &[u8] = b"TABLOG02\x01\x02\x03\x04\x05\x06\x07\x08\
     \0\0\0\x11\x41\xC1\x6C\xCA\0\0\0\0\0\0\0\x01\x02\0\0\0\0\0\0\0\0\
     \0\0\0\x53\x6D\xF1\x43\x32\0\0\0\0\0\0\0\x02\0\0\0\0\0\0\0\0\x01\
@@ -31,7 +33,7 @@ const TWO_RECORDS: &[u8] = b"TABLOG02\x01\x02\x03\x04\x05\x06\x07\x08\
     \0\0\0\x15r\0\0c\0\0write\0\0\xFF\xFF\xFF\xFF\xFF\xFF\xFF\xFD\x01\0\0\0\x09\0\0\0\0\0\0\0\x01S\
     \0\0\0\x14r\0\0c\0\0lock\0\0\xFF\xFF\xFF\xFF\xFF\xFF\xFF\xFE\0";
 
-/// The same edits as one record.
+/// The same edits in one record.
 const ONE_RECORD: &[u8] = b"TABLOG02\x01\x02\x03\x04\x05\x06\x07\x08\
     \0\0\0\x11\x41\xC1\x6C\xCA\0\0\0\0\0\0\0\x01\x02\0\0\0\0\0\0\0\0\
     \0\0\0\x93\x62\xEB\xA1\xD4\0\0\0\0\0\0\0\x02\0\0\0\0\0\0\0\0\x03\
@@ -44,12 +46,12 @@ const ONE_RECORD: &[u8] = b"TABLOG02\x01\x02\x03\x04\x05\x06\x07\x08\
 const ROOT_AFTER_TWO: &[u8] = b"TABLOG02\x01\x02\x03\x04\x05\x06\x07\x08\
     \0\0\0\x15\x93\x86\xE8\x99\0\0\0\0\0\0\0\x05\x01\0\0\0\0\0\0\0\x03\xD1\x15\xF1\x49";
 
-/// The log after those two records with a checkpoint behind each: the root has the greatest stamp 2.
+/// The log after those two records with a checkpoint after each: the root has the greatest stamp 2.
 const ROOT_AFTER_EACH: &[u8] = b"TABLOG02\x01\x02\x03\x04\x05\x06\x07\x08\
     \0\0\0\x15\xE1\xF9\x21\x92\0\0\0\0\0\0\0\x07\x01\0\0\0\0\0\0\0\x02\x25\x7C\x54\x24";
 
-/// The log that a server leaves which reads this many bytes at most of the first cell's requests, and then a stream more. It
-/// gets all calls that set how it works.
+/// The log of a server after the first cell's requests and then `more`, with at most `most` bytes a read. All of the
+/// server's settings are set.
 fn log_after(alloc: Global, upkeep: Upkeep, most: usize, more: &[u8]) -> Result<Vec<u8>, Refusal> {
     let (mut requests, _) = streams_of(alloc, &FIRST_CELL)?;
     requests.extend_from_slice(more)?;
@@ -65,14 +67,14 @@ fn log_after(alloc: Global, upkeep: Upkeep, most: usize, more: &[u8]) -> Result<
     }
 }
 
-/// A server that makes a checkpoint whenever something was written down, and merges files.
+/// A server that makes a checkpoint whenever the journal isn't empty, and merges files.
 const CHECKPOINTS: Upkeep = Upkeep {
     flush: 1,
     merge: Some(2),
     checkpoint: Some(1),
 };
 
-/// How a server compacts and checkpoints, how many bytes a read gives, what is asked for at the end, and the log then.
+/// How a server compacts and checkpoints, the most bytes a read gives, the requests at the end, and the log then.
 const LOGS: [(Upkeep, usize, &[u8], &[u8]); 4] = [
     (ON_REQUEST, 1, b"", TWO_RECORDS),
     (ON_REQUEST, usize::MAX, b"", ONE_RECORD),
@@ -92,7 +94,7 @@ fn what_the_log_has(rt: HostRuntime) -> Result<(), Fail> {
 /// A server with a log in memory.
 type MemLasting = LastingServer<Server<MemFiles, MemMark>, MemLog>;
 
-/// A server that is opened over these devices.
+/// A server opened over these devices.
 fn opened(
     alloc: Global,
     files: MemFiles,
@@ -109,7 +111,7 @@ fn opened(
     }
 }
 
-/// A cell that is committed, and read when another server has got the devices. Its session is gone.
+/// A committed cell is read from another server over the same devices. Its session is gone.
 const READ_LATER: [Exchange; 3] = [
     // Begin: 1001
     (b"\x01", b"\x81\0\0\0\0\0\0\x03\xE9"),
@@ -149,10 +151,10 @@ fn devices_are_handed_on(rt: HostRuntime) -> Result<(), Fail> {
     Ok(())
 }
 
-/// More frames than a log has.
+/// An upper bound of the number of a log's frames.
 const MOST_FRAMES: usize = 100;
 
-/// Where the first frame of a log ends, and each behind it.
+/// The offsets at which a log's frames end, from the first frame on.
 fn ends_of(alloc: Global, log: &[u8]) -> Result<Vec<usize>, Refusal> {
     let mut ends = Vec::new(alloc);
     let mut end = NEW_LOG.len();
@@ -168,8 +170,8 @@ fn ends_of(alloc: Global, log: &[u8]) -> Result<Vec<usize>, Refusal> {
     Ok(ends)
 }
 
-/// The devices after the transfer with one record for each request that made edits, the log, where its frames end, and what is
-/// read after each of them.
+/// The devices after the transfer with one record for each request that made edits, the log, the offsets at which its
+/// frames end, and the state after each frame.
 #[derive(Drop)]
 struct Logged {
     devices: Devices,
@@ -202,13 +204,14 @@ impl Logged {
         })
     }
 
-    /// How many frames end at a place or before it, behind the one with which the log begins; none if that one doesn't.
+    /// How many frames after the log's first one end at a place or before it. `None` if the first one doesn't.
     fn frames_to(&self, place: usize) -> Option<usize> {
         let ended = self.ends.iter().filter(|end| **end <= place);
         ended.count().checked_sub(1)
     }
 
-    /// Whether the devices with this log open as after so many frames, or without a number, whether it is refused as damaged.
+    /// Whether the devices with this log open with the state after this many frames or, if `frames` is `None`, whether
+    /// the log is refused as damaged.
     fn opens_to(&self, log: &[u8], frames: Option<usize>) -> Result<bool, Refusal> {
         let Some(frames) = frames else {
             return Ok(self.devices.set_log(log) == Err(Refusal::Damaged));
@@ -229,7 +232,7 @@ fn serve_one(alloc: Global, server: &mut StoppingServer<'_>, body: &[u8]) -> Res
     Ok(())
 }
 
-/// How many bytes the log has before each of the requests, served one by one over these devices, and after the last.
+/// The log's size in bytes before each of the requests, served one by one over these devices, and after the last.
 fn log_lengths(alloc: Global, devices: &Devices, bodies: &[&[u8]]) -> Result<Vec<usize>, Refusal> {
     let mut server = devices.open(ON_REQUEST)?;
     let mut lengths = Vec::new(alloc);
@@ -241,8 +244,8 @@ fn log_lengths(alloc: Global, devices: &Devices, bodies: &[&[u8]]) -> Result<Vec
     Ok(lengths)
 }
 
-/// What is read after each of the requests, served one by one over these devices, at which the log has got a frame; and before the
-/// first.
+/// The state before the first request, and after each request that adds a frame to the log, served one by one over
+/// these devices.
 fn logged_states(
     alloc: Global,
     devices: &Devices,
@@ -261,7 +264,7 @@ fn logged_states(
     Ok(logged)
 }
 
-/// How many frames the transfer's log has: of each of two sessions two cells are held and recorded.
+/// The number of frames of the transfer's log: each of two sessions holds two cells and writes two commit records.
 const FRAMES: usize = 8;
 
 #[test]
@@ -275,12 +278,13 @@ fn a_log_is_cut_at_each_byte(rt: HostRuntime) -> Result<(), Fail> {
     Ok(())
 }
 
-/// Where the number of the store stands in a log, and the first frame. A log in memory may be of any store.
+/// The offsets of the store's number and of the first frame in a log. A log in memory may be of any store.
 const STORE_AT: usize = 8;
 
 const FRAMES_AT: usize = 16;
 
-/// How many frames are left of a log whose byte at a place is garbled: none if the frame there is before the last.
+/// How many frames are left of a log whose byte at a place is garbled. `None`, damage, if the place is before the last
+/// frame.
 fn frames_without(logged: &Logged, at: usize) -> Option<usize> {
     if STORE_AT <= at && at < FRAMES_AT {
         return Some(FRAMES);
@@ -305,7 +309,7 @@ fn a_byte_of_a_log_is_garbled(rt: HostRuntime) -> Result<(), Fail> {
     Ok(())
 }
 
-/// Logs of which a record is no edits.
+/// Logs with a record that isn't edits.
 const NO_EDITS: [&[u8]; 6] = [
     // x
     b"TABLOG02\x01\x02\x03\x04\x05\x06\x07\x08\
@@ -329,19 +333,19 @@ const NO_EDITS: [&[u8]; 6] = [
         \0\0\0\x11\x41\xC1\x6C\xCA\0\0\0\0\0\0\0\x01\x02\0\0\0\0\0\0\0\0\
         \0\0\0\x2A\x07\x41\x59\xD2\0\0\0\0\0\0\0\x02\0\0\0\0\0\0\0\0\x01\
         \0\0\0\x14r\0\0c\0\0data\0\0\xFF\xFF\xFF\xFF\xFF\xFF\xFF\xFE\x02",
-    // an erasure of a key that is none
+    // an erasure of a malformed key
     b"TABLOG02\x01\x02\x03\x04\x05\x06\x07\x08\
         \0\0\0\x11\x41\xC1\x6C\xCA\0\0\0\0\0\0\0\x01\x02\0\0\0\0\0\0\0\0\
         \0\0\0\x18\x11\x86\x27\xDC\0\0\0\0\0\0\0\x02\0\0\0\0\0\0\0\0\x01\
         \0\0\0\x02r\0\0",
-    // a kind that is none
+    // an unknown kind of record
     b"TABLOG02\x01\x02\x03\x04\x05\x06\x07\x08\
         \0\0\0\x11\x41\xC1\x6C\xCA\0\0\0\0\0\0\0\x01\x02\0\0\0\0\0\0\0\0\
         \0\0\0\x11\xCA\x8A\xF3\x1C\0\0\0\0\0\0\0\x02\x03\0\0\0\0\0\0\0\x01",
 ];
 
-/// Whether an open of a store with this log, which is new or was opened before, is refused as damaged, and opened without
-/// records.
+/// Whether an open of a store, new or opened before, is refused as damaged with this log, and succeeds with a log
+/// without records.
 fn is_refused(alloc: Global, log: &[u8], is_new: bool) -> Result<bool, Refusal> {
     let devices = Devices::new(alloc)?;
     if !is_new {
@@ -367,7 +371,7 @@ fn edits_without_a_root(rt: HostRuntime) -> Result<(), Fail> {
     Ok(())
 }
 
-/// Whether the devices open, and else are damaged.
+/// Whether the devices open. `false` if they are refused as damaged.
 fn opens(devices: &Devices) -> Result<bool, Refusal> {
     match devices.replies(ON_REQUEST, b"") {
         Ok(_) => Ok(true),
@@ -376,7 +380,7 @@ fn opens(devices: &Devices) -> Result<bool, Refusal> {
     }
 }
 
-/// Marks, and whether a store opens whose log has records of stamps 1 and 2.
+/// Marks, and whether a store with the mark opens if its log has records of stamps 1 and 2.
 const MARKS: [(u32, bool); 3] = [(0, false), (1, false), (2, true)];
 
 #[test]
@@ -426,7 +430,7 @@ fn a_log_over_another_root(rt: HostRuntime) -> Result<(), Fail> {
     Ok(())
 }
 
-/// The log of a new store that names the root of its opening.
+/// The log of a new store after `name_root`: it names the root that was put then.
 const NAMED_LOG: &[u8] = b"TABLOG02\x01\x02\x03\x04\x05\x06\x07\x08\
     \0\0\0\x15\x76\x4A\x44\x3B\0\0\0\0\0\0\0\x03\x01\0\0\0\0\0\0\0\0\x14\xA7\x75\x1F";
 
@@ -441,8 +445,8 @@ fn a_root_is_named(rt: HostRuntime) -> Result<(), Fail> {
     Ok(())
 }
 
-/// Whether new devices open after a kill at this call while their root is named, which nothing else refuses, and whether there is
-/// such a call.
+/// Whether new devices open after a kill at this call of the naming of their root, and the naming fails only if the
+/// kill has come; and whether there is such a call.
 fn naming_survives(alloc: Global, at: u64, makes_last: bool) -> Result<(bool, bool), Refusal> {
     let devices = Devices::new(alloc)?;
     let mut server = devices.open(ON_REQUEST)?;
@@ -453,7 +457,8 @@ fn naming_survives(alloc: Global, at: u64, makes_last: bool) -> Result<(bool, bo
     Ok((opens(&devices)? && (is_named || is_over), is_over))
 }
 
-/// How many calls a naming makes, after a kill at each of which the devices open; or the first after which they don't.
+/// The number of calls of a naming, if the devices open after a kill at each of them; otherwise, as `Err`, the first
+/// call after which they don't.
 fn naming_calls(alloc: Global, makes_last: bool) -> Result<Result<u64, u64>, Refusal> {
     for at in 1..=MOST_CALLS {
         match naming_survives(alloc, at, makes_last)? {
@@ -474,10 +479,10 @@ fn naming_a_root_is_killed(rt: HostRuntime) -> Result<(), Fail> {
     Ok(())
 }
 
-/// More calls than the devices get.
+/// An upper bound of the number of calls that the devices get.
 const MOST_CALLS: u64 = 100;
 
-/// Whether a server whose log failed says so again, and writes nothing more.
+/// Whether a server whose log failed fails in the same way again, and writes nothing more.
 fn is_silent(server: &mut StoppingServer<'_>, writer: &mut Written<'_>) -> bool {
     let count = writer.bytes.len();
     // Begin
@@ -486,8 +491,8 @@ fn is_silent(server: &mut StoppingServer<'_>, writer: &mut Written<'_>) -> bool 
     matches!(again, Err(ServeFault::Log)) && writer.bytes.len() == count
 }
 
-/// How the first cell's requests end, of which a read gives this many bytes at most, if all calls from this one on fail: how many
-/// bytes were written if the log failed. Then it fails again, and nothing more is written.
+/// Serves the first cell's requests, with at most `most` bytes a read, and all calls from this one on failing. Returns
+/// how many bytes were written, if the log failed. Then it fails again, and nothing more is written.
 fn lost_at(alloc: Global, most: usize, at: u64) -> Result<Option<usize>, Refusal> {
     let (requests, replies) = streams_of(alloc, &FIRST_CELL)?;
     let devices = Devices::new(alloc)?;

@@ -1,4 +1,4 @@
-//! Servers with a log: calls that take memory.
+//! Servers with a log: calls that allocate.
 
 pub mod logs;
 

@@ -15,18 +15,18 @@ use std::cell::Cell;
 use std::io;
 use std::io::Write;
 
-/// What becomes of a call of a device.
+/// The fate of a call of a device.
 #[derive(Clone, Copy)]
 enum Next {
     /// It is made.
     Goes,
-    /// It is made if it is a write, and the kill comes before it answers.
+    /// It is made if it is a write, and the kill comes before its answer.
     IsLast,
     /// It is not made.
     Stopped,
 }
 
-/// How many calls were made of all devices, and at which of them a kill comes.
+/// The number of calls of all devices, and the call at which a kill comes.
 #[derive(Drop)]
 pub struct Life {
     calls: Cell<u64>,
@@ -44,8 +44,8 @@ impl Life {
         }
     }
 
-    /// Counts calls from 1 again, and has a kill come at the call with this number: before it does anything, or, if it is a
-    /// write and `makes_last` says so, after it is done.
+    /// Counts calls from 1 again, and lets a kill come at the call with this number: before it does anything or, if it
+    /// is a write and `makes_last` is set, after it is done.
     pub fn begin(&self, ends_at: u64, makes_last: bool) {
         self.calls.set(0);
         self.ends_at.set(ends_at);
@@ -76,8 +76,7 @@ impl Life {
     }
 }
 
-/// A device whose calls are counted. It stands in a cell, from which it is taken for each call, so that it is there when the
-/// server is gone.
+/// A device whose calls are counted. It is kept in a cell and taken for each call, so that it outlives the server.
 #[derive(Drop)]
 pub struct Stopping<'a, D> {
     cell: &'a Cell<Option<D>>,
@@ -104,7 +103,7 @@ impl<'a, D: Drop> Stopping<'a, D> {
         }
     }
 
-    /// The device for a write, unless the kill has come; and whether it comes now.
+    /// The device for a write, unless the kill has come; and whether the kill comes at this call.
     fn to_write(&mut self) -> Option<(D, bool)>
         ensures { self.new.faults ≡ self.old.faults }
     {
@@ -124,7 +123,7 @@ impl<'a, D: Drop> Stopping<'a, D> {
         self.faults = self.faults.saturating_add(1);
     }
 
-    /// What a call of files answered, if the kill did not come.
+    /// The answer of a call of files, or a device fault if the kill came.
     fn file_answer<T: Drop>(
         &mut self,
         called: Result<T, FileFault>,
@@ -140,7 +139,7 @@ impl<'a, D: Drop> Stopping<'a, D> {
         called
     }
 
-    /// What a call of a mark store answered, if the kill did not come.
+    /// The answer of a call of a mark store, or a fault if the kill came.
     fn mark_answer<T: Drop>(
         &mut self,
         called: Result<T, MarkFault>,
@@ -158,7 +157,7 @@ impl<'a, D: Drop> Stopping<'a, D> {
         called
     }
 
-    /// What a call of a log answered, if the kill did not come.
+    /// The answer of a call of a log, or a device fault if the kill came.
     fn log_answer<T: Drop>(
         &mut self,
         called: Result<T, LogFault>,
@@ -268,6 +267,8 @@ impl<M: MarkStore + Drop> MarkStore for Stopping<'_, M> {
 impl<L: Log + Drop> Log for Stopping<'_, L> {
     ghost holds = { λ _ _. ⊥ };
 
+    ghost refuses = { λ _ _. ⊤ };
+
     ghost faults = { λ stopping. stopping.faults };
 
     fn append(&mut self, kind: RecordKind, stamp: Stamp, body: &[u8]) -> Result<(), LogFault> {
@@ -302,7 +303,7 @@ impl<L: Log + Drop> Log for Stopping<'_, L> {
     }
 }
 
-/// A writer that a kill cuts off with the devices, if it is to.
+/// A writer that a kill cuts off with the devices if `is_cut` is set.
 #[derive(Drop)]
 pub struct Written<'a> {
     pub bytes: Vec<u8>,

@@ -1,4 +1,4 @@
-//! What an audit says of all orders of a client that stops, a cleaner and a collector.
+//! Audits of all orders of the steps of a client that stops, a cleaner and a collector.
 
 use crate::tests::{MemServer, new_server};
 use audit::Audit;
@@ -10,7 +10,7 @@ use std::test::Fail;
 use testing::FILE_LIMIT;
 use testing::rows::TRANSFER;
 
-/// How many exchanges of the transfer there are up to the write of its first cell.
+/// The number of the transfer's exchanges up to the write of its first cell.
 const FIRST_WRITE: usize = 12;
 
 /// Set 3 Joe bal 9
@@ -45,15 +45,15 @@ const COLLECTOR: [&[u8]; 3] = [
     b"\x09\0\0\0\0\0\0\0\x01\0\0\x03\xE8",
 ];
 
-/// How many steps the transfer takes to its end.
+/// The number of steps of the whole transfer.
 const ALL_STEPS: u8 = 5;
 
-/// Why a run of requests is given up.
+/// The reason why a run of requests is aborted.
 #[derive(Debug, Drop)]
 enum Trouble {
-    /// The server or the audit has no memory.
+    /// The server or the audit ran out of memory.
     Refused(Refusal),
-    /// The audit says no to a reply, or a body is no request.
+    /// The audit rejects a reply, or a body is malformed.
     WrongReply,
 }
 
@@ -63,7 +63,7 @@ impl From<Refusal> for Trouble {
     }
 }
 
-/// A server, and the audit of what it answers.
+/// A server, and the audit of its replies.
 #[derive(Drop)]
 struct Audited {
     server: MemServer,
@@ -77,7 +77,7 @@ impl Audited {
         Ok(Audited { server, audit })
     }
 
-    /// The reply to a request, if the audit says yes to it.
+    /// The reply to a request, if the audit accepts it.
     fn ask_for(&mut self, request: Request<'_>) -> Result<Reply, Trouble> {
         let reply = self.server.answer(request);
         if self.audit.take(&request, &reply)? {
@@ -87,7 +87,7 @@ impl Audited {
         }
     }
 
-    /// The same, of the request's body.
+    /// The same for a request's body.
     fn ask(&mut self, body: &[u8]) -> Result<Reply, Trouble> {
         match decode_request(body) {
             Some(request) => self.ask_for(request),
@@ -95,7 +95,7 @@ impl Audited {
         }
     }
 
-    /// Takes a step of the transfer. It answers whether that was the commit.
+    /// Takes a step of the transfer. Returns whether that was the commit.
     fn step(&mut self) -> Result<bool, Trouble> {
         let reply = self.ask(STEP)?;
         Ok(matches!(reply, Reply::Step(Progress::Committed(_))))
@@ -110,7 +110,7 @@ impl Audited {
         Ok(())
     }
 
-    /// What a new session finds of Bob's and of Joe's cell.
+    /// The replies of a new session to reads of Bob's and Joe's cells.
     fn balances(&mut self) -> Result<(Reply, Reply), Trouble> {
         let Reply::Begin(start) = self.ask_for(Request::Begin)? else {
             return Err(Trouble::WrongReply);
@@ -130,7 +130,7 @@ impl Audited {
     }
 }
 
-/// The value that a read has found, or a word if it has found none.
+/// The value that a read found, or a word if it found none.
 fn value_of(reply: &Reply) -> &[u8] {
     match reply {
         Reply::Get(Found::Value(value)) => value,
@@ -139,7 +139,8 @@ fn value_of(reply: &Reply) -> &[u8] {
     }
 }
 
-/// How a transfer goes on: its write of Joe's cell, what that cell then has, and how many steps it takes before it stops.
+/// How a transfer continues: its write of Joe's cell, the cell's value after that, and the number of steps before it
+/// stops.
 #[derive(Clone, Copy)]
 struct Client {
     write: &'static [u8],
@@ -147,7 +148,8 @@ struct Client {
     steps: u8,
 }
 
-/// Whether a number has an order in its digits to the base 3: the client's turns, and three each of the cleaner and the collector.
+/// Whether the digits of a number to the base 3 are an order: the client's turns, and three each of the cleaner and the
+/// collector.
 fn is_order(number: u32, steps: u8) -> bool {
     let mut rest = number;
     let mut turns = [0usize; 3];
@@ -163,7 +165,7 @@ fn is_order(number: u32, steps: u8) -> bool {
 }
 
 impl Audited {
-    /// The client's turn: a step, and a stop if it takes no more. It answers whether it has committed.
+    /// The client's turn: a step, and a stop if it was the last before the stop. Returns whether the step committed.
     fn go_on(&mut self, client: Client, turn: usize) -> Result<bool, Trouble> {
         let committed = self.step()?;
         if usize::from(client.steps).saturating_sub(turn) == 1 && client.steps < ALL_STEPS {
@@ -180,7 +182,7 @@ impl Audited {
         Ok(())
     }
 
-    /// Takes all turns in this order. It answers whether the client has committed.
+    /// Takes all turns in this order. Returns whether the client has committed.
     fn take_turns(&mut self, client: Client, order: u32) -> Result<bool, Trouble> {
         let mut rest = order;
         let mut turns = [0usize; 3];
@@ -206,7 +208,7 @@ impl Audited {
     }
 }
 
-/// Whether the balances after an order are those of the transfer if it has committed, and the old ones if it has not.
+/// Whether the balances after an order are the new ones if the transfer has committed, and the old ones if it hasn't.
 fn is_right(alloc: Global, client: Client, order: u32) -> Result<bool, Trouble> {
     let mut run = Audited::new(alloc)?;
     for (body, _) in &TRANSFER[..FIRST_WRITE] {
@@ -228,7 +230,7 @@ fn is_right(alloc: Global, client: Client, order: u32) -> Result<bool, Trouble> 
     Ok(value_of(&bob) == wanted.0 && value_of(&joe) == wanted.1)
 }
 
-/// How many orders there are of a client of this many steps, all of them right.
+/// The number of orders with this client, if all of them are right.
 fn right_orders(alloc: Global, client: Client) -> Result<u32, Trouble> {
     let mut count = 0u32;
     for order in 0..LAST_ORDER {
@@ -245,7 +247,7 @@ fn right_orders(alloc: Global, client: Client) -> Result<u32, Trouble> {
 /// 3 to the power of 11, the turns of the longest orders.
 const LAST_ORDER: u32 = 177_147;
 
-/// Clients that set Joe's cell, and ones that delete it.
+/// Clients that set Joe's cell, and clients that delete it.
 const SETS: Client = Client {
     write: SET_JOE,
     joe: b"9",
@@ -258,7 +260,7 @@ const DELETES: Client = Client {
     steps: 0,
 };
 
-/// How many orders there are of clients of 0 to 3 steps.
+/// The number of orders of clients of 0 to 3 steps.
 const SHORT_ORDERS: [(u8, u32); 4] = [(0, 20), (1, 140), (2, 560), (3, 1_680)];
 
 #[test]

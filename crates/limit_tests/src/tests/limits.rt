@@ -11,7 +11,7 @@ use testing::FILE_LIMIT;
 use testing::frames::{push_frame, stream_of};
 use testing::streams::{Holding, Recording};
 
-/// The number of the refusal that a request is answered, and 0 if it is done.
+/// The number of a request's refusal, or 0 if it is done.
 fn refused(server: &mut MemServer, request: Request<'_>) -> u8 {
     match server.answer(request) {
         Reply::Refused(refusal) => refusal.number(),
@@ -19,7 +19,7 @@ fn refused(server: &mut MemServer, request: Request<'_>) -> u8 {
     }
 }
 
-/// Whether a server answers each request of a table by its number.
+/// Whether a server answers each request of a table with its number.
 fn are_answered(server: &mut MemServer, table: &[(Request<'_>, u8)]) -> bool {
     for (request, number) in table {
         if refused(server, *request) != *number {
@@ -66,7 +66,7 @@ fn limits_of_a_session(rt: HostRuntime) -> Result<(), Fail> {
     Ok(())
 }
 
-/// A deletion of the third session.
+/// A deletion of session 3.
 fn delete<'a>(row: &'a [u8], family: &'a [u8]) -> Request<'a> {
     Request::Delete {
         start: 3,
@@ -75,7 +75,7 @@ fn delete<'a>(row: &'a [u8], family: &'a [u8]) -> Request<'a> {
     }
 }
 
-/// Whether the third session deletes each row of one byte.
+/// Whether session 3 deletes the cell of each row of one byte.
 fn are_deleted(server: &mut MemServer) -> bool {
     for row in 0..=255 {
         if refused(server, delete(&[row], b"c")) != 0 {
@@ -85,7 +85,7 @@ fn are_deleted(server: &mut MemServer) -> bool {
     true
 }
 
-/// Whether this number of steps of a session are done.
+/// Whether a session takes this number of steps.
 fn are_stepped(server: &mut MemServer, start: Stamp, count: u32) -> bool {
     for _ in 0..count {
         if refused(server, Request::Step { start }) != 0 {
@@ -95,7 +95,7 @@ fn are_stepped(server: &mut MemServer, start: Stamp, count: u32) -> bool {
     true
 }
 
-/// Whether the session 5 finds nothing in each row of one byte.
+/// Whether session 5 finds nothing in each row of one byte.
 fn are_gone(server: &mut MemServer) -> bool {
     for row in 0..=255 {
         let get = Request::Get {
@@ -110,7 +110,7 @@ fn are_gone(server: &mut MemServer) -> bool {
     true
 }
 
-/// Each of the 256 cells is visited once in the first pass; in the second one its older record is erased, and then its
+/// Each of the 256 cells is visited once in the first pass. In the second pass its older record is erased, and then its
 /// deletion.
 #[test]
 fn deletions_of_256_cells(rt: HostRuntime) -> Result<(), Fail> {
@@ -234,7 +234,7 @@ fn are_committed(server: &mut MemServer) -> bool {
     true
 }
 
-/// Whether 300 sessions hold the cell, the first one with the start 303, and are stopped and cleaned.
+/// Whether 300 sessions, the first with the start 303, hold the cell, are stopped and are cleaned.
 fn are_rolled_back(server: &mut MemServer) -> bool {
     for index in 0..300u64 {
         let start = 303 + index;
@@ -255,7 +255,7 @@ fn are_rolled_back(server: &mut MemServer) -> bool {
     true
 }
 
-/// The greatest stamp that a column of the cell has up to this one, and 0 if it has none.
+/// The greatest stamp of a column of the cell up to this one, or 0 if there is none.
 fn newest(server: &mut MemServer, qualifier: Qualifier, hi: Stamp) -> Stamp {
     let raw = Request::Raw {
         row: b"r",
@@ -270,8 +270,8 @@ fn newest(server: &mut MemServer, qualifier: Qualifier, hi: Stamp) -> Stamp {
     }
 }
 
-/// How many visits a collector makes, and the stamps that are the greatest after them: of the records below the deletion at
-/// 302, of all records, and of the data.
+/// The number of visits of a collector, and the greatest stamps after them: of the records below the deletion at 302,
+/// of all records, and of the data.
 const VISITS: [(u32, [Stamp; 3]); 6] = [
     // the first pass
     (2, [300, 302, 602]),
@@ -361,7 +361,7 @@ fn at_most_64_files(rt: HostRuntime) -> Result<(), Fail> {
     Ok(())
 }
 
-/// The first step of one cell with an empty value is a file of 153 bytes.
+/// The first step of one cell with an empty value gives a file of 153 bytes.
 #[test]
 fn files_that_are_too_large(rt: HostRuntime) -> Result<(), Fail> {
     let values: [(&[u8], u8); 2] = [(b"v", 17), (b"", 0)];
@@ -379,7 +379,7 @@ fn files_that_are_too_large(rt: HostRuntime) -> Result<(), Fail> {
     Ok(())
 }
 
-/// A Set of `r` `c` up to the length of its value.
+/// A Set of `r` `c`, before the length of its value.
 const SET: &[u8] = b"\x03\0\0\0\0\0\0\0\x01\0\0\0\x01r\0\0\0\x01c";
 
 /// A Step, and a raw read of the cell's data.
@@ -387,7 +387,7 @@ const STEP: &[u8] = b"\x04\0\0\0\0\0\0\0\x01";
 
 const RAW: &[u8] = b"\x11\0\0\0\x01r\0\0\0\x01c\x01\0\0\0\0\0\0\0\x01\0\0\0\0\0\0\0\x01";
 
-/// Lengths of values, and the replies, whose last one ends with the value if it is accepted.
+/// Lengths of values, the replies before the value, and whether the value is accepted. If so, it ends the last reply.
 const LONGEST: [(u32, &[u8], bool); 2] = [
     (
         65_536,
@@ -409,7 +409,7 @@ fn stream_of_set(alloc: Global, value: &[u8]) -> Result<Vec<u8>, AllocError> {
     stream_of(alloc, &[b"\x01", &set, STEP, RAW])
 }
 
-/// Whether a new server that sets a value of this many bytes writes these replies, with the value behind them if it is
+/// Whether a new server that sets a value of this many bytes writes these replies, followed by the value if it is
 /// accepted.
 fn is_answered(
     alloc: Global,
@@ -463,7 +463,7 @@ fn requests_of<'a>(row: &'a [u8], family: &'a [u8]) -> [(Request<'a>, u8); 13] {
     ]
 }
 
-/// Whether the session 3 reads the value of a cell.
+/// Whether session 3 reads the value of a cell.
 fn is_read(server: &mut MemServer, row: &[u8], family: &[u8]) -> bool {
     let get = Request::Get {
         start: 3,
@@ -476,7 +476,7 @@ fn is_read(server: &mut MemServer, row: &[u8], family: &[u8]) -> bool {
     }
 }
 
-/// The longest row is of zeros, so that the texts of its keys are the longest too.
+/// The longest row consists of zeros, so that the encoded keys are the longest too.
 #[test]
 fn longest_names(rt: HostRuntime) -> Result<(), Fail> {
     let row = vec![in rt.alloc(); 0u8; 4_000]?;
@@ -487,7 +487,8 @@ fn longest_names(rt: HostRuntime) -> Result<(), Fail> {
     Ok(())
 }
 
-/// Each read asks for 65,536 bytes: the first one gets as many, the second one what is left, and the third one nothing.
+/// Each read asks for 65,536 bytes: the first gets all of them, the second the rest of the stream, and the third
+/// nothing.
 #[test]
 fn input_is_read_in_pieces(rt: HostRuntime) -> Result<(), Fail> {
     let value = vec![in rt.alloc(); b'v'; 65_536]?;

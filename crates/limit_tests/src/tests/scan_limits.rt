@@ -1,4 +1,4 @@
-//! Limits of scans: how many cells one looks at, how long its reply is, and the longest names.
+//! Limits of scans: the number of cells visited, the length of the reply, and the longest names.
 
 use crate::tests::{MemServer, new_server};
 use cell_key::{Refusal, Stamp};
@@ -8,10 +8,10 @@ use std::alloc::Global;
 use std::test::Fail;
 use testing::FILE_LIMIT;
 
-/// The cells after one, or all.
+/// The cell after which a scan begins, or `None` for all cells.
 type After<'a> = Option<(&'a [u8], &'a [u8])>;
 
-/// A scan of these cells, or of their keys alone.
+/// A scan of these cells, or of their keys only.
 fn scan_of(start: Stamp, after: After<'_>, keys_only: bool, cells: u32) -> Request<'_> {
     let range = ScanRange {
         after,
@@ -30,7 +30,7 @@ fn scan(start: Stamp, after: After<'_>, cells: u32) -> Request<'_> {
     scan_of(start, after, false, cells)
 }
 
-/// Whether the reply to a request isn't a refusal.
+/// Whether a request isn't refused.
 fn is_done(server: &mut MemServer, request: Request<'_>) -> bool {
     !matches!(server.answer(request), Reply::Refused(_))
 }
@@ -45,7 +45,7 @@ fn are_stepped(server: &mut MemServer, start: Stamp, count: u32) -> bool {
     true
 }
 
-/// Whether a new session of this start commits cells of the rows of two bytes from one number up to another.
+/// Whether a new session with this start commits a cell in each of the rows `first` to `last`, numbers of two bytes.
 fn are_committed(server: &mut MemServer, start: Stamp, first: u16, last: u16) -> bool {
     if !is_done(server, Request::Begin) {
         return false;
@@ -65,7 +65,7 @@ fn are_committed(server: &mut MemServer, start: Stamp, first: u16, last: u16) ->
     are_stepped(server, start, 2 * count + 1)
 }
 
-/// Whether items are of the rows of two bytes from a number on, each with its value.
+/// Whether items are of consecutive rows of two bytes from the number `first` on, each with its value.
 fn are_numbered(items: &[ScanItem], first: u16) -> bool {
     let mut number = first;
     for item in items {
@@ -80,7 +80,7 @@ fn are_numbered(items: &[ScanItem], first: u16) -> bool {
     true
 }
 
-/// The row of the cell that a scan went up to, and nothing if it went over all of its range.
+/// The row of the cell that a scan reached, empty if it reached the end of its range.
 fn last_row(reply: &ScanReply) -> &[u8] {
     match &reply.reach {
         ScanReach::More(cell) => cell.row.as_bytes(),
@@ -88,8 +88,8 @@ fn last_row(reply: &ScanReply) -> &[u8] {
     }
 }
 
-/// Whether a scan of session 9 after a row, or from the first one on, names this number of cells from a number on, and
-/// goes up to this row.
+/// Whether a scan of session 9 after a row, or from the first row on, names `count` cells from the row `first` on, and
+/// reaches the row `last`.
 fn is_batch(
     server: &mut MemServer,
     after: Option<&[u8]>,
@@ -112,7 +112,7 @@ fn is_batch(
     }
 }
 
-/// Four transactions commit 1,001 cells, one of a row each.
+/// Four transactions commit 1,001 cells, one in each row.
 #[test]
 fn scans_of_1001_cells(rt: HostRuntime) -> Result<(), Fail> {
     let mut server = new_server(rt.alloc(), FILE_LIMIT)?;
@@ -129,21 +129,21 @@ fn scans_of_1001_cells(rt: HostRuntime) -> Result<(), Fail> {
     Ok(())
 }
 
-/// Lengths of the values of `a` and `b`, whether keys alone are asked for, what a scan says of each cell that it names (v of a
-/// value that it sends, u of one that it doesn't), and the cell that it went up to. An item of `a` or `b` takes 11 bytes, and
-/// with its value 4 more and those of the value.
+/// Lengths of the values of `a` and `b`, whether only keys are asked for, a letter for each cell that the scan names (v
+/// if it sends the value, u if not), and the row that it reaches. An item of `a` or `b` takes 11 bytes, and with its
+/// value 4 more and the value's bytes.
 const LENGTHS: [(u32, u32, bool, &[u8], &[u8]); 6] = [
     // 61,440 bytes, and not one more
     (61_425, 0, false, b"v", b"a"),
     (30_000, 31_410, false, b"vv", b""),
     (30_000, 31_411, false, b"v", b"a"),
-    // one that is too long alone isn't sent, and what follows it is
+    // a value that is too long by itself isn't sent, and the values after it are
     (61_426, 0, false, b"uv", b""),
     (65_536, 61_414, false, b"uv", b""),
     (61_425, 65_536, true, b"uu", b""),
 ];
 
-/// Whether a session of this start commits the cells `a` and `b` with values of these lengths.
+/// Whether a session with this start commits the cells `a` and `b` with these values.
 fn are_set(server: &mut MemServer, start: Stamp, a: &[u8], b: &[u8]) -> bool {
     let family = b"c".as_slice();
     let first = Request::Set {
@@ -164,7 +164,7 @@ fn are_set(server: &mut MemServer, start: Stamp, a: &[u8], b: &[u8]) -> bool {
         && are_stepped(server, start, 5)
 }
 
-/// Whether items say this, a letter for each.
+/// Whether items match these letters, one for each.
 fn are_said(items: &[ScanItem], said: &[u8]) -> bool {
     if items.len() != said.len() {
         return false;
@@ -182,7 +182,7 @@ fn are_said(items: &[ScanItem], said: &[u8]) -> bool {
     true
 }
 
-/// Whether a scan says this of each cell that it names, and goes up to this row.
+/// Whether a scan's items match these letters, and it reaches this row.
 fn is_scanned(server: &mut MemServer, scan: Request<'_>, said: &[u8], last: &[u8]) -> bool {
     match server.answer(scan) {
         Reply::Scan(reply) => are_said(&reply.items, said) && last_row(&reply) == last,
@@ -190,7 +190,7 @@ fn is_scanned(server: &mut MemServer, scan: Request<'_>, said: &[u8], last: &[u8
     }
 }
 
-/// Whether a scan of values of these lengths says this, and goes up to this row.
+/// Whether a scan of values of these lengths has items that match these letters, and reaches this row.
 fn is_sent_of(
     alloc: Global,
     lengths: (u32, u32),
@@ -214,10 +214,11 @@ fn lengths_of_scans(rt: HostRuntime) -> Result<(), Fail> {
     Ok(())
 }
 
-/// Values of a cell with the longest names, and whether a scan sends them: its item takes 4,077 bytes more.
+/// Lengths of the value of a cell with the longest names, and whether a scan sends it: the cell's item takes 4,077
+/// bytes more.
 const LONGEST: [(u32, &[u8]); 2] = [(57_363, b"v"), (57_364, b"u")];
 
-/// Whether sessions commit a cell of these names, and one of the row 1 after it, and another session begins.
+/// Whether sessions commit a cell of these names and then a cell of the row 1, and another session begins.
 fn are_written(server: &mut MemServer, row: &[u8], family: &[u8], value: &[u8]) -> bool {
     let set = Request::Set {
         start: 1,
@@ -232,7 +233,7 @@ fn are_written(server: &mut MemServer, row: &[u8], family: &[u8], value: &[u8]) 
         && is_done(server, Request::Begin)
 }
 
-/// Whether a scan names cells from the row 1 on, and goes over all of its range.
+/// Whether a scan names cells from the row 1 on, and reaches the end of its range.
 fn is_rest(server: &mut MemServer, scan: Request<'_>) -> bool {
     match server.answer(scan) {
         Reply::Scan(reply) => are_numbered(&reply.items, 1) && last_row(&reply).is_empty(),
@@ -240,7 +241,8 @@ fn is_rest(server: &mut MemServer, scan: Request<'_>) -> bool {
     }
 }
 
-/// Whether a scan says this of a cell of these names and a value of this length, and a scan after it goes on.
+/// Whether a scan's item of a cell of these names and a value of this length matches this letter, and a scan after the
+/// cell continues.
 fn is_sent(
     alloc: Global,
     row: &[u8],
@@ -257,7 +259,7 @@ fn is_sent(
     )
 }
 
-/// The reply with the longest names twice, in its item and as the cell that it went up to.
+/// The reply has the longest names twice: in its item, and as the cell that the scan reached.
 #[test]
 fn scans_of_longest_names(rt: HostRuntime) -> Result<(), Fail> {
     let row = vec![in rt.alloc(); 0u8; 4_000]?;

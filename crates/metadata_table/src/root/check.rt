@@ -1,4 +1,4 @@
-//! Whether places, names and lengths are a root's.
+//! Checks that places, names and lengths are a root's.
 
 ghost use Rattle.std.specs.Prelude.{◌≡◌, ◌≢◌, ◌≤◌, ◌<◌, ◌^◌, ◌↔◌, length, IsTrue, AllPairs};
 ghost use Rattle.std.specs.List.{AllByRecursion};
@@ -13,10 +13,10 @@ use crate::table::MetadataTable;
 /// The most files of a tablet.
 const MOST_FILES: usize = 64;
 
-/// The greatest name that a next file may have.
+/// The greatest name that the next file may have.
 const MOST_NEXT_NAME: u64 = 9_223_372_036_854_775_808;
 
-/// Whether the ends rise up to the infinite one.
+/// Whether the ends strictly ascend, up to the infinite one.
 fn ends_rise(places: &[Place]) -> bool
     ensures { IsTrue result ↔ EndsRise (views places.now) }
 {
@@ -33,14 +33,14 @@ fn ends_rise(places: &[Place]) -> bool
     last.end.is_none()
 }
 
-/// Whether no place is of this tablet.
+/// Whether no place belongs to this tablet.
 fn lacks_tablet(places: &[Place], tablet: u32) -> bool
     ensures { IsTrue result ↔ AllByRecursion (λ place. tablet ≢ place.tablet) places.now }
 {
     places.iter().all(|place| tablet != place.tablet)
 }
 
-/// Whether no two places are of one tablet.
+/// Whether no two places belong to the same tablet.
 fn tablets_differ(places: &[Place]) -> bool
     ensures { IsTrue result ↔ AllPairs (λ p q. p.tablet ≢ q.tablet) (views places.now) }
 {
@@ -54,14 +54,14 @@ fn tablets_differ(places: &[Place]) -> bool
     true
 }
 
-/// Whether the number of a tablet is from 1 to the count of tablets, and there is its server.
+/// Whether the tablet's number is from 1 to the count of tablets, and its server exists.
 fn is_numbered(place: &Place, count: usize) -> bool
     ensures { IsTrue result ↔ IsNumbered count (view_of place.now) }
 {
     place.tablet >= 1 && place.tablet as usize <= count && place.server < MetadataTable::SERVERS
 }
 
-/// The same of each place.
+/// Whether `is_numbered` holds for each place.
 fn are_numbered(places: &[Place], count: usize) -> bool
     ensures { IsTrue result
         ↔ AllByRecursion (λ place. IsNumbered count (view_of place)) places.now }
@@ -107,21 +107,21 @@ fn names_differ(names: &[u64]) -> bool
     true
 }
 
-/// Whether the names are those of a tablet's files.
+/// Whether the names may be a tablet's files: at most 64, all different, from 1 on and below the next one.
 fn are_files(names: &[u64], next_name: u64) -> bool
     ensures { IsTrue result ↔ AreFiles next_name names.now }
 {
     names.len() <= MOST_FILES && names_differ(names) && are_named(names, next_name)
 }
 
-/// Whether a place has a tablet's files.
+/// Whether a place's files are valid.
 fn has_files(place: &Place, next_name: u64) -> bool
     ensures { IsTrue result ↔ AreFiles next_name place.now.files.items }
 {
     are_files(&place.files, next_name)
 }
 
-/// The same of each place.
+/// Whether `has_files` holds for each place.
 fn all_files(places: &[Place], next_name: u64) -> bool
     ensures { IsTrue result
         ↔ AllByRecursion (λ place. AreFiles next_name place.files.items) places.now }
@@ -129,21 +129,21 @@ fn all_files(places: &[Place], next_name: u64) -> bool
     places.iter().all(|place| has_files(place, next_name))
 }
 
-/// Whether the files of all places come before the next one.
+/// Whether the next name is in its range, and the files of all places are valid and below it.
 fn is_naming(places: &[Place], next_name: u64) -> bool
     ensures { IsTrue result ↔ IsNaming next_name (views places.now) }
 {
     next_name >= 1 && next_name <= MOST_NEXT_NAME && all_files(places, next_name)
 }
 
-/// Whether the places are a table whose files come before the next one.
+/// Whether the places are a table whose files are valid and below the next name.
 pub(crate) fn is_named_table(places: &[Place], next_name: u64) -> bool
     ensures { IsTrue result ↔ (IsTable (views places.now) × IsNaming next_name (views places.now)) }
 {
     is_table(places) && is_naming(places, next_name)
 }
 
-/// Whether there are as many lengths as the places have files.
+/// Whether there is exactly one length for each file of the places.
 fn is_measured(places: &[Place], lengths: &[u64]) -> bool
     ensures { IsTrue result ↔ (length lengths.now ≡ length (file_names (views places.now))) }
 {
@@ -160,7 +160,7 @@ fn is_measured(places: &[Place], lengths: &[u64]) -> bool
     left.is_empty()
 }
 
-/// Whether a root of a format has these lengths of the files of its places.
+/// Whether the lengths fit the format: none in format 1, one for each file of the places in format 2.
 pub(crate) fn has_lengths(format: RootFormat, places: &[Place], lengths: &[u64]) -> bool
     ensures { IsTrue result ↔ HasLengths format (views places.now) lengths.now }
 {
@@ -170,7 +170,7 @@ pub(crate) fn has_lengths(format: RootFormat, places: &[Place], lengths: &[u64])
     }
 }
 
-/// Each of these is a number of eight bytes.
+/// Each of these numbers fits in eight bytes.
 pub(crate) fn all_fit(numbers: &[u64])
     ensures { AllByRecursion (λ number. number < 2 ^ 64) numbers.now }
 {

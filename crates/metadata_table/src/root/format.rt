@@ -4,8 +4,8 @@ ghost use Rattle.std.specs.Prelude.{◌≡◌};
 ghost use Rattle.metadata_table.specs.Roots.{root_head};
 ghost use Rattle.metadata_table.specs.RootReader.{format_of};
 
-/// The formats of a root. They differ in the head, and format 2 has each file's length behind its name. Both are read,
-/// and format 2 is written.
+/// The formats of a root. Their heads differ, and format 2 has each file's length after its name. Both can be read;
+/// format 2 is written.
 #[derive(Clone, Copy)]
 pub enum RootFormat {
     One,
@@ -26,7 +26,8 @@ impl RootFormat {
         }
     }
 
-    /// The format that a head names. One that is no head is taken for format 1, whose spelling it hasn't.
+    /// The format of a head. An unknown head counts as format 1, and is refused later because it is not that format's
+    /// head.
     pub(crate) fn of(head: u64) -> RootFormat
         ensures { result ≡ format_of head }
     {

@@ -14,9 +14,9 @@ use std::alloc::{AllocError, AllocFailed, Global};
 /// Why bytes could not be read.
 #[derive(Clone, Copy, Debug)]
 pub(crate) enum ReadFault {
-    /// A growth was refused.
+    /// An allocation failed.
     Memory,
-    /// They are no root's.
+    /// They are not a root.
     Malformed,
 }
 
@@ -36,7 +36,7 @@ impl<T: Drop> From<AllocFailed<T>> for ReadFault {
     }
 }
 
-/// What the bytes of a root say, before it is checked whether they are one.
+/// The content of a root's bytes before they are checked.
 #[derive(Drop)]
 pub(crate) struct Draft {
     pub(crate) top: u64,
@@ -47,7 +47,7 @@ pub(crate) struct Draft {
     pub(crate) lengths: Vec<u64>,
 }
 
-/// The number of four bytes at the front, and what follows.
+/// The four-byte number at the front, and the bytes after it.
 fn read_u32(bytes: &[u8]) -> Result<(u32, &[u8]), ReadFault>
     ensures { GivesRead (λ x. (x.0, x.1.now)) result (number_at w32 bytes.now) }
 {
@@ -59,7 +59,7 @@ fn read_u32(bytes: &[u8]) -> Result<(u32, &[u8]), ReadFault>
     Ok((number, rest))
 }
 
-/// The number of eight bytes at the front, and what follows.
+/// The eight-byte number at the front, and the bytes after it.
 fn read_u64(bytes: &[u8]) -> Result<(u64, &[u8]), ReadFault>
     ensures { GivesRead (λ x. (x.0, x.1.now)) result (number_at w64 bytes.now) }
 {
@@ -73,7 +73,7 @@ fn read_u64(bytes: &[u8]) -> Result<(u64, &[u8]), ReadFault>
     Ok((number, rest))
 }
 
-/// The byte at the front, and what follows.
+/// The byte at the front, and the bytes after it.
 fn read_byte(bytes: &[u8]) -> Result<(u8, &[u8]), ReadFault>
     ensures { GivesRead (λ x. (x.0, x.1.now)) result (byte_at bytes.now) }
 {
@@ -83,7 +83,7 @@ fn read_byte(bytes: &[u8]) -> Result<(u8, &[u8]), ReadFault>
     }
 }
 
-/// The length and as many bytes at the front, and what follows.
+/// The length-prefixed field at the front, and the bytes after it.
 #[tactic(auto, unfolding(crate::specs::RootReader::field_at))]
 fn read_field(bytes: &[u8]) -> Result<(&[u8], &[u8]), ReadFault>
     ensures { GivesRead (λ x. (x.0.now, x.1.now)) result (field_at bytes.now) }
@@ -96,7 +96,7 @@ fn read_field(bytes: &[u8]) -> Result<(&[u8], &[u8]), ReadFault>
     Ok(rest.split_at(len))
 }
 
-/// The row at the front, and what follows.
+/// The row at the front, and the bytes after it.
 #[tactic(auto, unfolding(crate::specs::RootReader::row_at))]
 fn read_row(alloc: Global, bytes: &[u8]) -> Result<(Row, &[u8]), ReadFault>
     ensures { GivesRead (λ x. (x.0, x.1.now)) result (row_at bytes.now) }
@@ -114,7 +114,7 @@ fn read_row(alloc: Global, bytes: &[u8]) -> Result<(Row, &[u8]), ReadFault>
     }
 }
 
-/// The end at the front, and what follows.
+/// The end at the front, and the bytes after it.
 #[tactic(auto, unfolding(crate::specs::RootReader::end_at))]
 fn read_end(alloc: Global, bytes: &[u8]) -> Result<(Option<Row>, &[u8]), ReadFault>
     ensures { GivesRead (λ x. (x.0, x.1.now)) result (end_at bytes.now) }
@@ -130,7 +130,7 @@ fn read_end(alloc: Global, bytes: &[u8]) -> Result<(Option<Row>, &[u8]), ReadFau
     }
 }
 
-/// `count` numbers of eight bytes at the front, and what follows.
+/// `count` eight-byte numbers at the front, and the bytes after them.
 fn read_numbers(alloc: Global, count: u64, bytes: &[u8]) -> Result<(Vec<u64>, &[u8]), ReadFault>
     ensures { GivesRead (λ x. (x.0.items, x.1.now)) result (numbers_at count bytes.now) }
 {
@@ -144,7 +144,7 @@ fn read_numbers(alloc: Global, count: u64, bytes: &[u8]) -> Result<(Vec<u64>, &[
     Ok((numbers, rest))
 }
 
-/// The first number, and each second one behind it.
+/// Every second number, from the first on.
 fn every_second(alloc: Global, numbers: &[u64]) -> Result<Vec<u64>, ReadFault>
     ensures half { IfOk result (λ half. half.items ≡ every_second numbers.now) }
     ensures memory { IfErr result (λ e. e ≡ Memory) }
@@ -161,7 +161,7 @@ fn every_second(alloc: Global, numbers: &[u64]) -> Result<Vec<u64>, ReadFault>
     Ok(half)
 }
 
-/// `count` files at the front, and what follows: their names, and their lengths if the format has them.
+/// `count` files at the front, and the bytes after them: their names, and their lengths if the format has them.
 #[tactic(auto, unfolding(crate::specs::RootReader::files_at))]
 fn read_files(
     alloc: Global,
@@ -189,7 +189,7 @@ fn read_files(
     }
 }
 
-/// The place at the front, with the lengths of its files, and what follows.
+/// The place at the front, with the lengths of its files, and the bytes after it.
 #[tactic(auto, unfolding(crate::specs::RootReader::place_at))]
 fn read_place(
     alloc: Global,
@@ -213,7 +213,7 @@ fn read_place(
     Ok((place, lengths, rest))
 }
 
-/// `count` places at the front, with the lengths of all their files, and what follows.
+/// `count` places at the front, with the lengths of all their files, and the bytes after them.
 #[tactic(auto, unfolding(crate::specs::RootReader::places_at))]
 fn read_places(
     alloc: Global,
@@ -236,7 +236,7 @@ fn read_places(
     Ok((places, lengths, rest))
 }
 
-/// What the bytes say if they are a root. Head and foot are passed over.
+/// The content of the bytes, if they are a root. Head and foot are skipped without a check.
 #[tactic(auto, unfolding(crate::specs::RootReader::root_at))]
 pub(crate) fn read_draft(alloc: Global, bytes: &[u8]) -> Result<Draft, ReadFault>
     ensures { GivesRead drafted result (root_at bytes.now) }

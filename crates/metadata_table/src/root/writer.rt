@@ -14,7 +14,7 @@ use crate::root::format::RootFormat;
 use cell_key::{Refusal, Row};
 use std::alloc::Global;
 
-/// Appends a number of four bytes.
+/// Appends a four-byte number.
 fn push_u32(out: &mut Vec<u8>, number: u32) -> Result<(), Refusal>
     ensures ok { OnOk result (out.new.items ≡ out.old.items ++ to_be_bytes w32 number) }
     ensures memory { IsOkUnless result Refusal.NoMemory }
@@ -23,7 +23,7 @@ fn push_u32(out: &mut Vec<u8>, number: u32) -> Result<(), Refusal>
     Ok(())
 }
 
-/// Appends a number of eight bytes.
+/// Appends an eight-byte number.
 fn push_u64(out: &mut Vec<u8>, number: u64) -> Result<(), Refusal>
     ensures ok { OnOk result (out.new.items ≡ out.old.items ++ to_be_bytes w64 number) }
     ensures memory { IsOkUnless result Refusal.NoMemory }
@@ -32,7 +32,7 @@ fn push_u64(out: &mut Vec<u8>, number: u64) -> Result<(), Refusal>
     Ok(())
 }
 
-/// Appends a row behind its length.
+/// Appends a row, prefixed with its length.
 fn push_row(out: &mut Vec<u8>, row: &Row) -> Result<(), Refusal>
     ensures ok { OnOk result (out.new.items ≡ out.old.items ++ field row.now) }
     ensures valid { IsRow row.now }
@@ -62,7 +62,7 @@ fn push_end(out: &mut Vec<u8>, end: &Option<Row>) -> Result<(), Refusal>
     }
 }
 
-/// Appends names, and behind each its length, as far as there are lengths.
+/// Appends names, each followed by its length as far as there are lengths.
 fn push_names(out: &mut Vec<u8>, names: &[u64], lengths: &[u64]) -> Result<(), Refusal>
     ensures ok { OnOk result (out.new.items
         ≡ out.old.items ++ flat_map (to_be_bytes w64) (numbers_of names.now lengths.now)) }
@@ -105,7 +105,7 @@ fn push_place(out: &mut Vec<u8>, place: &Place, lengths: &[u64]) -> Result<(), R
     push_files(out, &place.files, lengths)
 }
 
-/// The lengths of a place's files, and those of the places behind it.
+/// The lengths of a place's files, and the lengths left for the places after it.
 fn own_lengths<'a>(place: &Place, lengths: &'a [u64]) -> (&'a [u64], &'a [u64])
     ensures own { result.0.now ≡ take (length place.now.files.items) lengths.now }
     ensures others { result.1.now ≡ drop (length place.now.files.items) lengths.now }
@@ -117,7 +117,7 @@ fn own_lengths<'a>(place: &Place, lengths: &'a [u64]) -> (&'a [u64], &'a [u64])
     lengths.split_at(count)
 }
 
-/// Appends places one after the other.
+/// Appends places in order.
 fn push_each(out: &mut Vec<u8>, places: &[Place], lengths: &[u64]) -> Result<(), Refusal>
     requires { AllByRecursion (λ place. length place.files.items < 2 ^ 32) places.now }
     ensures ok { OnOk result (out.new.items ≡ out.old.items

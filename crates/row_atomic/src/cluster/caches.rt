@@ -1,4 +1,4 @@
-//! The caches of a cluster.
+//! The caches of a cluster: emptying them, their sizes and hits.
 
 ghost use Rattle.std.specs.Prelude.{Option};
 ghost use Rattle.std.specs.List.{AllZip};
@@ -12,7 +12,7 @@ use file_store::Files;
 use std::num::NonZeroUsize;
 use tablet::Tablet;
 
-/// Empties the caches of tablets. They stay what they were.
+/// Empties the caches of tablets. The tablets are otherwise unchanged.
 fn drop_each(tablets: &mut [Tablet])
     ensures { (disk : Option Contents) → AllZip (IsSameTablet disk) tablets.old tablets.new }
 {
@@ -21,7 +21,7 @@ fn drop_each(tablets: &mut [Tablet])
     }
 }
 
-/// Lets each file of tablets cache this many blocks at most. The tablets stay what they were.
+/// Sets how many blocks each file of some tablets caches at most. The tablets are otherwise unchanged.
 fn resize_each(tablets: &mut [Tablet], most_blocks: NonZeroUsize)
     ensures { (disk : Option Contents) → AllZip (IsSameTablet disk) tablets.old tablets.new }
 {
@@ -31,8 +31,8 @@ fn resize_each(tablets: &mut [Tablet], most_blocks: NonZeroUsize)
 }
 
 impl<F: Files> Cluster<F> {
-    /// Empties the cache of places, and the caches of each tablet's open files. All cells and places stay. Takes no
-    /// memory.
+    /// Empties the cache of places and the caches of every tablet's open files. All cells and places are unchanged.
+    /// Allocates nothing.
     pub fn drop_caches(&mut self)
         ensures { IsOutcome
             F.contents F.faults Command.DropCaches Outcome.Done self.old self.new }
@@ -41,8 +41,8 @@ impl<F: Files> Cluster<F> {
         drop_each(&mut self.tablets);
     }
 
-    /// Lets each open file of each tablet cache this many blocks at most, from now on, and those too that will be opened.
-    /// If a file has more, those go whose use is longest ago. All cells and places stay.
+    /// Sets how many blocks each file of every tablet caches at most, for the open files and those opened later. A file
+    /// that caches more evicts the least recently used. All cells and places are unchanged.
     pub fn resize_caches(&mut self, most_blocks: NonZeroUsize)
         ensures { IsOutcome
             F.contents F.faults Command.DropCaches Outcome.Done self.old self.new }
@@ -50,8 +50,8 @@ impl<F: Files> Cluster<F> {
         resize_each(&mut self.tablets, most_blocks);
     }
 
-    /// How many calls of `newest`, `has_version` and `apply` found their row among the 128 that were located last. A
-    /// count of 2^64 - 1 stays. Takes no memory.
+    /// How many calls of `newest`, `versions`, `has_version` and `apply` found their row among the 128 located last.
+    /// The count saturates at 2^64 - 1. Allocates nothing.
     pub fn place_hits(&self) -> u64 {
         self.place_cache.hits()
     }

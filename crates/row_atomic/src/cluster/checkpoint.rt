@@ -1,7 +1,8 @@
-//! Checkpoints: what a cluster shows is put into its files, and the root file has the lengths of the others.
+//! Checkpoints: every memtable is written to a file, and then a root file that has the lengths of the others.
 
-ghost use Rattle.std.specs.Prelude.{◌≡◌, ◌⊎◌, IfErr, IfOk, IfSome, IsErrOf, OnErr, OnOk, length, replicate};
+ghost use Rattle.std.specs.Prelude.{◌≡◌, IfErr, IfOk, IfSome, IsErrOf, OnErr, OnOk, length, replicate, IsOkUnless};
 ghost use Rattle.std.specs.FinMap.{get};
+ghost use Rattle.sorted_file.specs.Source.{IsFaultRefusal};
 ghost use Rattle.cell_key.specs.Faults.{HasReason};
 ghost use Rattle.metadata_table.specs.Roots.{file_names};
 ghost use Rattle.row_atomic.specs.Changes.{Holds, IsRefusalOf};
@@ -23,12 +24,11 @@ use tablet::unnamed_may_go;
 /// The name of the root file.
 pub(crate) const ROOT_NAME: u64 = 0;
 
-/// How many bytes a file has: none if it isn't there.
+/// The length of a file in bytes; 0 if it doesn't exist.
 fn length_of<F: Files>(name: u64, files: &mut F) -> Result<u64, Refusal>
     ensures length { IfOk result (λ n. IfSome (F.contents files.old) (λ m.
         IfSome (get m name) (λ image. length image ≡ n))) }
-    ensures refusal { IfErr result (λ refusal. (refusal ≡ Refusal.Device)
-        ⊎ (refusal ≡ Refusal.NoMemory)) }
+    ensures refusal { IfErr result IsFaultRefusal }
     ensures same { F.contents files.new ≡ F.contents files.old }
     ensures reason { HasReason (F.faults files.old) (F.faults files.new) result }
 {
@@ -36,13 +36,12 @@ fn length_of<F: Files>(name: u64, files: &mut F) -> Result<u64, Refusal>
     Ok(size.unwrap_or(0))
 }
 
-/// How many bytes each of these files has.
+/// The lengths of these files in bytes.
 fn lengths_of<F: Files>(alloc: Global, names: &[u64], files: &mut F) -> Result<Vec<u64>, Refusal>
     ensures count { IfOk result (λ lengths. length lengths.items ≡ length names.now) }
     ensures measured { IfOk result (λ lengths. IfSome (F.contents files.old) (λ m.
         AreMeasured m names.now lengths.items)) }
-    ensures refusal { IfErr result (λ refusal. (refusal ≡ Refusal.Device)
-        ⊎ (refusal ≡ Refusal.NoMemory)) }
+    ensures refusal { IfErr result IsFaultRefusal }
     ensures same { F.contents files.new ≡ F.contents files.old }
     ensures reason { HasReason (F.faults files.old) (F.faults files.new) result }
 {
@@ -56,7 +55,7 @@ fn lengths_of<F: Files>(alloc: Global, names: &[u64], files: &mut F) -> Result<V
     Ok(lengths)
 }
 
-/// How many bytes each file of a table has, in the order in which it names them.
+/// The lengths in bytes of a table's files, in the table's order.
 pub(crate) fn file_lengths<F: Files>(
     alloc: Global,
     table: &MetadataTable,
@@ -65,8 +64,7 @@ pub(crate) fn file_lengths<F: Files>(
     ensures count { IfOk result (λ lengths. length lengths.items ≡ length (file_names table.now)) }
     ensures measured { IfOk result (λ lengths. IfSome (F.contents files.old) (λ m.
         AreMeasured m (file_names table.now) lengths.items)) }
-    ensures refusal { IfErr result (λ refusal. (refusal ≡ Refusal.Device)
-        ⊎ (refusal ≡ Refusal.NoMemory)) }
+    ensures refusal { IfErr result IsFaultRefusal }
     ensures same { F.contents files.new ≡ F.contents files.old }
     ensures reason { HasReason (F.faults files.old) (F.faults files.new) result }
 {
@@ -84,7 +82,7 @@ pub(crate) fn file_lengths<F: Files>(
 fn zero_lengths(alloc: Global, table: &MetadataTable) -> Result<Vec<u64>, Refusal>
     ensures zeros { IfOk result (λ lengths.
         lengths.items ≡ replicate (length (file_names table.now)) 0) }
-    ensures refusal { IfErr result (λ refusal. refusal ≡ Refusal.NoMemory) }
+    ensures refusal { IsOkUnless result Refusal.NoMemory }
 {
     let mut lengths = Vec::new(alloc);
     let mut rest = table.places();
@@ -97,15 +95,15 @@ fn zero_lengths(alloc: Global, table: &MetadataTable) -> Result<Vec<u64>, Refusa
 }
 
 impl<F: Files> Cluster<F> {
-    /// The checksum of what a root says that has these stamps and the cluster's places and next name: the CRC-32 of its
-    /// bytes in format 2, but with 0 in place of each file's length.
+    /// The checksum of the root with these stamps and the cluster's places and next name: the CRC-32 of its bytes in
+    /// format 2, with each file's length written as 0.
     ///
     /// # Errors
     ///
-    /// `NoMemory` if a growth was refused.
+    /// `NoMemory` if an allocation failed.
     pub fn root_sum(&self, top: Stamp, floor: Stamp) -> Result<u32, Refusal>
         ensures sum { IfOk result (λ sum. sum ≡ root_sum (root_at top floor self.now)) }
-        ensures refusal { IfErr result (λ refusal. refusal ≡ Refusal.NoMemory) }
+        ensures refusal { IsOkUnless result Refusal.NoMemory }
     {
         let lengths = zero_lengths(self.alloc, &self.table)?;
         let mut image = Vec::new(self.alloc);
@@ -114,7 +112,7 @@ impl<F: Files> Cluster<F> {
         Ok(crc32(&image, &[]))
     }
 
-    /// Compacts every tablet as `minor` does, in the order of their ends, up to one that is refused.
+    /// Compacts every tablet as `minor` does, in the order of their ends, until one is refused.
     fn flush_each(&mut self) -> Result<(), Refusal>
         ensures flushes { FlushesEach F.contents F.faults
             self.old (numbers_of self.old.places) (done_of result) self.new }
@@ -127,7 +125,7 @@ impl<F: Files> Cluster<F> {
         Ok(())
     }
 
-    /// Puts the root file, which has these stamps, the cluster's places and next name, and the lengths of its files.
+    /// Puts the root file, with these stamps, the cluster's places and next name, and the lengths of its files.
     fn put_root(&mut self, top: Stamp, floor: Stamp) -> Result<(), Refusal>
         ensures puts { PutsRoot F.contents top floor self.old (done_of result) self.new.files }
         ensures rest { self.new ≡ record self.old { files = self.new.files } }
@@ -149,23 +147,25 @@ impl<F: Files> Cluster<F> {
         }
     }
 
-    /// Writes the memtable of every tablet as `minor` does, and then the root file, in format 2: it has these two stamps,
-    /// the next file's name, the tablets' places, and the length of each of their files. From the files alone the cells
-    /// can then be read again.
+    /// Writes the memtable of every tablet as `minor` does, and then the root file in format 2, with these two stamps,
+    /// the next file's name, the tablets' places and the length of each of their files. After that the cells can be
+    /// recovered from the files alone.
     ///
     /// # Errors
     ///
-    /// Those of `minor` for a known tablet. Some minor compactions may then have been done. If the put of the root
-    /// file was refused, its bytes are open; over files that a put replaces as a whole they are the old or the new ones.
+    /// The errors of `minor` for a known tablet. Some minor compactions may still have been done. If the put of the
+    /// root file failed, the root's bytes are unspecified; if the store replaces files atomically, they are the old or
+    /// the new ones.
     pub fn checkpoint(&mut self, top: Stamp, floor: Stamp) -> Result<(), Refusal>
         ensures steps { Checkpoints
             F.contents F.faults top floor self.old (done_of result) self.new }
         ensures flushed { OnOk result (AreFlushed self.new) }
         ensures rests { OnOk result (Rests F.contents top floor self.old self.new) }
-        // Over files that a put replaces as a whole, a refusal leaves there what they kept, or what the cluster showed.
+        // If puts are atomic, a refusal leaves the old root with its cells in the files, or all cells that the cluster
+        // showed.
         ensures whole { F.replaces → OnErr result
             (StaysOrRests F.contents top floor self.old self.new) }
-        // Whether it is done or refused, tablets that were in order are, with the same cells.
+        // Done or refused, tablets that were in order still are, with the same cells.
         ensures keeps { KeepsShown F.contents F.faults self.old self.new }
         ensures refusal { IfErr result (IsRefusalOf minor_compaction) }
         ensures undamaged { Holds F.contents self.old → ¬ IsErrOf result Refusal.Damaged }

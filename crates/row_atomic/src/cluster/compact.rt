@@ -1,6 +1,6 @@
-//! Compactions of a cluster's tablets. Room for the new list of names is made before the tablet changes.
+//! Compactions of a cluster's tablets. Room for the new list of names is reserved before the tablet changes.
 
-ghost use Rattle.std.specs.Prelude.{◌≡◌, ◌≤◌, ◌+◌, ◌^◌, [], length, vec_capacity, IfErr, IfOk, IsOk, OnErr, OnOk};
+ghost use Rattle.std.specs.Prelude.{◌≡◌, ◌≤◌, ◌+◌, ◌^◌, [], length, vec_capacity, IfErr, IfOk, IsOk, OnErr, OnOk, IsOkUnless};
 ghost use Rattle.cell_key.specs.Faults.{HasReason};
 ghost use Rattle.metadata_table.specs.Table.{HasTablet, IsTable, with_files};
 ghost use Rattle.sorted_file.specs.Limits.{IsFileLimit};
@@ -53,7 +53,7 @@ fn compact<F: Files>(
 pub(crate) fn room_for_names(alloc: Global, tablet: &Tablet) -> Result<Vec<u64>, Refusal>
     ensures empty { IfOk result (λ names. names.items ≡ []) }
     ensures room { IfOk result (λ names. length (names_of tablet.now) + 1 ≤ vec_capacity names) }
-    ensures refusal { IfErr result (λ refusal. refusal ≡ Refusal.NoMemory) }
+    ensures refusal { IsOkUnless result Refusal.NoMemory }
 {
     let mut names = Vec::new(alloc);
     tablet.push_names(&mut names)?;
@@ -62,7 +62,7 @@ pub(crate) fn room_for_names(alloc: Global, tablet: &Tablet) -> Result<Vec<u64>,
     Ok(names)
 }
 
-/// Lists a tablet's files at its place. There is room for their names.
+/// Records a tablet's files at its place in the table. `names` has room for their names.
 pub(crate) fn list_files(
     table: &mut MetadataTable,
     number: u32,
@@ -90,7 +90,7 @@ impl<F: Files> Cluster<F> {
         Ok(())
     }
 
-    /// Answers `BadCount` if this many of a tablet's files can't be merged.
+    /// Answers `BadCount` if `count` of a tablet's files can't be merged.
     fn check_count(&self, tablet: u32, count: u32) -> Result<(), Refusal>
         requires known { HasTablet tablet self.now.places }
         ensures within { OnOk result (¬ Numbered (IsBadCount count) tablet self.now.tablets) }
@@ -104,7 +104,7 @@ impl<F: Files> Cluster<F> {
         Ok(())
     }
 
-    /// Compacts the tablet of a number, and lists its files.
+    /// Compacts the tablet with a number, and records its files in the table.
     pub(crate) fn compact_tablet(
         &mut self,
         tablet: u32,
@@ -140,9 +140,9 @@ impl<F: Files> Cluster<F> {
     ///
     /// # Errors
     ///
-    /// `UnknownTablet` if no tablet has the number, and then `TooManyFiles` if the tablet has 64 files
-    /// already, `FileTooLarge`, `Exhausted` if no name is left, `Device` and `NoMemory`. The tablets are then
-    /// as before.
+    /// `UnknownTablet` if no tablet has the number; then `TooManyFiles` if the tablet already has 64 files,
+    /// `FileTooLarge`, `Exhausted` if no name is left, `Device` and `NoMemory`; `Damaged` comes only from a store that
+    /// does not keep the bytes it is given. The tablets are then unchanged.
     pub fn minor(&mut self, tablet: u32) -> Result<(), Refusal>
         ensures { IsOutcome
             F.contents F.faults (Command.Minor tablet) (done_of result) self.old self.new }
@@ -151,14 +151,14 @@ impl<F: Files> Cluster<F> {
         self.compact_tablet(tablet, Compaction::Minor)
     }
 
-    /// Writes the newest `count` files of a tablet as one at their place (Bigtable, merging compaction). Erasures
+    /// Merges the newest `count` files of a tablet into one that replaces them (Bigtable, merging compaction). Erasures
     /// are kept unless `count` is all files.
     ///
     /// # Errors
     ///
-    /// `UnknownTablet` if no tablet has the number, and then `BadCount` if `count` is below 2 or above the
-    /// tablet's number of files, and then `FileTooLarge`, `Exhausted` if no name is left, `Device` and
-    /// `NoMemory`. The tablets are then as before.
+    /// `UnknownTablet` if no tablet has the number; then `BadCount` if `count` is below 2 or above the tablet's number
+    /// of files; then `FileTooLarge`, `Exhausted` if no name is left, `Device`, `NoMemory`, and `Damaged` only if one
+    /// of these files has changed since it was opened. The tablets are then unchanged.
     pub fn merge(&mut self, tablet: u32, count: u32) -> Result<(), Refusal>
         ensures { IsOutcome
             F.contents F.faults (Command.Merge tablet count) (done_of result) self.old self.new }
@@ -168,13 +168,13 @@ impl<F: Files> Cluster<F> {
         self.compact_tablet(tablet, Compaction::Merge(count))
     }
 
-    /// Writes the memtable and all files of a tablet as exactly one file without erasures (Bigtable, major
-    /// compaction), even if there is nothing.
+    /// Writes the memtable and all files of a tablet as exactly one file without erasures (Bigtable, major compaction),
+    /// even if there is nothing to write.
     ///
     /// # Errors
     ///
-    /// `UnknownTablet` if no tablet has the number, and then `FileTooLarge`, `Exhausted` if no name is
-    /// left, `Device` and `NoMemory`. The tablets are then as before.
+    /// `UnknownTablet` if no tablet has the number; then `FileTooLarge`, `Exhausted` if no name is left, `Device`,
+    /// `NoMemory`, and `Damaged` only if a file has changed since it was opened. The tablets are then unchanged.
     pub fn major(&mut self, tablet: u32) -> Result<(), Refusal>
         ensures { IsOutcome
             F.contents F.faults (Command.Major tablet) (done_of result) self.old self.new }

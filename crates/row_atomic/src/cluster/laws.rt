@@ -8,20 +8,20 @@ use cell_key::replays;
 use file_store::Files;
 use tablet::unnamed_may_go;
 
-/// The cells of a row are those of the tablet that holds it.
+/// The cells of a row are the cells of the tablet that holds it.
 pub fn cells_by_tablet()
     ensures { CellsByTablet }
 {}
 
-/// A command leaves a root and its cells in the files. A sweep does so if the tablets have every
-/// file that the root lists.
+/// A command leaves a stored root and its cells in the files. A sweep does if the tablets have every file that the root
+/// lists.
 pub fn root_stays<F: Files>()
     ensures { RootStays F.contents F.faults }
 {
     unnamed_may_go();
 }
 
-/// Whether the files keep a root depends on what lies below the memtables alone.
+/// Whether the files keep a root does not depend on the memtables.
 pub fn root_is_stored<F: Files>()
     ensures { RootIsStored F.contents }
 {}
@@ -40,8 +40,9 @@ pub fn root_outlasts_merges<F: Files>()
     unnamed_may_go();
 }
 
-/// What is written down follows what is shown through all that a cluster does but an apply: commands, a sweep if the
-/// tablets have the root's files, compactions and merges that come by themselves, and checkpoints, done or refused.
+/// The journal still leads from the files to the cluster's cells after everything a cluster does except `apply`:
+/// commands (a sweep only if the tablets have the root's files), automatic compactions and merges, and checkpoints,
+/// done or refused.
 pub fn keeps_following<F: Files>()
     ensures { KeepsFollowing F.contents F.faults }
 {
@@ -51,7 +52,7 @@ pub fn keeps_following<F: Files>()
     root_outlasts_merges::<F>();
 }
 
-/// A store that was opened from a root shows what that root keeps, and its memtables have nothing else.
+/// A store that was opened from a root shows that root's cells, and its memtables are empty.
 pub fn opens_following<F: Files>()
     ensures { OpensFollowing F.contents }
 {}

@@ -1,4 +1,4 @@
-//! Opening what a checkpoint left.
+//! Opening a store from the files of a checkpoint.
 
 ghost use Rattle.std.specs.Prelude.{◌≡◌, ◌≢◌, ◌<◌, ◌≤◌, ◌⊎◌, IfErr, IfOk, IfSome, IsErrOf, MatchResult, Some, None, length, option_map};
 ghost use Rattle.std.specs.FinMap.{get};
@@ -25,7 +25,7 @@ use sorted_file::{few_blocks, refusal_of};
 use std::alloc::{AllocError, Global};
 use tablet::{RowRange, Tablet, files_are_there, same_cells};
 
-/// What the root file says, if it is there.
+/// The root in the root file, if that exists.
 fn read_root<F: Files>(alloc: Global, files: &mut F) -> Result<Option<Root>, Refusal>
     ensures finds { IfOk result (λ found. IfSome (F.contents files.old) (λ m.
         FindsRoot (get m root_name) (option_map told_of found))) }
@@ -53,7 +53,7 @@ fn end_of(place: &Place) -> Result<Option<Row>, AllocError>
     place.end.clone()
 }
 
-/// Opens the files of the place at an index, as a tablet of its rows.
+/// Opens the files of the place at an index as a tablet of its rows.
 fn load_at<F: Files>(
     alloc: Global,
     table: &MetadataTable,
@@ -132,14 +132,13 @@ fn load_root<F: Files>(alloc: Global, root: &Root, files: &mut F) -> Result<Vec<
 }
 
 impl<F: Files> Cluster<F> {
-    /// Opens the store that the files keep, and answers it with its root's two stamps. Without a
-    /// root file it is a new store, and both are 0. A sorted file has at most `file_limit` bytes,
-    /// which is 48 to 68,719,476,736.
+    /// Opens the store in the files, and answers it with its root's two stamps. Without a root file it is a new store,
+    /// and both stamps are 0. A sorted file has at most `file_limit` bytes, which is 48 to 68,719,476,736.
     ///
     /// # Errors
     ///
-    /// `Damaged` if the root file is out of form, or a file that it names is missing, out of form or not of the length
-    /// that stands in the root; `Device` and `NoMemory`. The files come back.
+    /// `Damaged` if the root file is malformed, or a file that it names is missing, malformed or not of the length
+    /// recorded in the root; `Device` and `NoMemory`. The files are handed back.
     pub fn open(
         alloc: Global,
         files: F,

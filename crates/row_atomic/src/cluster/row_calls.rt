@@ -1,6 +1,6 @@
-//! A cluster as rows of cells.
+//! Reads and edits of a cluster's rows: its `Rows`.
 
-ghost use Rattle.std.specs.Prelude.{◌≡◌, ◌≤◌, ◌↔◌, ◌++◌, IfErr, IfOk, IfSome, IsErrOf, IsTrue, None, Some, length, map, option_map};
+ghost use Rattle.std.specs.Prelude.{◌≡◌, ◌≤◌, ◌↔◌, ◌++◌, IfErr, IfOk, IfSome, IsErrOf, IsTrue, None, Some, length, map, option_map, IsOkUnless};
 ghost use Rattle.cell_key.specs.Cells.{IsNewest, version};
 ghost use Rattle.cell_key.specs.Places.{AreNextCells, IsNextCell, place_named};
 ghost use Rattle.cell_key.specs.Versions.{IsVersion, IsVersionIn, stamped};
@@ -41,8 +41,8 @@ fn precedes(place: &Place, after: Option<(&Row, &Family)>) -> bool
     }
 }
 
-/// The next cells that have any key in these tablets, in the order of their rows: `most` of them, or fewer if no
-/// more are left. A tablet is asked only for what those before it lack.
+/// The next cells that have any version in these tablets, in the order of their rows, `most` of them or all if there
+/// are fewer. A tablet is asked only for as many cells as are still missing.
 fn next_cells_in<F: Files>(
     alloc: Global,
     places: &[Place],
@@ -74,14 +74,14 @@ fn next_cells_in<F: Files>(
     Ok(found)
 }
 
-/// Some cells and those that come after them. Answers `NoMemory` if there is no memory. Takes none if there are none before
-/// the others.
+/// Two lists of cells, one after the other. Answers `NoMemory` if there is no memory. If the first is empty nothing is
+/// allocated.
 fn joined(
     mut found: Vec<CellVersions>,
     mut more: Vec<CellVersions>,
 ) -> Result<Vec<CellVersions>, Refusal>
     ensures ok { IfOk result (λ all. all.items ≡ found.items ++ more.items) }
-    ensures refusal { IfErr result (λ refusal. refusal ≡ Refusal.NoMemory) }
+    ensures refusal { IsOkUnless result Refusal.NoMemory }
 {
     if found.is_empty() {
         return Ok(more);
@@ -90,9 +90,9 @@ fn joined(
     Ok(found)
 }
 
-/// The next cells that have any key in these tablets, in the order of their rows, each with the newest versions at or below
-/// `hi` of its columns: until the batch is full, or no more are left. A tablet is asked only if those before it have no
-/// more.
+/// The next cells that have any version in these tablets, in the order of their rows, each with the newest versions of
+/// its columns at or below `hi`, until the batch is full or no cell is left. A tablet is asked only once those before
+/// it have no more.
 fn next_versions_in<F: Files>(
     alloc: Global,
     places: &[Place],

@@ -1,6 +1,6 @@
-//! Splits of tablets, and moves to other servers. Their room is made first; then comes a minor compaction.
+//! Splits of tablets, and moves to other servers. Their room is reserved first; then comes a minor compaction.
 
-ghost use Rattle.std.specs.Prelude.{◌≡◌, ◌≤◌, ◌<◌, ◌+◌, ◌↔◌, ◌⊎◌, [], length, IfErr, IfOk, IfSome, IsErrOf, IsTrue, OnErr, OnOk};
+ghost use Rattle.std.specs.Prelude.{◌≡◌, ◌≤◌, ◌<◌, ◌+◌, ◌↔◌, ◌⊎◌, [], length, IfErr, IfOk, IfSome, IsErrOf, IsTrue, OnErr, OnOk, IsOkUnless};
 ghost use Rattle.metadata_table.specs.Places.{PlaceView};
 ghost use Rattle.metadata_table.specs.Table.{BarsSplit, Cuts, HasTablet, IsHolder, IsTable, most_servers, moved};
 ghost use Rattle.sorted_file.specs.Source.{ReadsFiles};
@@ -20,8 +20,8 @@ use tablet::{
     Compaction, RowRange, Tablet, files_are_there, others_stay, same_cells, stays_in_range,
 };
 
-/// What a cut of a tablet needs that grows: the table as it is after the cut, but for the files of both parts, the number
-/// of the left part, and empty lists for the names of their files and for all tablets.
+/// The room reserved for a cut: the table after the cut except for the files of the two parts, the number of the left
+/// part, and empty lists with room for the names of both parts' files and for all tablets.
 #[derive(Drop)]
 struct CutRoom {
     table: MetadataTable,
@@ -31,24 +31,24 @@ struct CutRoom {
     tablets: Vec<Tablet>,
 }
 
-/// What it takes to open a tablet's files anew: its range, and an empty list for their names.
+/// The room reserved to reopen a tablet: its range, and an empty list with room for its files' names.
 #[derive(Drop)]
 struct OpenRoom {
     range: RowRange,
     names: Vec<u64>,
 }
 
-/// The room to open a tablet's files anew, and one file more. Answers `NoMemory` if there is no memory.
+/// The room to reopen a tablet with its files and one more. Answers `NoMemory` if there is no memory.
 fn room_to_open(alloc: Global, tablet: &Tablet) -> Result<OpenRoom, Refusal>
     ensures room { IfOk result (λ room. HasOpenRoom room 1 tablet.now) }
-    ensures refusal { IfErr result (λ refusal. refusal ≡ Refusal.NoMemory) }
+    ensures refusal { IsOkUnless result Refusal.NoMemory }
 {
     let range = tablet.range().clone()?;
     let names = room_for_names(alloc, tablet)?;
     Ok(OpenRoom { range, names })
 }
 
-/// A tablet of the same rows, whose files are opened anew, with an empty memtable.
+/// A tablet of the same range, with the same files opened again and an empty memtable.
 fn open_again<F: Files>(
     alloc: Global,
     tablet: &Tablet,
@@ -71,8 +71,8 @@ fn open_again<F: Files>(
 }
 
 impl<F: Files> Cluster<F> {
-    /// Lists for the cut of a tablet at a row, which then needs no growth but that of the files that it opens. There is
-    /// room for the name of one file more. Answers `NoMemory` if there is no memory.
+    /// Reserves the room for a cut of a tablet at a row, with names for one file more. Afterwards the cut allocates
+    /// only for the files that it opens. Answers `NoMemory` if there is no memory.
     fn room_for_cut(&self, holder: u32, row: &Row) -> Result<CutRoom, Refusal>
         requires known { HasTablet holder self.now.places }
         requires free { ¬ BarsSplit row.now self.now.places }
@@ -83,7 +83,7 @@ impl<F: Files> Cluster<F> {
         ensures tablets { IfOk result (λ room.
             IsEmptyFor (length self.now.places + 1) room.tablets) }
         ensures table { IsTable self.now.places }
-        ensures refusal { IfErr result (λ refusal. refusal ≡ Refusal.NoMemory) }
+        ensures refusal { IsOkUnless result Refusal.NoMemory }
     {
         let count = self.table.len();
         let index = self.position(holder);
@@ -101,8 +101,8 @@ impl<F: Files> Cluster<F> {
         })
     }
 
-    /// Cuts the tablet that holds a row, whose memtable is empty, in two there. Nothing changes but what is in memory,
-    /// and nothing of it grows after the tablet is cut.
+    /// Cuts the tablet that holds a row in two there. Its memtable is empty. No file changes, and nothing is allocated
+    /// once the tablet is cut.
     fn cut(&mut self, row: &Row, room: CutRoom) -> Result<u32, Refusal>
         requires flushed { OfHolder IsEmptied row.now self.old.places self.old.tablets }
         requires room { IsRoomToCut row.now room self.old.places self.old.tablets }
@@ -140,14 +140,15 @@ impl<F: Files> Cluster<F> {
         Ok(left)
     }
 
-    /// Cuts the tablet that holds a row in two there, and answers the number of the left part, which ends with
-    /// the row and takes the next number. The right part keeps the number. Both have the server and the files
-    /// (Bigtable, tablet splits). A minor compaction of the tablet comes first, so that both memtables are empty.
+    /// Cuts the tablet that holds a row in two there, and answers the number of the left part, which ends with the row
+    /// and takes the next number. The right part keeps the old number. Both keep the server and the files (Bigtable,
+    /// tablet splits). A minor compaction of the tablet comes first, so that both memtables are empty.
     ///
     /// # Errors
     ///
-    /// `BadSplit` if the row is already the end of its tablet, or there are 1,024 tablets, and then those of
-    /// `minor`. The places of the tablets are then as before, but the minor compaction may have been done.
+    /// `BadSplit` if the row is already the end of its tablet, or there are 1,024 tablets; then the errors of `minor`,
+    /// and `Damaged` only if a file of the tablet is missing or malformed. The tablets' places are then unchanged, but
+    /// the minor compaction may have been done.
     pub fn split(&mut self, row: &Row) -> Result<u32, Refusal>
         ensures { IsOutcome
             F.contents F.faults (Command.Split row.now) (split_of result) self.old self.new }
@@ -159,7 +160,7 @@ impl<F: Files> Cluster<F> {
         self.cut(row, room)
     }
 
-    /// Whether a tablet is on a server already. Answers `UnknownTablet` if there is no such tablet, and else
+    /// Whether a tablet is already on a server. Answers `UnknownTablet` if there is no such tablet, otherwise
     /// `UnknownServer` if there is no such server.
     fn is_on(&self, tablet: u32, server: u8) -> Result<bool, Refusal>
         ensures known { OnOk result (HasTablet tablet self.now.places) }
@@ -180,17 +181,17 @@ impl<F: Files> Cluster<F> {
         Ok(server == from)
     }
 
-    /// The room to open the files of a tablet anew, and one file more. Answers `NoMemory` if there is no memory.
+    /// The room to reopen a tablet with its files and one more. Answers `NoMemory` if there is no memory.
     fn room_for_move(&self, tablet: u32) -> Result<OpenRoom, Refusal>
         requires known { HasTablet tablet self.now.places }
         ensures room { IfOk result (λ room. Numbered (HasOpenRoom room 1) tablet self.now.tablets) }
-        ensures refusal { IfErr result (λ refusal. refusal ≡ Refusal.NoMemory) }
+        ensures refusal { IsOkUnless result Refusal.NoMemory }
     {
         let index = self.position(tablet);
         room_to_open(self.alloc, &self.tablets[index])
     }
 
-    /// Opens the files of a tablet with an empty memtable anew, and records that it is on a server.
+    /// Reopens a tablet whose memtable is empty, and records its new server.
     fn put(&mut self, tablet: u32, server: u8, room: OpenRoom) -> Result<(), Refusal>
         requires known { HasTablet tablet self.old.places }
         requires below { server < most_servers }
@@ -216,14 +217,14 @@ impl<F: Files> Cluster<F> {
         Ok(())
     }
 
-    /// Puts a tablet on a server: after a minor compaction its files are opened there, with an empty memtable, and
-    /// the new place is recorded. If it is there already, nothing is done.
+    /// Moves a tablet to a server: after a minor compaction its files are opened there with an empty memtable, and the
+    /// new place is recorded. If the tablet is already there, nothing is done but emptying the cache of places.
     ///
     /// # Errors
     ///
-    /// `UnknownTablet` if no tablet has the number, then `UnknownServer` if the server's number is above
-    /// 15, and then those of `minor`. The places of the tablets are then as before, but the minor compaction may
-    /// have been done.
+    /// `UnknownTablet` if no tablet has the number; then `UnknownServer` if the server's number is above 15; then the
+    /// errors of `minor`, and `Damaged` only if a file of the tablet is missing or malformed. The tablets' places are
+    /// then unchanged, but the minor compaction may have been done.
     pub fn move_to(&mut self, tablet: u32, server: u8) -> Result<(), Refusal>
         ensures outcome { IsOutcome
             F.contents F.faults (Command.Move tablet server) (done_of result) self.old self.new }

@@ -1,9 +1,10 @@
 //! Removal of files that no tablet has.
 
-ghost use Rattle.std.specs.Prelude.{◌≡◌, ◌⊎◌, IfErr, IfOk, IfSome, OnErr, OnOk, length};
+ghost use Rattle.std.specs.Prelude.{◌≡◌, IfErr, IfOk, IfSome, OnErr, OnOk, length};
 ghost use Rattle.std.specs.FinMap.{keys};
 ghost use Rattle.cell_key.specs.Faults.{HasReason};
 ghost use Rattle.file_store.specs.Store.{MayLack, without_file};
+ghost use Rattle.sorted_file.specs.Source.{IsFaultRefusal};
 ghost use Rattle.row_atomic.specs.Sweeps.{MayLackUnkept, is_kept, unkept, without_files};
 ghost use Rattle.row_atomic.specs.Commands.{IsOutcome, swept_of};
 
@@ -16,7 +17,7 @@ use sorted_file::refusal_of;
 use std::alloc::Global;
 use tablet::unnamed_may_go;
 
-/// Whether a file stays: it is the root, 0, or some tablet has it.
+/// Whether a file must stay: it is the root, 0, or belongs to some tablet.
 fn is_kept(table: &MetadataTable, name: u64) -> bool
     ensures { result ≡ is_kept table.now name }
 {
@@ -27,14 +28,13 @@ fn is_kept(table: &MetadataTable, name: u64) -> bool
 fn remove<F: Files>(files: &mut F, name: u64) -> Result<(), Refusal>
     ensures ok { OnOk result (F.contents files.new ≡ without_file name (F.contents files.old)) }
     ensures err { OnErr result (MayLack name (F.contents files.old) (F.contents files.new)) }
-    ensures refusal { IfErr result (λ refusal. (refusal ≡ Refusal.Device)
-        ⊎ (refusal ≡ Refusal.NoMemory)) }
+    ensures refusal { IfErr result IsFaultRefusal }
     ensures reason { HasReason (F.faults files.old) (F.faults files.new) result }
 {
     files.remove(name).map_err(|fault| refusal_of(fault))
 }
 
-/// Removes those of the named files that needn't stay, and answers how many names these are.
+/// Removes the named files that need not stay, and answers how many they are.
 fn remove_unkept<F: Files>(
     table: &MetadataTable,
     names: Vec<u64>,
@@ -44,8 +44,7 @@ fn remove_unkept<F: Files>(
         ≡ without_files (unkept table.now names.items) (F.contents files.old)) }
     ensures count { IfOk result (λ count. count ≡ length (unkept table.now names.items)) }
     ensures lacks { MayLackUnkept table.now (F.contents files.old) (F.contents files.new) }
-    ensures refusal { IfErr result (λ refusal. (refusal ≡ Refusal.Device)
-        ⊎ (refusal ≡ Refusal.NoMemory)) }
+    ensures refusal { IfErr result IsFaultRefusal }
     ensures reason { HasReason (F.faults files.old) (F.faults files.new) result }
 {
     let mut count = 0;
@@ -63,8 +62,7 @@ fn names_of<F: Files>(alloc: Global, files: &mut F) -> Result<Vec<u64>, Refusal>
     ensures names { IfOk result (λ names.
         IfSome (F.contents files.old) (λ m. names.items ≡ keys m)) }
     ensures same { F.contents files.new ≡ F.contents files.old }
-    ensures refusal { IfErr result (λ refusal. (refusal ≡ Refusal.Device)
-        ⊎ (refusal ≡ Refusal.NoMemory)) }
+    ensures refusal { IfErr result IsFaultRefusal }
     ensures reason { HasReason (F.faults files.old) (F.faults files.new) result }
 {
     let mut names = Vec::new(alloc);
@@ -73,13 +71,13 @@ fn names_of<F: Files>(alloc: Global, files: &mut F) -> Result<Vec<u64>, Refusal>
 }
 
 impl<F: Files> Cluster<F> {
-    /// Removes the files that no tablet has, and answers how many these were. The root, 0, stays. No cell changes
+    /// Removes the files that no tablet has, and answers how many they were. The root, 0, stays. No cell changes
     /// (Bigtable: files that no tablet has are removed by mark and sweep).
     ///
     /// # Errors
     ///
-    /// `Device` if a device failed during the call, and `NoMemory` if a growth was refused. Some of the files
-    /// may then be gone.
+    /// `Device` if a device failed during the call, and `NoMemory` if an allocation failed. Some of the files may
+    /// already be removed.
     pub fn sweep(&mut self) -> Result<u64, Refusal>
         ensures { IsOutcome F.contents F.faults Command.Sweep (swept_of result) self.old self.new }
     {

@@ -1,5 +1,4 @@
-//! Upkeep of tablets: minor compactions of those whose memtables are full, and merging compactions of those that have
-//! many files.
+//! Upkeep of tablets: minor compactions of full memtables, and merging compactions of tablets with many files.
 
 ghost use Rattle.std.specs.Prelude.{◌≡◌, ◌≤◌, ◌<◌, Some, IsTrue, true, length};
 ghost use Rattle.std.specs.List.{slice_get};
@@ -14,7 +13,7 @@ use crate::fill::{Fill, FlushLimits};
 use file_store::Files;
 use tablet::Tablet;
 
-/// How many entries the longest memtable of these tablets has, and how many bytes the largest.
+/// The most entries, and the most bytes, of any memtable of these tablets.
 fn fullest(tablets: &[Tablet]) -> Fill
     ensures entries { result.entries ≡ longest tablets.now }
     ensures bytes { result.bytes ≡ largest tablets.now }
@@ -38,15 +37,15 @@ impl<F: Files> Cluster<F> {
         self.table.places()[index].tablet
     }
 
-    /// Whether some tablet's memtable may be full: if not, none is. Asks no tablet.
+    /// Whether some tablet's memtable may be full; `false` is exact. Asks no tablet.
     fn may_have_full(&self, limits: FlushLimits) -> bool
         ensures { IsTrue (is_any_full limits self.now.tablets) → IsTrue result }
     {
         self.most.reaches(limits)
     }
 
-    /// Whether some tablet's memtable is full, so that `compact_full` compacts it. No tablet is asked if none can be.
-    /// Takes no memory.
+    /// Whether some tablet's memtable is full, so that `compact_full` would compact it. No tablet is asked if none can
+    /// be full. Allocates nothing.
     pub fn has_full(&self, limits: FlushLimits) -> bool
         ensures { result ≡ is_any_full limits self.now.tablets }
     {
@@ -66,7 +65,7 @@ impl<F: Files> Cluster<F> {
         Fill::of(&self.tablets[index]).reaches(limits)
     }
 
-    /// Asks each tablet whether its memtable is full, and compacts it if so.
+    /// Compacts each tablet whose memtable is full.
     fn compact_each_full(&mut self, limits: FlushLimits)
         ensures compacts { CompactsFull F.contents F.faults limits self.old self.new }
         ensures keeps { KeepsShown F.contents F.faults self.old self.new }
@@ -79,9 +78,9 @@ impl<F: Files> Cluster<F> {
         }
     }
 
-    /// Compacts each tablet whose memtable is full, that is has as many entries or bytes as the limits say, as `minor`
-    /// does, in the order of their ends. A refusal isn't answered: the tablet is then as before, and the next one is
-    /// tried all the same. No tablet is asked if none can be full.
+    /// Compacts each tablet whose memtable is full, that is, has reached the entries or the bytes of `limits`, as
+    /// `minor` does, in the order of their ends. Refusals are ignored: the tablet is then unchanged, and the next one
+    /// is tried. No tablet is asked if none can be full.
     pub fn compact_full(&mut self, limits: FlushLimits)
         ensures compacts { CompactsFull F.contents F.faults limits self.old self.new }
         ensures keeps { KeepsShown F.contents F.faults self.old self.new }
@@ -92,7 +91,7 @@ impl<F: Files> Cluster<F> {
         }
     }
 
-    /// Whether a tablet has this many files or more, two at least, and no more than a merge can count.
+    /// Whether a tablet has at least `most` files, where `most` is 2 or more, and no more than a `u32` can count.
     fn has_files(&self, tablet: u32, most: u32) -> bool
         requires known { HasTablet tablet self.now.places }
         ensures { result ≡ has_files most (tablet_numbered tablet self.now.tablets) }
@@ -102,7 +101,7 @@ impl<F: Files> Cluster<F> {
         most >= 2 && most as usize <= count && count <= u32::MAX as usize
     }
 
-    /// How many of the newest files of a tablet are merged, which has this many files or more.
+    /// How many of the newest files to merge in a tablet that has at least `most`.
     fn merge_count(&self, tablet: u32, most: u32) -> u32
         requires known { HasTablet tablet self.now.places }
         requires many { has_files most (tablet_numbered tablet self.now.tablets) ≡ true }
@@ -112,11 +111,10 @@ impl<F: Files> Cluster<F> {
         self.tablets[index].merge_count(most as usize) as u32
     }
 
-    /// Merges newest files of each tablet that has `most` files or more, as `merge` does, so that it has fewer, in the
-    /// order of the tablets' ends. A merge takes each next older file that has no more entries than all newer ones
-    /// together, so that an entry is written again only about as often as the logarithm of their number. A refusal isn't
-    /// answered: the tablet is then as before, and the next one is tried all the same. With a `most` below 2 nothing is
-    /// merged.
+    /// Merges the newest files of each tablet that has at least `most` files, as `merge` does, so that fewer than
+    /// `most` are left, in the order of the tablets' ends. A merge goes on with each next older file that has no more
+    /// entries than all newer ones together, so that an entry is rewritten a logarithmic number of times. Refusals are
+    /// ignored: the tablet is then unchanged, and the next one is tried. With a `most` below 2 nothing is merged.
     pub fn merge_many(&mut self, most: u32)
         ensures merges { MergesMany F.contents F.faults most self.old self.new }
         ensures keeps { KeepsShown F.contents F.faults self.old self.new }

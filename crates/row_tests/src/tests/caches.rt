@@ -1,4 +1,4 @@
-//! The places that a cluster keeps, and the emptying of its caches.
+//! The cache of places of a cluster, and the emptying of its caches.
 
 ghost use Rattle.std.specs.Prelude.{IfOk};
 ghost use Rattle.cell_key.specs.Cells.{IsEditOf};
@@ -11,7 +11,7 @@ use row_atomic::{Cluster, Command, Outcome};
 use std::alloc::Global;
 use std::test::Fail;
 
-/// What a cluster is asked for. A write is that of a lock at the stamp 1, and a read looks for one in a range of stamps.
+/// A request to a cluster. A write puts a lock at the stamp 1, and a read looks for one in a range of stamps.
 #[derive(Clone, Copy)]
 enum Ask {
     Write(u8, &'static [u8]),
@@ -75,8 +75,8 @@ fn command_of(alloc: Global, ask: Ask) -> Result<Command, Refusal>
     }
 }
 
-/// Whether an outcome is this: a left part's number, how many files were swept, a value that was found, or a refusal's number
-/// after a byte FF.
+/// Whether an outcome is this: the left part's number, the number of files swept, the value found, or the refusal's
+/// number after a byte FF.
 fn is_outcome(outcome: Option<&Outcome>, wanted: &[u8]) -> bool {
     match outcome {
         Some(Outcome::Done) | Some(Outcome::Newest(None)) => wanted.is_empty(),
@@ -88,7 +88,7 @@ fn is_outcome(outcome: Option<&Outcome>, wanted: &[u8]) -> bool {
     }
 }
 
-/// Splits, moves and raw reads, and what each of them answers.
+/// Splits, moves and raw reads, with the answer of each.
 const ASKED: [(Ask, &[u8]); 13] = [
     (Ask::Split(b'm'), b"\x02"),
     (Ask::Split(b'm'), b"\xFF\x0C"),
@@ -105,7 +105,7 @@ const ASKED: [(Ask, &[u8]); 13] = [
     (Ask::Sweep, b"\0"),
 ];
 
-/// Whether a cluster answers as it is wanted.
+/// Whether a cluster gives the wanted answer.
 fn is_answered(
     alloc: Global,
     cluster: &mut Cluster<MemFiles>,
@@ -116,7 +116,7 @@ fn is_answered(
     Ok(is_outcome(cluster.run(commands)?.get(0), wanted))
 }
 
-/// Whether a cluster answers all as it is wanted, with its caches emptied before each request or never.
+/// Whether a cluster gives all wanted answers, with its caches emptied before each request, or never.
 fn answers(alloc: Global, drops: bool) -> Result<bool, Refusal> {
     let mut cluster = new_cluster(alloc)?;
     for (ask, wanted) in ASKED {
@@ -137,8 +137,8 @@ fn answers_need_no_cache(rt: HostRuntime) -> Result<(), Fail> {
     Ok(())
 }
 
-/// What is done to a cluster, the rows that are read then, one after the other, and how many rows were found among those that
-/// were located last since the cluster was made.
+/// A request to a cluster, the rows read after it, in order, and the hits of the cache of places since the cluster was
+/// made.
 const HITS: [(Option<Ask>, &[u8], u64); 12] = [
     (None, b"aaba", 2),
     (Some(Ask::Split(b'm')), b"a", 2),
@@ -147,18 +147,18 @@ const HITS: [(Option<Ask>, &[u8], u64); 12] = [
     // refused
     (Some(Ask::Split(b'm')), b"a", 4),
     (Some(Ask::Move(1, 16)), b"a", 5),
-    // to another server, and to the one where it is
+    // to another server, and to the server that it is already on
     (Some(Ask::Move(1, 3)), b"a", 5),
     (Some(Ask::Move(1, 3)), b"a", 5),
-    // a write asks once, and keeps the row
+    // a write looks the row up once, and caches it
     (Some(Ask::Write(b'z', b"1")), b"z", 6),
-    // compactions and sweeps keep what was found
+    // compactions and sweeps keep the cache
     (Some(Ask::Minor(1)), b"az", 8),
     (Some(Ask::Major(1)), b"az", 10),
     (Some(Ask::Sweep), b"az", 12),
 ];
 
-/// Asks a cluster, and reads rows of it: how many rows were found among those that were located last.
+/// Sends a request and reads rows; answers the hits of the cache of places.
 fn hits_after(
     alloc: Global,
     cluster: &mut Cluster<MemFiles>,
@@ -184,7 +184,7 @@ fn rows_are_found_again(rt: HostRuntime) -> Result<(), Fail> {
     Ok(())
 }
 
-/// Of 129 rows that are read in turn the first is forgotten, and the last is kept.
+/// Of 129 rows read in order the first is evicted, and the last is still cached.
 #[test]
 fn rows_are_kept_for_a_while(rt: HostRuntime) -> Result<(), Fail> {
     let mut cluster = new_cluster(rt.alloc())?;

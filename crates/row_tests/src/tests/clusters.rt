@@ -1,4 +1,4 @@
-//! A cluster of tablets: what it shows after a list of commands.
+//! A cluster of tablets: the cells that it shows after a list of commands.
 
 ghost use Rattle.std.specs.Prelude.{IfOk};
 ghost use Rattle.row_atomic.specs.Commands.{IsUnderRow};
@@ -11,7 +11,7 @@ use std::alloc::Global;
 use std::test::Fail;
 use testing::edits::edits_of;
 
-/// What is done to a cluster. A write has a row, a stamp of `bal` and a value, or is an erasure.
+/// A step of a cluster. A write has a row, a stamp of `bal` and a value, or it is an erasure.
 #[derive(Clone, Copy)]
 enum Step {
     Write(u8, Stamp, Option<&'static [u8]>),
@@ -23,7 +23,7 @@ enum Step {
 }
 
 /// Splits at the middle, the first and the last row of a tablet, writes on both sides of an end, a merge of a file that
-/// two tablets have, moves, and a major compaction.
+/// two tablets share, moves, and a major compaction.
 const STEPS: [Step; 25] = [
     Step::Write(b'a', 1, Some(b"1")),
     Step::Write(b'b', 1, Some(b"1")),
@@ -71,7 +71,7 @@ fn command_of(alloc: Global, step: Step) -> Result<Command, Refusal>
     }
 }
 
-/// Takes a step, and sweeps then: how many files were swept.
+/// Runs a step, and then a sweep; answers how many files were swept.
 fn take(alloc: Global, cluster: &mut Cluster<MemFiles>, step: Step) -> Result<u64, Refusal> {
     let commands = vec![in alloc; command_of(alloc, step)?]?;
     match cluster.run(commands)?.get(0) {
@@ -81,7 +81,7 @@ fn take(alloc: Global, cluster: &mut Cluster<MemFiles>, step: Step) -> Result<u6
     }
 }
 
-/// Rows, their newest values and the rows of the next cells. Each value is its stamp.
+/// Rows, their newest values and the rows of the next cells. Each value is its own stamp.
 const SHOWN: [(u8, u8, u8); 6] = [
     (b'a', b'1', b'b'),
     (b'b', b'2', b'c'),

@@ -1,4 +1,4 @@
-//! Rows and sessions: calls that take memory.
+//! Rows and sessions: calls that allocate.
 
 pub mod clusters;
 pub mod sessions;

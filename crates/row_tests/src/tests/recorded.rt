@@ -1,4 +1,4 @@
-//! Rows whose edits are written down.
+//! Rows with a journal.
 
 use crate::tests::memory::clusters::{new_cluster, newest};
 use cell_key::{Refusal, Row, Stamp};
@@ -13,7 +13,7 @@ const WRITTEN: [u8; 59] =
     *b"\0\0\0\x16a\0\0bal\0\0data\0\0\xff\xff\xff\xff\xff\xff\xff\xfe\x01\0\0\0\x011\
        \0\0\0\x16a\0\0bal\0\0data\0\0\xff\xff\xff\xff\xff\xff\xff\xf6\0";
 
-/// Puts one byte at a stamp of `a`, and erases what is at the stamp 9.
+/// Puts one byte at a stamp of `a`, and erases the stamp 9.
 fn write(
     alloc: Global,
     rows: &mut Recorded<MemFiles>,
@@ -51,7 +51,7 @@ fn edits_wait_until_they_are_settled(rt: HostRuntime) -> Result<(), Fail> {
     Ok(())
 }
 
-/// The memtable has two entries only, but a replay might need as many as there are edits.
+/// The memtable has only two entries, but a replay might need one for each edit.
 #[test]
 fn full_at_its_most_edits(rt: HostRuntime) -> Result<(), Fail> {
     let mut rows = Recorded::new(new_cluster(rt.alloc())?);

@@ -1,5 +1,5 @@
-//! The script with two checkpoints and one failing call of the folder's files: what opens then is the last checkpoint that
-//! was answered, or the one that was refused.
+//! A script with two checkpoints and one failing call of the folder's files: the folder then opens at the last answered
+//! checkpoint, or at the refused one.
 
 use crate::tests::FLUSH;
 use crate::tests::checkpoints::{HALF, new_folder, opened};
@@ -19,7 +19,7 @@ use testing::streams::Holding;
 
 type FailingServer = Server<FailAt<DirFiles<HostRuntime>>, DirMark<HostRuntime>>;
 
-/// What is done between the first checkpoint, which is that of a half transfer, and the second.
+/// The requests after the first checkpoint, made in the middle of a transfer, up to the second.
 const SECOND: Row = (
     0,
     &[
@@ -32,10 +32,10 @@ const SECOND: Row = (
     ],
 );
 
-/// Whether there is a second tablet: a Merge of one of its files is refused 14 if there is, and 11 if there is none.
+/// Whether there is a second tablet: a Merge of one of its files is refused 14 if there is one, and 11 if not.
 const SECOND_TABLET: &[u8] = b"\x0B\0\0\0\x02\0\0\0\x01";
 
-/// What both cells hold in their three columns, and whether there is a second tablet: after no checkpoint, the first, and the
+/// The three columns of both cells, and whether there is a second tablet: after no checkpoint, the first and the
 /// second.
 const KEPT: [[&[u8]; 7]; 3] = [
     [
@@ -47,7 +47,7 @@ const KEPT: [[&[u8]; 7]; 3] = [
         b"\x91\0",
         b"\xFF\x0B",
     ],
-    // the lock of the second cell stands
+    // the second cell is still locked
     [
         b"\x91\x01\0\0\0\0\0\0\0\x03\0\0\0\x013",
         b"\x91\0",
@@ -57,7 +57,7 @@ const KEPT: [[&[u8]; 7]; 3] = [
         b"\x91\x01\0\0\0\0\0\0\0\x02\0\0\0\x09\0\0\0\0\0\0\0\x01S",
         b"\xFF\x0B",
     ],
-    // it was rolled forward, and there is a second tablet
+    // the second cell was rolled forward, and there is a second tablet
     [
         b"\x91\x01\0\0\0\0\0\0\0\x03\0\0\0\x013",
         b"\x91\0",
@@ -69,7 +69,7 @@ const KEPT: [[&[u8]; 7]; 3] = [
     ],
 ];
 
-/// A server of a folder, of whose files one call fails.
+/// A server of a folder, with one failing call of its files.
 fn failing_server(
     rt: &HostRuntime,
     path: &str,
@@ -94,8 +94,8 @@ fn failing_server(
     }
 }
 
-/// Opens a folder, of whose files one call fails, and serves frames up to the first that is refused Device. It answers how
-/// many bytes of frames are left, from that one on.
+/// Opens a folder with one failing call of its files, and serves frames up to the first that is refused Device. Returns
+/// the number of bytes of the frames from that one on.
 fn left_of(
     rt: &HostRuntime,
     path: &str,
@@ -113,7 +113,7 @@ fn left_of(
     Ok(left)
 }
 
-/// How many checkpoints are answered in a new folder before a call fails so.
+/// How many checkpoints are answered in a new folder if this call fails in this way.
 fn answered(rt: &HostRuntime, path: &str, at: u64, how: How) -> Result<usize, Refusal> {
     let (mut requests, _) = streams_of(rt.alloc(), &HALF)?;
     let (second, _) = streams_of(rt.alloc(), &SECOND)?;
@@ -126,7 +126,7 @@ fn answered(rt: &HostRuntime, path: &str, at: u64, how: How) -> Result<usize, Re
     }
 }
 
-/// What is read of a folder without a fault.
+/// The replies to the reads of a folder, without a fault.
 fn read_of(rt: &HostRuntime, path: &str) -> Result<Vec<u8>, Refusal> {
     let mut requests = Vec::new(rt.alloc());
     for (request, _) in COLUMNS {
@@ -139,7 +139,7 @@ fn read_of(rt: &HostRuntime, path: &str) -> Result<Vec<u8>, Refusal> {
     Ok(writer.out)
 }
 
-/// After how many checkpoints a folder holds what is read of it. `None` if it is refused as damaged.
+/// The number of checkpoints whose state a folder has. `None` if the folder is refused as damaged.
 fn kept(rt: &HostRuntime, path: &str) -> Result<Option<usize>, Refusal> {
     let read = match read_of(rt, path) {
         Ok(read) => read,
@@ -154,7 +154,7 @@ fn kept(rt: &HostRuntime, path: &str) -> Result<Option<usize>, Refusal> {
     Ok(Some(KEPT.len()))
 }
 
-/// How many checkpoints are answered in a new folder if a call fails so, and which of them opens then.
+/// How many checkpoints are answered in a new folder if this call fails in this way, and which of them then opens.
 fn came(rt: &HostRuntime, path: &str, at: u64, how: How) -> Result<(usize, Option<usize>), Fail> {
     fs::remove_dir_all(rt, path)?;
     fs::create_dir(rt, path)?;
@@ -162,11 +162,11 @@ fn came(rt: &HostRuntime, path: &str, at: u64, how: How) -> Result<(usize, Optio
     Ok((answered, kept(rt, path)?))
 }
 
-/// The calls of the files that put a root. The second is the last call of all.
+/// The numbers of the file calls that put a root. The second is the last call.
 const ROOTS: [u64; 2] = [4, 35];
 
-/// Which checkpoint is to open if a call fails so: the last answered one. If all of a root was put, it is the refused one, and
-/// half a root is damage.
+/// The checkpoint that must open if this call fails in this way: the last answered one, or the refused one if its whole
+/// root was put. Half a root is damage, `None`.
 fn opens_after(at: u64, how: How, answered: usize) -> Option<usize> {
     match how {
         How::Half if ROOTS.contains(&at) => None,
@@ -175,7 +175,8 @@ fn opens_after(at: u64, how: How, answered: usize) -> Option<usize> {
     }
 }
 
-/// The first call after whose failure another checkpoint opens, if there is one; and what comes if no call fails.
+/// The first call after whose failure a wrong checkpoint opens, if there is one. `Some(0)` if only the run without a
+/// failing call goes wrong.
 fn fails_at(rt: &HostRuntime, name: &str, how: How) -> Result<Option<u64>, Fail> {
     let folder = new_folder(rt, name)?;
     for at in 1..=ROOTS[1] {
@@ -189,7 +190,7 @@ fn fails_at(rt: &HostRuntime, name: &str, how: How) -> Result<Option<u64>, Fail>
     Ok((answered != 2 || opens != Some(2)).then_some(0))
 }
 
-/// Each way in a test of its own: a folder's files are forced to the disk, which takes time.
+/// One test for each way of failing: a folder's files are synced to disk, which takes time.
 #[test]
 fn a_call_of_a_checkpoint_does_nothing(rt: HostRuntime) -> Result<(), Fail> {
     let at = fails_at(&rt, "nothing", How::Before)?;
@@ -211,10 +212,10 @@ fn a_call_of_a_checkpoint_is_done(rt: HostRuntime) -> Result<(), Fail> {
     Ok(())
 }
 
-/// How many calls an open makes of a folder with a root and two files.
+/// The number of file calls of an open of a folder with a root and two files.
 const OPEN_CALLS: u64 = 20;
 
-/// An open of which a call fails is refused, and the next one opens what was there.
+/// An open with a failing call is refused, and the next one opens the same state.
 #[test]
 fn a_call_of_an_open_fails(rt: HostRuntime) -> Result<(), Fail> {
     let folder = new_folder(&rt, "open-faults")?;

@@ -1,4 +1,4 @@
-//! Checkpoints, and what is opened of the folder that they are in.
+//! Checkpoints, and opens of their folders.
 
 use crate::tests::FLUSH;
 use cell_key::Refusal;
@@ -17,19 +17,19 @@ use testing::{FILE_LIMIT, NEW_ROOT};
 
 type DirServer = Server<DirFiles<HostRuntime>, DirMark<HostRuntime>>;
 
-/// A new store is written.
+/// A checkpoint of a new store.
 const NEW: Row = (0, &[&WRITTEN]);
 
-/// The transfer is written when it has committed its first cell.
+/// A checkpoint after the transfer has committed its first cell.
 pub const HALF: Row = (COMMITTED, &[&WRITTEN]);
 
-/// The whole transfer is written.
+/// A checkpoint after the whole transfer.
 const WHOLE: Row = (TRANSFER.len(), &[&WRITTEN]);
 
-/// A new store begins with 1.
+/// The first start of a new store is 1.
 const BEGUN: Row = (0, &[&[(b"\x01", b"\x81\0\0\0\0\0\0\0\x01")]]);
 
-/// A transfer stopped after its commit. Its session is gone, and its last lock stands.
+/// A transfer stopped after its commit. Its session is gone, and its last lock remains.
 const STOPPED: [Exchange; 4] = [
     // Step 3: refused 1
     (b"\x04\0\0\0\0\0\0\0\x03", b"\xFF\x01"),
@@ -80,11 +80,11 @@ const WHOLE_READ: [Exchange; 4] = [
 /// The whole transfer is read.
 const WHOLE_REOPENED: Row = (0, &[&WHOLE_READ]);
 
-/// The root, the file and the mark of such a store in format 1, as they were written before there was a second.
+/// The root of such a store in format 1, as it was written before format 2 existed.
 const OLD_ROOT: &[u8] = b"TABROOT1\0\0\0\0\0\0\0\x04\0\0\0\0\0\0\0\0\0\0\0\0\0\0\0\x02\
     \0\0\0\x02\0\0\0\x01\0\0\0\x01\x01\0\0\0\0\x01\0\0\0\0\0\0\0\x01TABROOTZ";
 
-/// Its file: what the transfer left, and the store before it.
+/// Its file, with the transfer's entries.
 const OLD_FILE: &[u8] = b"TABLET01\
     \0\0\0\x18Bob\0\0bal\0\0data\0\0\xFF\xFF\xFF\xFF\xFF\xFF\xFF\xFC\x01\0\0\0\x013\
     \0\0\0\x18Bob\0\0bal\0\0data\0\0\xFF\xFF\xFF\xFF\xFF\xFF\xFF\xFE\x01\0\0\0\x0210\
@@ -103,7 +103,7 @@ const OLD_FILE: &[u8] = b"TABLET01\
 /// The mark of its oracle.
 const OLD_MARK: &[u8] = b"\0\0\0\0\0\0\x03\xE8";
 
-/// All is compacted and written, and what no root names is removed.
+/// A major compaction, a checkpoint, and a sweep of the file that no root names any more.
 const MIGRATED: [Exchange; 3] = [
     // Major 1
     (b"\x0C\0\0\0\x01", b"\x8C"),
@@ -136,7 +136,7 @@ const READ: [Exchange; 3] = [
     ),
 ];
 
-/// Records that were written before have the form without a kind, and the one that the cleaner put has a kind.
+/// Old commit records have no kind. The one that the cleaner put has one.
 const OLD_RECORDS: [Exchange; 3] = [
     // Raw Bob bal write 0..9: stamp 4, 00 00 00 00 00 00 00 03
     (
@@ -155,7 +155,7 @@ const OLD_RECORDS: [Exchange; 3] = [
     ),
 ];
 
-/// The older ones are collected, and the data that the last ones name stays. One of the cells is deleted.
+/// The older records are collected, and the data that the newest ones name is kept. One of the cells is deleted.
 const OLD_COLLECTED: [Exchange; 15] = [
     // CollectBegin: 1, floor 2001
     (b"\x08", b"\x88\0\0\0\0\0\0\0\x01\0\0\0\0\0\0\x07\xD1"),
@@ -220,7 +220,7 @@ pub fn new_folder(rt: &HostRuntime, name: &str) -> io::Result<String> {
     testing::folders::new_folder(rt, process::id(rt.process()), name)
 }
 
-/// A server of a folder. It takes the folder's files and mark as a program that is started does.
+/// A server of a folder. It opens the folder's files and mark as the program does when it is started.
 pub fn opened(rt: &HostRuntime, path: &str) -> Result<DirServer, Refusal> {
     let files = match DirFiles::open(*rt, path) {
         Ok(files) => files,
@@ -240,7 +240,7 @@ pub fn opened(rt: &HostRuntime, path: &str) -> Result<DirServer, Refusal> {
     }
 }
 
-/// Whether a server that is opened of a folder ends cleanly, and writes the row's replies.
+/// Whether a server opened from a folder ends cleanly and writes the row's replies.
 fn is_met(rt: &HostRuntime, path: &str, row: &Row) -> Result<bool, Refusal> {
     let (requests, replies) = streams_of(rt.alloc(), row)?;
     let mut reader = Pieces::new(rt.alloc(), &requests)?;
@@ -260,7 +260,7 @@ fn a_new_store_is_opened(rt: HostRuntime) -> Result<(), Fail> {
     Ok(())
 }
 
-/// A folder with the transfer up to its commit, and a checkpoint behind it.
+/// A folder with the transfer up to its commit, and a checkpoint after it.
 fn committed_folder(rt: &HostRuntime, name: &str) -> Result<String, Fail> {
     let folder = new_folder(rt, name)?;
     if !is_met(rt, folder.as_str(), &HALF)? {
@@ -274,7 +274,7 @@ fn path_of(rt: &HostRuntime, path: &str, file: &str) -> Result<String, Fail> {
     Ok(format!(in rt.alloc(); "{path}/{file}")?)
 }
 
-/// What a program that was killed may have left beside a root and a file.
+/// Temporary files that a killed program may have left beside a root and a file.
 const UNPLACED: [&str; 2] = ["t0000000000000000.new", "t0000000000000001.new"];
 
 /// Writes these files into a folder.
@@ -295,7 +295,7 @@ fn is_placed(rt: &HostRuntime, path: &str) -> Result<bool, Fail> {
     Ok(true)
 }
 
-/// What a killed program left beside a good root and a good file is removed when the folder is opened, and does no harm.
+/// Temporary files that a killed program left beside a good root and a good file do no harm. An open removes them.
 #[test]
 fn a_stopped_transfer_is_opened(rt: HostRuntime) -> Result<(), Fail> {
     let folder = committed_folder(&rt, "stopped")?;
@@ -337,7 +337,7 @@ fn status_of_loop(rt: &HostRuntime, path: &str, file: &str) -> Result<u8, Fail> 
     Ok(status)
 }
 
-/// A file that is there and can't be read is a failing device. It is never taken for a missing file.
+/// A file that exists and can't be read is a device fault, never a missing file.
 #[test]
 fn unreadable_files_are_not_missing(rt: HostRuntime) -> Result<(), Fail> {
     let folder = committed_folder(&rt, "loops")?;
@@ -375,7 +375,7 @@ fn bytes_of(rt: &HostRuntime, path: &str, file: &str) -> Result<Vec<u8>, Fail> {
     Ok(fs::read(rt, place.as_str())?)
 }
 
-/// Raises the last byte of the length that a folder's root has for its last file.
+/// Adds 1 to the last byte of the last file's length in a folder's root.
 fn raise_length(rt: &HostRuntime, path: &str) -> Result<(), Fail> {
     let root = path_of(rt, path, "t0000000000000000.tab")?;
     let mut bytes = fs::read(rt, root.as_str())?;
@@ -387,7 +387,7 @@ fn raise_length(rt: &HostRuntime, path: &str) -> Result<(), Fail> {
     Ok(())
 }
 
-/// Whether a folder has the root and the file of the migrated store, and no file that was there before.
+/// Whether a folder has the root and the file of the migrated store, and not the old file.
 fn is_migrated(rt: &HostRuntime, path: &str) -> Result<bool, Fail> {
     let root = bytes_of(rt, path, "t0000000000000000.tab")?;
     let file = bytes_of(rt, path, "t0000000000000002.tab")?;
@@ -397,8 +397,8 @@ fn is_migrated(rt: &HostRuntime, path: &str) -> Result<bool, Fail> {
     Ok(root.as_slice() == MIGRATED_ROOT && is_file && is_gone)
 }
 
-/// A folder of format 1 is opened, and is of format 2 after a major compaction, a checkpoint and a sweep. A root that
-/// names another length than its file has is damage.
+/// A folder of format 1 is opened, and has format 2 after a major compaction, a checkpoint and a sweep. A root with a
+/// wrong length of its file is damage.
 #[test]
 fn a_folder_is_migrated(rt: HostRuntime) -> Result<(), Fail> {
     let folder = old_folder(&rt, "old")?;

@@ -1,6 +1,6 @@
-//! The script of requests with one failing call of the files or of the mark store. If a request makes the call, this
-//! request, or the new server, is refused Device, and asked again it gets the reply that it gets without a fault. If a
-//! compaction makes it that comes by itself, nothing is refused. All other replies are as without a fault.
+//! The script of requests with one failing call of the files or of the mark store. If a request or the new server makes
+//! the call, it is refused Device; repeated, it gets the same reply as without a fault. If an automatic compaction
+//! makes the call, nothing is refused. All other replies are the same as without a fault.
 
 ghost use Rattle.std.specs.Prelude.{None};
 
@@ -11,15 +11,15 @@ use oracle::{FailMarkAt, MemMark};
 use std::alloc::Global;
 use std::test::Fail;
 
-/// How many calls the script makes of its mark store: it loads the mark and stores the end of a range, and both again
+/// The number of the script's calls of the mark store: it loads the mark and stores the end of a range, and both again
 /// after the oracle restarts.
 const MARK_CALLS: u64 = 4;
 
-/// Whether the server compacts by itself, and how many calls of the files there are then in the script: those that its
-/// requests make, and those between two requests.
+/// Whether the server compacts by itself, and the numbers of the script's file calls: by requests, and between two
+/// requests.
 const FILE_CALLS: [(bool, u64, u64); 2] = [(false, 30, 0), (true, 46, 37)];
 
-/// More calls than there are.
+/// An upper bound of the number of calls.
 const MOST_CALLS: u64 = 1000;
 
 /// Files that are watched.
@@ -79,8 +79,8 @@ fn room(alloc: Global, by_itself: bool) -> Result<Room, Refusal> {
     Room::new(alloc)
 }
 
-/// What comes of the script if the call of the files with this number fails so, counted from 1; and whether a call failed
-/// that a request made, and one between two requests.
+/// The outcome of the script if the file call with this number, counted from 1, fails in this way; and whether a
+/// request's call failed, and whether one between two requests did.
 fn came_of_files(
     alloc: Global,
     by_itself: bool,
@@ -100,8 +100,8 @@ fn came_of_files(
     Ok((came, watch.failed()))
 }
 
-/// How many calls are made by requests, each of which reports the fault, and how many between two requests, whose faults
-/// nothing reports. `None` if something else comes of a fault.
+/// The number of calls by requests, each of which reports its fault, and of calls between two requests, whose faults
+/// nothing reports. `None` if a fault has another outcome.
 fn calls_of_files(
     alloc: Global,
     by_itself: bool,
@@ -135,7 +135,7 @@ fn a_call_of_the_files_fails(rt: HostRuntime) -> Result<(), Fail> {
     Ok(())
 }
 
-/// What comes of the script if the call of the mark store with this number fails so.
+/// The outcome of the script if the mark store's call with this number fails in this way.
 fn came_of_mark(
     alloc: Global,
     by_itself: bool,

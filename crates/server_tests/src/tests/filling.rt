@@ -1,4 +1,4 @@
-//! Memtables that fill by the bytes of their entries.
+//! Memtables that are compacted by the bytes of their entries.
 
 use crate::tests::flushing_server;
 use cell_key::Refusal;
@@ -15,8 +15,8 @@ const STEP: &[u8] = b"\x04\0\0\0\0\0\0\0\x01";
 /// Merge 1 2: done, if the tablet has two files.
 const MERGE: &[u8] = b"\x0B\0\0\0\x01\0\0\0\x02";
 
-/// At how many bytes memtables are compacted, how many cells with values of 65,536 bytes are held, and the last of the
-/// replies, that to a merge of two files. Sixteen such values have 1,048,576 bytes, so that there are two files after the
+/// The size in bytes at which memtables are compacted, the number of cells held with values of 65,536 bytes, and the
+/// last reply, to a merge of two files. Sixteen such values have 1,048,576 bytes, so there are two files after the
 /// 32nd.
 const FILLED: [(Option<u32>, u8, &[u8]); 4] = [
     (Some(1_048_576), 31, b"\0\0\0\x02\xFF\x0E"),

@@ -1,4 +1,4 @@
-//! Servers: calls that take memory.
+//! Servers: calls that allocate.
 
 pub mod servers;
 

@@ -24,9 +24,10 @@ const SWEPT: [Exchange; 2] = [
     (b"\x0F", b"\x8F\0\0\0\0\0\0\0\x02"),
 ];
 
-/// The same of a server that compacts by itself. Of 20 files each tablet has one. The transfer and its cleaner put two
-/// entries into a memtable eight times: eight files, and seven that merge the new one with the one before. The collector
-/// puts two into each memtable: two files, and two merged ones. The Major writes the last.
+/// The same for a server that compacts by itself. Of 20 files each of the two tablets keeps one. The transfer and its
+/// cleaner put two entries into a memtable eight times: eight files, and seven merges of a new file with the one
+/// before. The collector puts two entries into each memtable: two files, and two merged ones. The Major writes the
+/// last.
 const MORE_SWEPT: [Exchange; 2] = [
     // Begin: 1001
     (b"\x01", b"\x81\0\0\0\0\0\0\x03\xE9"),
@@ -34,7 +35,7 @@ const MORE_SWEPT: [Exchange; 2] = [
     (b"\x0F", b"\x8F\0\0\0\0\0\0\0\x12"),
 ];
 
-/// The script, after the transfer's beginning.
+/// The script, after the first exchanges of the transfer.
 const SCRIPT: [&[Exchange]; 7] = [
     &FLUSHED,
     &SESSION_STOPPED,
@@ -45,8 +46,8 @@ const SCRIPT: [&[Exchange]; 7] = [
     &SWEPT,
 ];
 
-/// The same for a server that compacts by itself. It has no Merge: which files there are would depend on the compactions
-/// that were refused.
+/// The same for a server that compacts by itself. It has no Merge: the number of files would depend on which
+/// compactions were refused.
 const SHORTER_SCRIPT: [&[Exchange]; 6] = [
     &FLUSHED,
     &SESSION_STOPPED,
@@ -56,14 +57,14 @@ const SHORTER_SCRIPT: [&[Exchange]; 6] = [
     &MORE_SWEPT,
 ];
 
-/// When the server compacts by itself: at how many entries of a memtable, and at how many files.
+/// When the server compacts by itself: the numbers of entries of a memtable, and of files of a tablet.
 #[derive(Clone, Copy)]
 struct Upkeep {
     flush: u32,
     merge: Option<u32>,
 }
 
-/// How many bytes the frame of a refusal has.
+/// The length of a refusal's frame in bytes.
 const REFUSAL_LENGTH: usize = 6;
 
 /// The frame of a refusal.
@@ -71,22 +72,22 @@ fn frame_of(refusal: Refusal) -> [u8; REFUSAL_LENGTH] {
     [0, 0, 0, 2, 0xFF, refusal.number()]
 }
 
-/// How many bytes at the end of a Sweep's reply say how many files were removed. A refused request may have left more
-/// of them.
+/// The length of the number of removed files, at the end of a Sweep's reply. A refused request may have left more
+/// files.
 const COUNT_LENGTH: usize = 8;
 
-/// What came of the script.
+/// The outcome of the script.
 #[derive(Clone, Copy, Debug)]
 pub enum Came {
-    /// Each request was answered as it must be, at once.
+    /// Each request got the right reply at once.
     Answered,
-    /// So it was, and one of them, a serve or the new server, was refused first, in the one way that may come.
+    /// The same, but one request, a serve or the new server was first refused, with the one refusal that may come.
     AnsweredLater,
-    /// Something else was answered.
+    /// A reply was wrong.
     WrongAnswer,
 }
 
-/// Which of the server's calls of its files fail: those that a request makes, or those between two requests.
+/// A record of which of the server's file calls failed: those of a request, or those between two requests.
 #[derive(Drop)]
 pub struct Watch {
     is_answering: Cell<bool>,
@@ -103,7 +104,7 @@ impl Watch {
         }
     }
 
-    /// Takes note of a call, which failed or not.
+    /// Records whether a call failed.
     pub fn note(&self, has_failed: bool) {
         if has_failed && self.is_answering.get() {
             self.in_request.set(true);
@@ -113,20 +114,20 @@ impl Watch {
         }
     }
 
-    /// Whether a call of a request failed, and whether one between two did.
+    /// Whether a call of a request failed, and whether one between two requests did.
     pub fn failed(&self) -> (bool, bool) {
         (self.in_request.get(), self.between.get())
     }
 }
 
-/// The refusal that may come once, and who watches the files.
+/// The refusal that may come once, and the watch on the files.
 #[derive(Clone, Copy)]
 pub struct Run<'a> {
     pub refusal: Refusal,
     pub watch: &'a Watch,
 }
 
-/// A reader of frames of fewer than 256 bytes, of which a read gives one. It ends if the last one was refused.
+/// A reader of frames of fewer than 256 bytes that gives one frame a read. It ends after a frame that was refused.
 #[derive(Drop)]
 struct Frames<'a> {
     last: &'a [u8],
@@ -154,7 +155,7 @@ impl Read for Frames<'_> {
     }
 }
 
-/// A writer that has room for all replies, and sees whether one is the refusal that may come.
+/// A writer with capacity for all replies, which notes whether the last one is the refusal that may come.
 #[derive(Drop)]
 struct Replies<'a> {
     written: Vec<u8>,
@@ -177,8 +178,8 @@ impl Write for Replies<'_> {
     }
 }
 
-/// Serves frames, and writes the replies behind what is there. It answers how many bytes of frames are left if one was refused so,
-/// from that one on: its reply is then not kept.
+/// Serves frames, and appends the replies to `written`. The number returned is 0 if no frame was refused in the way
+/// that may come; otherwise the number of bytes of the frames from the refused one on, whose reply is dropped.
 pub fn served<F: Files + Drop, M: MarkStore + Drop>(
     server: &mut Server<F, M>,
     run: Run<'_>,
@@ -211,7 +212,7 @@ pub fn served<F: Files + Drop, M: MarkStore + Drop>(
     (written, left)
 }
 
-/// The frames of requests, those of their replies, and how many bytes at the end of these may be others if something
+/// The frames of requests and of their replies, and how many bytes at the end of the replies may differ if something
 /// was refused.
 #[derive(Drop)]
 struct Streams {
@@ -245,7 +246,8 @@ impl Streams {
     }
 }
 
-/// The script, what is read of both cells after it, and room for what is written. All of it is made before the script is run.
+/// The script, the reads of both cells after it, and capacity for the replies. All of it is allocated before the script
+/// is run.
 #[derive(Drop)]
 pub struct Room {
     upkeep: Upkeep,
@@ -290,7 +292,7 @@ impl Room {
     }
 }
 
-/// A new server that compacts by itself so.
+/// A new server that compacts by itself at these limits.
 fn made<F: Files + Drop, M: MarkStore + Drop>(
     alloc: Global,
     files: F,
@@ -317,7 +319,7 @@ fn made<F: Files + Drop, M: MarkStore + Drop>(
     Ok(server)
 }
 
-/// A server with the refusal that may come once, and what came of the script.
+/// A server, the refusal that may come once, and the outcome of the script.
 #[derive(Drop)]
 struct Play<'a, F, M: MarkStore> {
     server: Server<F, M>,
@@ -326,7 +328,8 @@ struct Play<'a, F, M: MarkStore> {
 }
 
 impl<'a, F: Files + Drop, M: MarkStore + Drop> Play<'a, F, M> {
-    /// A new server, which is made once more of what it gave back if it was refused so.
+    /// A new server. If it is refused in the way that may come, it is made once more from the devices that it gave
+    /// back.
     fn new(
         alloc: Global,
         files: F,
@@ -351,8 +354,8 @@ impl<'a, F: Files + Drop, M: MarkStore + Drop> Play<'a, F, M> {
         }
     }
 
-    /// Serves a stream, and what is left of it once more if a request was refused so and nothing was before. It gives back
-    /// the room for the replies.
+    /// Serves a stream. After the first refusal of the kind that may come it serves the rest once more. Returns the
+    /// emptied buffer of the replies.
     fn ask(&mut self, streams: &Streams, room: Vec<u8>) -> Vec<u8> {
         let frames = streams.requests.as_slice();
         let (mut written, mut left) = served(&mut self.server, self.run, frames, room);
@@ -370,7 +373,7 @@ impl<'a, F: Files + Drop, M: MarkStore + Drop> Play<'a, F, M> {
     }
 }
 
-/// What comes of the script in memory, of which an allocation may be refused.
+/// The outcome of the script in memory, with an allocation that may be refused.
 pub fn played(alloc: Global, room: Room) -> Result<Came, Refusal> {
     let watch = Watch::new();
     let run = Run {
@@ -380,7 +383,7 @@ pub fn played(alloc: Global, room: Room) -> Result<Came, Refusal> {
     played_over(alloc, MemFiles::new(alloc), MemMark::new(), run, room)
 }
 
-/// What comes of the script, over these files and this mark store, if this refusal may come once.
+/// The outcome of the script over these files and this mark store, if this refusal may come once.
 pub fn played_over<F: Files + Drop, M: MarkStore + Drop>(
     alloc: Global,
     files: F,

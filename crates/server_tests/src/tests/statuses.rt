@@ -39,7 +39,7 @@ fn statuses(rt: HostRuntime) -> Result<(), Fail> {
     Ok(())
 }
 
-/// What a command line says that has no words.
+/// The options of a command line without words.
 const NO_WORDS: Options<'static> = Options {
     dir: None,
     log: false,
@@ -50,10 +50,10 @@ const NO_WORDS: Options<'static> = Options {
     cache: 8,
 };
 
-/// Words of the command line, and what they say, if they are taken.
+/// The words of a command line, and their options if they are accepted.
 type Line = (&'static [&'static str], Option<Options<'static>>);
 
-const LINES: [Line; 31] = [
+const LINES: [Line; 32] = [
     (&["tabletd"], Some(NO_WORDS)),
     (
         &["tabletd", "--flush", "1"],
@@ -164,6 +164,7 @@ const LINES: [Line; 31] = [
     (&["tabletd", "--log", "--log", "--dir", "a"], None),
     (&["tabletd", "more"], None),
     (&["tabletd", "--help"], None),
+    (&["tabletd", "--version"], None),
 ];
 
 #[test]
@@ -178,7 +179,7 @@ fn command_lines(rt: HostRuntime) -> Result<(), Fail> {
     Ok(())
 }
 
-/// Whether a refusal or a fault is written so.
+/// Whether a refusal or a fault has this text.
 fn is_text<T: Display>(alloc: Global, told: &T, text: &str) -> Result<bool, Fail> {
     Ok(told.to_string(alloc)?.as_str() == text)
 }

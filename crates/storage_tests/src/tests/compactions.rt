@@ -1,4 +1,4 @@
-//! Merges of memtables and sorted files, by the bytes that are written.
+//! Merges of memtables and sorted files, checked by the bytes written.
 
 use crate::tests::memory::files::merge;
 use cell_key::{Refusal, Row, Stamp};
@@ -9,7 +9,7 @@ use std::alloc::Global;
 use std::test::Fail;
 use testing::edits::edits_of;
 
-/// The file of 3 at the stamp 3, an erasure at 2, and 7 at 1.
+/// The file with 3 at the stamp 3, an erasure at 2, and 7 at 1.
 const ERASURE_KEPT: &[u8] = b"TABLET02\
     \0\0\0\x16a\0\0bal\0\0data\0\0\xFF\xFF\xFF\xFF\xFF\xFF\xFF\xFC\x01\0\0\0\x013\
     \0\0\0\x16a\0\0bal\0\0data\0\0\xFF\xFF\xFF\xFF\xFF\xFF\xFF\xFD\0\
@@ -24,12 +24,12 @@ const ERASURE_DROPPED: &[u8] = b"TABLET02\
     \0\0\0\0\0\0\0\x08\0\0\0\0\0\0\0\x40\0\0\0\x16a\0\0bal\0\0data\0\0\xFF\xFF\xFF\xFF\xFF\xFF\xFF\xFC\
     \0\0\0\0\0\0\0\x48\0\0\0\0\0\0\0\x01\0\0\0\0\0\0\0\x02\0\0\0\0\0\0\0\x9ATABLETZZ";
 
-/// What an older file holds at stamps of (`a`, `bal`, data), and what a newer memtable does.
+/// The entries of an older file at stamps of (`a`, `bal`, data), and of a newer memtable.
 const OLDER: [(Stamp, Option<&[u8]>); 3] = [(3, Some(b"3")), (2, Some(b"2")), (1, Some(b"1"))];
 
 const NEWER: [(Stamp, Option<&[u8]>); 2] = [(2, None), (1, Some(b"7"))];
 
-/// A memtable of these.
+/// A memtable with these entries.
 fn table_of(alloc: Global, writes: &[(Stamp, Option<&[u8]>)]) -> Result<Memtable, Refusal> {
     let row = Row::new(alloc, b"a")?;
     let mut table = Memtable::new(alloc);
@@ -40,7 +40,7 @@ fn table_of(alloc: Global, writes: &[(Stamp, Option<&[u8]>)]) -> Result<Memtable
     Ok(table)
 }
 
-/// Whether a memtable and an older file are merged to these bytes.
+/// Whether merging a memtable and an older file gives these bytes.
 fn is_merged(
     alloc: Global,
     newer: &Memtable,

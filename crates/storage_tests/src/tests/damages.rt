@@ -1,4 +1,5 @@
-//! Files and roots with one change each: they are refused exactly if a slow reader, written from the form alone, refuses them.
+//! Files and roots with one change each: the store must refuse exactly those that a slow reader, written from the
+//! format alone, refuses.
 
 use crate::tests::places::{OLD_ROOT, is_no_root};
 use crate::tests::slow::is_file;
@@ -11,7 +12,7 @@ use std::alloc::Global;
 use std::test::Fail;
 use testing::NEW_ROOT;
 
-/// The root of three tablets, of which two share a file, in format 1 and in format 2.
+/// The root of three tablets, two of which share a file, in format 1 and in format 2.
 const ROOTS_OF_THREE: [&[u8]; 2] = [
     b"TABROOT1\0\0\0\0\0\0\x03\xE9\0\0\0\0\0\0\0\x07\0\0\0\0\0\0\0\x04\0\0\0\x04\0\0\0\x03\
     \0\0\0\x02\0\0\0\0\x02a\0\x03\0\0\0\x02\0\0\0\0\0\0\0\x03\0\0\0\0\0\0\0\x01\
@@ -24,7 +25,7 @@ const ROOTS_OF_THREE: [&[u8]; 2] = [
     \0\0\0\x01\x01\x0F\0\0\0\x01\0\0\0\0\0\0\0\x02\0\0\0\0\0\0\x01\x8ETABROOTZ",
 ];
 
-/// What bytes are to be.
+/// The kind of the bytes.
 #[derive(Clone, Copy)]
 enum Form {
     File,
@@ -32,7 +33,7 @@ enum Form {
 }
 
 impl Form {
-    /// Whether the slow reader takes the bytes.
+    /// Whether the slow reader accepts the bytes.
     fn is_met(self, alloc: Global, bytes: &[u8]) -> Result<bool, Refusal> {
         match self {
             Form::File => is_file(alloc, bytes),
@@ -40,7 +41,7 @@ impl Form {
         }
     }
 
-    /// Whether the store and the slow reader both take the bytes, or both don't.
+    /// Whether the store and the slow reader agree on the bytes: both accept them or both refuse them.
     fn agrees(self, alloc: Global, bytes: &[u8]) -> Result<bool, Refusal> {
         let is_refused = match self {
             Form::File => is_damaged(alloc, bytes),
@@ -49,7 +50,7 @@ impl Form {
         Ok(self.is_met(alloc, bytes)? != is_refused)
     }
 
-    /// Whether they agree whatever byte is put at a place.
+    /// Whether they agree for every byte at an offset.
     fn agrees_at(self, alloc: Global, whole: &[u8], at: usize) -> Result<bool, Refusal> {
         let mut bytes = Vec::from_slice(alloc, whole)?;
         for byte in 0..=255 {
@@ -61,14 +62,14 @@ impl Form {
         Ok(true)
     }
 
-    /// Whether they agree if the bytes are cut at a place, and if another byte is put there.
+    /// Whether they agree on the bytes cut at an offset, and for every byte at that offset.
     fn agrees_from(self, alloc: Global, whole: &[u8], at: usize) -> Result<bool, Refusal> {
         let (beginning, _) = whole.split_at(at.min(whole.len()));
         Ok(self.agrees(alloc, beginning)? && self.agrees_at(alloc, whole, at)?)
     }
 
-    /// Whether the slow reader takes the bytes, and they agree on each change of one byte, each beginning, and each byte
-    /// that is added at the end.
+    /// Whether the slow reader accepts the bytes, and they agree on each change of one byte, each prefix, and each byte
+    /// appended.
     fn is_checked(self, alloc: Global, whole: &[u8]) -> Result<bool, Refusal> {
         for at in 0..whole.len() {
             if !self.agrees_from(alloc, whole, at)? {

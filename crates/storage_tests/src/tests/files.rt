@@ -6,11 +6,11 @@ use file_store::{FileFault, Files, MemFiles, read_whole};
 use std::alloc::Global;
 use std::test::Fail;
 
-/// Files that record which bytes are asked for.
+/// Files that record their reads.
 #[derive(Drop)]
 pub(super) struct Recorder {
     files: MemFiles,
-    /// Of each read the file's name, the offset and the length of the buffer.
+    /// For each read the file's name, the offset and the length of the buffer.
     pub(super) reads: Vec<(u64, u64, usize)>,
 }
 
@@ -56,7 +56,7 @@ impl Files for Recorder {
     }
 }
 
-/// The file 7 is read in one call, and the file 3 is not there.
+/// The file 7 is read in one call, and the file 3 doesn't exist.
 #[test]
 fn reads_a_file_once(rt: HostRuntime) -> Result<(), Fail> {
     let mut files = Recorder::new(rt.alloc());

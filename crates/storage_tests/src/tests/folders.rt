@@ -7,7 +7,7 @@ use std::os::unix::fs::symlink;
 use std::test::Fail;
 use std::{fs, io, process};
 
-/// A new folder of this name in the machine's temporary folder.
+/// A new folder with this name in the machine's temporary folder.
 fn new_folder(rt: &HostRuntime, name: &str) -> io::Result<String> {
     testing::folders::new_folder(rt, process::id(rt.process()), name)
 }
@@ -17,13 +17,13 @@ fn path_of(rt: &HostRuntime, folder: &str, name: &str) -> io::Result<String> {
     Ok(format!(in rt.alloc(); "{folder}/{name}")?)
 }
 
-/// Writes a file of a folder, past the store.
+/// Writes a file of a folder, bypassing the store.
 fn write(rt: &HostRuntime, folder: &str, name: &str, bytes: &[u8]) -> io::Result<()> {
     let path = path_of(rt, folder, name)?;
     fs::write(rt, path.as_str(), bytes)
 }
 
-/// Whether a folder has a file of a name.
+/// Whether a folder has a file with this name.
 fn is_there(rt: &HostRuntime, folder: &str, name: &str) -> io::Result<bool> {
     let path = path_of(rt, folder, name)?;
     fs::exists(rt, path.as_str())
@@ -35,7 +35,7 @@ fn has_bytes(rt: &HostRuntime, folder: &str, name: &str, bytes: &[u8]) -> io::Re
     Ok(fs::read(rt, path.as_str())?.as_slice() == bytes)
 }
 
-/// What a file of the store has at an offset, up to eight bytes.
+/// Up to eight bytes of a file of the store at an offset.
 fn part(
     rt: &HostRuntime,
     files: &mut DirFiles<HostRuntime>,
@@ -48,7 +48,7 @@ fn part(
     Ok(bytes)
 }
 
-/// Files that are none of the store's.
+/// Files that don't belong to the store.
 const OTHERS: [&str; 5] = [
     "t0000000000000003.new",
     "t0000000000000004.tab.old",
@@ -57,7 +57,7 @@ const OTHERS: [&str; 5] = [
     "notes",
 ];
 
-/// A new folder with files that are none of the store's.
+/// A new folder with files that don't belong to the store.
 fn folder_of_others(rt: &HostRuntime) -> io::Result<String> {
     let folder = new_folder(rt, "files")?;
     for name in OTHERS {
@@ -66,7 +66,7 @@ fn folder_of_others(rt: &HostRuntime) -> io::Result<String> {
     Ok(folder)
 }
 
-/// Whether a store has just these files.
+/// Whether a store has exactly these files.
 fn has_files(
     rt: &HostRuntime,
     files: &mut DirFiles<HostRuntime>,
@@ -80,7 +80,7 @@ fn has_files(
 /// Names of files, and their sizes.
 const SIZES: [(u64, Option<u64>); 3] = [(10, Some(10)), (2, Some(0)), (3, None)];
 
-/// Names of files and offsets, and what is there.
+/// Names of files, offsets, and the bytes there.
 const PARTS: [(u64, u64, &[u8]); 6] = [
     (10, 0, b"ten byte"),
     (10, 6, b"tes!"),
@@ -100,7 +100,7 @@ fn are_sizes(files: &mut DirFiles<HostRuntime>) -> Result<bool, FileFault> {
     Ok(true)
 }
 
-/// Whether these are the parts of the files.
+/// Whether the files have these bytes there.
 fn are_parts(rt: &HostRuntime, files: &mut DirFiles<HostRuntime>) -> Result<bool, FileFault> {
     for (name, offset, bytes) in PARTS {
         if part(rt, files, name, offset)?.as_slice() != bytes {
@@ -110,7 +110,7 @@ fn are_parts(rt: &HostRuntime, files: &mut DirFiles<HostRuntime>) -> Result<bool
     Ok(true)
 }
 
-/// Whether files that are put, one of them twice, are there.
+/// Whether files exist after their put, one of them put twice.
 fn are_put(rt: &HostRuntime, files: &mut DirFiles<HostRuntime>) -> Result<bool, FileFault> {
     for (name, bytes) in [(10, "old bytes"), (10, "ten bytes!"), (2, "")] {
         files.put(name, bytes.as_bytes())?;
@@ -118,7 +118,7 @@ fn are_put(rt: &HostRuntime, files: &mut DirFiles<HostRuntime>) -> Result<bool, 
     Ok(has_files(rt, files, &[2, 10])? && are_sizes(files)? && are_parts(rt, files)?)
 }
 
-/// Whether a file that is removed, and removed again, is gone.
+/// Whether a file is gone after it was removed twice.
 fn is_removed(rt: &HostRuntime, files: &mut DirFiles<HostRuntime>) -> Result<bool, FileFault> {
     for name in [10, 10] {
         files.remove(name)?;
@@ -126,7 +126,7 @@ fn is_removed(rt: &HostRuntime, files: &mut DirFiles<HostRuntime>) -> Result<boo
     Ok(has_files(rt, files, &[2])? && files.size(10)?.is_none())
 }
 
-/// Whether files are put into a folder and removed without a fault.
+/// Whether files can be put into a folder and removed without a fault.
 fn are_kept(rt: &HostRuntime, folder: &str) -> Result<bool, FileFault> {
     let mut files = DirFiles::open(*rt, folder)?;
     let is_empty = has_files(rt, &mut files, &[])?;
@@ -145,7 +145,7 @@ fn files_in_a_folder(rt: HostRuntime) -> Result<(), Fail> {
     Ok(())
 }
 
-/// Bytes that are no mark.
+/// Bytes that are not a mark.
 const NO_MARKS: [&[u8]; 4] = [
     b"",
     b"\0\0\0\0\0\0\0",
@@ -153,10 +153,10 @@ const NO_MARKS: [&[u8]; 4] = [
     b"\x80\0\0\0\0\0\0\0",
 ];
 
-/// The file of the mark.
+/// The mark's file.
 const MARK: &str = "oracle.mark";
 
-/// Whether the mark of a new folder is 0, and the next one is written. Then the greatest one is stored.
+/// Whether the mark of a new folder is 0, and a stored one is written. Then the greatest mark is stored.
 fn is_stored(rt: &HostRuntime, folder: &str) -> Result<bool, Fail> {
     let mut mark = DirMark::open(*rt, folder)?;
     let first = mark.load()?;
@@ -166,7 +166,7 @@ fn is_stored(rt: &HostRuntime, folder: &str) -> Result<bool, Fail> {
     Ok(first == 0 && is_written)
 }
 
-/// Whether the greatest mark is loaded, and what is no mark is a fault.
+/// Whether the greatest mark is loaded, and bytes that are not a mark are a fault.
 fn is_loaded(rt: &HostRuntime, folder: &str) -> Result<bool, Fail> {
     let mut mark = DirMark::open(*rt, folder)?;
     if mark.load()? != MOST_STAMP || mark.faults() != 0 {
@@ -191,7 +191,7 @@ fn mark_in_a_folder(rt: HostRuntime) -> Result<(), Fail> {
     Ok(())
 }
 
-/// Whether no call of these files goes.
+/// Whether every call of these files fails.
 fn are_faults(rt: &HostRuntime, files: &mut DirFiles<HostRuntime>) -> bool {
     files.put(1, b"x") == Err(FileFault::Device)
         && has_files(rt, files, &[]) == Err(FileFault::Device)
@@ -211,10 +211,10 @@ fn a_folder_is_removed(rt: HostRuntime) -> Result<(), Fail> {
     Ok(())
 }
 
-/// The name of the file 5.
+/// The name of file 5.
 const FIVE: &str = "t0000000000000005.tab";
 
-/// Whether the file 5 can't be put where a folder stands, and leaves nothing beside it.
+/// Whether the put of file 5 fails where a folder has its name, and leaves no temporary file.
 fn is_failed(
     rt: &HostRuntime,
     folder: &str,
@@ -228,13 +228,13 @@ fn is_failed(
     Ok(called == Err(FileFault::Device) && !is_beside && files.faults() == 1)
 }
 
-/// Whether the file 5 is put.
+/// Whether file 5 can be put.
 fn is_put(files: &mut DirFiles<HostRuntime>) -> Result<bool, FileFault> {
     files.put(5, b"five")?;
     Ok(files.size(5)? == Some(4))
 }
 
-/// A file that can't be put in its place, where a folder stands, leaves nothing beside it, and is put there later.
+/// A put that fails because a folder has the file's name leaves no temporary file, and succeeds later.
 #[test]
 fn a_failed_put_leaves_nothing(rt: HostRuntime) -> Result<(), Fail> {
     let folder = new_folder(&rt, "taken")?;
@@ -246,7 +246,7 @@ fn a_failed_put_leaves_nothing(rt: HostRuntime) -> Result<(), Fail> {
     Ok(())
 }
 
-/// Writes a file of a folder, and links the place of the file 5 to it.
+/// Writes a file of a folder, and makes file 5 a symbolic link to it.
 fn link_to_old(rt: &HostRuntime, folder: &str) -> io::Result<()> {
     write(rt, folder, "old", b"old")?;
     let old = path_of(rt, folder, "old")?;
@@ -254,7 +254,7 @@ fn link_to_old(rt: &HostRuntime, folder: &str) -> io::Result<()> {
     symlink(rt, old.as_str(), place.as_str())
 }
 
-/// A file is never written where it stands: what its place linked to is as before.
+/// A file is never overwritten in place: the target of a link with its name is unchanged.
 #[test]
 fn files_are_put_in_place_whole(rt: HostRuntime) -> Result<(), Fail> {
     let folder = new_folder(&rt, "links")?;
@@ -267,10 +267,10 @@ fn files_are_put_in_place_whole(rt: HostRuntime) -> Result<(), Fail> {
     Ok(())
 }
 
-/// How many files are read: more than are kept open.
+/// How many files are read: more than the store keeps open.
 const MANY: u64 = 200;
 
-/// Whether a file begins with these bytes, up to eight.
+/// Whether a file begins with these bytes, at most eight.
 fn begins_with(
     rt: &HostRuntime,
     files: &mut DirFiles<HostRuntime>,
@@ -280,7 +280,7 @@ fn begins_with(
     Ok(part(rt, files, name, 0)?.as_slice() == bytes)
 }
 
-/// Whether a file is read as it is when it is put, put again and removed.
+/// Whether reads of a file give its current bytes after it is put, put again and removed.
 fn is_as_put(rt: &HostRuntime, files: &mut DirFiles<HostRuntime>) -> Result<bool, FileFault> {
     for (bytes, read) in [("old", b"old".as_slice()), ("newer bytes", b"newer by")] {
         files.put(5, bytes.as_bytes())?;
@@ -292,7 +292,7 @@ fn is_as_put(rt: &HostRuntime, files: &mut DirFiles<HostRuntime>) -> Result<bool
     begins_with(rt, files, 5, b"")
 }
 
-/// Whether each of many files, which holds its name, is read as it is when it is put.
+/// Whether each of many files, which contains its name, is read right after its put.
 fn are_many_put(rt: &HostRuntime, files: &mut DirFiles<HostRuntime>) -> Result<bool, FileFault> {
     for name in 1..MANY {
         files.put(name, &name.to_be_bytes())?;
@@ -303,7 +303,7 @@ fn are_many_put(rt: &HostRuntime, files: &mut DirFiles<HostRuntime>) -> Result<b
     Ok(true)
 }
 
-/// Whether each of them is read as it is.
+/// Whether each of them is still read right.
 fn are_many_read(rt: &HostRuntime, files: &mut DirFiles<HostRuntime>) -> Result<bool, FileFault> {
     for name in 1..MANY {
         if !begins_with(rt, files, name, &name.to_be_bytes())? {
@@ -313,8 +313,8 @@ fn are_many_read(rt: &HostRuntime, files: &mut DirFiles<HostRuntime>) -> Result<
     Ok(true)
 }
 
-/// A file that was read is kept open. Once it is replaced or removed, its old bytes are read no more; and if more files
-/// are read than are kept open, each is read as it is.
+/// A file that was read stays open. Once it is replaced or removed, its old bytes are never read; and if more files are
+/// read than the store keeps open, each is read right.
 #[test]
 fn open_files_are_read_as_they_are(rt: HostRuntime) -> Result<(), Fail> {
     let folder = new_folder(&rt, "open")?;

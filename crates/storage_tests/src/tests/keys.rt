@@ -5,7 +5,7 @@ use std::alloc::Global;
 use std::test::Fail;
 use testing::edits::data_key;
 
-/// The text of the key of a row's `bal`, data, at 1.
+/// The text of a row's key (`bal`, data, 1).
 fn text_of(alloc: Global, row: &[u8]) -> Result<Vec<u8>, Refusal> {
     let row = Row::new(alloc, row)?;
     let mut text = Vec::new(alloc);
@@ -13,7 +13,7 @@ fn text_of(alloc: Global, row: &[u8]) -> Result<Vec<u8>, Refusal> {
     Ok(text)
 }
 
-/// Rows, and how the texts of their keys begin.
+/// Rows, and the prefixes of their keys' texts.
 const ROWS: [(&[u8], &[u8]); 3] = [
     (b"\x61", b"\x61\x00\x00"),
     (b"\x61\x00", b"\x61\x00\xFF\x00\x00"),
@@ -35,7 +35,7 @@ fn texts_of_keys(rt: HostRuntime) -> Result<(), Fail> {
     Ok(())
 }
 
-/// Values of locks, and the row, the family and the kind that they hold.
+/// Values of locks, and the row, the family and the kind in them.
 const LOCKS: [(&[u8], Option<(&[u8], &[u8], WriteKind)>); 7] = [
     (b"Bob\0\0bal\0\0S", Some((b"Bob", b"bal", WriteKind::Set))),
     (
@@ -62,7 +62,7 @@ fn values_of_locks(rt: HostRuntime) -> Result<(), Fail> {
     Ok(())
 }
 
-/// Values of write records, and the start and the kind that they hold.
+/// Values of write records, and the start and the kind in them.
 const RECORDS: [(&[u8], Option<(u64, WriteKind)>); 5] = [
     (b"\0\0\0\0\0\0\x01\x02S", Some((258, WriteKind::Set))),
     (b"\0\0\0\0\0\0\x01\x02D", Some((258, WriteKind::Delete))),

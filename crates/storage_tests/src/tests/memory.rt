@@ -1,4 +1,4 @@
-//! Files, sorted files, tablets and their places: calls that take memory.
+//! Files, sorted files, tablets and the metadata table: calls that allocate.
 
 pub mod files;
 pub mod tablets;

@@ -20,7 +20,7 @@ fn has(alloc: Global, table: &Memtable, stamp: Stamp) -> Result<bool, Refusal> {
     Ok(table.lookup(&data_key(alloc, &row, stamp)?).is_some())
 }
 
-/// Further puts: the stamp, how many bytes, and what they come to.
+/// Further puts: the stamp, the number of bytes, and the result.
 const PUTS: [(Stamp, usize, Result<(), Refusal>); 4] = [
     (1_024, 65_536, Err(Refusal::MemtableFull)),
     (1_024, 33_792, Ok(())),

@@ -1,4 +1,4 @@
-//! Where rows are: the table of tablets.
+//! The metadata table: the places of rows, and roots.
 
 use crate::tests::memory::tablets::split_at;
 use cell_key::{Refusal, Row};
@@ -17,14 +17,14 @@ const HOLDERS: [(&[u8], u32); 6] = [
     (b"\xFF", 1),
 ];
 
-/// Tablets and servers, and why the one is not moved to the other.
+/// Tablets and servers, and why the tablet can't be moved to the server.
 const MOVES: [(u32, u8, Refusal); 3] = [
     (5, 16, Refusal::UnknownTablet),
     (0, 0, Refusal::UnknownTablet),
     (1, 16, Refusal::UnknownServer),
 ];
 
-/// A table of tablets whose ends are a, m and z.
+/// A table of tablets with the ends a, m and z.
 fn three_splits(alloc: Global) -> Result<MetadataTable, Refusal> {
     let mut table = MetadataTable::new(alloc)?;
     for row in [b"m", b"a", b"z"] {
@@ -38,7 +38,7 @@ fn holder(alloc: Global, table: &MetadataTable, row: &[u8]) -> Result<u32, Refus
     Ok(table.locate(&Row::new(alloc, row)?).tablet)
 }
 
-/// A row is in the first tablet that doesn't end before it. An unknown tablet is refused before an unknown server.
+/// A row is in the first tablet whose end is not below it. An unknown tablet is refused before an unknown server.
 #[test]
 fn places_of_rows(rt: HostRuntime) -> Result<(), Fail> {
     let mut table = three_splits(rt.alloc())?;
@@ -58,7 +58,7 @@ fn places_of_rows(rt: HostRuntime) -> Result<(), Fail> {
 pub const OLD_ROOT: &[u8] =
     b"TABROOT1\0\0\0\0\0\0\0\0\0\0\0\0\0\0\0\0\0\0\0\0\0\0\0\x01\0\0\0\x02\0\0\0\x01\0\0\0\x01\x01\0\0\0\0\0TABROOTZ";
 
-/// Whether the bytes are a root, and that of a new store.
+/// Whether the bytes are the root of a new store.
 fn is_root(alloc: Global, bytes: &[u8]) -> Result<bool, Refusal> {
     let Some(root) = MetadataTable::read_root(alloc, bytes)? else {
         return Ok(false);
@@ -73,12 +73,12 @@ fn is_root(alloc: Global, bytes: &[u8]) -> Result<bool, Refusal> {
     )
 }
 
-/// Whether the bytes are no root.
+/// Whether the bytes are not a root.
 pub fn is_no_root(alloc: Global, bytes: &[u8]) -> Result<bool, Refusal> {
     Ok(MetadataTable::read_root(alloc, bytes)?.is_none())
 }
 
-/// What is written of a new store is read again. With one more byte behind it, or one less, it is no root.
+/// The root written for a new store can be read again. With one byte more or less at the end it is not a root.
 #[test]
 fn root_of_a_new_store(rt: HostRuntime) -> Result<(), Fail> {
     let mut out = Vec::new(rt.alloc());
@@ -91,8 +91,8 @@ fn root_of_a_new_store(rt: HostRuntime) -> Result<(), Fail> {
     Ok(())
 }
 
-/// Roots of a store with the file 2, of 398 bytes, and the lengths that are read: in format 2, in format 1, which names
-/// none, and each with the head of the other.
+/// Roots of a store with the file 2, of 398 bytes, and the lengths read from them: in format 2, in format 1, which has
+/// none, and each with the other's head.
 const ROOTS_OF_A_FILE: [(&[u8], Option<&[u64]>); 4] = [
     (
         b"TABROOT2\0\0\0\0\0\0\x03\xE9\0\0\0\0\0\0\0\0\0\0\0\0\0\0\0\x03\
@@ -116,7 +116,7 @@ const ROOTS_OF_A_FILE: [(&[u8], Option<&[u64]>); 4] = [
     ),
 ];
 
-/// Whether these lengths are read of a root, or it is none.
+/// Whether these lengths are read from a root, or, without lengths, the bytes are not a root.
 fn has_lengths(alloc: Global, bytes: &[u8], lengths: Option<&[u64]>) -> Result<bool, Refusal> {
     match MetadataTable::read_root(alloc, bytes)? {
         Some(root) => Ok(lengths == Some(root.lengths.as_slice())),

@@ -1,9 +1,10 @@
-//! Slow readers of files, written from the form alone: of those whose entries fit in one block, and of values.
+//! Slow readers of files, written from the format alone: a check of files whose entries fit in one block, and lookups
+//! of values.
 
 use cell_key::{CellKey, Refusal};
 use std::alloc::Global;
 
-/// How many bytes a number of index and foot has, and how many the foot has, as the head of a file says.
+/// How many bytes each number of index and foot has, and how many the foot has, by the head of a file.
 fn widths(bytes: &[u8]) -> Option<(usize, usize)> {
     if bytes.starts_with(b"TABLET01") {
         return Some((4, 24));
@@ -11,7 +12,7 @@ fn widths(bytes: &[u8]) -> Option<(usize, usize)> {
     bytes.starts_with(b"TABLET02").then_some((8, 40))
 }
 
-/// The number that `width` bytes at a place make, the highest first.
+/// The big-endian number in `width` bytes at an offset.
 pub fn number_at(bytes: &[u8], at: usize, width: usize) -> Option<usize> {
     let (_, rest) = bytes.split_at_checked(at)?;
     let (number, _) = rest.split_at_checked(width)?;
@@ -22,7 +23,7 @@ pub fn number_at(bytes: &[u8], at: usize, width: usize) -> Option<usize> {
     usize::try_from(sum).ok()
 }
 
-/// The field of bytes at a place, and the place after it.
+/// The length-prefixed field at an offset, and the offset after it.
 pub fn field_at(bytes: &[u8], at: usize) -> Option<(&[u8], usize)> {
     let len = number_at(bytes, at, 4)?;
     let from = at.checked_add(4)?;
@@ -31,7 +32,7 @@ pub fn field_at(bytes: &[u8], at: usize) -> Option<(&[u8], usize)> {
     Some((field, from.checked_add(len)?))
 }
 
-/// The key and the value of the entry at a place, no value if it is an erasure, and the place after the entry.
+/// The key and the value of the entry at an offset, `None` for an erasure, and the offset after the entry.
 fn entry_at(bytes: &[u8], at: usize) -> Option<(&[u8], Option<&[u8]>, usize)> {
     let (key, after) = field_at(bytes, at)?;
     let value_at = after.checked_add(1)?;
@@ -45,7 +46,7 @@ fn entry_at(bytes: &[u8], at: usize) -> Option<(&[u8], Option<&[u8]>, usize)> {
     }
 }
 
-/// How many entries stand from the place 8 up to the index, and the first key. `None` if it is no list of entries.
+/// How many entries there are from offset 8 up to the index, and the first key. `None` if they are not an entry list.
 fn entries_up_to(
     alloc: Global,
     bytes: &[u8],
@@ -75,7 +76,7 @@ fn entries_up_to(
     Ok((at == index_at).then_some((count, first)))
 }
 
-/// Whether the row of the one block stands at the index, and ends where the foot begins.
+/// Whether the index has exactly one row, for the only block, and ends where the foot begins.
 fn is_row(
     bytes: &[u8],
     index_at: usize,
@@ -91,7 +92,7 @@ fn is_row(
     Some(is_place && is_length && key == first && end == foot_at)
 }
 
-/// Whether the numbers of the foot are these, one after the other.
+/// Whether the foot has these numbers, in this order.
 fn are_numbers(bytes: &[u8], foot_at: usize, width: usize, numbers: &[usize]) -> bool {
     let mut at = foot_at;
     for number in numbers {
@@ -126,8 +127,8 @@ pub fn is_file(alloc: Global, bytes: &[u8]) -> Result<bool, Refusal> {
     Ok(is_index && is_foot)
 }
 
-/// What stands at a text among the entries of a file of either format, from the place 8 up to the index: a value,
-/// `Some(None)` if it is an erasure, and `None` if there is no entry.
+/// The entry of a text in a file of either format, from offset 8 up to the index: its value, `Some(None)` for an
+/// erasure, and `None` without an entry.
 pub fn found_at<'a>(bytes: &'a [u8], text: &[u8]) -> Option<Option<&'a [u8]>> {
     let (width, foot_len) = widths(bytes)?;
     let foot_at = bytes.len().checked_sub(foot_len)?;

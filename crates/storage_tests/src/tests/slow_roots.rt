@@ -1,9 +1,10 @@
-//! A slow reader of roots, written from the form alone.
+//! A slow reader of roots, written from the format alone.
 
 use crate::tests::slow::{field_at, number_at};
 use std::alloc::{AllocError, Global};
 
-/// What a root says before its tablets: how many bytes it has for a file, the next file's name, and the count of tablets.
+/// The numbers of a root before its tablets: the bytes that it has for a file, the next file's name, and the count of
+/// tablets.
 #[derive(Clone, Copy)]
 struct Front {
     file_len: usize,
@@ -11,7 +12,7 @@ struct Front {
     count: usize,
 }
 
-/// Where the tablets of a root begin.
+/// The offset of a root's tablets.
 const TABLETS_AT: usize = 40;
 
 /// How many bytes a root has for a file: a name, and in format 2 a length.
@@ -22,7 +23,7 @@ fn file_len(bytes: &[u8]) -> Option<usize> {
     bytes.starts_with(b"TABROOT2").then_some(16)
 }
 
-/// What stands before the tablets, if the numbers are within their limits.
+/// The numbers before the tablets, if they are within their limits.
 fn front_of(bytes: &[u8]) -> Option<Front> {
     let front = Front {
         file_len: file_len(bytes)?,
@@ -35,7 +36,7 @@ fn front_of(bytes: &[u8]) -> Option<Front> {
     (is_name && is_count && is_next).then_some(front)
 }
 
-/// The end at a place, which is `None` if there is none, and the place after it.
+/// The end at an offset (`None` is the infinite one), and the offset after it.
 fn end_at(bytes: &[u8], at: usize) -> Option<(Option<&[u8]>, usize)> {
     let after = at.checked_add(1)?;
     match bytes.get(at) {
@@ -48,7 +49,7 @@ fn end_at(bytes: &[u8], at: usize) -> Option<(Option<&[u8]>, usize)> {
     }
 }
 
-/// The place after the count of files at a place and after these, if their names are right.
+/// The offset after the count of files at an offset and after the files, if their names are valid.
 fn after_files(
     alloc: Global,
     bytes: &[u8],
@@ -72,7 +73,7 @@ fn after_files(
     Ok(Some(at))
 }
 
-/// The number of the tablet at a place, its end, and where its files begin, if its server is one.
+/// The number of the tablet at an offset, its end, and the offset of its files, if its server exists.
 fn tablet_at(bytes: &[u8], at: usize) -> Option<(usize, Option<&[u8]>, usize)> {
     let number = number_at(bytes, at, 4)?;
     let (end, after) = end_at(bytes, at.checked_add(4)?)?;
@@ -80,7 +81,7 @@ fn tablet_at(bytes: &[u8], at: usize) -> Option<(usize, Option<&[u8]>, usize)> {
     (*server <= 15).then_some((number, end, after.saturating_add(1)))
 }
 
-/// Whether an end is above the last one, or there is none, as it is of the last tablet alone.
+/// Whether an end is above the last one; only the last tablet has the infinite end.
 fn is_next_end(end: Option<&[u8]>, last: &[u8], is_last: bool) -> bool {
     match end {
         Some(row) => !is_last && last.cmp(&row).is_lt(),
@@ -88,7 +89,7 @@ fn is_next_end(end: Option<&[u8]>, last: &[u8], is_last: bool) -> bool {
     }
 }
 
-/// The place after the tablets, if they are right.
+/// The offset after the tablets, if they are valid.
 fn after_tablets(alloc: Global, bytes: &[u8], front: Front) -> Result<Option<usize>, AllocError> {
     let mut at = TABLETS_AT;
     let mut numbers = Vec::new(alloc);

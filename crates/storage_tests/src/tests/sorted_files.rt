@@ -28,7 +28,7 @@ pub const TWO: &[u8] = b"TABLET01\
     \0\0\0\x08\0\0\0\x42\0\0\0\x16a\0\0bal\0\0data\0\0\xFF\xFF\xFF\xFF\xFF\xFF\xFF\xFD\
     \0\0\0\x4A\0\0\0\x01\0\0\0\x02\0\0\0\x84TABLETZZ";
 
-/// The same in format 2, in which files are written: a file of no entries.
+/// The same in format 2, the format that is written: a file of no entries.
 pub const EMPTY_NEW: &[u8] = b"TABLET02\
     \0\0\0\0\0\0\0\x08\0\0\0\0\0\0\0\0\
     \0\0\0\0\0\0\0\0\0\0\0\0\0\0\0\x30TABLETZZ";
@@ -48,7 +48,7 @@ pub const TWO_NEW: &[u8] = b"TABLET02\
     \0\0\0\0\0\0\0\x4A\0\0\0\0\0\0\0\x01\
     \0\0\0\0\0\0\0\x02\0\0\0\0\0\0\0\x9CTABLETZZ";
 
-/// The two entries in format 1 in two blocks, though one would do.
+/// The two entries in format 1, in two blocks although one would do.
 const SPLIT_EARLY: &[u8] = b"TABLET01\
     \0\0\0\x16a\0\0bal\0\0data\0\0\xFF\xFF\xFF\xFF\xFF\xFF\xFF\xFD\x01\0\0\0\x0210\
     \0\0\0\x16a\0\0bal\0\0data\0\0\xFF\xFF\xFF\xFF\xFF\xFF\xFF\xFE\x01\0\0\0\x0210\
@@ -65,7 +65,7 @@ const SPLIT_EARLY_NEW: &[u8] = b"TABLET02\
     \0\0\0\0\0\0\0\x4A\0\0\0\0\0\0\0\x02\
     \0\0\0\0\0\0\0\x02\0\0\0\0\0\0\0\xC6TABLETZZ";
 
-/// The one entry with the head of format 2 and the index and foot of format 1, and the other way.
+/// The one entry with the head of format 2 and the index and foot of format 1, and vice versa.
 const ONE_MIXED: [&[u8]; 2] = [
     b"TABLET02\
     \0\0\0\x16a\0\0bal\0\0data\0\0\xFF\xFF\xFF\xFF\xFF\xFF\xFF\xFE\x01\0\0\0\x0210\
@@ -84,7 +84,7 @@ fn opened(alloc: Global, files: &mut MemFiles, bytes: &[u8]) -> Result<SortedFil
     SortedFile::open(alloc, 1, files)
 }
 
-/// Opens a file of these bytes under the name 1, over files that record what is read of it.
+/// Opens a file of these bytes under the name 1, over files that record their reads.
 fn recorded(alloc: Global, bytes: &[u8]) -> Result<(Recorder, SortedFile), Refusal> {
     let mut files = Recorder::new(alloc);
     refused(files.put(1, bytes))?;
@@ -92,7 +92,7 @@ fn recorded(alloc: Global, bytes: &[u8]) -> Result<(Recorder, SortedFile), Refus
     Ok((files, file))
 }
 
-/// Whether the file of a name has these bytes.
+/// Whether the file with a name has these bytes.
 fn has_bytes(
     alloc: Global,
     files: &mut MemFiles,
@@ -105,7 +105,7 @@ fn has_bytes(
     }
 }
 
-/// Whether a file of these bytes is opened, and is written again with these other bytes.
+/// Whether a file of these bytes can be opened, and is written again as these other bytes.
 fn is_written_as(alloc: Global, bytes: &[u8], again: &[u8]) -> Result<bool, Refusal> {
     let mut files = MemFiles::new(alloc);
     let file = opened(alloc, &mut files, bytes)?;
@@ -119,20 +119,20 @@ pub fn is_damaged(alloc: Global, bytes: &[u8]) -> bool {
     matches!(opened(alloc, &mut files, bytes), Err(Refusal::Damaged))
 }
 
-/// What stands before each value of 2,017 bytes in a file of three entries, at the stamps 3, 2 and 1.
+/// The bytes before each value of 2,017 bytes in a file of three entries, at the stamps 3, 2 and 1.
 const BEFORE_VALUES: [&[u8]; 3] = [
     b"TABLET01\0\0\0\x16a\0\0bal\0\0data\0\0\xFF\xFF\xFF\xFF\xFF\xFF\xFF\xFC\x01\0\0\x07\xE1",
     b"\0\0\0\x16a\0\0bal\0\0data\0\0\xFF\xFF\xFF\xFF\xFF\xFF\xFF\xFD\x01\0\0\x07\xE1",
     b"\0\0\0\x16a\0\0bal\0\0data\0\0\xFF\xFF\xFF\xFF\xFF\xFF\xFF\xFE\x01\0\0\x07\xE1",
 ];
 
-/// What stands after them: the index of two blocks, and the foot.
+/// The bytes after the entries: the index of two blocks, and the foot.
 const AFTER_VALUES: &[u8] = b"\
     \0\0\0\x08\0\0\x10\0\0\0\0\x16a\0\0bal\0\0data\0\0\xFF\xFF\xFF\xFF\xFF\xFF\xFF\xFC\
     \0\0\x10\x08\0\0\x08\0\0\0\0\x16a\0\0bal\0\0data\0\0\xFF\xFF\xFF\xFF\xFF\xFF\xFF\xFE\
     \0\0\x18\x08\0\0\0\x02\0\0\0\x03\0\0\x18\x64TABLETZZ";
 
-/// What stands after them in format 2.
+/// The bytes after the entries in format 2.
 const AFTER_VALUES_NEW: &[u8] = b"\
     \0\0\0\0\0\0\0\x08\0\0\0\0\0\0\x10\0\0\0\0\x16a\0\0bal\0\0data\0\0\xFF\xFF\xFF\xFF\xFF\xFF\xFF\xFC\
     \0\0\0\0\0\0\x10\x08\0\0\0\0\0\0\x08\0\0\0\0\x16a\0\0bal\0\0data\0\0\xFF\xFF\xFF\xFF\xFF\xFF\xFF\xFE\
@@ -160,7 +160,7 @@ fn three(alloc: Global) -> Result<Vec<u8>, AllocError> {
     Ok(bytes)
 }
 
-/// Files of either format are read, and written in format 2.
+/// Files of either format can be read, and are written in format 2.
 #[test]
 fn files_of_literal_bytes(rt: HostRuntime) -> Result<(), Fail> {
     let three = three(rt.alloc())?;
@@ -179,21 +179,21 @@ fn files_of_literal_bytes(rt: HostRuntime) -> Result<(), Fail> {
     Ok(())
 }
 
-/// Puts a byte at a place.
+/// Sets a byte at an offset.
 pub fn put_at(bytes: &mut [u8], at: usize, byte: u8) {
     if let Some(place) = bytes.get_mut(at) {
         *place = byte;
     }
 }
 
-/// Whether the file of one entry is damaged if this byte is put at a place.
+/// Whether the file of one entry is damaged with this byte at an offset.
 fn is_damaged_by(alloc: Global, at: usize, byte: u8) -> Result<bool, AllocError> {
     let mut bytes = Vec::from_slice(alloc, ONE)?;
     put_at(&mut bytes, at, byte);
     Ok(is_damaged(alloc, &bytes))
 }
 
-/// Places in the file of one entry, the bytes that are put there, and whether the file is damaged then.
+/// Offsets in the file of one entry, the bytes set there, and whether the file is then damaged.
 const CHANGES: [(usize, u8, bool); 4] = [
     (34, 2, true),
     (34, 0, true),
@@ -219,7 +219,7 @@ fn damaged_files(rt: HostRuntime) -> Result<(), Fail> {
     Ok(())
 }
 
-/// How many bytes the value has that the file of three entries has at a stamp.
+/// The length of the value at a stamp in the file of three entries.
 fn value_len(
     alloc: Global,
     file: &mut SortedFile,
@@ -238,8 +238,8 @@ fn value_len(
     }
 }
 
-/// What is looked up in the file of three entries, one after the other: whether the blocks in memory are forgotten
-/// first, the stamp, what is read of the file 1 (an offset and a number of bytes), and the length of the value.
+/// Lookups in the file of three entries, in order: whether the cache is emptied first, the stamp, the reads of file 1
+/// (offset and number of bytes), and the length of the value.
 const LOOK_UPS: [(bool, Stamp, &[(u64, u64, usize)], Option<usize>); 7] = [
     (true, 3, &[(1, 8, 4096)], Some(2017)),
     (true, 2, &[(1, 8, 4096)], Some(2017)),
@@ -250,7 +250,7 @@ const LOOK_UPS: [(bool, Stamp, &[(u64, u64, usize)], Option<usize>); 7] = [
     (false, 2, &[], Some(2017)),
 ];
 
-/// Whether a look-up at a stamp reads this, and finds a value of this many bytes.
+/// Whether a lookup at a stamp makes these reads, and finds a value of this length.
 fn is_found(
     alloc: Global,
     file: &mut SortedFile,
@@ -288,7 +288,7 @@ fn write(
     table.apply(&row, edits)
 }
 
-/// The bytes of the file that a memtable is written to.
+/// The file written from a memtable.
 fn file_of(alloc: Global, table: &Memtable) -> Result<Vec<u8>, Refusal> {
     let mut files = MemFiles::new(alloc);
     merge(alloc, table, None, true, 1, &mut files)?;
@@ -305,8 +305,8 @@ fn nine(alloc: Global) -> Result<Vec<u8>, Refusal> {
     file_of(alloc, &table)
 }
 
-/// Stamps that are looked up one after the other in the file of nine blocks, and whether each look-up reads the file.
-/// The last eight blocks are held in memory.
+/// Stamps that are looked up in order in the file of nine blocks, and whether each lookup reads the file. The eight
+/// blocks used last are cached.
 const NINE_LOOK_UPS: [(&[Stamp], bool); 4] = [
     (&[1, 2, 3, 4, 5, 6, 7, 8], true),
     (&[1, 2, 3, 4, 5, 6, 7, 8], false),
@@ -314,7 +314,7 @@ const NINE_LOOK_UPS: [(&[Stamp], bool); 4] = [
     (&[4, 5, 6, 7, 8, 9, 1, 2], false),
 ];
 
-/// Whether the look-ups at these stamps find values of 4,000 bytes, and each of them reads the file, or none does.
+/// Whether the lookups at these stamps find values of 4,000 bytes, and all of them read the file, or none does.
 fn are_read(
     alloc: Global,
     file: &mut SortedFile,
@@ -341,7 +341,8 @@ fn eight_blocks_are_kept(rt: HostRuntime) -> Result<(), Fail> {
     Ok(())
 }
 
-/// How many blocks the file of nine keeps then, and what is read after that.
+/// The new size of the cache of the file of nine blocks, the stamps looked up then, and whether each lookup reads the
+/// file.
 const RESIZED: [(usize, &[Stamp], bool); 4] = [
     (9, &[3], true),
     (9, &[1, 2, 3, 4, 5, 6, 7, 8, 9], false),
@@ -349,10 +350,10 @@ const RESIZED: [(usize, &[Stamp], bool); 4] = [
     (1, &[8, 7], true),
 ];
 
-/// What is read before that.
+/// The stamps looked up before.
 const BEFORE_RESIZED: [Stamp; 8] = [1, 2, 4, 5, 6, 7, 8, 9];
 
-/// The same of a file that keeps this number of blocks from now on.
+/// The same as `are_read`, after the cache was resized to this number of blocks.
 fn are_read_of(
     alloc: Global,
     file: &mut SortedFile,
@@ -378,7 +379,7 @@ fn as_many_blocks_are_kept(rt: HostRuntime) -> Result<(), Fail> {
     Ok(())
 }
 
-/// A file of locks of `a` and of `c` and an erasure of that of `b`, at the stamp 1.
+/// A file of locks of `a` and `c`, and of an erasure of the lock of `b`, at the stamp 1.
 const LOCKS: &[u8] = b"TABLET01\
     \0\0\0\x16a\0\0bal\0\0lock\0\0\xFF\xFF\xFF\xFF\xFF\xFF\xFF\xFE\x01\0\0\0\x0210\
     \0\0\0\x16b\0\0bal\0\0lock\0\0\xFF\xFF\xFF\xFF\xFF\xFF\xFF\xFE\0\
@@ -386,8 +387,8 @@ const LOCKS: &[u8] = b"TABLET01\
     \0\0\0\x08\0\0\0\x5D\0\0\0\x16a\0\0bal\0\0lock\0\0\xFF\xFF\xFF\xFF\xFF\xFF\xFF\xFE\
     \0\0\0\x65\0\0\0\x01\0\0\0\x03\0\0\0\x9FTABLETZZ";
 
-/// A row, the stamp of its newest lock up to 9, and what is read for it. The file's first lock is known without a read. A row of
-/// which only a lock's erasure stands here is read too: the index of the files' locks keeps it away.
+/// A row, the stamp of its newest lock up to 9, and the reads for it. The file's first lock is known without a read. A
+/// row that has only an erasure of a lock here is read too; in a tablet the index of the files' locks prevents that.
 const LOCK_TESTS: [(&[u8], Option<Stamp>, &[(u64, u64, usize)]); 4] = [
     (b"a", Some(1), &[]),
     (b"b", None, &[(1, 8, 93)]),
@@ -406,13 +407,13 @@ fn lock_key(alloc: Global, row: &[u8]) -> Result<LookupKey, Refusal> {
     Ok(LookupKey::new(alloc, key)?)
 }
 
-/// A list of the file of the locks.
+/// The file of the locks, as a list.
 fn files_of_locks(alloc: Global) -> Result<Vec<SortedFile>, Refusal> {
     let (_, file) = recorded(alloc, LOCKS)?;
     Ok(vec![in alloc; file]?)
 }
 
-/// Whether the filter of the file of the locks lets through a look-up of locks from a stamp up to 9.
+/// Whether the filter of the file of the locks admits locks at stamps from `from` up to 9.
 fn may_have_locks(alloc: Global, from: Stamp) -> Result<bool, Refusal> {
     let files = files_of_locks(alloc)?;
     let filter = KeyFilter::new(alloc, &files, 0)?;
@@ -430,7 +431,7 @@ fn may_have_row(alloc: Global, index: &LockIndex, row: &[u8]) -> Result<bool, Re
     Ok(index.may_have_row(&row))
 }
 
-/// The stamp of a row's newest lock up to 9 in an index, if there is none up to 0.
+/// The stamp of a row's newest lock up to 9 in an index, which must have none up to 0.
 fn latest(alloc: Global, index: &LockIndex, row: &[u8]) -> Result<Option<Stamp>, Refusal> {
     let mut key = lock_key(alloc, row)?;
     let latest = index.latest(&key, 0);
@@ -441,7 +442,7 @@ fn latest(alloc: Global, index: &LockIndex, row: &[u8]) -> Result<Option<Stamp>,
     }
 }
 
-/// Whether a file of which no block is held has this stamp of a row's newest lock, and this is read for it.
+/// Whether a file with an empty cache answers this stamp for a row's newest lock, and makes these reads.
 fn is_newest(
     alloc: Global,
     file: &mut SortedFile,
@@ -490,7 +491,7 @@ fn erased_over(alloc: Global, index: &LockIndex) -> Result<SortedFile, Refusal> 
     SortedFile::open_over(alloc, 2, few_blocks(), index, &mut files)
 }
 
-/// The index of the file of the locks, with that of the erasure over it.
+/// The index of the locks of both files, the newer one being the file of the erasure.
 fn index_of_both(alloc: Global) -> Result<LockIndex, Refusal> {
     let index = index_of_locks(alloc)?;
     let newer = erased_over(alloc, &index)?;
@@ -509,24 +510,24 @@ fn erased_locks_leave_the_index(rt: HostRuntime) -> Result<(), Fail> {
     Ok(())
 }
 
-/// Places in the file of three entries, and bytes that are put there: the length of the second key, and the row of the
+/// Offsets in the file of three entries, and bytes set there: in the length of the second key, and in the row of the
 /// first.
 const GARBLED: [(usize, u8); 2] = [(2059, 0x17), (12, b'`')];
 
-/// Whether a look-up at the stamp 3 is refused as damaged.
+/// Whether a lookup at the stamp 3 is refused as damaged.
 fn is_refused(alloc: Global, file: &mut SortedFile, files: &mut Recorder) -> bool {
     matches!(value_len(alloc, file, 3, files), Err(Refusal::Damaged))
 }
 
-/// Writes the file of three entries, with this byte at a place.
+/// Writes the file of three entries, with this byte at an offset.
 fn put_changed(alloc: Global, files: &mut Recorder, at: usize, byte: u8) -> Result<(), Refusal> {
     let mut bytes = three(alloc)?;
     put_at(&mut bytes, at, byte);
     refused(files.put(1, &bytes))
 }
 
-/// Whether a block that was held in memory is still found when its bytes have changed so, and is no block when it is
-/// read anew.
+/// Whether a cached block is still used when its bytes on disk have changed in this way, and is refused once it is read
+/// again.
 fn is_kept(alloc: Global, at: usize, byte: u8) -> Result<bool, Refusal> {
     let (mut files, mut file) = recorded(alloc, &three(alloc)?)?;
     let before = value_len(alloc, &mut file, 3, &mut files)?;
@@ -536,7 +537,7 @@ fn is_kept(alloc: Global, at: usize, byte: u8) -> Result<bool, Refusal> {
     Ok(before == Some(2017) && after == before && is_refused(alloc, &mut file, &mut files))
 }
 
-/// Whether a block whose bytes have changed so is no block, however often it is read.
+/// Whether a block whose bytes have changed in this way is refused, however often it is read.
 fn is_never_kept(alloc: Global, at: usize, byte: u8) -> Result<bool, Refusal> {
     let (mut files, mut file) = recorded(alloc, &three(alloc)?)?;
     put_changed(alloc, &mut files, at, byte)?;
@@ -552,7 +553,7 @@ fn garbled_blocks_are_not_kept(rt: HostRuntime) -> Result<(), Fail> {
     Ok(())
 }
 
-/// Writes `a` at a stamp: an erasure if 3 divides it, and else a value of 500 to 4,000 bytes.
+/// Writes `a` at a stamp: an erasure if the stamp is divisible by 3, otherwise a value of 500 to 4,000 bytes.
 fn write_some(alloc: Global, table: &mut Memtable, stamp: Stamp) -> Result<(), Refusal> {
     let value = vec![in alloc; (stamp % 256) as u8; 500 * (stamp % 9) as usize]?;
     let put = (stamp % 3 != 0).then_some(value.as_slice());
@@ -568,7 +569,7 @@ fn many(alloc: Global) -> Result<Vec<u8>, Refusal> {
     file_of(alloc, &table)
 }
 
-/// Whether a look-up at a stamp of `a` finds what a slow one finds in the bytes.
+/// Whether a lookup at a stamp of `a` finds the same as a slow lookup in the bytes.
 fn agree_on(
     alloc: Global,
     file: &mut SortedFile,
@@ -586,7 +587,7 @@ fn agree_on(
     })
 }
 
-/// Whether a slow look-up agrees on each stamp below `end`, in a file of these bytes.
+/// Whether lookups agree with slow ones at each stamp below `end`, in a file of these bytes.
 fn agree_below(alloc: Global, bytes: &[u8], end: Stamp) -> Result<bool, Refusal> {
     let mut files = MemFiles::new(alloc);
     let mut file = opened(alloc, &mut files, bytes)?;
@@ -598,8 +599,8 @@ fn agree_below(alloc: Global, bytes: &[u8], end: Stamp) -> Result<bool, Refusal>
     Ok(true)
 }
 
-/// Each key of a file of more than five blocks, and keys before, between and behind them; and the file of three entries in
-/// format 1.
+/// Each key of a file of more than five blocks, and keys before, between and after them; and the file of three entries
+/// in format 1.
 #[test]
 fn a_slow_look_up_agrees(rt: HostRuntime) -> Result<(), Fail> {
     assert!(rt; agree_below(rt.alloc(), &many(rt.alloc())?, 31)?);

@@ -5,7 +5,7 @@ use request_codec::{Reply, decode_reply, decode_request, encode_reply, encode_re
 use std::alloc::Global;
 use testing::memory::{Call, Subject, Table};
 
-/// A key of the row `a\0b`, and a text that things are appended to.
+/// A key of the row `a\0b`, and a text that bytes are appended to.
 #[derive(Drop)]
 pub struct Keys {
     key: CellKey,
@@ -14,7 +14,7 @@ pub struct Keys {
 
 const KEY: &[u8] = b"a\0\xFFb\0\0bal\0\0data\0\0\xFF\xFF\xFF\xFF\xFF\xFF\xFF\xFE";
 
-/// Names that take memory.
+/// Names that need an allocation.
 const LONG_ROW: &[u8] = b"the name of a row that takes memory";
 
 const LONG_FAMILY: &[u8] = b"family_of_columns";
@@ -51,7 +51,7 @@ const CALLS: [Call; 11] = [
     (b"m\0\0c\0\0", b"text"),
 ];
 
-/// Whether the key of a text has this row, or there is none and no bytes are wanted.
+/// Whether the key of a text has this row. If the text is malformed, the wanted row must be empty.
 fn is_decoded(alloc: Global, text: &[u8], wanted: &[u8]) -> Result<bool, Refusal> {
     match CellKey::decode(alloc, text)? {
         Some(key) => Ok(key.row.as_bytes() == wanted),

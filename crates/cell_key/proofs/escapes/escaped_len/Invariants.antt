@@ -2,7 +2,7 @@ use Rattle.std.proofs.Common.{◌≡◌, ◌+◌, ◌*◌, ◌≤◌, length}
 use Rattle.cell_key.specs.Texts.{escaped}
 use Rattle.cell_key.proofs.escapes.escaped_len.Given as goal
 
--- the zeros that were counted, and what is left, are the whole
+-- the zeros counted and those in the rest are all zeros
 abbrev pub invariant-chunks : goal.invariant-chunks
 invariant-chunks l =
     record {

@@ -2,7 +2,7 @@ use Rattle.std.proofs.Common.{◌≡◌, ◌+◌, ◌≤◌, ◌++◌, length, d
 use Rattle.cell_key.specs.Texts.{escaped}
 use Rattle.cell_key.proofs.escapes.push_each.Given as goal
 
--- what was written and what is left are the whole, and there is room for the rest
+-- the bytes written and the rest are the whole, and there is room for the rest
 abbrev pub invariant-loop-byte : goal.invariant-loop-byte
 invariant-loop-byte l =
     record {

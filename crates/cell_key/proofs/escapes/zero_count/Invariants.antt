@@ -2,7 +2,7 @@ use Rattle.std.proofs.Common.{◌≡◌, ◌+◌, ◌≤◌, length, drop}
 use Rattle.cell_key.specs.Texts.{escaped}
 use Rattle.cell_key.proofs.escapes.zero_count.Given as goal
 
--- what was counted and what is left are the whole
+-- the zeros counted and those in the rest are all zeros
 abbrev pub invariant-loop-byte : goal.invariant-loop-byte
 invariant-loop-byte l =
     record {

@@ -6,7 +6,7 @@ use Rattle.cell_key.specs.declared.keys.CellKey.{CellKey}
 use Rattle.cell_key.proofs.ColumnTexts.{before_stamp, column_text, with_stamp}
 use Rattle.cell_key.proofs.keys.set_stamp.Goals as goal
 
--- no text of a key is shorter than that of its stamp
+-- no key's text is shorter than the text of its stamp
 long : (bytes : List ℕ) (key : CellKey) → bytes ≡ text key → length bytes < 8 → ⊥
 long bytes key is short =
     let lens = ap length (is ∙ sym (with_stamp key key.stamp)) in

@@ -4,7 +4,7 @@ use Rattle.cell_key.specs.Keys.{byte_cmp, text}
 use Rattle.cell_key.proofs.LentPlaces.{beside, older_is_after, text_in_column}
 use Rattle.cell_key.proofs.lent_keys.in_column.Goals as goal
 
--- the bytes are those of an older version of the last key's column
+-- the bytes are the text of an older version in the last key's column
 is_older : (c : goal.Else-stamp-last) → c.args.bytes.now ≡ text (beside c.requires c.requires.key.qualifier c.in_ok-stamp.stamp)
 is_older c =
     let bytes = c.args.bytes.now in

@@ -3,7 +3,7 @@ use Rattle.std.proofs.lemmas.List.{append_cancel_left, drop-append-le, length-ap
 use Rattle.std.specs.Cmp.Lexicographic.{bytes_decides}
 use Rattle.cell_key.proofs.text_order.are_ends_same.Goals as goal
 
--- the last eight bytes decide, where fewer are left behind what both have
+-- the last eight bytes decide, if fewer are left behind a common front
 ends_decide : (first second both left right end other : List ℕ) → length first ≡ length second → length left < 8 → first ≡ both ++ left → second ≡ both ++ right
     → end ≡ drop (length first - 8) first → other ≡ drop (length second - 8) second → end ≡ other → first ≡ second
 ends_decide first second both left right end other long few is is' last last' same =

@@ -4,17 +4,17 @@ use Rattle.std.proofs.lemmas.List.{append_cancel_left, take-append-drop}
 use Rattle.cell_key.proofs.TextPlaces.{clash}
 use Rattle.cell_key.proofs.text_order.are_same.Goals as goal
 
--- if bytes are the same, so is what is left of them, and its front
+-- if bytes are equal, so are their rests behind a common front
 rest_same : (bytes other both left right : List ℕ) → bytes ≡ both ++ left → other ≡ both ++ right → bytes ≡ other → left ≡ right
 rest_same bytes other both left right one two same = append_cancel_left both left right (sym one ∙ same ∙ two)
 
--- eight bytes more that both have
+-- eight more bytes in common
 more : (text both left front now : List ℕ) → text ≡ both ++ left → take 8 left ≡ front → now ≡ drop 8 left → text ≡ (both ++ front) ++ now
 more text both left front now is same rest =
     is ∙ ap (λ (t : List ℕ). both ++ t) (sym (take-append-drop 8 left) ∙ ap (λ (t : List ℕ). t ++ drop 8 left) same ∙ ap (λ (t : List ℕ). front ++ t) (sym rest))
     ∙ sym (append_assoc both front now)
 
--- a test that was turned says the opposite
+-- a negated test answers the opposite
 turned : (r t : Bool) → r ≡ not t → r ≡ false → t ≡ true
 turned r true e f = refl
 turned r false e f = absurd (clash r e f)

@@ -19,7 +19,7 @@ is_tie Less e = cc
 is_tie Equal e = refl
 is_tie Greater e = cc
 
--- the last eight bytes decide, where fewer are left behind what both have
+-- the last eight bytes decide, if fewer are left behind a common front
 last_decide : (a b both left right x y : List ℕ) (at : ℕ) (o : Ordering) → at + 8 ≡ length a → length a ≡ length b → a ≡ both ++ left → b ≡ both ++ right → length left < 8 → x ≡ drop at a → y ≡ drop at b
     → byte_cmp x y ≡ ordering_then o (byte_cmp (drop 8 x) (drop 8 y)) → byte_cmp left right ≡ byte_cmp a b → o ≡ byte_cmp a b
 last_decide a b both left right x y at o last long is is' few first second order rest =
@@ -32,7 +32,7 @@ last_decide a b both left right x y at o last long is is' few first second order
     sym (order ∙ ap (λ (t : List ℕ). ordering_then o (byte_cmp t (drop 8 y))) end ∙ ap (λ (t : List ℕ). ordering_then o (byte_cmp [] t)) end' ∙ then_nothing o)
     ∙ ap (λ (t : List ℕ). byte_cmp t y) front ∙ ap (byte_cmp (drop at both ++ left)) front' ∙ cmp_behind (drop at both) left right ∙ rest
 
--- eight bytes more that both have
+-- eight more bytes in common
 more : (text both left now : List ℕ) (front : List ℕ) → text ≡ both ++ left → take 8 left ≡ front → now ≡ drop 8 left → text ≡ (both ++ front) ++ now
 more text both left now front is same rest =
     is ∙ ap (λ (t : List ℕ). both ++ t) (sym (take-append-drop 8 left) ∙ ap (λ (t : List ℕ). t ++ drop 8 left) same ∙ ap (λ (t : List ℕ). front ++ t) (sym rest))

@@ -2,7 +2,7 @@ use Rattle.std.proofs.Common.{◌≡◌, ◌++◌, List, ℕ, length}
 use Rattle.cell_key.specs.Keys.{byte_cmp}
 use Rattle.cell_key.proofs.text_order.compare_texts.Given as goal
 
--- what is left decides, behind bytes that both have
+-- the rests behind a common front decide
 abbrev pub invariant-fronts : goal.invariant-fronts
 invariant-fronts l =
     (byte_cmp l.left l.right ≡ byte_cmp l.fn.a l.fn.b)

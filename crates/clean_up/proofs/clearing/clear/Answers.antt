@@ -24,7 +24,7 @@ module _ {Z : Type 0} (cells : Cells) (x : Cell) (s t q : ℕ) (found : Option (
       let stamp : q ≡ t = omega (arith, low, high, same) in
       ap (λ (n : ℕ). at cells x Lock n) (sym stamp) ∙ (found.2 ∙ ap (λ (l : List ℕ). Some l) (sym value))
 
-  -- such edits clear the cell
+  -- these edits clear the cell
   clears : (Holds : Type 0) (commit : Option ℕ) (edits : List Edit) → (Holds → IsNewest cells (key_of x Lock) s s (option_map stamped found)) → IsClearing x t commit kind edits → ClearsCell Holds cells x t commit x.row edits
   clears Holds None edits newest made = (refl, λ held. (now, stands (newest held)), made)
   clears Holds (Some c) edits newest made = (kind, λ held. (now, place, stands (newest held), parted), (refl, λ held. (now, stands (newest held)), made))

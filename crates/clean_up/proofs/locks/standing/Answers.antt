@@ -13,7 +13,7 @@ use Rattle.si_model.specs.declared.replies.Cell.{Cell}
 use Rattle.clean_up.specs.Locks.{LacksPlace, Stands}
 use Rattle.clean_up.proofs.locks.standing.Goals as goal
 
--- a value names no row and family
+-- a lock's text names no row and family
 abbrev NamesNone : List ℕ → Type 0
 NamesNone text = (row family : List ℕ) (kind : WriteKind) → IsRow row → IsFamily family → ¬ IsLockText row family kind text
 

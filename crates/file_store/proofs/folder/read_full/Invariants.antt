@@ -1,7 +1,7 @@
 use Rattle.std.proofs.Common.{length, ◌-◌, ◌≤◌, ◌≡◌}
 use Rattle.file_store.proofs.folder.read_full.Given as goal
 
--- the buffer keeps its length, and what was read fits into it
+-- the buffer keeps its length, and the bytes read fit into it
 abbrev pub invariant-loop-at : goal.invariant-loop-at
 invariant-loop-at g l = (l.at ≤ length l.out) × (length l.out ≡ length l.initial.out)
 

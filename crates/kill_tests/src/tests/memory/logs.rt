@@ -1,4 +1,4 @@
-//! Stores with a log: opened over what a server has left on its devices.
+//! Stores with a log: opens of the devices that a server has left.
 
 use crate::tests::FLUSH;
 use cell_key::Refusal;
@@ -15,7 +15,7 @@ use testing::memory::{Call, Subject, Table};
 /// A server with a log over devices in memory.
 type LogServer = LastingServer<Server<MemFiles, MemMark>, MemLog>;
 
-/// What was asked for: a commit that the root has, one that the log alone has, and a lock.
+/// The requests served before: a commit that the root has, a commit that only the log has, and a lock.
 const SET_UP: [&[u8]; 14] = [
     // Begin: 1
     b"\x01",
@@ -47,7 +47,7 @@ const SET_UP: [&[u8]; 14] = [
     b"\x04\0\0\0\0\0\0\0\x05",
 ];
 
-/// What is read.
+/// The reads.
 const READS: [&[u8]; 4] = [
     // Raw a c data 0..3
     b"\x11\0\0\0\x01a\0\0\0\x01c\x01\0\0\0\0\0\0\0\0\0\0\0\0\0\0\0\x02",
@@ -59,15 +59,15 @@ const READS: [&[u8]; 4] = [
     b"\x11\0\0\0\x01b\0\0\0\x01c\x02\0\0\0\0\0\0\0\0\0\0\0\0\0\0\0c",
 ];
 
-/// What is read before a call and after it: stamp 1 with 1, stamp 3 with 3, stamp 4 with the record of start 3, and stamp 5
-/// with the lock of b c.
+/// The state before a call and after it: stamp 1 with 1, stamp 3 with 3, stamp 4 with the commit record of start 3, and
+/// stamp 5 with the lock of b c.
 const STILL: &[u8] = b"\
     \0\0\0\x0F\x91\x01\0\0\0\0\0\0\0\x01\0\0\0\x011\
     \0\0\0\x0F\x91\x01\0\0\0\0\0\0\0\x03\0\0\0\x013\
     \0\0\0\x17\x91\x01\0\0\0\0\0\0\0\x04\0\0\0\x09\0\0\0\0\0\0\0\x03S\
     \0\0\0\x15\x91\x01\0\0\0\0\0\0\0\x05\0\0\0\x07b\0\0c\0\0S";
 
-/// The calls: the store is opened, and a new one.
+/// The calls: an open of the store, and of a new one.
 const CALLS: [Call; 2] = [(b"", STILL), (b"", STILL)];
 
 pub const LOGGED: Table = (STILL, &CALLS);
@@ -79,7 +79,7 @@ pub struct Logged {
 }
 
 impl Logged {
-    /// Those of a new store.
+    /// The devices of a new store.
     fn new(alloc: Global) -> Result<Logged, Refusal> {
         let log = MemLog::new(alloc)?;
         Ok(Logged {
@@ -87,7 +87,7 @@ impl Logged {
         })
     }
 
-    /// A server over the devices. If it is refused they come back.
+    /// A server over the devices. They are kept if it is refused.
     fn open(&mut self, alloc: Global) -> Result<LogServer, Refusal> {
         let Some((files, marks, log)) = self.devices.take() else {
             return Err(Refusal::Device);
@@ -105,7 +105,7 @@ impl Logged {
         }
     }
 
-    /// What a server over the devices writes for a stream.
+    /// The replies to a stream of a server over the devices.
     fn written(&mut self, alloc: Global, stream: &[u8]) -> Result<Vec<u8>, Refusal> {
         let mut server = self.open(alloc)?;
         let mut stream = stream;

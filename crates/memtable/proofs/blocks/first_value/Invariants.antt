@@ -4,7 +4,7 @@ use Rattle.memtable.specs.Slots.{first_value}
 use Rattle.memtable.specs.Blocks.{block_entries, IsEntryBlock}
 use Rattle.memtable.proofs.blocks.first_value.Given as goal
 
--- those before what is left have no value
+-- the blocks passed have no value
 abbrev pub invariant-each : goal.invariant-each
 invariant-each l =
     record {

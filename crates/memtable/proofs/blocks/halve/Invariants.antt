@@ -1,7 +1,7 @@
 use Rattle.std.proofs.Common.{◌≡◌, ◌+◌, ◌≤◌, ◌++◌, vec_len, vec_capacity, reverse}
 use Rattle.memtable.proofs.blocks.halve.Given as goal
 
--- what was taken stands the other way round
+-- the entries taken are in reverse order
 abbrev pub invariant-loop-slots : goal.invariant-loop-slots
 invariant-loop-slots l =
     record {

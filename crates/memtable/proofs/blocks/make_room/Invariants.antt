@@ -3,7 +3,7 @@ use Rattle.std.specs.List.{AllByRecursion}
 use Rattle.memtable.specs.Blocks.{IsSpare}
 use Rattle.memtable.proofs.blocks.make_room.Given as goal
 
--- the filled blocks stay and have room, and the spare ones are empty
+-- the filled blocks are unchanged and have room, and the spare ones are empty
 abbrev pub invariant-loop-alloc : goal.invariant-loop-alloc
 invariant-loop-alloc l =
     record {

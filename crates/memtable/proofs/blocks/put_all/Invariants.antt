@@ -6,7 +6,7 @@ use Rattle.memtable.specs.Sizes.{IsSizeOf}
 use Rattle.memtable.specs.Blocks.{block_entries, AreEntryBlocks, HasRoom}
 use Rattle.memtable.proofs.blocks.put_all.Given as goal
 
--- the staged entries that are left lead to where all of them do, and have room
+-- putting the remaining staged entries gives the same entries as putting all, and there is room for them
 abbrev pub invariant-loop-slot : goal.invariant-loop-slot
 invariant-loop-slot l =
     record {

@@ -2,7 +2,7 @@ use Rattle.std.proofs.Common.{◌≡◌, ◌+◌, length}
 use Rattle.memtable.specs.Slots.{slot_entries, value_count}
 use Rattle.memtable.proofs.entries.value_count.Given as goal
 
--- what is counted and what is left make the whole
+-- the count and the values in the rest are all values
 abbrev pub invariant-slots : goal.invariant-slots
 invariant-slots l = l.count + value_count (slot_entries l.rest) ≡ value_count (slot_entries l.fn.slots)
 

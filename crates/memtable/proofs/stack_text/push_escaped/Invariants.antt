@@ -2,7 +2,7 @@ use Rattle.std.proofs.Common.{◌≡◌, ◌++◌, length}
 use Rattle.cell_key.specs.Texts.{escaped}
 use Rattle.memtable.proofs.stack_text.push_escaped.Given as goal
 
--- what was written and what is left are the whole
+-- the bytes written and the rest are the whole text
 abbrev pub invariant-chunks : goal.invariant-chunks
 invariant-chunks g l = l.out.items ++ escaped l.left ≡ l.fn.out.items ++ escaped l.row
 

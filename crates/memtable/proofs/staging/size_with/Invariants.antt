@@ -4,7 +4,7 @@ use Rattle.memtable.specs.Sizes.{IsSizeOf}
 use Rattle.memtable.specs.Blocks.{block_entries}
 use Rattle.memtable.proofs.staging.size_with.Given as goal
 
--- the size is that of the table with the entries from the place on over it
+-- the size of the table with the entries from the index on put over it
 abbrev pub invariant-loop-at : goal.invariant-loop-at
 invariant-loop-at l =
     record {

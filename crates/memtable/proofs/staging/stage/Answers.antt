@@ -29,7 +29,7 @@ loop-edit-preserved c =
           let edited : over (slot_entries c.put.new.slots.items) table ≡ with_edit (over staged table) c.in-Some.edit = upper ∙ ap (λ (e : Entry). put byte_cmp e.0 e.1 (over staged table)) c.in_ok-slot.ensures.entry in
           ap (λ (es : List Entry). with_edits es rest) edited ∙ ap (with_edits (over staged table)) (sym first) ∙ c.loop-edit.invariant.edited table r;
       limits = subst (λ (es : List Entry). AllByRecursion IsEntry es) (sym made) (each-put entry.0 entry.1 staged c.in_ok-slot.ensures.limits c.loop-edit.invariant.limits);
-      room = let a = c.loop-edit.invariant.room in let b = c.put.ensures.len in let d = c.put.ensures.capacity in omega (arith, len);
+      room = let a = c.loop-edit.invariant.room in let b = c.put.ensures.grows.0 in let d = c.put.ensures.grows.1 in omega (arith, len);
       edits = all.1;
       keys = λ (left : AllByRecursion HasStoredKey rest). c.loop-edit.invariant.keys (subst (λ (es : List Edit). AllByRecursion HasStoredKey es) (sym first) (c.in_ok-slot.ensures.key, left));
     }

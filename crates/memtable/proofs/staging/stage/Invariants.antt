@@ -7,7 +7,7 @@ use Rattle.memtable.specs.Slots.{slot_entries, over}
 use Rattle.memtable.specs.Edits.{with_edits, HasStoredKey}
 use Rattle.memtable.proofs.staging.stage.Given as goal
 
--- the staged entries over any table, with the edits that are left, are what all edits make
+-- the staged entries over any table, and then the remaining edits, have the effect of all edits
 abbrev pub invariant-loop-edit : goal.invariant-loop-edit
 invariant-loop-edit l =
     record {

@@ -7,13 +7,13 @@ use Rattle.std.proofs.KnownBytes.{Consumes-trans}
 use borrow.Rule.Slice.PartMut.{put_mid, post_of}
 use Rattle.oracle.proofs.folder.fill.Goals as goal
 
--- a front, and then more
+-- a prefix, followed by more bytes
 front_then : (a b : ℕ) (old new : List ℕ) → a ≤ b → take a new ≡ take a old → take a old ++ slice_range new a b ≡ take b new
 front_then a b old new within front =
     let same : a + (b - a) ≡ b = omega arith in
     ap (λ l. l ++ slice_range new a b) (sym front) ∙ sym (take-add a (b - a) new) ∙ ap (λ n. take n new) same
 
--- what was put in the middle stands there
+-- the bytes put in the middle are there
 put_there : (a k n : ℕ) (xs ys : List ℕ) → a ≤ length xs → n ≤ length ys → slice_range (put_mid a k xs ys) a (a + n) ≡ take n ys
 put_there a k n xs ys within fits =
     let same : (a + n) - a ≡ n = omega arith in

@@ -2,7 +2,7 @@ use Rattle.std.proofs.Common.{length, take, ◌-◌, ◌≤◌, ◌≡◌}
 use Rattle.std.specs.Io.KnownBytes.{Consumes}
 use Rattle.oracle.proofs.folder.fill.Given as goal
 
--- the buffer keeps its length, what was read fits into it, and its front is what was read
+-- the buffer keeps its length, the bytes read fit into it, and they are its prefix
 abbrev pub invariant-loop-at : goal.invariant-loop-at
 invariant-loop-at g l =
     (l.at ≤ length l.bytes) × (length l.bytes ≡ length l.initial.bytes)

@@ -1,4 +1,4 @@
--- What was pushed stands alone.
+-- The pushed tablet is the only one.
 use Rattle.std.proofs.Common.{[], ◌∷◌, ◌++◌, ap, ◌∙◌}
 use Rattle.row_atomic.proofs.cluster.first_tablet.Goals as goal
 

@@ -1,4 +1,4 @@
--- What was called tells the outcome.
+-- The call's result gives the outcome.
 use Rattle.std.proofs.Common.{refl}
 use Rattle.row_atomic.proofs.commands.done.Goals as goal
 

@@ -1,4 +1,4 @@
--- What was found is the number of the row's tablet, and so is what the table tells.
+-- The cached number is the number of the row's tablet, and so is the number from the table.
 use Rattle.std.proofs.Common.{◌≡◌, ◌+◌, ◌-◌, refl, sym, subst, ◌∙◌, arith}
 use Rattle.metadata_table.specs.Places.{view_of}
 use Rattle.row_atomic.specs.PlaceCaches.{AreHeld, IsHeldBy}

@@ -31,7 +31,7 @@ pub fn newest<R: Rows>(alloc: Global, rows: &mut R, row: u8) -> Result<u8, Refus
     }
 }
 
-/// The first byte of the row of the next cell after that of a row, or a dash.
+/// The first byte of the row of the next cell after a row's cell, or a dash.
 pub fn next<R: Rows>(alloc: Global, rows: &mut R, row: u8) -> Result<u8, Refusal> {
     let row = Row::new(alloc, &[row])?;
     let family = Family::new(alloc, b"bal")?;
@@ -41,7 +41,7 @@ pub fn next<R: Rows>(alloc: Global, rows: &mut R, row: u8) -> Result<u8, Refusal
     }
 }
 
-/// The first bytes of the rows of the next cells from the start on, this many at most.
+/// The first bytes of the rows of the next cells from the start, at most `most` of them.
 fn next_rows<R: Rows>(alloc: Global, rows: &mut R, most: usize) -> Result<Vec<u8>, Refusal> {
     let mut found = Vec::new(alloc);
     for (row, _) in rows.next_cells(None, most)? {
@@ -50,7 +50,7 @@ fn next_rows<R: Rows>(alloc: Global, rows: &mut R, most: usize) -> Result<Vec<u8
     Ok(found)
 }
 
-/// Those of the rows `a`, `n` and `z` that have data.
+/// The rows among `a`, `n` and `z` that have data.
 fn rows_with_data<R: Rows>(alloc: Global, rows: &mut R) -> Result<Vec<u8>, Refusal> {
     let family = Family::new(alloc, b"bal")?;
     let mut found = Vec::new(alloc);
@@ -136,7 +136,7 @@ impl Subject for Plain {
     }
 }
 
-/// A cluster of one tablet with two files and a write in its memtable. Two more files are no tablet's.
+/// A cluster of one tablet with two files and a write in its memtable. Two more files belong to no tablet.
 #[derive(Drop)]
 pub struct Clustered {
     cluster: Cluster<MemFiles>,
@@ -168,7 +168,7 @@ const CLUSTER_CALLS: [Call; 13] = [
     (b"an", b"54\x0E\x0B"),
     // versions
     (b"531", b"54\x0E\x0B"),
-    // has_version: of a value in a file, of one in the memtable and of none
+    // has_version: of a value in a file, one in the memtable, and none
     (b"an", b"54\x0E\x0B"),
 ];
 
@@ -188,7 +188,7 @@ fn refused_merge(cluster: &mut Cluster<MemFiles>, tablet: u32) -> u8 {
     }
 }
 
-/// Runs a command that looks for the first cell: whether its row is this.
+/// Runs a command that looks for the first cell; answers whether its row is this one.
 fn is_first(
     alloc: Global,
     cluster: &mut Cluster<MemFiles>,
@@ -202,8 +202,8 @@ fn is_first(
     }
 }
 
-/// The writes of a new cluster, each followed by this many minor compactions, and by a merge of two files if there are
-/// two of them.
+/// The writes into a new cluster, each followed by this many minor compactions, and by a merge of two files once there
+/// are two.
 const WRITES: [(u8, Stamp, u8, u8); 5] = [
     (b'a', 1, b'1', 0),
     (b'n', 1, b'2', 1),

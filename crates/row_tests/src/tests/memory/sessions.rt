@@ -9,8 +9,8 @@ use std::alloc::Global;
 use testing::memory::{Call, Subject, Table};
 use txn_client::Clients;
 
-/// Sessions: 1 has committed `a` and `n` at 2, 3 holds `b`, and 4 has a write of `n` and 5 one of `b`.
-/// Session 6 reads.
+/// Sessions: session 1 has committed `a` and `n` at 2, 3 holds the lock of `b`, 4 has a write of `n`, 5 has a write of
+/// `b`, and 6 reads.
 #[derive(Drop)]
 pub struct Sessions {
     clients: Clients,
@@ -18,7 +18,7 @@ pub struct Sessions {
     oracle: Oracle<MemMark>,
 }
 
-/// What is read are `a` and `b` by session 6, the newest data of `a`, `b` and `n`, and the top.
+/// The state read after a call: `a` and `b` by session 6, the newest data of `a`, `b` and `n`, and the top.
 const CALLS: [Call; 13] = [
     // begin
     (b"\x07", b"1L162\x07"),
@@ -26,19 +26,19 @@ const CALLS: [Call; 13] = [
     (b"1", b"1L162\x06"),
     // get of a lock
     (b"L", b"1L162\x06"),
-    // set of a further cell
+    // set of another cell
     (b"", b"1L162\x06"),
     // set of the same cell
     (b"", b"1L162\x06"),
     // step that draws
     (b"\x03\x07", b"1L162\x07"),
-    // step that holds
+    // step that locks
     (b"\x01\x01", b"1L168\x06"),
     // step that meets a lock
     (b"\x02\x01", b"1L162\x06"),
     // stop
     (b"", b"1L162\x06"),
-    // delete of a further cell
+    // delete of another cell
     (b"", b"1L162\x06"),
     // delete of the same cell
     (b"", b"1L162\x06"),
@@ -48,7 +48,7 @@ const CALLS: [Call; 13] = [
     (b"1L+", b"1L162\x06"),
 ];
 
-/// An oracle whose mark is in memory, with nothing drawn.
+/// An oracle with its mark in memory, and nothing drawn.
 pub fn new_oracle(mark: MemMark) -> Result<Oracle<MemMark>, Refusal> {
     match Oracle::open(mark) {
         Ok(oracle) => Ok(oracle),
@@ -56,7 +56,7 @@ pub fn new_oracle(mark: MemMark) -> Result<Oracle<MemMark>, Refusal> {
     }
 }
 
-/// What a step came to, and the lowest byte of its cell or stamp.
+/// The result of a step, and the lowest byte of its cell or stamp.
 fn told(progress: Progress) -> [u8; 2] {
     let (kind, number) = match progress {
         Progress::Held(cell, _) => (1, u64::from(cell)),
@@ -69,7 +69,7 @@ fn told(progress: Progress) -> [u8; 2] {
     [kind, (number % 256) as u8]
 }
 
-/// What session 6 finds at a row.
+/// The value that session 6 finds at a row.
 fn get(clients: &mut Clients, rows: &mut PlainRows, row: &[u8]) -> Result<u8, Refusal> {
     match clients.get(rows, 6, row, b"bal")? {
         Found::Value(value) => Ok(value.first().copied().unwrap_or(b' ')),
@@ -78,7 +78,8 @@ fn get(clients: &mut Clients, rows: &mut PlainRows, row: &[u8]) -> Result<u8, Re
     }
 }
 
-/// What a scan of session 6 names: the first byte of a value, L for a lock, and a point at the end of all, or a plus.
+/// The cells in a scan of session 6: the first byte of a value, L for a lock, then a point at the end of all cells, or
+/// a plus.
 fn scan(
     alloc: Global,
     clients: &mut Clients,
@@ -106,7 +107,7 @@ fn scan(
     Ok(out)
 }
 
-/// Sets of the sessions.
+/// The sets of the sessions.
 const SETS: [(Stamp, &[u8], &[u8]); 5] = [
     (1, b"a", b"1"),
     (1, b"n", b"2"),
@@ -116,7 +117,7 @@ const SETS: [(Stamp, &[u8], &[u8]); 5] = [
 ];
 
 impl Sessions {
-    /// Begins this many sessions, makes their sets, and steps of one.
+    /// Begins this many sessions, makes their sets, and runs the steps of one.
     fn begin(&mut self, count: u8, starts: (Stamp, Stamp), steps: u8) -> Result<(), Refusal> {
         for _ in 0..count {
             self.clients.begin(&mut self.oracle)?;
@@ -133,18 +134,18 @@ impl Sessions {
         Ok(())
     }
 
-    /// Begins a session: the lowest byte of its start.
+    /// Begins a session; answers the lowest byte of its start.
     fn start(&mut self) -> Result<u8, Refusal> {
         Ok((self.clients.begin(&mut self.oracle)? % 256) as u8)
     }
 
-    /// What a step of a session comes to.
+    /// The result of a step of a session.
     fn step(&mut self, start: Stamp) -> Result<[u8; 2], Refusal> {
         let progress = self.clients.step(&mut self.rows, &mut self.oracle, start)?;
         Ok(told(progress))
     }
 
-    /// The calls that answer nothing.
+    /// The calls without an answer.
     fn call(&mut self, number: usize) -> Result<(), Refusal> {
         match number {
             3 => self.clients.set(4, b"a", b"bal", b"7"),

@@ -5,7 +5,7 @@ use Rattle.rows.specs.Calls.{OnlyReads}
 use Rattle.rows.proofs.Halves.{IsRest}
 use Rattle.rows.proofs.oldest_version.oldest.Given as goal
 
--- what was found is a version, and the oldest one stands between low and it
+-- `found` is a version, and the oldest one is between `low` and it
 abbrev pub invariant-loop-low : goal.invariant-loop-low
 invariant-loop-low g l = record {
   reads : OnlyReads g.R.Rows.seen l.fn.rows l.rows;

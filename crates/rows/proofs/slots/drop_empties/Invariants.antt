@@ -3,7 +3,7 @@ use Rattle.std.specs.Vec.Iter.{into_iter_items}
 use Rattle.rows.specs.Slots.{slot_cells, IsFullBut}
 use Rattle.rows.proofs.slots.drop_empties.Given as goal
 
--- the cells stay, and only the keys that are left may have empty slots
+-- the cells are unchanged, and only the remaining keys may have empty slots
 abbrev pub invariant-loop-key : goal.invariant-loop-key
 invariant-loop-key l =
     record {

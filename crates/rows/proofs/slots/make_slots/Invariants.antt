@@ -4,7 +4,7 @@ use Rattle.cell_key.specs.declared.keys.CellKey.{CellKey}
 use Rattle.rows.specs.Slots.{slot_cells, HasSlot, EmptiesNone}
 use Rattle.rows.proofs.slots.make_slots.Given as goal
 
--- the cells stay, the keys so far have slots, and other keys have no new one
+-- the cells are unchanged, the keys so far have slots, and no other key has a new one
 abbrev pub invariant-loop-key : goal.invariant-loop-key
 invariant-loop-key l =
     record {

@@ -1,4 +1,4 @@
--- so far these versions are the newest, if those from the last stamp down follow them
+-- so far these are the newest versions, if the ones from the last stamp down are appended
 use Rattle.std.proofs.Common.{◌≤◌, ◌-◌, length, map}
 use Rattle.std.specs.List.{AllByRecursion}
 use Rattle.cell_key.specs.Cells.{version}

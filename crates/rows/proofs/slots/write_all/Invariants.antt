@@ -6,7 +6,7 @@ use Rattle.cell_key.specs.declared.keys.CellKey.{CellKey}
 use Rattle.rows.specs.Slots.{slot_cells, slot_at, HasEdited}
 use Rattle.rows.proofs.slots.write_all.Given as goal
 
--- the edits that are left lead to where all of them do, have slots, and empty none but theirs
+-- the remaining edits give the same cells as all edits, have slots, and only their slots become empty
 abbrev pub invariant-loop-edit : goal.invariant-loop-edit
 invariant-loop-edit l =
     record {

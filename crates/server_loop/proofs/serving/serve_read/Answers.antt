@@ -20,7 +20,7 @@ returns-in-Ok-eq0-clause-reads g c =
     let none = none_held _ c.args.framer.now c.is_empty.ensures c.if-is_empty.true in
     ServesOn-none _ _ _ (Ok ends.Clean) _ _ _ _ _ _ _ consumed c.requires.partial c.in_ok-flush.ensures.kept (none, end)
 
--- nothing was read, and a part of a frame is at hand
+-- nothing was read, and part of a frame is at hand
 pub returns-in-Ok-eq0-2-clause-reads : goal.returns-in-Ok-eq0-2-clause-reads
 returns-in-Ok-eq0-2-clause-reads g c =
     let (consumed, end) = at_its_end c.in-Ok-eq0.field-0 c.read.new.buf _ _ (let test = c.in-Ok-eq0.field-0-test in grind (arith, nat_tests)) (omega (arith, c.requires.piece, c.read.auto.buf)) c.in-Ok-eq0.ensures.bytes in

@@ -9,8 +9,8 @@ use testing::FILE_LIMIT;
 use testing::frames::stream_of;
 use testing::memory::{Call, Subject, Table};
 
-/// What a server is asked for first. Then sessions stand at each phase, a cleaner is to take its first step and another its
-/// second, a collector is open, and there are two files and a memtable.
+/// The requests that set a server up. After them there are sessions in each phase, a cleaner before its first step and
+/// another before its second, an open collector, two files and a memtable.
 const SET_UP: [&[u8]; 42] = [
     // Begin: 1
     b"\x01",
@@ -98,7 +98,7 @@ const SET_UP: [&[u8]; 42] = [
     b"\x08",
 ];
 
-/// What is read: cells at each phase, and whether there is a second tablet.
+/// The reads: cells in each phase, and whether there is a second tablet.
 const READS: [&[u8]; 8] = [
     // Get 12 a c
     b"\x02\0\0\0\0\0\0\0\x0C\0\0\0\x01a\0\0\0\x01c",
@@ -182,7 +182,7 @@ const REQUESTS: [&[u8]; 30] = [
     b"\x31\0\0\0\0\0\0\0\x0C\x01\0\x01\0\0\0\x01a\x01\0\0\0\x01c\0\0\0\x02",
 ];
 
-/// What is read before a call.
+/// The state before a call.
 const STILL: &[u8] = b"\
     \0\0\0\x07\x82\x01\0\0\0\x013\
     \0\0\0\x0A\x82\x02\0\0\0\0\0\0\0\x09\
@@ -193,7 +193,7 @@ const STILL: &[u8] = b"\
     \0\0\0\x02\xFF\x0E\
     \0\0\0\x02\xFF\x0B";
 
-/// What is read after Step 10.
+/// The state after Step 10.
 const HELD: &[u8] = b"\
     \0\0\0\x07\x82\x01\0\0\0\x013\
     \0\0\0\x0A\x82\x02\0\0\0\0\0\0\0\x09\
@@ -204,7 +204,7 @@ const HELD: &[u8] = b"\
     \0\0\0\x02\xFF\x0E\
     \0\0\0\x02\xFF\x0B";
 
-/// What is read after Step 5.
+/// The state after Step 5.
 const COMMITTED: &[u8] = b"\
     \0\0\0\x07\x82\x01\0\0\0\x013\
     \0\0\0\x0A\x82\x02\0\0\0\0\0\0\0\x09\
@@ -215,7 +215,7 @@ const COMMITTED: &[u8] = b"\
     \0\0\0\x02\xFF\x0E\
     \0\0\0\x02\xFF\x0B";
 
-/// What is read after Step 7, and after CleanStep 2.
+/// The state after Step 7, and after CleanStep 2.
 const FINISHED: &[u8] = b"\
     \0\0\0\x07\x82\x01\0\0\0\x013\
     \0\0\0\x0A\x82\x02\0\0\0\0\0\0\0\x09\
@@ -226,7 +226,7 @@ const FINISHED: &[u8] = b"\
     \0\0\0\x02\xFF\x0E\
     \0\0\0\x02\xFF\x0B";
 
-/// What is read after CleanStep 1.
+/// The state after CleanStep 1.
 const ROLLED_BACK: &[u8] = b"\
     \0\0\0\x07\x82\x01\0\0\0\x013\
     \0\0\0\x0A\x82\x02\0\0\0\0\0\0\0\x09\
@@ -237,7 +237,7 @@ const ROLLED_BACK: &[u8] = b"\
     \0\0\0\x02\xFF\x0E\
     \0\0\0\x02\xFF\x0B";
 
-/// What is read after a split.
+/// The state after a split.
 const SPLIT: &[u8] = b"\
     \0\0\0\x07\x82\x01\0\0\0\x013\
     \0\0\0\x0A\x82\x02\0\0\0\0\0\0\0\x09\
@@ -394,7 +394,7 @@ const CALLS: [Call; 61] = [
     ),
 ];
 
-/// The number of the refusal of a request, or 0, unless memory was refused.
+/// The number of a request's refusal, or 0 if it isn't refused. The refusal NoMemory is an error.
 fn number_of(server: &mut MemServer, body: &[u8]) -> Result<u8, Refusal> {
     let Some(request) = decode_request(body) else {
         return Err(Refusal::BadRequest);
@@ -406,7 +406,7 @@ fn number_of(server: &mut MemServer, body: &[u8]) -> Result<u8, Refusal> {
     }
 }
 
-/// What a server writes for a stream, after what is there.
+/// Serves a stream, and appends the replies to `out`.
 fn written(server: &mut MemServer, stream: &[u8], out: Vec<u8>) -> Result<Vec<u8>, Refusal> {
     let mut stream = stream;
     let mut out = out;

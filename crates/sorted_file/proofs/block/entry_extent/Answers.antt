@@ -5,7 +5,7 @@ use Rattle.cell_key.specs.Entries.{Entry, spelled}
 use Rattle.sorted_file.proofs.Seams.{behind_front, text_part, value_part}
 use Rattle.sorted_file.proofs.block.entry_extent.Goals as goal
 
--- what stands at the places of an entry and behind it is what was found
+-- the entry found is at the extents, and the rest behind it
 at_place : (bytes after : List ℕ) (at end : ℕ) (found placed : Entry) → drop at bytes ≡ spelled found ++ after → drop end bytes ≡ after → placed ≡ found → drop at bytes ≡ spelled placed ++ drop end bytes
 at_place bytes after at end found placed e behind same =
     e ∙ ap (λ (b : Entry). spelled b ++ after) (sym same) ∙ ap (λ (l : List ℕ). spelled placed ++ l) (sym behind)

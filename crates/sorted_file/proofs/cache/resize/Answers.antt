@@ -1,4 +1,4 @@
--- What is left was there.
+-- The blocks left were cached before.
 use Rattle.std.proofs.Common.{ℕ, subst}
 use Rattle.std.specs.Prelude.{Contains}
 use Rattle.lru.specs.LruCache.{LruCache}

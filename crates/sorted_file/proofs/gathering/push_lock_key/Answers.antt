@@ -1,4 +1,4 @@
--- A key that isn't a lock's needs no number.
+-- A key that isn't a lock's needs no hash.
 use Rattle.std.proofs.Common.{◌≡◌, true, false, ap, sym, ◌∙◌}
 use Rattle.cell_key.specs.declared.keys.CellKey.{CellKey}
 use Rattle.sorted_file.proofs.ColumnsOf.{lent_is}

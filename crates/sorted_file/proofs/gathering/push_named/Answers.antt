@@ -1,4 +1,4 @@
--- What is added is the key of the text.
+-- The key added is the key with the text.
 use Rattle.std.proofs.Common.{◌≡◌, inl, inr, ⊎_elim, List, Contains, ◌∙◌, ap, subst}
 use Rattle.std.proofs.lemmas.List.Elements.{Contains-push_cases}
 use Rattle.cell_key.specs.Keys.{text}

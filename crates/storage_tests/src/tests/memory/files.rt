@@ -10,23 +10,23 @@ use testing::FILE_LIMIT;
 use testing::edits::{data_key, edits_of};
 use testing::memory::{Call, Subject, Table};
 
-/// The refusal of a call of files.
+/// The result of a call of files, as a refusal.
 pub fn refused<T>(call: Result<T, FileFault>) -> Result<T, Refusal> {
     call.map_err(|fault| refusal_of(fault))
 }
 
-/// Files in memory, and names that others are appended to.
+/// Files in memory, and a list of names that others are appended to.
 #[derive(Drop)]
 pub struct Stored {
     files: MemFiles,
     names: Vec<u64>,
 }
 
-/// What is read are how many names there are, and the first four bytes of the files 1 to 3.
+/// The state read after a call: the number of names, and the first four bytes of the files 1 to 3.
 const FILE_CALLS: [Call; 6] = [
     // put of a new file
     (b"", b"\x01one-two-6789"),
-    // put in place of a file
+    // put over a file
     (b"", b"\x01six-two-----"),
     // list
     (b"", b"\x03one-two-----"),
@@ -34,7 +34,7 @@ const FILE_CALLS: [Call; 6] = [
     (b"two", b"\x01one-two-----"),
     // remove
     (b"", b"\x01----two-----"),
-    // put_owned in place of a file
+    // put_owned over a file
     (b"", b"\x01six-two-----"),
 ];
 
@@ -77,7 +77,7 @@ impl Subject for Stored {
     }
 }
 
-/// A sorted file with a write of `a` at 1, and a memtable with one at 2.
+/// A sorted file with a write of `a` at 1, and a memtable with a write of `a` at 2.
 #[derive(Drop)]
 pub struct Sorted {
     files: MemFiles,
@@ -85,8 +85,8 @@ pub struct Sorted {
     table: Memtable,
 }
 
-/// What is read are the sizes of the files 1 to 3, the values of the memtable in the order of their keys, with x for an
-/// erasure, and those of the sorted file at 9 and 1.
+/// The state read after a call: the sizes of the files 1 to 3, the values of the memtable in the order of their keys,
+/// with x for an erasure, and the values of the sorted file at 9 and 1.
 const SORTED_CALLS: [Call; 7] = [
     // write_file
     (b"", b"\x95\x95-x2x1"),
@@ -125,7 +125,7 @@ fn first_byte(entry: Option<EntryRef<'_>>) -> u8 {
     }
 }
 
-/// What a sorted file has at a stamp of `a`.
+/// The entry of a sorted file at a stamp of `a`.
 fn found(
     alloc: Global,
     file: &mut SortedFile,
@@ -148,7 +148,7 @@ fn size_of(files: &mut MemFiles, name: u64) -> Result<u8, Refusal> {
     }
 }
 
-/// Writes a memtable and perhaps a file, the newer first, as a file of a name.
+/// Writes a memtable and perhaps a file, the newer first, as a file with a name.
 pub fn merge(
     alloc: Global,
     table: &Memtable,
@@ -175,7 +175,7 @@ pub fn merge(
     Ok(())
 }
 
-/// Writes a sorted file again as the file 2: the name of what was written.
+/// Writes a sorted file again as the file 2; answers the name of the file written.
 pub fn write_again(alloc: Global, file: &SortedFile, files: &mut MemFiles) -> Result<u64, Refusal> {
     let mut cursor = file.cursor(b"");
     let none = LockIndex::new(alloc);

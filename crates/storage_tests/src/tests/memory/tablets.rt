@@ -1,4 +1,4 @@
-//! Tablets, and the table of their places.
+//! Tablets, and the metadata table.
 
 use cell_key::{Family, Qualifier, Refusal, Row, Stamp};
 use file_store::MemFiles;
@@ -10,7 +10,7 @@ use testing::FILE_LIMIT;
 use testing::edits::edits_of;
 use testing::memory::{Call, Subject, Table};
 
-/// A tablet over its files, and names that others are appended to.
+/// A tablet over its files, and a list of names that others are appended to.
 #[derive(Drop)]
 pub struct Served {
     tablet: Tablet,
@@ -19,9 +19,9 @@ pub struct Served {
     names: Vec<u64>,
 }
 
-/// What is read are the row of the first cell, the values of `a`, `b` and `c`, how many lists there are (files, and the
-/// memtable if it has entries) and how many names. So it is as before if a split or an unload that is refused has written
-/// the memtable.
+/// The state read after a call: the row of the first cell, the values of `a`, `b` and `c`, the number of lists (files,
+/// and the memtable if it has entries) and the number of names. So it is the same if a refused split or unload has
+/// written the memtable.
 const CALLS: [Call; 14] = [
     // newest
     (b"3", b"a345\x03\x01"),
@@ -31,13 +31,13 @@ const CALLS: [Call; 14] = [
     (b"b", b"a345\x03\x01"),
     // apply
     (b"", b"a365\x03\x01"),
-    // minor: how many files there are, as of the next two
+    // minor: the number of files, like the next two
     (b"\x03", b"a345\x03\x01"),
     // merge
     (b"\x01", b"a345\x02\x01"),
     // major
     (b"\x01", b"a345\x01\x01"),
-    // split: how many files the left part has
+    // split: the number of files of the left part
     (b"\x03", b"c5\x03\x01"),
     // unload
     (b"\x03", b"a345\x03\x01"),
@@ -47,13 +47,13 @@ const CALLS: [Call; 14] = [
     (b"", b"a345\x03\x03"),
     // next_cells from the start
     (b"abc", b"a345\x03\x01"),
-    // has_version: of a value in a file, of one in the memtable and of none
+    // has_version: of a value in a file, one in the memtable, and none
     (b"ab", b"a345\x03\x01"),
     // versions
     (b"31", b"a345\x03\x01"),
 ];
 
-/// A row of one byte forty times, so that it and the texts of its keys take memory.
+/// A row of one byte forty times, so that the row and the texts of its keys allocate.
 fn row_of(alloc: Global, byte: u8) -> Result<Row, Refusal> {
     Row::new(alloc, &[byte; 40])
 }
@@ -71,7 +71,7 @@ fn write(
     tablet.apply(&row, edits)
 }
 
-/// The writes of a new tablet, and whether a minor compaction follows.
+/// The writes into a new tablet, and whether a minor compaction follows.
 const WRITES: [(u8, Stamp, u8, bool); 5] = [
     (b'a', 1, b'1', false),
     (b'b', 1, b'2', true),
@@ -103,7 +103,7 @@ fn first(tablet: &Tablet, files: &mut MemFiles) -> Result<u8, Refusal> {
     }
 }
 
-/// The first byte of the row of the cell after that of `a`, or a dash.
+/// The first byte of the row of the cell after the cell of `a`, or a dash.
 fn next(alloc: Global, tablet: &Tablet, files: &mut MemFiles) -> Result<u8, Refusal> {
     let row = row_of(alloc, b'a')?;
     let family = Family::new(alloc, b"bal")?;
@@ -113,7 +113,7 @@ fn next(alloc: Global, tablet: &Tablet, files: &mut MemFiles) -> Result<u8, Refu
     }
 }
 
-/// Those of the rows `a`, `b` and `d` that have data.
+/// The rows among `a`, `b` and `d` that have data.
 fn rows_with_data(
     alloc: Global,
     tablet: &mut Tablet,
@@ -173,7 +173,7 @@ impl Served {
     }
 }
 
-/// Loads a tablet of all rows: how many files it has.
+/// Loads a tablet of all rows; answers how many files it has.
 fn load(alloc: Global, files: &mut MemFiles) -> Result<u8, Refusal> {
     let range = RowRange {
         after: None,
@@ -252,7 +252,8 @@ pub struct Placed {
     table: MetadataTable,
 }
 
-/// What is read are of each place the tablet, the server, how many files it has, and the first byte of its end.
+/// The state read after a call: of each place the tablet, the server, the number of files, and the first byte of its
+/// end.
 const PLACE_CALLS: [Call; 4] = [
     // MetadataTable::new
     (b"\x01", b"\x02\x03\x01m\x01\x03\x01-"),
@@ -266,7 +267,7 @@ const PLACE_CALLS: [Call; 4] = [
 
 pub const PLACED: Table = (b"\x02\x03\x01m\x01\x03\x01-", &PLACE_CALLS);
 
-/// Splits a table of places at a row: the number of the left part.
+/// Splits a metadata table at a row; answers the number of the left part.
 pub fn split_at(alloc: Global, table: &mut MetadataTable, row: &[u8]) -> Result<u8, Refusal> {
     let row = Row::new(alloc, row)?;
     Ok((table.split_at(&row)? % 256) as u8)

@@ -28,11 +28,6 @@ returns-clause-made g c =
 pub returns-clause-named : goal.returns-clause-named
 returns-clause-named g c = (c.resize_cache.ensures.stays None).name ∙ c.in_ok-file.ensures.named ∙ c.in_ok-name.ensures.name
 
-pub returns-clause-others : goal.returns-clause-others
-returns-clause-others g c =
-    subst (λ (name : ℕ). KeepsOthers name (g.F.Files.contents c.args.files.now) (g.F.Files.contents c.merge_into.new.files)) c.in_ok-name.ensures.name
-    (others_kept (g.F.Files.contents c.args.files.now) (g.F.Files.contents c.merge_into.new.files) c.in_ok-name.name c.in_ok-file.ensures.written.0 c.in_ok-file.ensures.written.1.0)
-
 pub returns-clause-name : goal.returns-clause-name
 returns-clause-name g c = record {
   uses = inr (
@@ -49,11 +44,14 @@ returns-clause-fits g c =
     (λ m. AreAtStart g.S.Source.lent (g.S.Source.holds m) c.args.sources.items) (λ m. written c.args.keep_erasures (map (g.S.Source.remaining m) c.args.sources.items))
     c.in_ok-file.ensures.written
 
-pub returns-clause-used : goal.returns-clause-used
-returns-clause-used g c = c.in_ok-name.ensures.used
-
-pub returns-clause-left : goal.returns-clause-left
-returns-clause-left g c = c.in_ok-name.ensures.left
+pub returns-clause-wrote : goal.returns-clause-wrote
+returns-clause-wrote g c = record {
+  left = c.in_ok-name.ensures.left;
+  used = c.in_ok-name.ensures.used;
+  others =
+      subst (λ (name : ℕ). KeepsOthers name (g.F.Files.contents c.args.files.now) (g.F.Files.contents c.merge_into.new.files)) c.in_ok-name.ensures.name
+      (others_kept (g.F.Files.contents c.args.files.now) (g.F.Files.contents c.merge_into.new.files) c.in_ok-name.name c.in_ok-file.ensures.written.0 c.in_ok-file.ensures.written.1.0);
+}
 
 pub returns-clause-comes : goal.returns-clause-comes
 returns-clause-comes g c = c.in_ok-file.ensures.comes
@@ -64,14 +62,8 @@ returns-in_err-name-clause-named g c = passed_none c.from_residual.result c.in_e
 pub returns-in_err-name-clause-made : goal.returns-in_err-name-clause-made
 returns-in_err-name-clause-made g c = passed_none c.from_residual.result c.in_err-name.field-0.0 _ c.from_residual.ensures.1
 
-pub returns-in_err-name-clause-used : goal.returns-in_err-name-clause-used
-returns-in_err-name-clause-used g c = passed_none c.from_residual.result c.in_err-name.field-0.0 _ c.from_residual.ensures.1
-
-pub returns-in_err-name-clause-others : goal.returns-in_err-name-clause-others
-returns-in_err-name-clause-others g c = passed_none c.from_residual.result c.in_err-name.field-0.0 _ c.from_residual.ensures.1
-
-pub returns-in_err-name-clause-left : goal.returns-in_err-name-clause-left
-returns-in_err-name-clause-left g c = passed_none c.from_residual.result c.in_err-name.field-0.0 _ c.from_residual.ensures.1
+pub returns-in_err-name-clause-wrote : goal.returns-in_err-name-clause-wrote
+returns-in_err-name-clause-wrote g c = passed_none c.from_residual.result c.in_err-name.field-0.0 _ c.from_residual.ensures.1
 
 pub returns-in_err-name-clause-fits : goal.returns-in_err-name-clause-fits
 returns-in_err-name-clause-fits g c = passed_none c.from_residual.result c.in_err-name.field-0.0 _ c.from_residual.ensures.1
@@ -103,14 +95,8 @@ returns-in_err-file-clause-named g c = passed_none c.from_residual-in_err-file.r
 pub returns-in_err-file-clause-made : goal.returns-in_err-file-clause-made
 returns-in_err-file-clause-made g c = passed_none c.from_residual-in_err-file.result c.in_err-file.field-0.0 _ c.from_residual-in_err-file.ensures.1
 
-pub returns-in_err-file-clause-used : goal.returns-in_err-file-clause-used
-returns-in_err-file-clause-used g c = passed_none c.from_residual-in_err-file.result c.in_err-file.field-0.0 _ c.from_residual-in_err-file.ensures.1
-
-pub returns-in_err-file-clause-others : goal.returns-in_err-file-clause-others
-returns-in_err-file-clause-others g c = passed_none c.from_residual-in_err-file.result c.in_err-file.field-0.0 _ c.from_residual-in_err-file.ensures.1
-
-pub returns-in_err-file-clause-left : goal.returns-in_err-file-clause-left
-returns-in_err-file-clause-left g c = passed_none c.from_residual-in_err-file.result c.in_err-file.field-0.0 _ c.from_residual-in_err-file.ensures.1
+pub returns-in_err-file-clause-wrote : goal.returns-in_err-file-clause-wrote
+returns-in_err-file-clause-wrote g c = passed_none c.from_residual-in_err-file.result c.in_err-file.field-0.0 _ c.from_residual-in_err-file.ensures.1
 
 pub returns-in_err-file-clause-fits : goal.returns-in_err-file-clause-fits
 returns-in_err-file-clause-fits g c = passed_none c.from_residual-in_err-file.result c.in_err-file.field-0.0 _ c.from_residual-in_err-file.ensures.1

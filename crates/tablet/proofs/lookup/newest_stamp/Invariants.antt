@@ -7,7 +7,7 @@ use Rattle.sorted_file.specs.Newest.{at_stamp, IsAfterStamp}
 use Rattle.sorted_file.specs.File.{IsOpen, IsSameFile, listed}
 use Rattle.tablet.proofs.lookup.newest_stamp.Given as goal
 
--- what the files that are left show after the stamp that was found is what all of them show there
+-- after the stamp found the remaining files show the same as all files
 abbrev pub invariant-loop-file : goal.invariant-loop-file
 invariant-loop-file g l = record {
   same : g.F.Files.contents l.store ≡ g.F.Files.contents l.initial.store;

@@ -1,4 +1,4 @@
--- One file after the other stays what it was.
+-- Each file stays the same.
 use Rattle.std.proofs.Common.{◌<◌, length, refl, arith}
 use Rattle.tablet.proofs.SameFiles.{same_files, same_set}
 use Rattle.tablet.proofs.open_files.drop_each.Goals as goal

@@ -1,4 +1,4 @@
--- The files are what they were.
+-- The files are the same as before.
 use Rattle.std.proofs.Common.{Option}
 use Rattle.std.specs.List.{AllZip}
 use Rattle.file_store.specs.Store.{Contents}

@@ -1,4 +1,4 @@
--- so far the versions that were found, and those of what is left, are all
+-- the versions found so far, followed by those of the rest, are all
 use Rattle.std.proofs.Common.{◌≡◌, ◌≤◌, ◌++◌, length, map}
 use Rattle.std.specs.List.{AllByRecursion}
 use Rattle.cell_key.specs.Versions.{IsVersion, stamped}

@@ -1,4 +1,4 @@
--- so far no value was passed whose text isn't below the given one
+-- so far no value at or above `past` was passed
 use Rattle.std.proofs.Common.{◌≡◌}
 use Rattle.tablet.proofs.ReadPlaces.{HasPassed}
 use Rattle.tablet.proofs.scan.next_place.Given as goal

@@ -1,4 +1,4 @@
--- so far each place is next after the one before it, and what comes after the last of them is left
+-- so far each place is next after the one before it, and the entries after the last one are still left
 use Rattle.std.proofs.Common.{◌≡◌, ◌≤◌, ◌-◌, length, None}
 use Rattle.cell_key.specs.Places.{AreNext, last_or}
 use Rattle.tablet.specs.Reads.{HasLeft, IsNextIn, past_place}

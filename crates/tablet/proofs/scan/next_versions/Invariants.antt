@@ -1,4 +1,4 @@
--- so far the cells of the entries that were passed are gathered
+-- the cells of the entries passed so far are gathered
 use Rattle.std.proofs.Common.{◌≡◌}
 use Rattle.tablet.specs.Gathering.{IsWithin}
 use Rattle.tablet.proofs.NextVersions.{HasGone}

@@ -7,7 +7,7 @@ use Rattle.rows.proofs.NewestLists.{AreFollowed}
 use Rattle.si_model.specs.ShowsCells.{key_of}
 use Rattle.version_collector.proofs.versions.look_up_records.Given as goal
 
--- so far these records are the newest, if those from the last stamp down follow them
+-- these records are the newest so far, and the records from the last stamp down follow them
 abbrev pub invariant-records : goal.invariant-records
 invariant-records g l = record {
   reads : OnlyReads g.R.Rows.seen l.fn.rows l.rows;

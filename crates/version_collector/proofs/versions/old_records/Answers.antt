@@ -10,7 +10,7 @@ use Rattle.version_collector.proofs.PassedRefusals.{refused_damaged}
 use Rattle.version_collector.proofs.Starts.{HasOlder, not_damaged, nothing_left, older_first, older_last, older_more, older_next, older_none, older_there}
 use Rattle.version_collector.proofs.versions.old_records.Goals as goal
 
--- the newest version is at hand, and is left out
+-- the newest version is at hand, and is skipped
 pub records-init : goal.records-init
 records-init g c =
     let cells = g.R.Rows.seen.cells c.args.rows.now in
@@ -66,7 +66,7 @@ returns-in_err-start-clause-refusal g c =
     (older_there cells x c.args.floor v.0 v.1.items c.records.found.items (map stamped after) (older_next cells x c.args.floor c.records.found.items left after v rest (c.records.invariant.old was.0 was.1)))
     (λ t from to names. c.in_err-start.ensures.damaged t from to (subst (λ (b : List ℕ). NamesStart b t) (sym same) names)) was.1)
 
--- no record stands at or below the floor
+-- there is no record at or below the floor
 pub returns-in_default-clause-found : goal.returns-in_default-clause-found
 returns-in_default-clause-found g c = λ held shown.
     let cells = g.R.Rows.seen.cells c.args.rows.now in

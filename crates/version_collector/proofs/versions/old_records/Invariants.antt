@@ -5,7 +5,7 @@ use Rattle.version_collector.specs.Versions.{AreShown}
 use Rattle.version_collector.proofs.Starts.{HasOlder}
 use Rattle.version_collector.proofs.versions.old_records.Given as goal
 
--- what was found are old records, and those that are left come after them
+-- the records found are old ones, and the remaining ones follow them
 abbrev pub invariant-records : goal.invariant-records
 invariant-records g l = record {
   few : length l.found.items + length l.rest ≤ 128;

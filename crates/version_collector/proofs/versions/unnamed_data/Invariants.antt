@@ -4,7 +4,7 @@ use Rattle.version_collector.specs.Versions.{AreNear, AreShown, HasOneRecord, Is
 use Rattle.version_collector.proofs.Greatest.{AreAll}
 use Rattle.version_collector.proofs.versions.unnamed_data.Given as goal
 
--- what was found is all such data from below on
+-- all such data from this stamp on was found
 abbrev pub invariant-loop-near : goal.invariant-loop-near
 invariant-loop-near g l = record {
   reads : OnlyReads g.R.Rows.seen l.fn.rows l.rows;

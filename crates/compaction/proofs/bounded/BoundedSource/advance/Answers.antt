@@ -15,12 +15,12 @@ below_some : (b : Bool) (e : Entry) → not (not b) ≡ is_some (cond b (Some e)
 below_some true e = refl
 below_some false e = refl
 
--- an entry that the source came to is lent if it isn't at the end
+-- the source's new entry is the current one if it isn't at the end
 comes_below : (end : Option (List ℕ)) (lent : Option Entry) (came past : Bool) → came ≡ is_some lent → came ≡ true → past ≡ is_at_end end lent → not past ≡ is_some (lent_until end lent)
 comes_below end None came past more is at = cc
 comes_below end (Some e) came past more is at = ap not at ∙ below_some (is_below end e.0) e
 
--- and none is where the source came to none
+-- and there is none if the source has none
 comes_none : (end : Option (List ℕ)) (lent : Option Entry) (came : Bool) → came ≡ is_some lent → came ≡ false → came ≡ is_some (lent_until end lent)
 comes_none end None came more is = is
 comes_none end (Some e) came more is = cc

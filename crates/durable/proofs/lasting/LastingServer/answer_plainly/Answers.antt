@@ -6,7 +6,7 @@ use Rattle.durable.proofs.lasting.LastingServer.answer_plainly.Goals as goal
 pub returns-clause-says : goal.returns-clause-says
 returns-clause-says g c =
     record {
-      answered = plain_lasting g.S.Recording.same g.S.Recording.checkpoints g.S.Answering.says g.S.Recording.sweeps c.args.self.now.server c.reply_to.new.self c.args.request c.reply_to.result c.requires c.reply_to.ensures.says;
+      answered = plain_lasting g.S.Recording.same g.S.Recording.checkpoints g.S.Answering.says g.S.Recording.sweeps _ c.args.self.now.server c.reply_to.new.self c.args.request c.reply_to.result c.requires c.reply_to.ensures.says;
       goes_on = λ now reached shown.
           let leaves = c.recording_laws.ensures.leaves c.args.self.now.server c.reply_to.new.self c.args.request c.reply_to.result c.requires c.reply_to.ensures.says now reached shown in
           let (next, step, shows, whole) = c.reply_to.ensures.step now reached shown in

@@ -1,5 +1,7 @@
-use Rattle.std.proofs.Common.{refl}
-use Rattle.durable.proofs.Logged.{recounted}
+use Rattle.std.proofs.Common.{◌∙◌, ℕ, List, ap, inr, refl, sym, subst}
+use Rattle.commit_log.specs.Frames.{bytes_of}
+use Rattle.commit_log.specs.Records.{HasRecord, any_root}
+use Rattle.durable.proofs.Logged.{held_still, ok_through, recounted, true_not_false}
 use Rattle.durable.proofs.Rooted.{settles_then}
 use Rattle.durable.proofs.lasting.LastingServer.name_root.Goals as goal
 
@@ -13,3 +15,9 @@ pub returns-then-is_over_any-clause-settles : goal.returns-then-is_over_any-clau
 returns-then-is_over_any-clause-settles g c =
     let kept = recounted g.S.Recording.stores g.S.Recording.logged g.S.Recording.waiting g.S.Recording.last g.L.Log.holds g.S.Recording.is_rooted c.logs_edits.ensures c.names_roots.ensures g.S.Recording.count c.args.self.now (record c.args.self.now { log = c.records.new.self }) refl c.in-Ok.ensures.same refl g.S.Answering.shows in
     settles_then _ _ _ c.args.self.now (record c.args.self.now { log = c.records.new.self }) _ kept c.root.ensures.settles
+
+pub returns-then-is_over_any-clause-named : goal.returns-then-is_over_any-clause-named
+returns-then-is_over_any-clause-named g c = ok_through c.root.result (λ names now root shown rooted held. names now shown (inr (root, rooted, held_still g.S.Recording.stores g.S.Recording.logged g.S.Recording.waiting g.S.Recording.last g.L.Log.holds g.S.Recording.is_rooted c.logs_edits.ensures c.names_roots.ensures g.S.Recording.count c.args.self.now c.records.new.self root c.in-Ok.ensures.same held))) c.root.ensures.named
+
+pub returns-clause-named : goal.returns-clause-named
+returns-clause-named g c = λ now root shown rooted held. record { records = held.records; in_log = c.in-Ok.ensures.same held.records held.in_log; names = λ has. true_not_false _ (c.is_over_any.ensures.1 (subst (λ (rs : List (List ℕ)). HasRecord rs any_root) (sym (ap bytes_of c.deref.ensures.value ∙ c.in-Ok.ensures.ok held.records held.in_log)) has)) c.if-is_over_any.false }

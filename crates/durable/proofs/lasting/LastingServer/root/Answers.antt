@@ -2,8 +2,10 @@ use Rattle.std.proofs.Common.{◌∙◌, inl, inr, refl, sym}
 use Rattle.metadata_table.specs.Roots.{RootView}
 use Rattle.si_model.specs.Machine.{State, refuses}
 use Rattle.si_model.specs.Refusing.{gives_up}
-use Rattle.durable.specs.Lasts.{Logs}
-use Rattle.durable.proofs.Logged.{holds_any, lasts_any, lasts_on, on_err, on_ok, root_lasts, stays_stored, true_not_false}
+use Rattle.durable.specs.Lasts.{Logs, shown_by}
+use Rattle.durable.specs.Lasts.PutsRoot.{answered, failed}
+use Rattle.durable.proofs.Logged.{holds_any, lasts_any, lasts_on, names_it, ok_through, on_any, on_err, on_ok, root_lasts, stays_stored, true_not_false}
+use Rattle.durable.proofs.Rooted.{named_answer, only_storage, steps_named}
 use Rattle.durable.proofs.lasting.LastingServer.root.Goals as goal
 
 pub returns-then-not-log_waiting-clause-step : goal.returns-then-not-log_waiting-clause-step
@@ -35,10 +37,12 @@ returns-then-is_err-clause-settles g c =
     }
 
 pub returns-in-Ok-clause-step : goal.returns-in-Ok-clause-step
-returns-in-Ok-clause-step g c = λ before reached shown.
-    let mid = c.log_waiting.ensures.shown before shown in
-    let (after, step, shows, whole) = c.in-Ok.ensures.step before reached mid in
-    (after, step, c.empty_log.ensures.shown (c.in-Ok.ensures.done before mid).1 after shows, whole)
+returns-in-Ok-clause-step g c = steps_named (shown_by g.S.Answering.shows) c.args.self.now c.empty_log.new.self c.empty_log.result c.empty_log.ensures.refusal
+    (λ before reached shown.
+        let mid = c.log_waiting.ensures.shown before shown in
+        let (after, step, shows, whole) = c.in-Ok.ensures.step before reached mid in
+        (after, step, c.empty_log.ensures.shown (c.in-Ok.ensures.done before mid).1 after shows, whole))
+    (λ st shown. let mid = c.log_waiting.ensures.shown st shown in c.empty_log.ensures.shown (c.in-Ok.ensures.done st mid).1 st (c.checkpoint_now.ensures.shown st mid))
 
 pub returns-in-Ok-clause-settles : goal.returns-in-Ok-clause-settles
 returns-in-Ok-clause-settles g c =
@@ -57,7 +61,7 @@ returns-in-Ok-clause-settles g c =
     let none = p.keeps.waits ∙ w.waiting is in
     let follows = c.recording_laws.ensures.follows c.checkpoint_now.new.self root now goes put.rooted (p.shown now shows) in
     let holds = holds_any g.S.Recording.stores g.S.Recording.logged g.S.Recording.waiting g.S.Recording.last g.L.Log.holds g.S.Recording.is_rooted c.logs_edits.ensures c.names_roots.ensures g.S.Recording.count c.log_waiting.new.self new held.0.0 root p.keeps.later held.0.2 p.keeps.has (gains held.0.2.records held.0.2.in_log) in
-    let kept = c.empty_log.ensures.kept now put (root_lasts g.S.Recording.stores g.S.Recording.logged g.S.Recording.waiting g.S.Recording.last g.L.Log.holds g.S.Recording.is_rooted c.logs_edits.ensures c.names_roots.ensures g.S.Recording.count new root now follows holds none) in
+    let kept = c.empty_log.ensures.kept now put (inr (root, put.rooted, holds)) (root_lasts g.S.Recording.stores g.S.Recording.logged g.S.Recording.waiting g.S.Recording.last g.L.Log.holds g.S.Recording.is_rooted c.logs_edits.ensures c.names_roots.ensures g.S.Recording.count new root now follows holds none) in
     kept in
     record {
       shown = λ st shown. let mid = w.shown st shown in c.empty_log.ensures.shown (c.in-Ok.ensures.done st mid).1 st (p.shown st mid);
@@ -66,7 +70,7 @@ returns-in-Ok-clause-settles g c =
     }
 
 pub returns-in-Ok-clause-kept : goal.returns-in-Ok-clause-kept
-returns-in-Ok-clause-kept g c = λ now shown logs.
+returns-in-Ok-clause-kept g c = on_any c.empty_log.result (λ now shown logs.
     let is = c.if-not-log_waiting.false in
     let w = c.log_waiting.ensures in
     let p = c.checkpoint_now.ensures in
@@ -81,11 +85,35 @@ returns-in-Ok-clause-kept g c = λ now shown logs.
     let none = p.keeps.waits ∙ w.waiting is in
     let follows = c.recording_laws.ensures.follows c.checkpoint_now.new.self root now goes put.rooted (p.shown now shows) in
     let holds = holds_any g.S.Recording.stores g.S.Recording.logged g.S.Recording.waiting g.S.Recording.last g.L.Log.holds g.S.Recording.is_rooted c.logs_edits.ensures c.names_roots.ensures g.S.Recording.count c.log_waiting.new.self new held.0.0 root p.keeps.later held.0.2 p.keeps.has (gains held.0.2.records held.0.2.in_log) in
-    let kept = c.empty_log.ensures.kept now put (root_lasts g.S.Recording.stores g.S.Recording.logged g.S.Recording.waiting g.S.Recording.last g.L.Log.holds g.S.Recording.is_rooted c.logs_edits.ensures c.names_roots.ensures g.S.Recording.count new root now follows holds none) in
-    (kept.0, c.empty_log.ensures.recording ∙ goes, c.empty_log.ensures.waiting none)
+    let kept = c.empty_log.ensures.kept now put (inr (root, put.rooted, holds)) (root_lasts g.S.Recording.stores g.S.Recording.logged g.S.Recording.waiting g.S.Recording.last g.L.Log.holds g.S.Recording.is_rooted c.logs_edits.ensures c.names_roots.ensures g.S.Recording.count new root now follows holds none) in
+    (kept.0, c.empty_log.ensures.recording ∙ goes, c.empty_log.ensures.waiting none))
 
 pub returns-in-Ok-clause-clean : goal.returns-in-Ok-clause-clean
-returns-in-Ok-clause-clean g c = λ now shown. c.empty_log.ensures.clean (c.in-Ok.ensures.done now (c.log_waiting.ensures.shown now shown)).1
+returns-in-Ok-clause-clean g c = on_any c.empty_log.result (λ now shown. c.empty_log.ensures.clean (c.in-Ok.ensures.done now (c.log_waiting.ensures.shown now shown)).1)
+
+pub returns-in-Ok-clause-done : goal.returns-in-Ok-clause-done
+returns-in-Ok-clause-done g c = on_any c.empty_log.result (c.log_waiting.new.self.server, c.checkpoint_now.new.self, c.log_waiting.ensures.same, c.in-Ok.ensures.says, c.empty_log.ensures.same)
+
+pub returns-in-Ok-clause-answered : goal.returns-in-Ok-clause-answered
+returns-in-Ok-clause-answered g c = named_answer g.S.Recording.same g.S.Recording.checkpoints _ c.args.self.now.server _ c.empty_log.result c.empty_log.ensures.refusal c.empty_log.ensures.stopped (c.log_waiting.new.self.server, c.checkpoint_now.new.self, c.log_waiting.ensures.same, c.in-Ok.ensures.says, c.empty_log.ensures.same)
+
+pub returns-in-Ok-clause-refusal : goal.returns-in-Ok-clause-refusal
+returns-in-Ok-clause-refusal g c = only_storage c.empty_log.result c.empty_log.ensures.refusal
+
+pub returns-in-Ok-clause-named : goal.returns-in-Ok-clause-named
+returns-in-Ok-clause-named g c = ok_through c.empty_log.result (λ renews now shown logs.
+    let held = (c.log_waiting.ensures.ok c.if-not-log_waiting.false now shown logs).0 in
+    let gains = on_ok c.append.result c.is_err.result c.is_err.ensures.value c.if-is_err.false c.append.ensures.ok in
+    record { records = _; in_log = renews _ (gains held.2.records held.2.in_log); names = names_it (g.S.Recording.next_root c.checkpoint_now.new.self) }) c.empty_log.ensures.named
+
+pub returns-then-not-log_waiting-clause-answered : goal.returns-then-not-log_waiting-clause-answered
+returns-then-not-log_waiting-clause-answered g c = failed refl (c.log_waiting.ensures.stopped c.if-not-log_waiting.true) (inl c.log_waiting.ensures.same)
+
+pub returns-then-is_err-clause-answered : goal.returns-then-is_err-clause-answered
+returns-then-is_err-clause-answered g c = failed refl refl (inl c.log_waiting.ensures.same)
+
+pub returns-in-Err-clause-answered : goal.returns-in-Err-clause-answered
+returns-in-Err-clause-answered g c = answered (c.log_waiting.new.self.server, c.checkpoint_now.new.self, c.log_waiting.ensures.same, c.in-Err.ensures.says, g.met.S.Recording.same_self c.checkpoint_now.new.self)
 
 pub returns-in-Err-clause-step : goal.returns-in-Err-clause-step
 returns-in-Err-clause-step g c = λ before reached shown. c.in-Err.ensures.step before reached (c.log_waiting.ensures.shown before shown)

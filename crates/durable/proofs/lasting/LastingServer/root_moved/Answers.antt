@@ -1,10 +1,13 @@
 use Rattle.std.proofs.Common.{◌∙◌, inl, inr, refl}
 use Rattle.request_codec.specs.declared.replies.Reply.TheVariants as codec
+use Rattle.server_loop.specs.Commands.{checkpointed}
+use Rattle.durable.specs.Lasts.PutsRoot.{answered, failed}
+use Rattle.durable.proofs.Rooted.{named_answer}
 use Rattle.durable.proofs.Logged.{holds_any, lasts_any, lasts_on, on_err, on_ok, root_lasts, stays_stored}
 use Rattle.durable.proofs.lasting.LastingServer.root_moved.Goals as goal
 
 pub returns-then-is_err-clause-answered : goal.returns-then-is_err-clause-answered
-returns-then-is_err-clause-answered g c = (_, inl (refl, g.met.S.Recording.same_self c.args.self.now.server))
+returns-then-is_err-clause-answered g c = (_, failed refl refl (inl (g.met.S.Recording.same_self c.args.self.now.server)))
 
 pub returns-then-is_err-clause-kept : goal.returns-then-is_err-clause-kept
 returns-then-is_err-clause-kept g c = λ before after root shown held none goes lasts.
@@ -17,10 +20,10 @@ returns-then-is_err-clause-kept g c = λ before after root shown held none goes 
     )
 
 pub returns-in-Ok-clause-answered : goal.returns-in-Ok-clause-answered
-returns-in-Ok-clause-answered g c = (codec.Checkpoint, inr (c.args.self.now.server, c.checkpoint_now.new.self, g.met.S.Recording.same_self c.args.self.now.server, c.in-Ok.ensures.says, c.empty_log.ensures.same))
+returns-in-Ok-clause-answered g c = (checkpointed c.empty_log.result, named_answer g.S.Recording.same g.S.Recording.checkpoints _ c.args.self.now.server _ c.empty_log.result c.empty_log.ensures.refusal c.empty_log.ensures.stopped (c.args.self.now.server, c.checkpoint_now.new.self, g.met.S.Recording.same_self c.args.self.now.server, c.in-Ok.ensures.says, c.empty_log.ensures.same))
 
 pub returns-in-Err-clause-answered : goal.returns-in-Err-clause-answered
-returns-in-Err-clause-answered g c = (codec.Refused c.in-Err.field-0, inr (c.args.self.now.server, c.checkpoint_now.new.self, g.met.S.Recording.same_self c.args.self.now.server, c.in-Err.ensures.says, g.met.S.Recording.same_self c.checkpoint_now.new.self))
+returns-in-Err-clause-answered g c = (codec.Refused c.in-Err.field-0, answered (c.args.self.now.server, c.checkpoint_now.new.self, g.met.S.Recording.same_self c.args.self.now.server, c.in-Err.ensures.says, g.met.S.Recording.same_self c.checkpoint_now.new.self))
 
 pub returns-in-Ok-clause-kept : goal.returns-in-Ok-clause-kept
 returns-in-Ok-clause-kept g c = λ before after old shown held none goes lasts.
@@ -31,7 +34,7 @@ returns-in-Ok-clause-kept g c = λ before after old shown held none goes lasts.
     let root = g.S.Recording.next_root c.checkpoint_now.new.self in
     let follows = c.recording_laws.ensures.follows c.checkpoint_now.new.self root after (p.keeps.goes_on ∙ goes) put.rooted (p.shown after shown) in
     let holds = holds_any g.S.Recording.stores g.S.Recording.logged g.S.Recording.waiting g.S.Recording.last g.L.Log.holds g.S.Recording.is_rooted c.logs_edits.ensures c.names_roots.ensures g.S.Recording.count c.args.self.now new old root p.keeps.later held p.keeps.has (gains held.records held.in_log) in
-    let kept = c.empty_log.ensures.kept after put (root_lasts g.S.Recording.stores g.S.Recording.logged g.S.Recording.waiting g.S.Recording.last g.L.Log.holds g.S.Recording.is_rooted c.logs_edits.ensures c.names_roots.ensures g.S.Recording.count new root after follows holds (p.keeps.waits ∙ none)) in
+    let kept = c.empty_log.ensures.kept after put (inr (root, put.rooted, holds)) (root_lasts g.S.Recording.stores g.S.Recording.logged g.S.Recording.waiting g.S.Recording.last g.L.Log.holds g.S.Recording.is_rooted c.logs_edits.ensures c.names_roots.ensures g.S.Recording.count new root after follows holds (p.keeps.waits ∙ none)) in
     (inr kept.0, kept.1)
 
 pub returns-in-Err-clause-kept : goal.returns-in-Err-clause-kept

@@ -6,7 +6,7 @@ use Rattle.durable.proofs.lasting.LastingServer.sweep.Goals as goal
 
 pub returns-in-Ok-clause-says : goal.returns-in-Ok-clause-says
 returns-in-Ok-clause-says g c = record {
-  answered = inr (c.root.new.self.server, c.sweep_now.new.self, c.in-Ok.ensures.answered, c.sweep_now.ensures.says, inl (g.met.S.Recording.same_self c.sweep_now.new.self));
+  answered = inr (c.root.new.self.server, c.sweep_now.new.self, c.in-Ok.ensures.done, c.sweep_now.ensures.says, inl (g.met.S.Recording.same_self c.sweep_now.new.self));
   goes_on = λ now reached shown.
       let mid = c.root.ensures.settles.shown now shown in
       let clean = c.in-Ok.ensures.clean now shown in

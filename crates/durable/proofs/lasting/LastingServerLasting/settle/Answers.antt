@@ -9,7 +9,7 @@ returns-then-log_waiting-clause-between g c = λ first b.
     record {
       mid = b.mid;
       tended = b.tended;
-      rooted = elim b.rooted [ inl same ↦ inl (g.met.S.Recording.same_then b.mid _ _ same w.same) | inr put ↦ inr (put.0, puts_more g.S.Recording.same g.S.Recording.checkpoints g.met.S.Recording.same_then b.mid c.args.self.now.server c.log_waiting.new.self.server put.0 put.1 w.same) ];
+      rooted = elim b.rooted [ inl same ↦ inl (g.met.S.Recording.same_then b.mid _ _ same w.same) | inr put ↦ inr (put.0, puts_more g.S.Recording.same g.S.Recording.checkpoints g.met.S.Recording.same_then w.still b.mid c.args.self.now.server c.log_waiting.new.self.server put.0 put.1 w.same) ];
       settles = settles_then _ _ _ first c.args.self.now _ b.settles (record {
         shown = w.shown;
         logged = λ now reached shown logs. inr (w.ok is now shown logs).0;
@@ -27,7 +27,7 @@ returns-else-log_waiting-clause-between g c = λ first b.
     record {
       mid = b.mid;
       tended = b.tended;
-      rooted = elim b.rooted [ inl same ↦ inl (g.met.S.Recording.same_then b.mid _ _ same w.same) | inr put ↦ inr (put.0, puts_more g.S.Recording.same g.S.Recording.checkpoints g.met.S.Recording.same_then b.mid c.args.self.now.server c.log_waiting.new.self.server put.0 put.1 w.same) ];
+      rooted = elim b.rooted [ inl same ↦ inl (g.met.S.Recording.same_then b.mid _ _ same w.same) | inr put ↦ inr (put.0, puts_more g.S.Recording.same g.S.Recording.checkpoints g.met.S.Recording.same_then w.still b.mid c.args.self.now.server c.log_waiting.new.self.server put.0 put.1 w.same) ];
       settles = settles_then _ _ _ first c.args.self.now _ b.settles (record {
         shown = w.shown;
         logged = λ now reached shown logs. inl (w.stopped is);

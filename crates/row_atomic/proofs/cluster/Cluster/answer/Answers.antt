@@ -1,4 +1,4 @@
--- Each call tells what its command did.
+-- Each call's contract gives its command's outcome.
 use Rattle.std.proofs.Common.{◌∙◌, subst}
 use Rattle.cell_key.specs.declared.refusals.Refusal.TheVariants.{Damaged}
 use Rattle.std.proofs.lemmas.Result.{on_err_weaker, on_ok_weaker}

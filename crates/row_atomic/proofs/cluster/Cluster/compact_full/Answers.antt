@@ -1,4 +1,4 @@
--- If no memtable may be full, none is compacted. The bound that is taken anew holds.
+-- If no memtable may be full, none is compacted. The bound is right after it was recomputed.
 use Rattle.std.proofs.Common.{ap, ◌∙◌}
 use Rattle.row_atomic.specs.Memtables.{largest, longest}
 use Rattle.row_atomic.proofs.Flushes.{keeps_start}

@@ -1,4 +1,4 @@
--- The parts come in the place of the tablet.
+-- The parts replace the tablet.
 use Rattle.std.proofs.Common.{refl, inl, ℕ, ◌<◌, ◌≡◌, ◌++◌, ◌∷◌, [], List, ap, ◌∙◌, set, length, subst, sym, arith}
 use Rattle.cell_key.specs.declared.refusals.Refusal.TheVariants.{Damaged}
 use Rattle.metadata_table.specs.Places.{PlaceView, view_of}

@@ -1,4 +1,4 @@
--- No row is kept, and each tablet is what it was.
+-- No row is cached, and each tablet is the same.
 use Rattle.std.proofs.Common.{List, length, sym, ap, subst, ◌∙◌}
 use Rattle.std.specs.List.{AllZip}
 use Rattle.std.proofs.lemmas.List.{with_items_is}

@@ -1,4 +1,4 @@
--- One tablet after the other is flushed, in the order of their ends.
+-- The tablets are flushed in the order of their ends.
 use Rattle.std.proofs.Common.{◌<◌, ◌≤◌, length, arith}
 use Rattle.row_atomic.specs.Changes.{IsRefusalOf}
 use Rattle.row_atomic.specs.Compactions.{minor}

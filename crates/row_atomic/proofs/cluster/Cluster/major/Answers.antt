@@ -1,4 +1,4 @@
--- The tablet of a number is looked for first.
+-- The tablet's number is checked first.
 use Rattle.cell_key.specs.declared.refusals.Refusal.TheVariants.{UnknownTablet}
 use Rattle.tablet.specs.declared.compactions.Compaction.TheVariants.{Major}
 use Rattle.row_atomic.proofs.Outcomes.{refused_done, unknown}

@@ -1,4 +1,4 @@
--- A memtable that is full has no more entries and bytes than any may have.
+-- The entries and bytes of a full memtable are within the upper bounds.
 use Rattle.std.proofs.Common.{sym, subst, IsTrue}
 use Rattle.row_atomic.proofs.Memtables.{may_be_full}
 use Rattle.row_atomic.proofs.cluster.Cluster.may_have_full.Goals as goal

@@ -1,4 +1,4 @@
--- The tablet of a number is looked for first, and then its files are counted.
+-- The tablet's number is checked first, and then its number of files.
 use Rattle.cell_key.specs.declared.refusals.Refusal.TheVariants.{BadCount, UnknownTablet}
 use Rattle.tablet.specs.declared.compactions.Compaction.TheVariants.{Merge}
 use Rattle.row_atomic.proofs.Outcomes.{refused_done, uncounted, unknown}

@@ -1,4 +1,4 @@
--- The tablet says which count leaves fewer files.
+-- The tablet gives a count that leaves fewer files.
 use Rattle.row_atomic.proofs.RowAnswers.{found_there}
 use Rattle.row_atomic.proofs.ChangedTablets.{numbered_at}
 use Rattle.row_atomic.proofs.cluster.Cluster.merge_count.Goals as goal

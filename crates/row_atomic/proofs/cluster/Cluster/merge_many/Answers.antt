@@ -1,4 +1,4 @@
--- One tablet after the other is looked at, in the order of their ends.
+-- The tablets are checked in the order of their ends.
 use Rattle.std.proofs.Common.{◌<◌, ◌≤◌, length, sym, ◌∙◌, arith}
 use Rattle.row_atomic.proofs.Tiers.{after_none, after_one, at_end, at_start, within_now}
 use Rattle.row_atomic.proofs.cluster.Cluster.merge_many.Goals as goal

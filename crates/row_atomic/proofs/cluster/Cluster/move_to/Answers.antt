@@ -1,4 +1,4 @@
--- The minor compaction comes first, and then the files are opened anew.
+-- The minor compaction comes first, and then the files are opened again.
 use Rattle.std.proofs.Common.{inr, map, refl, sym, ap, ◌∙◌, subst}
 use Rattle.std.proofs.lemmas.Result.{on_err_weaker}
 use Rattle.cell_key.specs.declared.refusals.Refusal.TheVariants.{NoMemory}

@@ -1,4 +1,4 @@
--- What is opened of a root, and why an opening is refused.
+-- The store opened from a root, and the causes of a refusal.
 use Rattle.std.proofs.Common.{◌⊎◌, Option, IfSome, subst}
 use Rattle.cell_key.specs.declared.refusals.Refusal.TheVariants.{Damaged}
 use Rattle.file_store.specs.Store.{Contents}

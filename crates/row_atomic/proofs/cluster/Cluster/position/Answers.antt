@@ -1,4 +1,4 @@
--- Each number of a place is that of a tablet.
+-- Each place's number belongs to a tablet.
 use Rattle.row_atomic.proofs.ChangedTablets.{known}
 use Rattle.row_atomic.proofs.cluster.Cluster.position.Goals as goal
 

@@ -1,4 +1,4 @@
--- The tablet shows what it showed.
+-- The tablet shows the same cells.
 use Rattle.cell_key.specs.declared.refusals.Refusal.{Refusal}
 use Rattle.cell_key.specs.declared.refusals.Refusal.TheVariants.{Damaged, UnknownServer, UnknownTablet}
 use Rattle.sorted_file.specs.Source.{IsReadRefusal}
@@ -17,7 +17,7 @@ use Rattle.row_atomic.proofs.CompactionRoom.{numbered_that}
 use Rattle.row_atomic.proofs.SplitClusters.{emptied_at}
 use Rattle.row_atomic.proofs.cluster.Cluster.put.Goals as goal
 
--- a tablet that is known was put on a server that is there
+-- an existing tablet can be assigned to an existing server
 assigned : {A : Type 0} (r : Result A Refusal) → IfErr r (λ refusal. (refusal ≡ UnknownTablet) ⊎ (refusal ≡ UnknownServer)) → ¬ IsErrOf r UnknownTablet → ¬ IsErrOf r UnknownServer → IsOk r
 assigned (Ok x) refusal known there = refl
 assigned (Err e) (inl is) known there = absurd (known (ap (λ (r : Refusal). Err r) is))

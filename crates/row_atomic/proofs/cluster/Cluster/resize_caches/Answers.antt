@@ -1,4 +1,4 @@
--- Each tablet is what it was.
+-- Each tablet is the same.
 use Rattle.std.proofs.Common.{List, length, sym, ap, subst, ◌∙◌}
 use Rattle.std.specs.List.{AllZip}
 use Rattle.std.proofs.lemmas.List.{with_items_is}

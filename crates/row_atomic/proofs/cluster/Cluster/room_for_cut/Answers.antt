@@ -1,4 +1,4 @@
--- The table is copied and cut, and the lists are made for the tablet that was found.
+-- The table is copied and cut, and the lists get room for the tablet's names.
 use Rattle.std.proofs.Common.{◌≡◌, ◌+◌, ◌<◌, ℕ, List, length, ap, ◌∙◌, subst, sym}
 use Rattle.metadata_table.specs.Places.{PlaceView}
 use Rattle.metadata_table.specs.Table.{BarsSplit, Cuts}

@@ -1,4 +1,4 @@
--- The room is made for the tablet that was found.
+-- The room fits the tablet.
 use Rattle.std.proofs.Common.{◌<◌, ℕ, subst, sym}
 use Rattle.std.proofs.lemmas.Result.{IfOk-weaker}
 use Rattle.tablet.specs.declared.tablet.Tablet.{Tablet}

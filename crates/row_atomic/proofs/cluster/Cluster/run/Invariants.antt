@@ -1,4 +1,4 @@
--- What answers the commands that are left completes the answers to all, and there is room for the outcomes.
+-- Answers to the remaining commands complete the answers to all, and there is room for the outcomes.
 use Rattle.std.proofs.Common.{◌≤◌, ◌+◌, length}
 use Rattle.std.specs.Prelude.{vec_len, vec_capacity}
 use Rattle.std.specs.List.{AllByRecursion}

@@ -1,4 +1,4 @@
--- The names of all files lead to what is swept, and the tablets see none of it.
+-- The names of all files determine the removed ones, and no tablet is changed.
 use Rattle.std.proofs.Common.{◌∙◌, Option, Err, refl, sym, ap, subst}
 use Rattle.file_store.specs.Store.{Contents}
 use Rattle.row_atomic.specs.Sweeps.{MayLackUnkept, unkept, without_files}

@@ -1,4 +1,4 @@
--- One tablet after the other stays what it was.
+-- Each tablet stays the same.
 use Rattle.std.proofs.Common.{◌<◌, length, arith}
 use Rattle.row_atomic.proofs.EmptiedCaches.{all_same, same_set}
 use Rattle.row_atomic.proofs.cluster.caches.resize_each.Goals as goal

@@ -1,4 +1,4 @@
--- The files of the places that were passed are measured.
+-- The files of the places before the index are measured.
 use Rattle.std.proofs.Common.{◌≡◌, ◌++◌, List, length, IfSome}
 use Rattle.metadata_table.specs.Places.{PlaceView, views}
 use Rattle.metadata_table.specs.Roots.{file_names}

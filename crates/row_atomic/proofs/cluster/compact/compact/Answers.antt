@@ -1,4 +1,4 @@
--- Each compaction does what the tablet's call does.
+-- Each compaction has the effects of the tablet's call.
 use Rattle.std.proofs.Common.{◌≡◌, ◌^◌, ℕ, Option, Some, None, IfSome, Result, Ok, Err, IfErr, OnOk, refl}
 use Rattle.cell_key.specs.declared.refusals.Refusal.{Refusal}
 use Rattle.cell_key.specs.declared.refusals.Refusal.TheVariants.{BadCount, Damaged, Exhausted, FileTooLarge, TooManyFiles}
@@ -24,7 +24,7 @@ when_refused : {A : Type 0} (r : Result A Refusal) (Q P : Refusal → Type 0) �
 when_refused (Ok x) Q P from q = tt
 when_refused (Err e) Q P from q = from e q (λ n is. err_of e n is)
 
--- a compaction that isn't a major one cleans nothing
+-- a compaction that is not a major one need not remove erasures
 none_erased : (o : Option Contents) (next : ℕ) (t : Tablet) → IfSome o (λ m. Holds m t → IsBelow next t → Unit {0})
 none_erased None next t = tt
 none_erased (Some m) next t = λ holds below. tt
@@ -78,21 +78,21 @@ returns-in-Minor-clause-refused g c = rw (c.in-Minor.is) (
     let by = c.minor.ensures in
     when_refused c.minor.result _ _ (λ e unfilled told. record {
       count = λ is. absurd (not_answered IsMinorRefusal c.minor.result BadCount _ by.refusal (told BadCount is) refl);
-      full = λ is. let full = by.full.0 (told TooManyFiles is) in record { memory = full.0; files = full.1 };
+      full = λ is. let full = by.full.exactly.0 (told TooManyFiles is) in record { memory = full.0; files = full.1 };
       unfilled = unfilled;
       exhausted = λ is. let out = by.exhausted (told Exhausted is) in (out.1, out.0);
       large = λ is. (by.large (told FileTooLarge is)).1;
       damaged = λ is. none_says (g.F.Files.contents c.args.files.now) _ (by.damaged (told Damaged is));
       too_much = λ is. by.too_much (told FileTooLarge is);
       unread = λ is. none_says (g.F.Files.contents c.args.files.now) _ (by.damaged (told Damaged is));
-      undone = λ is. by.unwritten (told TooManyFiles is);
-    }) (not_full_written c.minor.result c.args.tablet.now (λ some many. by.full.1 (some, many))))
+      undone = λ is. (by.full.untouched (told TooManyFiles is)).1;
+    }) (not_full_written c.minor.result c.args.tablet.now (λ some many. by.full.exactly.1 (some, many))))
 
 pub returns-in-Merge-clause-refused : goal.returns-in-Merge-clause-refused
 returns-in-Merge-clause-refused g c = rw (c.in-Merge.is) (
     let by = c.merge.ensures in
     when_refused c.merge.result _ _ (λ e any told. record {
-      count = λ is. by.count.0 (told BadCount is);
+      count = λ is. by.count.exactly.0 (told BadCount is);
       full = λ is. absurd (not_answered IsMergeRefusal c.merge.result TooManyFiles _ by.refusal (told TooManyFiles is) refl);
       unfilled = λ of full. full;
       exhausted = λ is. (by.exhausted (told Exhausted is), λ none. none);

@@ -1,4 +1,4 @@
--- The tablet of the place that holds the row has the row alone.
+-- Only the tablet of the place that holds the row has the row.
 use Rattle.row_atomic.proofs.Owners.{holder_owns, index_of}
 use Rattle.row_atomic.proofs.Shares.{cells_of_row}
 use Rattle.row_atomic.proofs.cluster.laws.cells_by_tablet.Goals as goal

@@ -1,4 +1,4 @@
--- What is written down follows what is shown.
+-- The journal leads to the cells shown.
 use Rattle.row_atomic.proofs.Following.{keeps_following}
 use Rattle.row_atomic.proofs.cluster.laws.keeps_following.Goals as goal
 

@@ -1,4 +1,4 @@
--- What was opened shows what its root keeps.
+-- An opened store shows its root's cells.
 use Rattle.row_atomic.proofs.Following.{opens_following}
 use Rattle.row_atomic.proofs.cluster.laws.opens_following.Goals as goal
 

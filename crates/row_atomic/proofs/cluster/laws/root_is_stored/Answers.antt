@@ -1,4 +1,4 @@
--- What stays where the storage does.
+-- Roots are kept if the storage is unchanged.
 use Rattle.row_atomic.proofs.KeptRoots.{stored_stay}
 use Rattle.row_atomic.proofs.cluster.laws.root_is_stored.Goals as goal
 

@@ -1,4 +1,4 @@
--- What stays after one minor compaction stays after many.
+-- A root kept after one minor compaction is kept after many.
 use Rattle.row_atomic.specs.Flushes.{numbers_full}
 use Rattle.row_atomic.proofs.KeptRoots.{flushes_stay, minors_stay}
 use Rattle.row_atomic.proofs.cluster.laws.root_outlasts_flushes.Goals as goal

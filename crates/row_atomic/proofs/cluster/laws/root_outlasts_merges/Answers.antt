@@ -1,4 +1,4 @@
--- What stays after one merge stays after many.
+-- A root kept after one merge is kept after many.
 use Rattle.row_atomic.specs.Flushes.{numbers_over}
 use Rattle.row_atomic.proofs.KeptRoots.{merges_have}
 use Rattle.row_atomic.proofs.cluster.laws.root_outlasts_merges.Goals as goal

@@ -1,4 +1,4 @@
--- What stays after one command.
+-- A root is kept after one command.
 use Rattle.row_atomic.proofs.KeptRoots.{one_has, one_keeps}
 use Rattle.row_atomic.proofs.cluster.laws.root_stays.Goals as goal
 

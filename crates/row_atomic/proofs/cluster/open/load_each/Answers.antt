@@ -1,4 +1,4 @@
--- One tablet after the other is loaded, by their numbers.
+-- The tablets are loaded in the order of their numbers.
 use Rattle.std.proofs.Common.{◌≡◌, ◌+◌, List, Option, IfSome, length, refl, sym, ◌∙◌, subst, arith, rules}
 use Rattle.cell_key.specs.declared.refusals.Refusal.TheVariants.{Damaged, Device, NoMemory}
 use Rattle.file_store.specs.Store.{Contents}

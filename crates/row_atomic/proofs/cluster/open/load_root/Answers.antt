@@ -1,4 +1,4 @@
--- The lengths that a root tells are compared with those of its files.
+-- The lengths in a root are compared with its files' lengths.
 use Rattle.std.proofs.Common.{rules, ◌≡◌, ◌∙◌, Option, IfSome, length, sym, ap, subst}
 use Rattle.std.proofs.lemmas.List.{nil_from_length}
 use Rattle.file_store.specs.Store.{Contents}

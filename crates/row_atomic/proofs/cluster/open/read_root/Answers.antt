@@ -1,4 +1,4 @@
--- A root file that tells nothing is damaged.
+-- A root file without a valid root is damaged.
 use Rattle.std.proofs.Common.{subst}
 use Rattle.metadata_table.specs.Roots.{IsNoRoot}
 use Rattle.row_atomic.proofs.OpenedRoots.{no_root_told}

@@ -1,4 +1,4 @@
--- Places are passed, and tablets asked for what is wanted still.
+-- Places are skipped, or their tablets are asked for the cells still missing.
 use Rattle.std.proofs.Common.{◌≡◌, ◌<◌, ◌+◌, ◌-◌, ◌++◌, ◌∷◌, ℕ, List, ◌∙◌, None, Some, Option, IfSome, IsErrOf, drop, inl, inr, length, refl, suc, take, ap, sym, subst, option_map, arith}
 use Rattle.std.proofs.lemmas.List.{length-append}
 use Rattle.std.proofs.lemmas.Result.{err_from_is_err_and}

@@ -1,5 +1,4 @@
--- So far the places that were found are the next ones, the tablets that were passed have no more, and the files tell
--- what they told.
+-- The places found so far are the next ones, the tablets passed have no more, and the files' contents are the same.
 use Rattle.std.proofs.Common.{◌≡◌, ◌<◌, ◌≤◌, length, take, drop, option_map, Some}
 use Rattle.std.specs.List.{AllByRecursion}
 use Rattle.cell_key.specs.Places.{place_named}

@@ -1,4 +1,4 @@
--- Places are passed, and tablets asked for what is wanted still.
+-- Places are skipped, or their tablets are asked for the cells still missing.
 use Rattle.std.proofs.Common.{◌≡◌, ◌+◌, ◌-◌, ◌++◌, ◌∷◌, ℕ, List, ◌∙◌, Bool, true, false, None, Some, Option, IfSome, IsErrOf, drop, inl, inr, length, suc, take, ap, sym, subst, option_map, arith}
 use Rattle.std.specs.Bool.{OnFalse}
 use Rattle.std.proofs.lemmas.List.{length-append}
@@ -24,7 +24,7 @@ use Rattle.row_atomic.proofs.Nexts.{NoneAfter}
 use Rattle.row_atomic.proofs.cluster.row_calls.next_versions_in.Goals as goal
 use Rattle.row_atomic.proofs.cluster.row_calls.next_versions_in.Goals.{then-is_last+then-not-precedes+in_ok-more+in_ok-found, else-is_last, else-is_last-via-then-is_last+else-not-precedes, else-is_last-via-else-is_last}
 
--- cells that fill what is left of limits fill these with those before them
+-- cells that fill the limits left after others fill the limits together with these
 full_more : (b : Bool) (limits left : BatchLimits) (found more : List CellVersions) → left.cells ≡ limits.cells - length found → left.bytes ≡ limits.bytes - bytes_in found → OnFalse b (IsFull left more) → OnFalse b (IsFull limits (found ++ more))
 full_more true limits left found more cells bytes full = tt
 full_more false limits left found more cells bytes (inl many) = inl (let sum = length-append found more in omega (arith, cells, many, sum))

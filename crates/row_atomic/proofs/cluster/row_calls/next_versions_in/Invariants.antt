@@ -1,5 +1,5 @@
--- So far the cells that were found are the next ones, with their newest versions; if they are the last of the tablets that
--- were passed, these have no more; and the files tell what they told.
+-- The cells found so far are the next ones, with their newest versions; if `is_last`, the tablets passed have no more;
+-- and the files' contents are the same.
 use Rattle.std.proofs.Common.{◌≡◌, ◌≤◌, length, take, drop, option_map, Some}
 use Rattle.std.specs.Bool.{OnFalse}
 use Rattle.cell_key.specs.Places.{place_named}

@@ -1,4 +1,4 @@
--- Where no cell is before, or a place has no end, no row comes before.
+-- Without a cell, or if the place has no end, no row comes before.
 use Rattle.std.proofs.lemmas.Bool.{false≢true}
 use Rattle.row_atomic.proofs.cluster.row_calls.precedes.Goals as goal
 

@@ -1,4 +1,4 @@
--- The names are those of the tablet's files, and the files are opened by these.
+-- The names are the tablet's, and its files are opened by them.
 use Rattle.std.proofs.Common.{List, ℕ, ap, ◌++◌, ◌∙◌, ◌≡◌}
 use Rattle.std.proofs.lemmas.Result.{IfOk-weaker}
 use Rattle.tablet.specs.Views.{names_of}

@@ -1,4 +1,4 @@
--- The names that are left lead to where all do, and so does the count. What is gone needn't stay.
+-- The remaining names give the same result and count as all names. Only files that need not stay are removed.
 use Rattle.std.proofs.Common.{◌≡◌, ◌≤◌, ◌+◌, length}
 use Rattle.std.specs.Vec.Iter.{into_iter_items}
 use Rattle.row_atomic.specs.Sweeps.{MayLackUnkept, unkept, without_files}

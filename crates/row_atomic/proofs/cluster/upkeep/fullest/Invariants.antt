@@ -1,4 +1,4 @@
--- The most of those that are left, or of those that were passed, is the most of all.
+-- The maximum of the passed tablets and of the remaining ones is the maximum of all.
 use Rattle.std.proofs.Common.{◌≡◌, length, max}
 use Rattle.row_atomic.specs.Memtables.{largest, longest}
 use Rattle.row_atomic.proofs.cluster.upkeep.fullest.Given as goal

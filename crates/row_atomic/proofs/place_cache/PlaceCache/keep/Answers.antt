@@ -1,4 +1,4 @@
--- What is put is the row, and what isn't put leaves all.
+-- If the entry is added it is the row's; otherwise nothing changes.
 use Rattle.std.proofs.Common.{List, ℕ, subst}
 use Rattle.row_atomic.specs.PlaceCaches.{AddsOnly}
 use Rattle.row_atomic.proofs.PlaceCaches.{added_by}

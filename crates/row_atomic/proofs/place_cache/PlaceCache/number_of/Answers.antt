@@ -1,4 +1,4 @@
--- What is found comes first.
+-- A row that is found is moved to the front.
 use Rattle.std.proofs.Common.{sym, ap, ◌∙◌, option_map, slice_get}
 use Rattle.row_atomic.specs.PlaceCaches.{is_key_of}
 use Rattle.row_atomic.proofs.PlaceCaches.{first_number, first_promoted, first_stays}

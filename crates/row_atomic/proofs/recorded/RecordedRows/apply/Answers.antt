@@ -1,4 +1,4 @@
--- What is written down is made, and what is refused is taken back.
+-- Edits in the journal are made; those of a refused call are removed again.
 use Rattle.std.proofs.Common.{◌≡◌, List, Some, refl, sym, ap, subst, ◌∙◌}
 use Rattle.std.proofs.lemmas.Result.{on_err_weaker, on_ok_weaker}
 use Rattle.std.specs.List.{AllByRecursion}

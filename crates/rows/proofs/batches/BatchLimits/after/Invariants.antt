@@ -1,4 +1,4 @@
--- so far the bytes of these cells are taken off
+-- so far the bytes of these cells are subtracted
 use Rattle.std.proofs.Common.{◌≡◌, ◌-◌, take}
 use Rattle.rows.specs.Batches.{bytes_in}
 use Rattle.rows.proofs.batches.BatchLimits.after.Given as goal

@@ -3,7 +3,7 @@ use Rattle.cell_key.specs.Entries.{Entry}
 use Rattle.sorted_file.specs.Block.{IsParsed, first_value}
 use Rattle.sorted_file.proofs.block.Block.first_value_from.Given as goal
 
--- what was passed by are erasures
+-- the entries passed are erasures
 abbrev pub invariant-erasures : goal.invariant-erasures
 invariant-erasures l = (es : List Entry) → IsParsed es l.fn.self → first_value (drop l.fn.from es) ≡ first_value (drop l.at es)
 

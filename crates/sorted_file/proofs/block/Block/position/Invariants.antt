@@ -3,7 +3,7 @@ use Rattle.cell_key.specs.Entries.{Entry, entries_from}
 use Rattle.sorted_file.specs.Block.{IsParsed}
 use Rattle.sorted_file.proofs.block.Block.position.Given as goal
 
--- from the text on there are no entries before the one place, and all from the other on
+-- no entry before the first index is at or above the text, and all from the second on are
 abbrev pub invariant-halves : goal.invariant-halves
 invariant-halves l = record {
   ordered : l.low ≤ l.high;

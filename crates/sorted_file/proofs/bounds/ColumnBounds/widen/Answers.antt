@@ -10,7 +10,7 @@ use Rattle.sorted_file.proofs.Bounded.{by_kind}
 use Rattle.sorted_file.proofs.ColumnsOf.{lent_is}
 use Rattle.sorted_file.proofs.bounds.ColumnBounds.widen.Goals as goal
 
--- what was widened to a lent key has that key
+-- bounds widened to a borrowed key contain that key
 has_key : (lent : KeyRef) (r : IsLentKey lent) (bounds : ColumnBounds) (kind : Qualifier) → lent.qualifier ≡ kind
     → (key : CellKey) → IsStored key → lent.text.now ≡ text key
     → IsWithin (column_bounds bounds kind) key.row lent.stamp → IsWithin (column_bounds bounds key.qualifier) key.row key.stamp

@@ -19,7 +19,7 @@ use Rattle.sorted_file.proofs.Stamps.{IsFirstValue, stamp_found, stamp_none, sta
 use Rattle.sorted_file.proofs.file.SortedFile.newest_stamp.Goals.{then-stamp-lo-via-then-stamp-lo, then-stamp-lo-via-else-stamp-lo+then-own-stamp}
 use Rattle.sorted_file.proofs.file.SortedFile.newest_stamp.Goals as goal
 
--- a file has no value of a key's column from lo up to its stamp, by the file's bounds
+-- by its bounds, a file has no value in a key's column from lo to the key's stamp
 abbrev HasNone : SortedFile → ℕ → CellKey → Type 0
 HasNone file lo key = (s : ℕ) → lo ≤ s → s ≤ key.stamp → ¬ (IsWithin (column_bounds file.bounds key.qualifier) key.row s)
 

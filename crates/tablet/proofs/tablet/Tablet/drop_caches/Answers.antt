@@ -1,4 +1,4 @@
--- The tablet is what it was where its files are.
+-- The tablet is the same, as its files are.
 use Rattle.std.proofs.Common.{refl}
 use Rattle.tablet.proofs.SameFiles.{same_tablet}
 use Rattle.tablet.proofs.tablet.Tablet.drop_caches.Goals as goal

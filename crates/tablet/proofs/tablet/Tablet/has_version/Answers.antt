@@ -21,7 +21,7 @@ use Rattle.tablet.proofs.Passed.{over_any}
 use Rattle.tablet.proofs.tablet.Tablet.has_version.Goals as goal
 
 module _ (cells : Cells) (at : ℕ → CellKey) where
-  -- from a version on there is a newest one
+  -- if there is a version, there is a newest one
   newest_from : (s : ℕ) (value : List ℕ) → get cells (at s) ≡ Some value → (more : ℕ) → (found : ℕ × List ℕ) × IsNewest cells at s (s + more) (Some found)
   newest_from s value is zero = ((s, value), (omega arith, omega arith, is, λ t a b. absurd (omega (arith, a, b))))
   newest_from s value is (suc more) = go (newest_from s value is more) (get cells (at (s + suc more))) refl
@@ -39,7 +39,7 @@ module _ (cells : Cells) (at : ℕ → CellKey) where
               subst (λ (k : ℕ). get cells (at k) ≡ None) same e
           above t b false lt none = let down : t ≤ s + more = grind (arith, nat_tests, lt) in none down
 
-  -- so a version within a range has one there
+  -- so a version within the range has a newest one there
   has_one : (lo hi s : ℕ) (value : List ℕ) → lo ≤ s → s ≤ hi → get cells (at s) ≡ Some value → HasVersion cells at lo hi true
   has_one lo hi s value low high is =
       let more : (n : ℕ) × (s + n ≡ hi) = (hi - s, omega (arith, high)) in
@@ -66,7 +66,7 @@ module _ (o : Option Contents) (t : Tablet) (row family : List ℕ) (q : Qualifi
   abbrev Says : Bool → Type 0
   Says has = IfSome o (λ m. Holds m t → IsTrue (has_row (range_of t) row) → HasVersion (cells_at m t) at lo hi has)
 
-  -- what the memtable has is shown
+  -- the memtable's values are shown
   in_memory : (lent : Option (ℕ × Bor (List ℕ))) → is_some lent ≡ true → IsNewest (cells_of (memory_of t)) at lo hi (option_map lent_version lent) → Says true
   in_memory None e none = let no : false ≡ true = e in cc
   in_memory (Some found) e newest =

@@ -14,7 +14,7 @@ use Rattle.tablet.proofs.CompactedCells.{no_entries}
 use Rattle.tablet.proofs.Passed.{IsNoMemory, no_memory, not_err, passed_err, passed_kind, passed_none, passed_on, passed_reason, quiet_reason, reason_after}
 use Rattle.tablet.proofs.tablet.Tablet.load.Goals as goal
 
--- a name more, of the file that is put before those that are open
+-- one more name, of a file put before the open ones
 named_more : (names rest newer : List ℕ) (name : ℕ) (file : SortedFile) (files opened : List SortedFile) → newer ≡ rest ++ name ∷ [] → opened ≡ file ∷ files → name_of file ≡ name → newer ++ map name_of files ≡ names → rest ++ map name_of opened ≡ names
 named_more names rest newer name file files opened last put named before =
     ap (λ (l : List SortedFile). rest ++ map name_of l) put ∙ ap (λ (n : ℕ). rest ++ n ∷ map name_of files) named
@@ -26,7 +26,7 @@ opened_more None now files new file same is one all = tt
 opened_more (Some m) now files new file same is one all =
     subst (AllByRecursion (IsOpen m)) (sym is) (subst (λ (o : Option Contents). IfSome o (λ m. IsOpen m file)) same one, all)
 
--- one that is missing is missing among all
+-- a file that is missing is missing among all
 missing_here : (old now : Option Contents) (names rest newer tail : List ℕ) (name : ℕ) → now ≡ old → newer ≡ rest ++ name ∷ [] → newer ++ tail ≡ names → IfSome now (λ m. ¬ HasFile m name) → IfSome old (λ m. ¬ AllByRecursion (HasFile m) names)
 missing_here None now names rest newer tail name same last all missing = tt
 missing_here (Some m) now names rest newer tail name same last all missing = λ each.

@@ -57,7 +57,7 @@ returns-clause-lists g c =
     let files = c.in_ok-replace_newest.ensures.ok ∙ all_replaced c.in_ok-file.file c.reserve.new.self c.len-2.result c.len-2.ensures in
     made_lists c.stays_open.ensures (g.F.Files.contents c.args.files.now) (g.F.Files.contents c.write.new.files) c.args.next_name.now c.write.new.next_name c.args.self.now (record c.args.self.now { memtable = c.new.result; files = c.replace_newest.new.self }) c.in_ok-file.file (length old) [] (λ m. written false (map (seen range) (memory ∷ map (listed m) old)))
     (λ memory lists. [] ∷ written false (map (seen (range_of c.args.self.now)) (memory ∷ lists)) ∷ [])
-    (record { range = refl; memory = c.new.ensures; files = files ∙ only c.in_ok-file.file old; named = c.in_ok-file.ensures.named }) c.in_ok-file.ensures.used.1 c.in_ok-file.ensures.others
+    (record { range = refl; memory = c.new.ensures; files = files ∙ only c.in_ok-file.file old; named = c.in_ok-file.ensures.named }) c.in_ok-file.ensures.wrote.used c.in_ok-file.ensures.wrote.others
     (where_held Major (g.F.Files.contents c.args.files.now) c.args.self.now (λ m. IsSomeAnd (g.F.Files.contents c.write.new.files) (λ n. IsNewFile n c.in_ok-file.file (written false (map (seen range) (memory ∷ map (listed m) old))))) (made_of Major (g.F.Files.contents c.args.files.now) (g.F.Files.contents c.write.new.files) c.args.self.now (record c.args.self.now { files = c.reserve.new.self }) c.in_ok-file.file (λ m. written false (map (seen range) (memory ∷ map (listed m) c.reserve.new.self))) (λ m. written false (map (seen range) (memory ∷ map (listed m) old)))
     (record { range = refl; memory = refl; files = c.in_ok-reserve.ensures.same }) (λ m. ap (λ (fs : List SortedFile). written false (map (seen range) (memory ∷ map (listed m) fs))) c.in_ok-reserve.ensures.same) c.in_ok-file.ensures.made))
     (λ m h. no_entries) (λ m h. λ i. [] ∷ written false (map (seen range) (memory ∷ map (listed m) old)) ∷ none_left m old i)
@@ -69,7 +69,7 @@ returns-clause-keeps g c =
     let old = files_of c.args.self.now in
     let files = c.in_ok-replace_newest.ensures.ok ∙ all_replaced c.in_ok-file.file c.reserve.new.self c.len-2.result c.len-2.ensures in
     made_keeps c.stays_open.ensures (g.F.Files.contents c.args.files.now) (g.F.Files.contents c.write.new.files) c.args.next_name.now c.write.new.next_name c.args.self.now _ c.in_ok-file.file (length old) [] (λ m. written false (map (seen range) (memory ∷ map (listed m) old)))
-    (record { range = refl; memory = c.new.ensures; files = files ∙ only c.in_ok-file.file old; named = c.in_ok-file.ensures.named }) c.in_ok-file.ensures.used.1 c.in_ok-file.ensures.others
+    (record { range = refl; memory = c.new.ensures; files = files ∙ only c.in_ok-file.file old; named = c.in_ok-file.ensures.named }) c.in_ok-file.ensures.wrote.used c.in_ok-file.ensures.wrote.others
     (where_held Major (g.F.Files.contents c.args.files.now) c.args.self.now (λ m. IsSomeAnd (g.F.Files.contents c.write.new.files) (λ n. IsNewFile n c.in_ok-file.file (written false (map (seen range) (memory ∷ map (listed m) old))))) (made_of Major (g.F.Files.contents c.args.files.now) (g.F.Files.contents c.write.new.files) c.args.self.now (record c.args.self.now { files = c.reserve.new.self }) c.in_ok-file.file (λ m. written false (map (seen range) (memory ∷ map (listed m) c.reserve.new.self))) (λ m. written false (map (seen range) (memory ∷ map (listed m) old)))
     (record { range = refl; memory = refl; files = c.in_ok-reserve.ensures.same }) (λ m. ap (λ (fs : List SortedFile). written false (map (seen range) (memory ∷ map (listed m) fs))) c.in_ok-reserve.ensures.same) c.in_ok-file.ensures.made))
     (λ m h. no_entries) (λ m h list. (λ i. cells_of (shown range ([] ∷ written false (map (seen range) (memory ∷ map (listed m) old)) ∷ none_left m old i))) ∙ major_cells c.names_first.ensures range memory (map (listed m) old) (held_lists m c.args.self.now h) no_entries list)
@@ -141,7 +141,7 @@ pub returns-clause-refusal : goal.returns-clause-refusal
 returns-clause-refusal g c = tt
 
 pub returns-clause-name : goal.returns-clause-name
-returns-clause-name g c = record { uses = inr (c.in_ok-file.ensures.used.1, c.in_ok-file.ensures.others); within = c.in_ok-file.ensures.name.within }
+returns-clause-name g c = record { uses = inr (c.in_ok-file.ensures.wrote.used, c.in_ok-file.ensures.wrote.others); within = c.in_ok-file.ensures.name.within }
 
 pub returns-clause-exhausted : goal.returns-clause-exhausted
 returns-clause-exhausted g c = λ is. absurd (not_err _ _ is)
@@ -170,8 +170,8 @@ returns-clause-made g c =
     record {
       names = one_name _ _ c.args.next_name.now files c.in_ok-file.ensures.named;
       memory = c.new.ensures;
-      left = c.in_ok-file.ensures.used.0;
-      used = c.in_ok-file.ensures.used.1;
+      left = c.in_ok-file.ensures.wrote.left;
+      used = c.in_ok-file.ensures.wrote.used;
       read = subst (AllByRecursion (IsReadThrough (g.F.Files.contents c.args.files.now) (lower_fence range) (upper_fence range))) c.in_ok-reserve.ensures.same c.in_ok-file.ensures.read;
       fits =
           large_of Major (g.F.Files.contents c.args.files.now) c.args.self.now (record c.args.self.now { files = c.reserve.new.self }) (λ m. written false (map (seen range) (memory ∷ map (listed m) c.reserve.new.self))) (λ m. written false (map (seen range) (memory ∷ map (listed m) old))) (λ es. FitsIn c.args.file_limit es)

@@ -32,7 +32,7 @@ returns-clause-lists g c =
     let old = files_of c.args.self.now in
     made_lists c.stays_open.ensures (g.F.Files.contents c.args.files.now) (g.F.Files.contents c.write.new.files) c.args.next_name.now c.write.new.next_name c.args.self.now (record c.args.self.now { files = c.replace_newest.new.self }) c.in_ok-file.file c.args.count memory (λ m. written (nat_lt c.args.count (length (map (listed m) old))) (map (seen range) (take c.args.count (map (listed m) old))))
     (λ memory lists. memory ∷ written (nat_lt c.args.count (length lists)) (map (seen (range_of c.args.self.now)) (take c.args.count lists)) ∷ drop c.args.count lists)
-    (record { range = refl; memory = refl; files = c.in_ok-replace_newest.ensures.ok; named = c.in_ok-file.ensures.named }) c.in_ok-file.ensures.used.1 c.in_ok-file.ensures.others
+    (record { range = refl; memory = refl; files = c.in_ok-replace_newest.ensures.ok; named = c.in_ok-file.ensures.named }) c.in_ok-file.ensures.wrote.used c.in_ok-file.ensures.wrote.others
     (where_held (Merge c.args.count) (g.F.Files.contents c.args.files.now) c.args.self.now (λ m. IsSomeAnd (g.F.Files.contents c.write.new.files) (λ n. IsNewFile n c.in_ok-file.file (written (nat_lt c.args.count (length (map (listed m) old))) (map (seen range) (take c.args.count (map (listed m) old)))))) c.in_ok-file.ensures.made)
     (λ m h. h.memory) (λ m h. refl)
 
@@ -42,7 +42,7 @@ returns-clause-keeps g c =
     let memory = memory_of c.args.self.now in
     let old = files_of c.args.self.now in
     made_keeps c.stays_open.ensures (g.F.Files.contents c.args.files.now) (g.F.Files.contents c.write.new.files) c.args.next_name.now c.write.new.next_name c.args.self.now _ c.in_ok-file.file c.args.count memory (λ m. written (nat_lt c.args.count (length (map (listed m) old))) (map (seen range) (take c.args.count (map (listed m) old))))
-    (record { range = refl; memory = refl; files = c.in_ok-replace_newest.ensures.ok; named = c.in_ok-file.ensures.named }) c.in_ok-file.ensures.used.1 c.in_ok-file.ensures.others
+    (record { range = refl; memory = refl; files = c.in_ok-replace_newest.ensures.ok; named = c.in_ok-file.ensures.named }) c.in_ok-file.ensures.wrote.used c.in_ok-file.ensures.wrote.others
     (where_held (Merge c.args.count) (g.F.Files.contents c.args.files.now) c.args.self.now (λ m. IsSomeAnd (g.F.Files.contents c.write.new.files) (λ n. IsNewFile n c.in_ok-file.file (written (nat_lt c.args.count (length (map (listed m) old))) (map (seen range) (take c.args.count (map (listed m) old)))))) c.in_ok-file.ensures.made)
     (λ m h. h.memory) (λ m h list. merge_cells c.names_first.ensures range memory (map (listed m) old) c.args.count (held_lists m c.args.self.now h) (nat_lt c.args.count (length (map (listed m) old))) refl list)
 
@@ -59,10 +59,10 @@ pub returns-in_err-file-clause-name : goal.returns-in_err-file-clause-name
 returns-in_err-file-clause-name g c = c.in_err-file.ensures.name
 
 pub returns-in_err-file-clause-count : goal.returns-in_err-file-clause-count
-returns-in_err-file-clause-count g c = (λ is. absurd (passed_kind c.from_residual.result c.in_err-file.field-0.0 BadCount IsCompactionRefusal c.from_residual.ensures.1 c.in_err-file.ensures.refusal is), λ no. absurd (no (c.if-count-lt2.false, within (files_of c.args.self.now) _ c.args.count c.len.ensures c.if-count-len.false)))
-
-pub returns-in_err-file-clause-unwritten : goal.returns-in_err-file-clause-unwritten
-returns-in_err-file-clause-unwritten g c = λ is. absurd (passed_kind c.from_residual.result c.in_err-file.field-0.0 BadCount IsCompactionRefusal c.from_residual.ensures.1 c.in_err-file.ensures.refusal is)
+returns-in_err-file-clause-count g c = record {
+  exactly = (λ is. absurd (passed_kind c.from_residual.result c.in_err-file.field-0.0 BadCount IsCompactionRefusal c.from_residual.ensures.1 c.in_err-file.ensures.refusal is), λ no. absurd (no (c.if-count-lt2.false, within (files_of c.args.self.now) _ c.args.count c.len.ensures c.if-count-len.false)));
+  untouched = λ is. absurd (passed_kind c.from_residual.result c.in_err-file.field-0.0 BadCount IsCompactionRefusal c.from_residual.ensures.1 c.in_err-file.ensures.refusal is);
+}
 
 pub returns-in_err-file-clause-exhausted : goal.returns-in_err-file-clause-exhausted
 returns-in_err-file-clause-exhausted g c = λ is. c.in_err-file.ensures.exhausted (passed_on c.from_residual.result _ c.in_err-file.field-0.0 _ c.from_residual.ensures.1 refl is)
@@ -113,9 +113,6 @@ returns-then-count-lt2-clause-damaged g c = λ is. absurd (told_kind BadCount _ 
 pub returns-then-count-lt2-clause-reason : goal.returns-then-count-lt2-clause-reason
 returns-then-count-lt2-clause-reason g c = quiet_reason _ _ (λ is. absurd (told_kind BadCount Device IsBadCount tt is))
 
-pub returns-then-count-lt2-clause-unwritten : goal.returns-then-count-lt2-clause-unwritten
-returns-then-count-lt2-clause-unwritten g c = λ is. (refl, refl)
-
 pub returns-clause-range : goal.returns-clause-range
 returns-clause-range g c = refl
 
@@ -126,10 +123,13 @@ pub returns-clause-refusal : goal.returns-clause-refusal
 returns-clause-refusal g c = tt
 
 pub returns-clause-name : goal.returns-clause-name
-returns-clause-name g c = record { uses = inr (c.in_ok-file.ensures.used.1, c.in_ok-file.ensures.others); within = c.in_ok-file.ensures.name.within }
+returns-clause-name g c = record { uses = inr (c.in_ok-file.ensures.wrote.used, c.in_ok-file.ensures.wrote.others); within = c.in_ok-file.ensures.name.within }
 
 pub returns-clause-count : goal.returns-clause-count
-returns-clause-count g c = (λ is. absurd (not_err _ _ is), λ no. absurd (no (c.if-count-lt2.false, within (files_of c.args.self.now) _ c.args.count c.len.ensures c.if-count-len.false)))
+returns-clause-count g c = record {
+  exactly = (λ is. absurd (not_err _ _ is), λ no. absurd (no (c.if-count-lt2.false, within (files_of c.args.self.now) _ c.args.count c.len.ensures c.if-count-len.false)));
+  untouched = λ is. absurd (not_err _ _ is);
+}
 
 pub returns-clause-exhausted : goal.returns-clause-exhausted
 returns-clause-exhausted g c = λ is. absurd (not_err _ _ is)
@@ -139,9 +139,6 @@ returns-clause-large g c = λ is. absurd (not_err _ _ is)
 
 pub returns-clause-damaged : goal.returns-clause-damaged
 returns-clause-damaged g c = λ is. absurd (not_err _ _ is)
-
-pub returns-clause-unwritten : goal.returns-clause-unwritten
-returns-clause-unwritten g c = λ is. absurd (not_err _ _ is)
 
 pub returns-clause-reason : goal.returns-clause-reason
 returns-clause-reason g c = reason_of_ok _ _ _ _ c.in_ok-file.ensures.reason
@@ -159,8 +156,8 @@ returns-clause-made g c =
           ap (map name_of) c.in_ok-replace_newest.ensures.ok
           ∙ (λ i. c.in_ok-file.ensures.named i ∷ sym (drop-map name_of c.args.count (files_of c.args.self.now)) i);
       memory = refl;
-      left = c.in_ok-file.ensures.used.0;
-      used = c.in_ok-file.ensures.used.1;
+      left = c.in_ok-file.ensures.wrote.left;
+      used = c.in_ok-file.ensures.wrote.used;
       read = c.in_ok-file.ensures.read;
       fits = told_written (Merge c.args.count) (g.F.Files.contents c.args.files.now) c.args.self.now (λ lists. FitsIn c.args.file_limit (compacted (Merge c.args.count) (range_of c.args.self.now) (memory_of c.args.self.now) lists)) c.in_ok-file.ensures.fits;
       put = has_put (Merge c.args.count) (g.F.Files.contents c.args.files.now) (g.F.Files.contents c.write.new.files) c.args.self.now (record c.args.self.now { files = c.replace_newest.new.self }) c.in_ok-file.file (λ m. compacted_of (Merge c.args.count) m c.args.self.now) (λ m. compacted_of (Merge c.args.count) m c.args.self.now) c.in_ok-replace_newest.ensures.ok (λ m. refl) c.in_ok-file.ensures.made;
@@ -219,11 +216,11 @@ returns-in_err-replace_newest-clause-damaged g c = λ is. absurd (passed_kind c.
 pub returns-in_err-replace_newest-clause-broken : goal.returns-in_err-replace_newest-clause-broken
 returns-in_err-replace_newest-clause-broken g c = λ is. absurd (passed_kind c.from_residual-in_err-replace_newest.result c.in_err-replace_newest.field-0.0 _ IsNoMemory c.from_residual-in_err-replace_newest.ensures.1 (no_memory _ c.in_err-replace_newest.ensures.refusal) is)
 
-pub returns-in_err-replace_newest-clause-unwritten : goal.returns-in_err-replace_newest-clause-unwritten
-returns-in_err-replace_newest-clause-unwritten g c = λ is. absurd (passed_kind c.from_residual-in_err-replace_newest.result c.in_err-replace_newest.field-0.0 _ IsNoMemory c.from_residual-in_err-replace_newest.ensures.1 (no_memory _ c.in_err-replace_newest.ensures.refusal) is)
-
 pub returns-in_err-replace_newest-clause-count : goal.returns-in_err-replace_newest-clause-count
-returns-in_err-replace_newest-clause-count g c = (λ is. absurd (passed_kind c.from_residual-in_err-replace_newest.result c.in_err-replace_newest.field-0.0 _ IsNoMemory c.from_residual-in_err-replace_newest.ensures.1 (no_memory _ c.in_err-replace_newest.ensures.refusal) is), λ no. absurd (no (c.if-count-lt2.false, within (files_of c.args.self.now) _ c.args.count c.len.ensures c.if-count-len.false)))
+returns-in_err-replace_newest-clause-count g c = record {
+  exactly = (λ is. absurd (passed_kind c.from_residual-in_err-replace_newest.result c.in_err-replace_newest.field-0.0 _ IsNoMemory c.from_residual-in_err-replace_newest.ensures.1 (no_memory _ c.in_err-replace_newest.ensures.refusal) is), λ no. absurd (no (c.if-count-lt2.false, within (files_of c.args.self.now) _ c.args.count c.len.ensures c.if-count-len.false)));
+  untouched = λ is. absurd (passed_kind c.from_residual-in_err-replace_newest.result c.in_err-replace_newest.field-0.0 _ IsNoMemory c.from_residual-in_err-replace_newest.ensures.1 (no_memory _ c.in_err-replace_newest.ensures.refusal) is);
+}
 
 pub returns-in_err-replace_newest-clause-refusal : goal.returns-in_err-replace_newest-clause-refusal
 returns-in_err-replace_newest-clause-refusal g c = passed_err c.from_residual-in_err-replace_newest.result c.in_err-replace_newest.field-0.0 _ c.from_residual-in_err-replace_newest.ensures.1 (subst IsMergeRefusal (sym c.in_err-replace_newest.ensures.refusal) tt)

@@ -47,7 +47,7 @@ returns-clause-lists g c =
     let files = c.in_ok-replace_newest.ensures.ok ∙ ap (λ fs. c.in_ok-file.file ∷ fs) c.in_ok-reserve.ensures.same in
     made_lists c.stays_open.ensures (g.F.Files.contents c.args.files.now) (g.F.Files.contents c.write.new.files) c.args.next_name.now c.write.new.next_name c.args.self.now (record c.args.self.now { memtable = c.new.result; files = c.replace_newest.new.self }) c.in_ok-file.file 0 [] (λ m. written true (seen range memory ∷ []))
     (λ memory lists. [] ∷ flushed (range_of c.args.self.now) memory lists)
-    (record { range = refl; memory = c.new.ensures; files = files; named = c.in_ok-file.ensures.named }) c.in_ok-file.ensures.used.1 c.in_ok-file.ensures.others
+    (record { range = refl; memory = c.new.ensures; files = files; named = c.in_ok-file.ensures.named }) c.in_ok-file.ensures.wrote.used c.in_ok-file.ensures.wrote.others
     (where_held Minor (g.F.Files.contents c.args.files.now) c.args.self.now (λ m. IsSomeAnd (g.F.Files.contents c.write.new.files) (λ n. IsNewFile n c.in_ok-file.file (written true (seen range memory ∷ [])))) (made_of Minor (g.F.Files.contents c.args.files.now) (g.F.Files.contents c.write.new.files) c.args.self.now (record c.args.self.now { files = c.reserve.new.self }) c.in_ok-file.file (λ m. written true (seen range memory ∷ [])) (λ m. written true (seen range memory ∷ []))
     (record { range = refl; memory = refl; files = c.in_ok-reserve.ensures.same }) (λ m. refl) c.in_ok-file.ensures.made))
     (λ m h. no_entries) (λ m h. minor_form c.keeps_one_list.ensures range memory (map (listed m) (files_of c.args.self.now)) some h.memory)
@@ -58,13 +58,10 @@ returns-clause-keeps g c =
     let memory = memory_of c.args.self.now in
     let files = c.in_ok-replace_newest.ensures.ok ∙ ap (λ fs. c.in_ok-file.file ∷ fs) c.in_ok-reserve.ensures.same in
     made_keeps c.stays_open.ensures (g.F.Files.contents c.args.files.now) (g.F.Files.contents c.write.new.files) c.args.next_name.now c.write.new.next_name c.args.self.now _ c.in_ok-file.file 0 [] (λ m. written true (seen range memory ∷ []))
-    (record { range = refl; memory = c.new.ensures; files = files; named = c.in_ok-file.ensures.named }) c.in_ok-file.ensures.used.1 c.in_ok-file.ensures.others
+    (record { range = refl; memory = c.new.ensures; files = files; named = c.in_ok-file.ensures.named }) c.in_ok-file.ensures.wrote.used c.in_ok-file.ensures.wrote.others
     (where_held Minor (g.F.Files.contents c.args.files.now) c.args.self.now (λ m. IsSomeAnd (g.F.Files.contents c.write.new.files) (λ n. IsNewFile n c.in_ok-file.file (written true (seen range memory ∷ [])))) (made_of Minor (g.F.Files.contents c.args.files.now) (g.F.Files.contents c.write.new.files) c.args.self.now (record c.args.self.now { files = c.reserve.new.self }) c.in_ok-file.file (λ m. written true (seen range memory ∷ [])) (λ m. written true (seen range memory ∷ []))
     (record { range = refl; memory = refl; files = c.in_ok-reserve.ensures.same }) (λ m. refl) c.in_ok-file.ensures.made))
     (λ m h. no_entries) (λ m h list. minor_cells c.keeps_one_list.ensures range memory (map (listed m) (files_of c.args.self.now)) h.memory)
-
-pub returns-then-len-ge-MOST_FILES-clause-unwritten : goal.returns-then-len-ge-MOST_FILES-clause-unwritten
-returns-then-len-ge-MOST_FILES-clause-unwritten g c = λ err. (refl, refl)
 
 pub returns-then-len-ge-MOST_FILES-clause-name : goal.returns-then-len-ge-MOST_FILES-clause-name
 returns-then-len-ge-MOST_FILES-clause-name g c = record { uses = inl (refl, refl); within = λ most. most }
@@ -90,10 +87,10 @@ pub returns-in_err-file-clause-name : goal.returns-in_err-file-clause-name
 returns-in_err-file-clause-name g c = c.in_err-file.ensures.name
 
 pub returns-in_err-file-clause-full : goal.returns-in_err-file-clause-full
-returns-in_err-file-clause-full g c = (λ is. absurd (passed_kind c.from_residual-in_err-file.result c.in_err-file.field-0.0 TooManyFiles IsCompactionRefusal c.from_residual-in_err-file.ensures.1 c.in_err-file.ensures.refusal is), λ both. absurd (not_both _ _ (too_few c.args.self.now.files _ 64 c.len.ensures c.if-len-ge-MOST_FILES.false) both.1))
-
-pub returns-in_err-file-clause-unwritten : goal.returns-in_err-file-clause-unwritten
-returns-in_err-file-clause-unwritten g c = λ is. absurd (passed_kind c.from_residual-in_err-file.result c.in_err-file.field-0.0 TooManyFiles IsCompactionRefusal c.from_residual-in_err-file.ensures.1 c.in_err-file.ensures.refusal is)
+returns-in_err-file-clause-full g c = record {
+  exactly = (λ is. absurd (passed_kind c.from_residual-in_err-file.result c.in_err-file.field-0.0 TooManyFiles IsCompactionRefusal c.from_residual-in_err-file.ensures.1 c.in_err-file.ensures.refusal is), λ both. absurd (not_both _ _ (too_few c.args.self.now.files _ 64 c.len.ensures c.if-len-ge-MOST_FILES.false) both.1));
+  untouched = λ is. absurd (passed_kind c.from_residual-in_err-file.result c.in_err-file.field-0.0 TooManyFiles IsCompactionRefusal c.from_residual-in_err-file.ensures.1 c.in_err-file.ensures.refusal is);
+}
 
 pub returns-in_err-file-clause-exhausted : goal.returns-in_err-file-clause-exhausted
 returns-in_err-file-clause-exhausted g c = λ is. (not_empty _ _ c.is_empty.ensures c.if-is_empty.false, c.in_err-file.ensures.exhausted (passed_on c.from_residual-in_err-file.result _ c.in_err-file.field-0.0 _ c.from_residual-in_err-file.ensures.1 refl is))
@@ -128,7 +125,10 @@ pub returns-in_err-reserve-clause-name : goal.returns-in_err-reserve-clause-name
 returns-in_err-reserve-clause-name g c = record { uses = inl (refl, refl); within = λ most. most }
 
 pub returns-in_err-reserve-clause-full : goal.returns-in_err-reserve-clause-full
-returns-in_err-reserve-clause-full g c = (λ is. absurd (passed_kind c.from_residual.result c.in_err-reserve.field-0.0 _ IsNoMemory c.from_residual.ensures.1 (no_memory _ c.in_err-reserve.ensures.refusal) is), λ both. absurd (not_both _ _ (too_few c.args.self.now.files _ 64 c.len.ensures c.if-len-ge-MOST_FILES.false) both.1))
+returns-in_err-reserve-clause-full g c = record {
+  exactly = (λ is. absurd (passed_kind c.from_residual.result c.in_err-reserve.field-0.0 _ IsNoMemory c.from_residual.ensures.1 (no_memory _ c.in_err-reserve.ensures.refusal) is), λ both. absurd (not_both _ _ (too_few c.args.self.now.files _ 64 c.len.ensures c.if-len-ge-MOST_FILES.false) both.1));
+  untouched = λ is. (record { range = refl; memory = refl; files = c.in_err-reserve.ensures.same }, (refl, refl));
+}
 
 pub returns-in_err-reserve-clause-exhausted : goal.returns-in_err-reserve-clause-exhausted
 returns-in_err-reserve-clause-exhausted g c = λ is. absurd (passed_kind c.from_residual.result c.in_err-reserve.field-0.0 _ IsNoMemory c.from_residual.ensures.1 (no_memory _ c.in_err-reserve.ensures.refusal) is)
@@ -138,9 +138,6 @@ returns-in_err-reserve-clause-large g c = λ is. absurd (passed_kind c.from_resi
 
 pub returns-in_err-reserve-clause-damaged : goal.returns-in_err-reserve-clause-damaged
 returns-in_err-reserve-clause-damaged g c = λ is. absurd (passed_kind c.from_residual.result c.in_err-reserve.field-0.0 _ IsNoMemory c.from_residual.ensures.1 (no_memory _ c.in_err-reserve.ensures.refusal) is)
-
-pub returns-in_err-reserve-clause-unwritten : goal.returns-in_err-reserve-clause-unwritten
-returns-in_err-reserve-clause-unwritten g c = λ is. (refl, refl)
 
 pub returns-in_err-reserve-clause-refusal : goal.returns-in_err-reserve-clause-refusal
 returns-in_err-reserve-clause-refusal g c = passed_err c.from_residual.result c.in_err-reserve.field-0.0 _ c.from_residual.ensures.1 (subst IsMinorRefusal (sym c.in_err-reserve.ensures.refusal) tt)
@@ -161,7 +158,10 @@ pub returns-then-len-ge-MOST_FILES-clause-err : goal.returns-then-len-ge-MOST_FI
 returns-then-len-ge-MOST_FILES-clause-err g c = record { range = refl; memory = refl; files = refl }
 
 pub returns-then-len-ge-MOST_FILES-clause-full : goal.returns-then-len-ge-MOST_FILES-clause-full
-returns-then-len-ge-MOST_FILES-clause-full g c = (λ is. (not_empty _ _ c.is_empty.ensures c.if-is_empty.false, too_many c.args.self.now.files _ 64 c.len.ensures c.if-len-ge-MOST_FILES.true), λ both. refl)
+returns-then-len-ge-MOST_FILES-clause-full g c = record {
+  exactly = (λ is. (not_empty _ _ c.is_empty.ensures c.if-is_empty.false, too_many c.args.self.now.files _ 64 c.len.ensures c.if-len-ge-MOST_FILES.true), λ both. refl);
+  untouched = λ is. (record { range = refl; memory = refl; files = refl }, (refl, refl));
+}
 
 pub returns-then-len-ge-MOST_FILES-clause-exhausted : goal.returns-then-len-ge-MOST_FILES-clause-exhausted
 returns-then-len-ge-MOST_FILES-clause-exhausted g c = λ is. absurd (told_kind TooManyFiles _ IsTooManyFiles tt is)
@@ -188,10 +188,13 @@ pub returns-clause-err : goal.returns-clause-err
 returns-clause-err g c = tt
 
 pub returns-clause-name : goal.returns-clause-name
-returns-clause-name g c = record { uses = inr (c.in_ok-file.ensures.used.1, c.in_ok-file.ensures.others); within = c.in_ok-file.ensures.name.within }
+returns-clause-name g c = record { uses = inr (c.in_ok-file.ensures.wrote.used, c.in_ok-file.ensures.wrote.others); within = c.in_ok-file.ensures.name.within }
 
 pub returns-clause-full : goal.returns-clause-full
-returns-clause-full g c = (λ is. absurd (not_err _ _ is), λ both. absurd (not_both _ _ (too_few c.args.self.now.files _ 64 c.len.ensures c.if-len-ge-MOST_FILES.false) both.1))
+returns-clause-full g c = record {
+  exactly = (λ is. absurd (not_err _ _ is), λ both. absurd (not_both _ _ (too_few c.args.self.now.files _ 64 c.len.ensures c.if-len-ge-MOST_FILES.false) both.1));
+  untouched = λ is. absurd (not_err _ _ is);
+}
 
 pub returns-clause-exhausted : goal.returns-clause-exhausted
 returns-clause-exhausted g c = λ is. absurd (not_err _ _ is)
@@ -201,9 +204,6 @@ returns-clause-large g c = λ is. absurd (not_err _ _ is)
 
 pub returns-clause-damaged : goal.returns-clause-damaged
 returns-clause-damaged g c = λ is. absurd (not_err _ _ is)
-
-pub returns-clause-unwritten : goal.returns-clause-unwritten
-returns-clause-unwritten g c = λ is. absurd (not_err _ _ is)
 
 pub returns-clause-refusal : goal.returns-clause-refusal
 returns-clause-refusal g c = tt
@@ -230,8 +230,8 @@ returns-clause-flushed g c =
       memory = c.new.ensures;
       written = λ some. record {
         room = too_few c.args.self.now.files _ 64 c.len.ensures c.if-len-ge-MOST_FILES.false;
-        left = c.in_ok-file.ensures.used.0;
-        used = c.in_ok-file.ensures.used.1;
+        left = c.in_ok-file.ensures.wrote.left;
+        used = c.in_ok-file.ensures.wrote.used;
         fits = subst (λ (es : List Entry). FitsIn c.args.file_limit es) (minor_writes c.keeps_one_list.ensures range memory c.len-2.ensures.list) (c.in_ok-file.ensures.fits tt);
       };
       put = λ some. reads_none (g.F.Files.contents c.args.files.now) _ (has_put Minor (g.F.Files.contents c.args.files.now) (g.F.Files.contents c.write.new.files) c.args.self.now (record c.args.self.now { memtable = c.new.result; files = c.replace_newest.new.self }) c.in_ok-file.file (λ m. written true (seen range memory ∷ [])) (λ m. seen range memory) files (λ m. minor_writes c.keeps_one_list.ensures range memory c.len-2.ensures.list)
@@ -243,7 +243,10 @@ pub returns-then-is_empty-clause-flushed : goal.returns-then-is_empty-clause-flu
 returns-then-is_empty-clause-flushed g c = let none = c.is_empty.ensures.0 c.if-is_empty.true in record { names = no_name _ _ _ none; memory = none; written = λ some. absurd (some none); put = λ some. absurd (some none) }
 
 pub returns-then-is_empty-clause-full : goal.returns-then-is_empty-clause-full
-returns-then-is_empty-clause-full g c = (λ is. absurd (not_err _ _ is), λ both. absurd (both.0 (c.is_empty.ensures.0 c.if-is_empty.true)))
+returns-then-is_empty-clause-full g c = record {
+  exactly = (λ is. absurd (not_err _ _ is), λ both. absurd (both.0 (c.is_empty.ensures.0 c.if-is_empty.true)));
+  untouched = λ is. absurd (not_err _ _ is);
+}
 
 pub returns-then-is_empty-clause-name : goal.returns-then-is_empty-clause-name
 returns-then-is_empty-clause-name g c = record { uses = inl (refl, refl); within = λ most. most }
@@ -293,14 +296,14 @@ returns-in_err-replace_newest-clause-too_much g c = λ is. absurd (passed_kind c
 pub returns-in_err-replace_newest-clause-damaged : goal.returns-in_err-replace_newest-clause-damaged
 returns-in_err-replace_newest-clause-damaged g c = λ is. absurd (passed_kind c.from_residual-in_err-replace_newest.result c.in_err-replace_newest.field-0.0 _ IsNoMemory c.from_residual-in_err-replace_newest.ensures.1 (no_memory _ c.in_err-replace_newest.ensures.refusal) is)
 
-pub returns-in_err-replace_newest-clause-unwritten : goal.returns-in_err-replace_newest-clause-unwritten
-returns-in_err-replace_newest-clause-unwritten g c = λ is. absurd (passed_kind c.from_residual-in_err-replace_newest.result c.in_err-replace_newest.field-0.0 _ IsNoMemory c.from_residual-in_err-replace_newest.ensures.1 (no_memory _ c.in_err-replace_newest.ensures.refusal) is)
-
 pub returns-in_err-replace_newest-clause-empty : goal.returns-in_err-replace_newest-clause-empty
 returns-in_err-replace_newest-clause-empty g c = λ none. absurd (not_empty _ _ c.is_empty.ensures c.if-is_empty.false none)
 
 pub returns-in_err-replace_newest-clause-full : goal.returns-in_err-replace_newest-clause-full
-returns-in_err-replace_newest-clause-full g c = (λ is. absurd (passed_kind c.from_residual-in_err-replace_newest.result c.in_err-replace_newest.field-0.0 _ IsNoMemory c.from_residual-in_err-replace_newest.ensures.1 (no_memory _ c.in_err-replace_newest.ensures.refusal) is), λ both. absurd (not_both _ _ (too_few c.args.self.now.files _ 64 c.len.ensures c.if-len-ge-MOST_FILES.false) both.1))
+returns-in_err-replace_newest-clause-full g c = record {
+  exactly = (λ is. absurd (passed_kind c.from_residual-in_err-replace_newest.result c.in_err-replace_newest.field-0.0 _ IsNoMemory c.from_residual-in_err-replace_newest.ensures.1 (no_memory _ c.in_err-replace_newest.ensures.refusal) is), λ both. absurd (not_both _ _ (too_few c.args.self.now.files _ 64 c.len.ensures c.if-len-ge-MOST_FILES.false) both.1));
+  untouched = λ is. absurd (passed_kind c.from_residual-in_err-replace_newest.result c.in_err-replace_newest.field-0.0 _ IsNoMemory c.from_residual-in_err-replace_newest.ensures.1 (no_memory _ c.in_err-replace_newest.ensures.refusal) is);
+}
 
 pub returns-in_err-replace_newest-clause-refusal : goal.returns-in_err-replace_newest-clause-refusal
 returns-in_err-replace_newest-clause-refusal g c = passed_err c.from_residual-in_err-replace_newest.result c.in_err-replace_newest.field-0.0 _ c.from_residual-in_err-replace_newest.ensures.1 (subst IsMinorRefusal (sym c.in_err-replace_newest.ensures.refusal) tt)

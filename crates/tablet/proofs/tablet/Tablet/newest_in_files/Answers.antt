@@ -16,7 +16,7 @@ use Rattle.tablet.proofs.Newer.{hidden, newest_below, none_after, none_left, ove
 use Rattle.tablet.proofs.Passed.{not_err}
 use Rattle.tablet.proofs.tablet.Tablet.newest_in_files.Goals as goal
 
--- what is said of a key is said of an equal one
+-- a fact about a key holds for an equal one
 same_later : (o : Option Contents) (u : Tablet) (lo : ℕ) (found : Option ℕ) (key other : CellKey) → key ≡ other → IfSome o (λ m. Holds m u → HasNoLater key lo found (map (listed m) (files_of u)))
     → IfSome o (λ m. Holds m u → HasNoLater other lo found (map (listed m) (files_of u)))
 same_later o u lo found key other e h = subst (λ (k : CellKey). IfSome o (λ m. Holds m u → HasNoLater k lo found (map (listed m) (files_of u)))) e h
@@ -27,7 +27,7 @@ same_one : (o : Option Contents) (u : Tablet) (found : Option (ℕ × List ℕ))
 same_one o u found key other e h =
     subst (λ (k : CellKey). IfSome o (λ m. Holds m u → IsTrue (has_row (range_of u) k.row) → IsNewest (cells_at m u) (at_stamp k) k.stamp k.stamp found)) e h
 
--- one stamp is all of a range
+-- the range has only one stamp
 pub returns-then-lo-hi-clause-found : goal.returns-then-lo-hi-clause-found
 returns-then-lo-hi-clause-found g c =
     let o = g.F.Files.contents c.args.files.now in
@@ -123,7 +123,7 @@ returns-in_default-clause-stays g c =
     let i = c.hidden.invariant in
     same_after_tablet o c.args.self.now c.hidden.self c.newest_file_stamp.new.self i.stays (over_now o (g.F.Files.contents c.hidden.files) c.hidden.self c.newest_file_stamp.new.self i.same c.newest_file_stamp.ensures.stays)
 
--- those that are left are passed by together
+-- the remaining versions are skipped together
 pub returns-clause-found : goal.returns-clause-found
 returns-clause-found g c =
     let o = g.F.Files.contents c.args.files.now in

@@ -34,16 +34,16 @@ pub returns-in_err-minor-clause-empty : goal.returns-in_err-minor-clause-empty
 returns-in_err-minor-clause-empty g c = λ none. (c.in_err-minor.ensures.empty none).1.1
 
 pub returns-clause-full : goal.returns-clause-full
-returns-clause-full g c = (λ is. absurd (err_kind c.cut.result _ IsReadRefusal c.cut.ensures.reads.refusal is), λ both. absurd (not_err _ _ (c.in_ok-minor.ensures.full.1 both)))
+returns-clause-full g c = record {
+  exactly = (λ is. absurd (err_kind c.cut.result _ IsReadRefusal c.cut.ensures.reads.refusal is), λ both. absurd (not_err _ _ (c.in_ok-minor.ensures.full.exactly.1 both)));
+  untouched = λ is. absurd (err_kind c.cut.result _ IsReadRefusal c.cut.ensures.reads.refusal is);
+}
 
 pub returns-clause-exhausted : goal.returns-clause-exhausted
 returns-clause-exhausted g c = λ is. absurd (err_kind c.cut.result _ IsReadRefusal c.cut.ensures.reads.refusal is)
 
 pub returns-clause-large : goal.returns-clause-large
 returns-clause-large g c = λ is. absurd (err_kind c.cut.result _ IsReadRefusal c.cut.ensures.reads.refusal is)
-
-pub returns-clause-unwritten : goal.returns-clause-unwritten
-returns-clause-unwritten g c = λ is. absurd (err_kind c.cut.result _ IsReadRefusal c.cut.ensures.reads.refusal is)
 
 pub returns-clause-refusal : goal.returns-clause-refusal
 returns-clause-refusal g c = err_map c.cut.result IsReadRefusal IsMinorRefusal minor_read c.cut.ensures.reads.refusal
@@ -61,7 +61,10 @@ pub returns-in_err-minor-clause-written : goal.returns-in_err-minor-clause-writt
 returns-in_err-minor-clause-written g c = passed_none c.from_residual.result c.in_err-minor.field-0.0 _ c.from_residual.ensures.1
 
 pub returns-in_err-minor-clause-full : goal.returns-in_err-minor-clause-full
-returns-in_err-minor-clause-full g c = (λ is. c.in_err-minor.ensures.full.0 (passed_on c.from_residual.result _ c.in_err-minor.field-0.0 _ c.from_residual.ensures.1 refl is), λ both. passed_over c.from_residual.result c.in_err-minor.field-0.0 _ c.from_residual.ensures.1 (c.in_err-minor.ensures.full.1 both))
+returns-in_err-minor-clause-full g c = record {
+  exactly = (λ is. c.in_err-minor.ensures.full.exactly.0 (passed_on c.from_residual.result _ c.in_err-minor.field-0.0 _ c.from_residual.ensures.1 refl is), λ both. passed_over c.from_residual.result c.in_err-minor.field-0.0 _ c.from_residual.ensures.1 (c.in_err-minor.ensures.full.exactly.1 both));
+  untouched = λ is. c.in_err-minor.ensures.full.untouched (passed_on c.from_residual.result _ c.in_err-minor.field-0.0 _ c.from_residual.ensures.1 refl is);
+}
 
 pub returns-clause-cut : goal.returns-clause-cut
 returns-clause-cut g c =

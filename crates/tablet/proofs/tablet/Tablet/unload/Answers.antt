@@ -28,7 +28,10 @@ pub returns-in_err-minor-clause-name : goal.returns-in_err-minor-clause-name
 returns-in_err-minor-clause-name g c = c.in_err-minor.ensures.name
 
 pub returns-in_err-minor-clause-full : goal.returns-in_err-minor-clause-full
-returns-in_err-minor-clause-full g c = (λ is. c.in_err-minor.ensures.full.0 (passed_on c.from_residual.result _ c.in_err-minor.field-0.0 _ c.from_residual.ensures.1 refl is), λ both. passed_over c.from_residual.result c.in_err-minor.field-0.0 _ c.from_residual.ensures.1 (c.in_err-minor.ensures.full.1 both))
+returns-in_err-minor-clause-full g c = record {
+  exactly = (λ is. c.in_err-minor.ensures.full.exactly.0 (passed_on c.from_residual.result _ c.in_err-minor.field-0.0 _ c.from_residual.ensures.1 refl is), λ both. passed_over c.from_residual.result c.in_err-minor.field-0.0 _ c.from_residual.ensures.1 (c.in_err-minor.ensures.full.exactly.1 both));
+  untouched = λ is. c.in_err-minor.ensures.full.untouched (passed_on c.from_residual.result _ c.in_err-minor.field-0.0 _ c.from_residual.ensures.1 refl is);
+}
 
 pub returns-in_err-minor-clause-exhausted : goal.returns-in_err-minor-clause-exhausted
 returns-in_err-minor-clause-exhausted g c = λ is. c.in_err-minor.ensures.exhausted (passed_on c.from_residual.result _ c.in_err-minor.field-0.0 _ c.from_residual.ensures.1 refl is)
@@ -44,9 +47,6 @@ returns-in_err-minor-clause-refusal g c = passed_err c.from_residual.result c.in
 
 pub returns-in_err-minor-clause-reason : goal.returns-in_err-minor-clause-reason
 returns-in_err-minor-clause-reason g c = passed_reason c.from_residual.result _ c.in_err-minor.field-0.0 _ _ c.from_residual.ensures.1 refl c.in_err-minor.ensures.reason
-
-pub returns-in_err-minor-clause-unwritten : goal.returns-in_err-minor-clause-unwritten
-returns-in_err-minor-clause-unwritten g c = λ is. (c.in_err-minor.ensures.err, c.in_err-minor.ensures.unwritten (passed_on c.from_residual.result _ c.in_err-minor.field-0.0 _ c.from_residual.ensures.1 refl is))
 
 pub returns-in_err-minor-clause-empty : goal.returns-in_err-minor-clause-empty
 returns-in_err-minor-clause-empty g c = λ none. (c.in_err-minor.ensures.empty none).1.1
@@ -64,7 +64,10 @@ pub returns-clause-empty : goal.returns-clause-empty
 returns-clause-empty g c = λ none. (c.in_ok-minor.ensures.empty none).1.1
 
 pub returns-clause-full : goal.returns-clause-full
-returns-clause-full g c = (λ is. absurd (err_kind c.names.result _ IsNoMemory (err_map c.names.result _ IsNoMemory no_memory c.names.ensures.refusal) is), λ both. absurd (not_err _ _ (c.in_ok-minor.ensures.full.1 both)))
+returns-clause-full g c = record {
+  exactly = (λ is. absurd (err_kind c.names.result _ IsNoMemory (err_map c.names.result _ IsNoMemory no_memory c.names.ensures.refusal) is), λ both. absurd (not_err _ _ (c.in_ok-minor.ensures.full.exactly.1 both)));
+  untouched = λ is. absurd (err_kind c.names.result _ IsNoMemory (err_map c.names.result _ IsNoMemory no_memory c.names.ensures.refusal) is);
+}
 
 pub returns-clause-exhausted : goal.returns-clause-exhausted
 returns-clause-exhausted g c = λ is. absurd (err_kind c.names.result _ IsNoMemory (err_map c.names.result _ IsNoMemory no_memory c.names.ensures.refusal) is)
@@ -74,9 +77,6 @@ returns-clause-large g c = λ is. absurd (err_kind c.names.result _ IsNoMemory (
 
 pub returns-clause-damaged : goal.returns-clause-damaged
 returns-clause-damaged g c = λ is. absurd (err_kind c.names.result _ IsNoMemory (err_map c.names.result _ IsNoMemory no_memory c.names.ensures.refusal) is)
-
-pub returns-clause-unwritten : goal.returns-clause-unwritten
-returns-clause-unwritten g c = λ is. absurd (err_kind c.names.result _ IsNoMemory (err_map c.names.result _ IsNoMemory no_memory c.names.ensures.refusal) is)
 
 pub returns-clause-refusal : goal.returns-clause-refusal
 returns-clause-refusal g c = err_map c.names.result _ IsMinorRefusal (λ e is. subst IsMinorRefusal (sym is) tt) c.names.ensures.refusal

@@ -12,7 +12,7 @@ use Rattle.tablet.proofs.Unread.{sources_same, told_map}
 use Rattle.tablet.specs.Views.{files_of, memory_of, range_of}
 use Rattle.tablet.proofs.Passed.{IsNoMemory, no_memory, passed_err, passed_kind, passed_none, quiet_reason}
 use Rattle.tablet.proofs.SourceLists.{all_through}
-use Rattle.tablet.proofs.WrittenFiles.{compacts, if_ok_holds, if_some_not, on_ok_both, on_ok_map}
+use Rattle.tablet.proofs.WrittenFiles.{compacts, if_ok_holds, if_some_not, on_ok_map}
 use Rattle.tablet.proofs.tablet.Tablet.write.Goals as goal
 
 pub returns-clause-made : goal.returns-clause-made
@@ -49,11 +49,8 @@ returns-in_err-from-clause-named g c = passed_none c.from_residual.result c.in_e
 pub returns-in_err-from-clause-made : goal.returns-in_err-from-clause-made
 returns-in_err-from-clause-made g c = passed_none c.from_residual.result c.in_err-from.field-0.0 _ c.from_residual.ensures.1
 
-pub returns-in_err-from-clause-used : goal.returns-in_err-from-clause-used
-returns-in_err-from-clause-used g c = passed_none c.from_residual.result c.in_err-from.field-0.0 _ c.from_residual.ensures.1
-
-pub returns-in_err-from-clause-others : goal.returns-in_err-from-clause-others
-returns-in_err-from-clause-others g c = passed_none c.from_residual.result c.in_err-from.field-0.0 _ c.from_residual.ensures.1
+pub returns-in_err-from-clause-wrote : goal.returns-in_err-from-clause-wrote
+returns-in_err-from-clause-wrote g c = passed_none c.from_residual.result c.in_err-from.field-0.0 _ c.from_residual.ensures.1
 
 pub returns-in_err-from-clause-fits : goal.returns-in_err-from-clause-fits
 returns-in_err-from-clause-fits g c = passed_none c.from_residual.result c.in_err-from.field-0.0 _ c.from_residual.ensures.1
@@ -85,11 +82,8 @@ returns-in_err-sources-clause-named g c = passed_none c.from_residual-in_err-sou
 pub returns-in_err-sources-clause-made : goal.returns-in_err-sources-clause-made
 returns-in_err-sources-clause-made g c = passed_none c.from_residual-in_err-sources.result c.in_err-sources.field-0.0 _ c.from_residual-in_err-sources.ensures.1
 
-pub returns-in_err-sources-clause-used : goal.returns-in_err-sources-clause-used
-returns-in_err-sources-clause-used g c = passed_none c.from_residual-in_err-sources.result c.in_err-sources.field-0.0 _ c.from_residual-in_err-sources.ensures.1
-
-pub returns-in_err-sources-clause-others : goal.returns-in_err-sources-clause-others
-returns-in_err-sources-clause-others g c = passed_none c.from_residual-in_err-sources.result c.in_err-sources.field-0.0 _ c.from_residual-in_err-sources.ensures.1
+pub returns-in_err-sources-clause-wrote : goal.returns-in_err-sources-clause-wrote
+returns-in_err-sources-clause-wrote g c = passed_none c.from_residual-in_err-sources.result c.in_err-sources.field-0.0 _ c.from_residual-in_err-sources.ensures.1
 
 pub returns-in_err-sources-clause-fits : goal.returns-in_err-sources-clause-fits
 returns-in_err-sources-clause-fits g c = passed_none c.from_residual-in_err-sources.result c.in_err-sources.field-0.0 _ c.from_residual-in_err-sources.ensures.1
@@ -118,11 +112,8 @@ returns-in_err-sources-clause-reason g c = quiet_reason c.from_residual-in_err-s
 pub returns-clause-named : goal.returns-clause-named
 returns-clause-named g c = c.write_new.ensures.named
 
-pub returns-clause-used : goal.returns-clause-used
-returns-clause-used g c = on_ok_both c.write_new.result _ _ c.write_new.ensures.left c.write_new.ensures.used
-
-pub returns-clause-others : goal.returns-clause-others
-returns-clause-others g c = c.write_new.ensures.others
+pub returns-clause-wrote : goal.returns-clause-wrote
+returns-clause-wrote g c = c.write_new.ensures.wrote
 
 pub returns-clause-name : goal.returns-clause-name
 returns-clause-name g c = c.write_new.ensures.name
@@ -191,11 +182,8 @@ returns-in_err-older-clause-named g c = passed_none c.from_residual-in_err-older
 pub returns-in_err-older-clause-made : goal.returns-in_err-older-clause-made
 returns-in_err-older-clause-made g c = passed_none c.from_residual-in_err-older.result c.in_err-older.field-0.0 _ c.from_residual-in_err-older.ensures.1
 
-pub returns-in_err-older-clause-used : goal.returns-in_err-older-clause-used
-returns-in_err-older-clause-used g c = passed_none c.from_residual-in_err-older.result c.in_err-older.field-0.0 _ c.from_residual-in_err-older.ensures.1
-
-pub returns-in_err-older-clause-others : goal.returns-in_err-older-clause-others
-returns-in_err-older-clause-others g c = passed_none c.from_residual-in_err-older.result c.in_err-older.field-0.0 _ c.from_residual-in_err-older.ensures.1
+pub returns-in_err-older-clause-wrote : goal.returns-in_err-older-clause-wrote
+returns-in_err-older-clause-wrote g c = passed_none c.from_residual-in_err-older.result c.in_err-older.field-0.0 _ c.from_residual-in_err-older.ensures.1
 
 pub returns-in_err-older-clause-fits : goal.returns-in_err-older-clause-fits
 returns-in_err-older-clause-fits g c = passed_none c.from_residual-in_err-older.result c.in_err-older.field-0.0 _ c.from_residual-in_err-older.ensures.1

@@ -14,7 +14,7 @@ or_none : (o : Option Cell) → option_or o None ≡ o
 or_none None = refl
 or_none (Some x) = refl
 
--- the last cell, where this one was passed by
+-- the last cell, if this one was skipped
 abbrev last_after : Option Cell → List (Cell × Item) → Option Cell
 last_after passed items = option_or passed (option_map (λ item. item.0) (last_or None items))
 

@@ -71,7 +71,7 @@ none_ends : (cells : Cells) (after : Option Place) (all : List CellVersions) →
 none_ends cells after [] none ends = ends
 none_ends cells after (v ∷ all) none ends = absurd (omega (arith, none))
 
--- what is read from the last cell on is in order, where what is read from the beginning of the range on is
+-- the rows from the last cell on are readable, if the rows from the beginning of the range on are
 last_readable : {R : Type 0} (seen : View R) (rows : R) (cells : Cells) (scan : Scan) (gathered : Gathered) → IsScanReadable seen rows (range_named scan.range) → Gathers cells scan gathered → AreReadableFrom seen rows (option_map place_at (last_of gathered))
 last_readable seen rows cells scan gathered held gathers row from = held row (looks_from cells (range_named scan.range) gathered.looked (last_of gathered) gathers.looks row from)
 

@@ -11,7 +11,7 @@ use Rattle.txn_client.specs.Ranges.{range_named}
 use Rattle.txn_client.specs.Scans.{IsScanReadable}
 use Rattle.txn_client.proofs.scan.Gathered.take_batch.Given as goal
 
--- the cells that are left are the next ones after the last cell, with their newest versions
+-- the remaining cells are the next ones after the last cell, with their newest versions
 abbrev pub invariant-loop-versions : goal.invariant-loop-versions
 invariant-loop-versions g l = record {
   limits : IsInLimits l.self;

@@ -5,7 +5,7 @@ use Rattle.txn_client.specs.Ranges.{range_named}
 use Rattle.txn_client.specs.Scans.{IsScanReadable}
 use Rattle.txn_client.proofs.scan.Scan.run.Given as goal
 
--- what was gathered stands in the cells
+-- the scan's items are right for the cells
 abbrev pub invariant-loop-gathered : goal.invariant-loop-gathered
 invariant-loop-gathered g l = record {
   limits : IsInLimits l.gathered;

@@ -45,7 +45,7 @@ held_some p k n m is other count held = let same : k ≡ m = cc in other (same �
 no_next : (p : Phase) (k n m : ℕ) → p ≡ Holding k → (k ≡ n → ⊥) → n ≡ m → m ≤ k → HasNoNext p m
 no_next p k n m is other count past = subst (λ (q : Phase). HasNoNext q m) (sym is) (past, λ same. other (same ∙ sym count))
 
--- what a draw is refused with, a step is
+-- a draw's refusals are a step's
 draw_advance : (Readable P : Type 0) (e : Refusal) → IsDrawRefusal e → IsAdvanceRefusal Readable P e
 draw_advance H P Exhausted u = tt
 draw_advance H P Device u = tt
@@ -59,7 +59,7 @@ draw_not : {A : Type 0} (r : Result A Refusal) (n : Refusal) → (IsDrawRefusal 
 draw_not (Ok x) n none h is = not_refused x n is
 draw_not (Err e) n none h is = let same : e ≡ n = cc in none (subst IsDrawRefusal same h)
 
--- so is what a step on a cell is refused with, which isn't Exhausted
+-- so are the refusals of a step on a cell, which are never Exhausted
 cell_advance : (Readable P Q : Type 0) (e : Refusal) → (P → Q) → IsCellStepRefusal Readable P e → IsAdvanceRefusal Readable Q e
 cell_advance R P Q EmptyCommit so u = so u
 cell_advance R P Q MemtableFull so u = tt
@@ -77,12 +77,12 @@ not_exhausted : {A : Type 0} (r : Result A Refusal) (Readable P : Type 0) → If
 not_exhausted (Ok x) H P h is = not_refused x Exhausted is
 not_exhausted (Err e) H P h is = let same : e ≡ Exhausted = cc in subst (IsCellStepRefusal H P) same h
 
--- what a refused step on a cell leaves, which doesn't come to the oracle
+-- the effects of a refused step on a cell, which doesn't reach the oracle
 left_aside : {A R M : Type 0} (seen : View R) (mark_of : M → Option ℕ) (old new : R) (oracle : OracleState M) (r : Result A Refusal)
     → OnErr r (OnlyReads seen old new) → OnErr r (StepLeaves seen mark_of old new oracle oracle)
 left_aside seen mark_of old new oracle r = on_err_weaker r (λ same. record { same = same; stays = refl; range = refl; mark = inl refl })
 
--- and a refused draw, which doesn't come to the rows
+-- the effects of a refused draw, which doesn't touch the rows
 left_undrawn : {A R M : Type 0} (seen : View R) (mark_of : M → Option ℕ) (rows : R) (old new : OracleState M) (r : Result A Refusal)
     → OnErr r (new.last ≡ old.last) → OnErr r (new.range_end ≡ old.range_end) → OnErr r (MayHold (next_range_end old.range_end) (mark_of old.marks) (mark_of new.marks))
     → OnErr r (StepLeaves seen mark_of rows rows old new)

@@ -13,7 +13,7 @@ use Rattle.txn_client.proofs.Exact.{not_crowded}
 use Rattle.cell_key.proofs.Reasons.{not_refused, reason_none}
 use Rattle.txn_client.proofs.Passed.{as_err, at_most_itself, passed_err, passed_none, passed_kept, no_memory_only, device_not, refused_not}
 use Rattle.txn_client.proofs.Refused.{draw_begin, draw_storage}
-use Rattle.txn_client.proofs.Table.{begins_at, begin_full_at, begin_storage_at, begin_undone_key, entries_each}
+use Rattle.txn_client.proofs.Table.{begins_at, begin_full_at, begin_storage_at, begin_undone_at, undone_each, entries_each}
 use Rattle.txn_client.proofs.sessions.Clients.begin.Goals as goal
 
 too_many_not_exhausted : {A : Type 0} → IsErrOf {T = A} (Err TooManySessions) Exhausted → ⊥
@@ -58,11 +58,11 @@ returns-in_err-start-clause-step g c = λ cells.
     let e = as_err c.from_residual.result c.in_err-start.field-0.0 c.from_residual.ensures.1 in
     rw e (begin_storage_at cells c.args.self.now c.args.self.now c.args.oracle.now.last c.args.oracle.now.last c.in_err-start.field-0.0 (subst IsStorageRefusal (sym c.in_err-start.ensures.refusal.0) tt) refl refl (at_most_itself _))
 
-pub returns-in_err-make_session-clause-step : goal.returns-in_err-make_session-clause-step
-returns-in_err-make_session-clause-step g c = λ cells.
-    let e = as_err c.from_residual-in_err-make_session.result c.in_err-make_session.field-0.0 c.from_residual-in_err-make_session.ensures.1 in
-    rw e (begin_storage_at cells c.args.self.now c.make_session.new.self c.args.oracle.now.last c.args.oracle.now.last c.in_err-make_session.field-0.0 (subst IsStorageRefusal (sym c.in_err-make_session.ensures.refusal) tt)
-    c.in_err-make_session.ensures.top c.in_err-make_session.ensures.err (at_most_itself _))
+pub returns-in_err-replaced-clause-step : goal.returns-in_err-replaced-clause-step
+returns-in_err-replaced-clause-step g c = λ cells.
+    let e = as_err c.from_residual-in_err-replaced.result c.in_err-replaced.field-0.0 c.from_residual-in_err-replaced.ensures.1 in
+    rw e (begin_storage_at cells c.args.self.now c.make_session.new.self c.args.oracle.now.last c.args.oracle.now.last c.in_err-replaced.field-0.0 (subst IsStorageRefusal (sym c.in_err-replaced.ensures.refusal) tt)
+    c.in_err-replaced.ensures.top c.in_err-replaced.ensures.err (at_most_itself _))
 
 pub returns-in-Ok-clause-step : goal.returns-in-Ok-clause-step
 returns-in-Ok-clause-step g c = λ cells.
@@ -70,20 +70,20 @@ returns-in-Ok-clause-step g c = λ cells.
     let same : c.in_ok-start.start ≡ c.in-Ok.start = next ∙ sym c.in-Ok.ensures.next in
     subst (λ (n : ℕ). Steps cells c.args.self.now c.args.oracle.now.last machine.Begin (machine.Begun n) cells (record c.make_session.new.self { top = n }) c.draw.new.self.last) same
     (begins_at cells c.args.self.now (record c.make_session.new.self { top = c.in_ok-start.start }) c.args.oracle.now.last c.draw.new.self.last c.in_ok-start.start
-    (is_room _ _ c.len.ensures.len c.if-len-ge-MOST_SESSIONS.false) next (subst (λ (n : ℕ). n < 2 ^ 63) (sym same) c.in-Ok.ensures.limit) (c.in-Ok.ensures.last ∙ sym same) refl c.in_ok-make_session.ensures.made.0 c.in_ok-make_session.ensures.len)
+    (is_room _ _ c.len.ensures.len c.if-len-ge-MOST_SESSIONS.false) next (subst (λ (n : ℕ). n < 2 ^ 63) (sym same) c.in-Ok.ensures.limit) (c.in-Ok.ensures.last ∙ sym same) refl c.in_ok-replaced.ensures.made.0 c.in_ok-replaced.ensures.len)
 
 pub returns-in-Err-clause-step : goal.returns-in-Err-clause-step
 returns-in-Err-clause-step g c = λ cells.
-    let next = c.in_ok-start.ensures.next ∙ ap (λ n. n + 1) c.last.ensures.last in
-    begin_undone_key cells c.args.self.now c.make_session.new.self (record c.make_session.new.self { sessions = c.remove.new.self }) c.args.oracle.now.last c.draw.new.self.last c.in_ok-start.start c.stamp.result c.in-Err.refusal c.remove.result
-    c.stamp.ensures.stamp (draw_storage c.in-Err.refusal c.in-Err.ensures.refusals) next (not_less _ _ c.in-Err.ensures.err.last) c.in_ok-make_session.ensures.top c.in_ok-make_session.ensures.made.0 c.in_ok-make_session.ensures.len
-    c.remove.ensures.value c.remove.ensures.updates.0 c.remove.ensures.len
+    begin_undone_at cells c.args.self.now c.make_session.new.self c.undo_session.new.self c.args.oracle.now.last c.draw.new.self.last c.in_ok-start.start c.in-Err.refusal c.in_ok-replaced.replaced
+    (draw_storage c.in-Err.refusal c.in-Err.ensures.refusals) (not_less _ _ c.in-Err.ensures.err.last) (c.undo_session.ensures.top ∙ c.in_ok-replaced.ensures.top) c.in_ok-replaced.ensures.replaced
+    (undone_each c.args.self.now c.make_session.new.self c.undo_session.new.self c.in_ok-start.start c.in_ok-replaced.replaced c.in_ok-replaced.ensures.replaced c.in_ok-replaced.ensures.made.0 c.undo_session.ensures.undone.0)
+    c.in_ok-replaced.ensures.len c.undo_session.ensures.len
 
 pub returns-in_err-start-clause-crowded : goal.returns-in_err-start-clause-crowded
 returns-in_err-start-clause-crowded g c = λ st shown many. absurd (not_crowded c.args.self.now st shown (is_room _ _ c.len.ensures.len c.if-len-ge-MOST_SESSIONS.false) many)
 
-pub returns-in_err-make_session-clause-crowded : goal.returns-in_err-make_session-clause-crowded
-returns-in_err-make_session-clause-crowded g c = λ st shown many. absurd (not_crowded c.args.self.now st shown (is_room _ _ c.len.ensures.len c.if-len-ge-MOST_SESSIONS.false) many)
+pub returns-in_err-replaced-clause-crowded : goal.returns-in_err-replaced-clause-crowded
+returns-in_err-replaced-clause-crowded g c = λ st shown many. absurd (not_crowded c.args.self.now st shown (is_room _ _ c.len.ensures.len c.if-len-ge-MOST_SESSIONS.false) many)
 
 pub returns-in-Ok-clause-crowded : goal.returns-in-Ok-clause-crowded
 returns-in-Ok-clause-crowded g c = λ st shown many. absurd (not_crowded c.args.self.now st shown (is_room _ _ c.len.ensures.len c.if-len-ge-MOST_SESSIONS.false) many)
@@ -97,6 +97,9 @@ returns-in_err-start-clause-next g c = passed_none c.from_residual.result c.in_e
 pub returns-in_err-start-clause-stays : goal.returns-in_err-start-clause-stays
 returns-in_err-start-clause-stays g c = passed_kept c.from_residual.result _ refl
 
+pub returns-in_err-start-clause-same : goal.returns-in_err-start-clause-same
+returns-in_err-start-clause-same g c = passed_kept c.from_residual.result _ (same_itself c.args.self.now)
+
 pub returns-in_err-start-clause-range : goal.returns-in_err-start-clause-range
 returns-in_err-start-clause-range g c = passed_kept c.from_residual.result _ refl
 
@@ -104,28 +107,31 @@ pub returns-in_err-start-clause-refusal : goal.returns-in_err-start-clause-refus
 returns-in_err-start-clause-refusal g c = passed_err c.from_residual.result c.in_err-start.field-0.0 _ c.from_residual.ensures.1 (subst IsBeginRefusal (sym c.in_err-start.ensures.refusal.0) tt)
 
 pub returns-in_err-start-clause-undrawn : goal.returns-in_err-start-clause-undrawn
-returns-in_err-start-clause-undrawn g c = λ is. (refl, same_itself c.args.self.now)
+returns-in_err-start-clause-undrawn g c = λ is. refl
 
 pub returns-in_err-start-clause-exhausted : goal.returns-in_err-start-clause-exhausted
 returns-in_err-start-clause-exhausted g c = λ is. sym c.last.ensures.last ∙ c.in_err-start.ensures.refusal.1
 
-pub returns-in_err-make_session-clause-next : goal.returns-in_err-make_session-clause-next
-returns-in_err-make_session-clause-next g c = passed_none c.from_residual-in_err-make_session.result c.in_err-make_session.field-0.0 _ c.from_residual-in_err-make_session.ensures.1
+pub returns-in_err-replaced-clause-next : goal.returns-in_err-replaced-clause-next
+returns-in_err-replaced-clause-next g c = passed_none c.from_residual-in_err-replaced.result c.in_err-replaced.field-0.0 _ c.from_residual-in_err-replaced.ensures.1
 
-pub returns-in_err-make_session-clause-stays : goal.returns-in_err-make_session-clause-stays
-returns-in_err-make_session-clause-stays g c = passed_kept c.from_residual-in_err-make_session.result _ refl
+pub returns-in_err-replaced-clause-stays : goal.returns-in_err-replaced-clause-stays
+returns-in_err-replaced-clause-stays g c = passed_kept c.from_residual-in_err-replaced.result _ refl
 
-pub returns-in_err-make_session-clause-range : goal.returns-in_err-make_session-clause-range
-returns-in_err-make_session-clause-range g c = passed_kept c.from_residual-in_err-make_session.result _ refl
+pub returns-in_err-replaced-clause-same : goal.returns-in_err-replaced-clause-same
+returns-in_err-replaced-clause-same g c = passed_kept c.from_residual-in_err-replaced.result _ (record { top = c.in_err-replaced.ensures.top; each = entries_each c.args.self.now c.make_session.new.self c.in_err-replaced.ensures.err })
 
-pub returns-in_err-make_session-clause-refusal : goal.returns-in_err-make_session-clause-refusal
-returns-in_err-make_session-clause-refusal g c = passed_err c.from_residual-in_err-make_session.result c.in_err-make_session.field-0.0 _ c.from_residual-in_err-make_session.ensures.1 (subst IsBeginRefusal (sym c.in_err-make_session.ensures.refusal) tt)
+pub returns-in_err-replaced-clause-range : goal.returns-in_err-replaced-clause-range
+returns-in_err-replaced-clause-range g c = passed_kept c.from_residual-in_err-replaced.result _ refl
 
-pub returns-in_err-make_session-clause-undrawn : goal.returns-in_err-make_session-clause-undrawn
-returns-in_err-make_session-clause-undrawn g c = λ is. (refl, record { top = c.in_err-make_session.ensures.top; each = entries_each c.args.self.now c.make_session.new.self c.in_err-make_session.ensures.err })
+pub returns-in_err-replaced-clause-refusal : goal.returns-in_err-replaced-clause-refusal
+returns-in_err-replaced-clause-refusal g c = passed_err c.from_residual-in_err-replaced.result c.in_err-replaced.field-0.0 _ c.from_residual-in_err-replaced.ensures.1 (subst IsBeginRefusal (sym c.in_err-replaced.ensures.refusal) tt)
 
-pub returns-in_err-make_session-clause-exhausted : goal.returns-in_err-make_session-clause-exhausted
-returns-in_err-make_session-clause-exhausted g c = λ is. absurd (no_memory_only c.from_residual-in_err-make_session.result c.in_err-make_session.field-0.0 _ no_memory_not_exhausted c.from_residual-in_err-make_session.ensures.1 c.in_err-make_session.ensures.refusal is)
+pub returns-in_err-replaced-clause-undrawn : goal.returns-in_err-replaced-clause-undrawn
+returns-in_err-replaced-clause-undrawn g c = λ is. refl
+
+pub returns-in_err-replaced-clause-exhausted : goal.returns-in_err-replaced-clause-exhausted
+returns-in_err-replaced-clause-exhausted g c = λ is. absurd (no_memory_only c.from_residual-in_err-replaced.result c.in_err-replaced.field-0.0 _ no_memory_not_exhausted c.from_residual-in_err-replaced.ensures.1 c.in_err-replaced.ensures.refusal is)
 
 pub returns-in-Ok-clause-next : goal.returns-in-Ok-clause-next
 returns-in-Ok-clause-next g c = (c.in-Ok.ensures.next, c.in-Ok.ensures.last)
@@ -135,6 +141,12 @@ returns-in-Ok-clause-exhausted g c = λ is. absurd (not_refused _ _ is)
 
 pub returns-in-Err-clause-stays : goal.returns-in-Err-clause-stays
 returns-in-Err-clause-stays g c = c.in-Err.ensures.err.last
+
+pub returns-in-Err-clause-same : goal.returns-in-Err-clause-same
+returns-in-Err-clause-same g c = record {
+  top = c.undo_session.ensures.top ∙ c.in_ok-replaced.ensures.top;
+  each = undone_each c.args.self.now c.make_session.new.self c.undo_session.new.self c.in_ok-start.start c.in_ok-replaced.replaced c.in_ok-replaced.ensures.replaced c.in_ok-replaced.ensures.made.0 c.undo_session.ensures.undone.0;
+}
 
 pub returns-in-Err-clause-range : goal.returns-in-Err-clause-range
 returns-in-Err-clause-range g c = c.in-Err.ensures.err.range_end
@@ -151,6 +163,9 @@ returns-then-len-ge-MOST_SESSIONS-clause-next g c = tt
 pub returns-then-len-ge-MOST_SESSIONS-clause-stays : goal.returns-then-len-ge-MOST_SESSIONS-clause-stays
 returns-then-len-ge-MOST_SESSIONS-clause-stays g c = refl
 
+pub returns-then-len-ge-MOST_SESSIONS-clause-same : goal.returns-then-len-ge-MOST_SESSIONS-clause-same
+returns-then-len-ge-MOST_SESSIONS-clause-same g c = same_itself c.args.self.now
+
 pub returns-then-len-ge-MOST_SESSIONS-clause-range : goal.returns-then-len-ge-MOST_SESSIONS-clause-range
 returns-then-len-ge-MOST_SESSIONS-clause-range g c = refl
 
@@ -161,13 +176,16 @@ pub returns-then-len-ge-MOST_SESSIONS-clause-crowded : goal.returns-then-len-ge-
 returns-then-len-ge-MOST_SESSIONS-clause-crowded g c = λ st shown many. refl
 
 pub returns-then-len-ge-MOST_SESSIONS-clause-undrawn : goal.returns-then-len-ge-MOST_SESSIONS-clause-undrawn
-returns-then-len-ge-MOST_SESSIONS-clause-undrawn g c = λ is. (refl, same_itself c.args.self.now)
+returns-then-len-ge-MOST_SESSIONS-clause-undrawn g c = λ is. refl
 
 pub returns-then-len-ge-MOST_SESSIONS-clause-exhausted : goal.returns-then-len-ge-MOST_SESSIONS-clause-exhausted
 returns-then-len-ge-MOST_SESSIONS-clause-exhausted g c = λ is. absurd (too_many_not_exhausted is)
 
 pub returns-in-Ok-clause-stays : goal.returns-in-Ok-clause-stays
 returns-in-Ok-clause-stays g c = tt
+
+pub returns-in-Ok-clause-same : goal.returns-in-Ok-clause-same
+returns-in-Ok-clause-same g c = tt
 
 pub returns-in-Ok-clause-range : goal.returns-in-Ok-clause-range
 returns-in-Ok-clause-range g c = tt
@@ -187,7 +205,7 @@ returns-in-Err-clause-undrawn g c = undrawn_at {A = ℕ} c.in-Err.refusal _ c.in
     let full = c.in-Err.ensures.exhausted.0 is in
     let next = c.in_ok-start.ensures.next in
     let last = c.last.ensures.last in
-    let to = c.stamp.ensures.to in
+    let limit = c.in_ok-start.ensures.limit in
     absurd (omega arith))
 
 pub returns-then-len-ge-MOST_SESSIONS-clause-reason : goal.returns-then-len-ge-MOST_SESSIONS-clause-reason
@@ -196,8 +214,8 @@ returns-then-len-ge-MOST_SESSIONS-clause-reason g c = reason_none _ _ too_many_n
 pub returns-in_err-start-clause-reason : goal.returns-in_err-start-clause-reason
 returns-in_err-start-clause-reason g c = reason_none _ _ (refused_not c.from_residual.result c.in_err-start.field-0.0 _ (λ f. f ≡ Exhausted) exhausted_no_device c.from_residual.ensures.1 c.in_err-start.ensures.refusal.0)
 
-pub returns-in_err-make_session-clause-reason : goal.returns-in_err-make_session-clause-reason
-returns-in_err-make_session-clause-reason g c = reason_none _ _ (no_memory_only c.from_residual-in_err-make_session.result c.in_err-make_session.field-0.0 _ device_not c.from_residual-in_err-make_session.ensures.1 c.in_err-make_session.ensures.refusal)
+pub returns-in_err-replaced-clause-reason : goal.returns-in_err-replaced-clause-reason
+returns-in_err-replaced-clause-reason g c = reason_none _ _ (no_memory_only c.from_residual-in_err-replaced.result c.in_err-replaced.field-0.0 _ device_not c.from_residual-in_err-replaced.ensures.1 c.in_err-replaced.ensures.refusal)
 
 pub returns-in-Ok-clause-reason : goal.returns-in-Ok-clause-reason
 returns-in-Ok-clause-reason g c = record { later = c.in-Ok.ensures.later; device = λ is. absurd (not_refused _ _ is); told = λ other. c.in-Ok.ensures.told (not_refused _ _) }
@@ -208,5 +226,5 @@ returns-in-Err-clause-reason g c = record { later = c.in-Err.ensures.later; devi
 pub returns-in_err-start-clause-mark : goal.returns-in_err-start-clause-mark
 returns-in_err-start-clause-mark g c = passed_kept c.from_residual.result _ (inl refl)
 
-pub returns-in_err-make_session-clause-mark : goal.returns-in_err-make_session-clause-mark
-returns-in_err-make_session-clause-mark g c = passed_kept c.from_residual-in_err-make_session.result _ (inl refl)
+pub returns-in_err-replaced-clause-mark : goal.returns-in_err-replaced-clause-mark
+returns-in_err-replaced-clause-mark g c = passed_kept c.from_residual-in_err-replaced.result _ (inl refl)

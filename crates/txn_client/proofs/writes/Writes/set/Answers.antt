@@ -17,7 +17,7 @@ returns-then-is_empty-clause-ok c =
     subst (λ (ws : List Write). Sets c.args.write.cell c.args.write.value (map write_of c.args.self.now) (map write_of ws)) (sym (c.in_ok-push.ensures.items ∙ ap (λ (ws : List Write). ws ++ c.args.write ∷ []) c.self.view_is))
     (sets_last c.args.self.now c.args.write (subst (λ (ws : List Write). IsIndexOf ws c.args.write.cell None) c.self.view_is (none c.args.write.cell)))
 
--- the write to the cell that is there
+-- the cell's earlier write is replaced
 pub invariant_of-self-in-Ok : goal.invariant_of-self-in-Ok
 invariant_of-self-in-Ok c = few_replaced _ _ c.in-Ok.index c.args.write (rw (← c.deref.ensures.value) c.in-Ok.ensures.found) c.self.invariant
 
@@ -36,7 +36,7 @@ returns-in-Ok-clause-room c =
     let found = subst (λ (ws : List Write). IsIndexOf ws c.args.write.cell (Some c.in-Ok.index)) (c.deref.ensures.value ∙ c.self.view_is) c.in-Ok.ensures.found in
     inl (named_there c.args.self.now c.in-Ok.index c.args.write.cell found)
 
--- another write
+-- another write is appended
 pub returns-then-len-ge-MOST-clause-full : goal.returns-then-len-ge-MOST-clause-full
 returns-then-len-ge-MOST-clause-full c = λ e.
     let same = ap (λ (ws : List Write). length ws) c.self.view_is in

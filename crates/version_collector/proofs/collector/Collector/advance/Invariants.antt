@@ -6,7 +6,7 @@ use Rattle.version_collector.specs.Ahead.{IsAhead}
 use Rattle.version_collector.specs.Visits.{AreVisits, Thins, WhereCome, position_of, read_from}
 use Rattle.version_collector.proofs.collector.Collector.advance.Given as goal
 
--- as many visits as were counted are made, each answered More
+-- the counted visits were made, each answered More
 abbrev pub invariant-loop-made : goal.invariant-loop-made
 invariant-loop-made g l = record {
   visited : AreReadableFrom g.R.Rows.seen l.fn.rows (read_from l.fn.self l.self)

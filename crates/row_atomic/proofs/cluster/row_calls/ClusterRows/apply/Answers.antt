@@ -1,4 +1,4 @@
--- The edits are made in the row's tablet, and in no other.
+-- The edits are made in the row's tablet only.
 use Rattle.std.proofs.Common.{◌<◌, ℕ, ap, map, max, length, sym, subst, ◌∙◌, rules}
 use Rattle.std.proofs.lemmas.Option.{slice_get_within}
 use Rattle.std.proofs.lemmas.Result.{on_err_weaker}

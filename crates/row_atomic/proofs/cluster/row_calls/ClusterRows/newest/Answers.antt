@@ -1,4 +1,4 @@
--- The cells of the row are those of its tablet, which stays what it was.
+-- The row's cells are its tablet's, which is unchanged.
 use Rattle.std.proofs.Common.{◌<◌, ℕ, sym, subst}
 use Rattle.row_atomic.proofs.RowAnswers.{found_there, holder_numbered, index_below, matched_set, newest_answer, not_damaged, owner_at}
 use Rattle.row_atomic.specs.Changes.{IsOutOfOrder}

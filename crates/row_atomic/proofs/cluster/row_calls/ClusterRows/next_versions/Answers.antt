@@ -1,4 +1,4 @@
--- The cells from a place on are those of the tablets that aren't passed.
+-- The cells from a place on belong to the tablets that are not skipped.
 use Rattle.std.proofs.Common.{option_map}
 use Rattle.cell_key.specs.Cells.{Cells}
 use Rattle.cell_key.specs.Places.{place_named}

@@ -1,4 +1,4 @@
--- The cells of the row are those of its tablet.
+-- The row's cells are its tablet's.
 use Rattle.std.proofs.Common.{◌<◌, ℕ, map, sym, subst}
 use Rattle.cell_key.specs.Versions.{stamped}
 use Rattle.row_atomic.proofs.RowAnswers.{found_there, holder_numbered, index_below, not_damaged, owner_at, versions_answer}
