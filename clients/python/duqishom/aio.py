@@ -479,9 +479,9 @@ class Store:
         administrator has a socket refuses that, and has done it itself."""
         await self.do(self._plans.make_room())
 
-    async def fate(self, start: int, row: bytes, family: bytes) -> Fate:
+    async def fate(self, start: int, row: bytes, family: bytes, patience: Patience | None = None) -> Fate:
         """What became of a commit whose answer was lost: of the session of this start, by its first cell."""
-        return await self.do(self._plans.fate(start, row, family))
+        return await self.do(self._plans.fate(start, row, family, patience or self._patience))
 
     def transaction(self) -> Transaction:
         """A transaction, that `async with` begins. It commits at the end, and stops where an exception leaves."""

@@ -311,13 +311,13 @@ class StorePlans:
             except MemtableFull:
                 yield from self.make_room()
 
-    def fate(self, start: int, row: bytes, family: bytes) -> Plan[Fate]:
+    def fate(self, start: int, row: bytes, family: bytes, patience: Patience) -> Plan[Fate]:
         """What became of a session's commit, by its first cell. A record there that names the session says that it has
         committed. Its lock is waited for, and then cleaned, unless the patience says otherwise; where neither stands,
         nothing was committed."""
         lock = yield from ask(Raw(row, family, Qualifier.LOCK, start, start))
-        if lock is not None and self.patience.cleans:
-            yield from self.free(Cell(row, family), self.patience)
+        if lock is not None and patience.cleans:
+            yield from self.free(Cell(row, family), patience)
         elif lock is not None:
             return Pending(start)
         above = MOST_STAMP

@@ -347,7 +347,7 @@ class Store(AutoCommit):
         with self.alone():
             self.do(self._plans.make_room(row))
 
-    def fate(self, start: int, row: bytes, family: bytes) -> Fate:
+    def fate(self, start: int, row: bytes, family: bytes, patience: Patience | None = None) -> Fate:
         """The fate of a commit whose answer was lost: of the session with this start, by its first cell. Committed with
         its stamp, or Lost.
 
@@ -355,7 +355,7 @@ class Store(AutoCommit):
         collected. A lock of it is waited for, and then cleaned; if the patience says otherwise, the answer is Pending.
         """
         with self.alone():
-            return self.do(self._plans.fate(start, row, family))
+            return self.do(self._plans.fate(start, row, family, patience or self._patience))
 
     def transaction(self) -> Transaction:
         """Begins a transaction. In a `with` it commits at the end, and stops where an exception leaves."""
