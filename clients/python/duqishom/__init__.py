@@ -1,12 +1,11 @@
 """A client of `tabletd`, which it starts as a child process and speaks to in frames.
 
-    from duqishom import Store
+    import duqishom
 
-    with Store() as store:
+    with duqishom.connect("data") as store:
+        store.put(b"Bob", b"bal", b"10")
         with store.transaction() as t:
-            t.set(b"Bob", b"bal", b"10")
-        with store.transaction() as t:
-            print(t.get(b"Bob", b"bal"))
+            t.put(b"Joe", b"bal", t.get(b"Bob", b"bal"))
 """
 
 from duqishom.answers import (
@@ -44,6 +43,7 @@ from duqishom.connection import RequestTimedOut
 from duqishom.copies import NotCopied
 from duqishom.fields import MalformedReply
 from duqishom.folders import FolderDamaged, NotOpened
+from duqishom.opening import connect, transactional
 from duqishom.program import ProgramEnded
 from duqishom.refusals import (
     BadColumn,
@@ -76,6 +76,7 @@ from duqishom.store import ForkedStore, Store
 from duqishom.tablets import Tablet
 from duqishom.transactions import (
     Patience,
+    Snapshot,
     StillPending,
     Transaction,
     TransactionConflict,
@@ -140,6 +141,7 @@ __all__ = [
     "RolledForward",
     "ScanItem",
     "Scanned",
+    "Snapshot",
     "Stamped",
     "StillPending",
     "Store",
@@ -161,6 +163,8 @@ __all__ = [
     "Version",
     "WrongPhase",
     "__version__",
+    "connect",
     "read_lock",
     "read_record",
+    "transactional",
 ]

@@ -1,11 +1,11 @@
 """The client over a gateway's socket for `asyncio`: the names of `Store` and `Transaction`, to be awaited.
 
-    from duqishom.aio import Store
+    from duqishom import aio
 
-    async with Store(socket=PATH) as store:
+    async with aio.connect("unix:PATH") as store:
+        await store.put(b"Bob", b"bal", b"10")
         async with store.transaction() as t:
-            t.set(b"Bob", b"bal", b"10")
-        print(await store.run(read_bob))
+            t.put(b"Joe", b"bal", await t.get(b"Bob", b"bal"))
 
 Many tasks share one store and its connection, each with transactions of its own.
 """
@@ -13,38 +13,31 @@ Many tasks share one store and its connection, each with transactions of its own
 from __future__ import annotations
 
 import asyncio
-from collections.abc import AsyncIterator, Awaitable, Callable, Sequence
+import logging
+from collections.abc import AsyncIterator, Awaitable, Callable, Coroutine, Iterable, Sequence
 from contextlib import suppress
 from os import PathLike, fspath
 from types import TracebackType
-from typing import TYPE_CHECKING, Literal, TypeVar, cast, overload
+from typing import Any, Concatenate, Literal, ParamSpec, TypeVar, overload
 
-from duqishom import transactions
 from duqishom.answers import (
-    Blocked,
     Cleaned,
     Cleaner,
-    Collected,
     Collection,
     Collector,
     Committed,
-    Decided,
     Found,
-    Lost,
     Pending,
     Progress,
     Qualifier,
     Scanned,
-    Unsent,
-    Value,
     Version,
 )
-from duqishom.cells import Cell, CellRange, entries_of, range_of
-from duqishom.columns import read_record
+from duqishom.autocommit import cell_of, is_of_session
+from duqishom.cells import Cell, CellRange, range_of
 from duqishom.operations import (
     MOST_CELLS,
     Begin,
-    Checkpoint,
     CleanBegin,
     CleanStep,
     CollectBegin,
@@ -65,30 +58,78 @@ from duqishom.operations import (
     Stop,
     Sweep,
     answer_or_refusal,
-    named,
+    request_bodies,
     request_body,
 )
-from duqishom.program import ProgramEnded
-from duqishom.refusals import BadRequest, MemtableFull, Refused, TooManyFiles, UnknownSession, UnknownTablet
-from duqishom.remote import MOST_TABLETS, Backup, Fate, check_copied
-from duqishom.streams import FrameStream
-from duqishom.transactions import (
+from duqishom.opening import either
+from duqishom.places import Places
+from duqishom.plans import (
+    LOG,
     MOST_STAMP,
+    Attempts,
     Patience,
+    Pause,
+    Plan,
     StillPending,
+    StorePlans,
     TransactionConflict,
-    TransactionFailed,
     TransactionLost,
-    value_of,
+    Trip,
+    Unwaited,
+    patience_of,
 )
-
-if TYPE_CHECKING:
-    from duqishom import store
+from duqishom.program import ProgramEnded
+from duqishom.refusals import Refused, TooManySessions, UnknownSession
+from duqishom.remote import Address, Backup, ConnectionLost, Fate, address_of, check_copied
+from duqishom.sessions import Entry, RangeScan, Session
+from duqishom.streams import FrameStream
 
 MOST_VISITS = 1000
 
+# So many sessions a gateway gives a connection, unless it is told otherwise.
+MOST_SESSIONS = 64
+
+# The seconds between two attempts to connect anew.
+RECONNECT_PAUSE = 0.1
+
 Answer = TypeVar("Answer")
+Own = TypeVar("Own", bound="Snapshot")
 Result = TypeVar("Result")
+
+
+Given = ParamSpec("Given")
+
+
+def connect(
+    address: str | PathLike[str],
+    *,
+    patience: Patience | None = None,
+    lock_wait: float | None = None,
+    timeout: float | None = None,
+    reconnect: float = 10.0,
+    sessions: int = MOST_SESSIONS,
+    connections: int = 1,
+) -> Store:
+    """The store of the gateway at `unix:PATH`, at the path of a socket, or at HOST:PORT, which `async with` connects. The options
+    are those of `Store`."""
+    path = fspath(address)
+    return Store(address_of(path) or path, patience, timeout, lock_wait, reconnect, sessions, connections)
+
+
+def transactional(
+    work: Callable[Concatenate[Transaction, Given], Awaitable[Result]],
+) -> Callable[Concatenate[Store | Transaction, Given], Awaitable[Result]]:
+    """Makes of a coroutine function of a transaction one of a store, too, as `duqishom.transactional` does."""
+    return either(work)
+
+
+class Link:
+    """A place of the pool for a connection, and how many sessions it has. It is connected when it is needed."""
+
+    def __init__(self) -> None:
+        self.stream: FrameStream | None = None
+        self.sessions = 0
+        self.connecting = asyncio.Lock()
 
 
 class Store:
@@ -97,16 +138,43 @@ class Store:
     has passed."""
 
     def __init__(
-        self, socket: str | PathLike[str], patience: Patience = Patience(), timeout: float | None = None
+        self,
+        socket: str | PathLike[str] | tuple[str, int],
+        patience: Patience | None = None,
+        timeout: float | None = None,
+        lock_wait: float | None = None,
+        reconnect: float = 10.0,
+        sessions: int = MOST_SESSIONS,
+        connections: int = 1,
     ) -> None:
-        """A store that isn't connected yet: `open` connects it, and so does `async with`."""
-        self._path = fspath(socket)
-        self._patience = patience
+        """A store that isn't connected yet: `open` connects it, and so does `async with`.
+
+        At most so many transactions and snapshots are open at once on each of so many connections; others wait for one to end. So
+        a task must not begin one inside of another if all tasks do. The other options are those of the other twin.
+        """
+        self._address: Address = socket if isinstance(socket, tuple) else fspath(socket)
+        self._patience = patience_of(patience, lock_wait, is_remote=True)
         self._timeout = timeout
+        self._reconnect = reconnect
+        self._plans = StorePlans(self._patience, None, lambda: False)
+        if connections < 1:
+            raise ValueError(f"there must be 1 connection or more, and not {connections}")
+        self._places = Places(sessions * connections)
+        self._links = [Link() for _ in range(connections)]
+        self._is_closed = False
+        self._ending: set[asyncio.Future[Any]] = set()
 
     async def open(self) -> None:
-        """Connects. OSError if no gateway serves at the socket."""
-        self._stream = await FrameStream.open(self._path)
+        """Connects. OSError where nobody serves there."""
+        self._links[0].stream = await FrameStream.open(self._address)
+
+    @property
+    def _stream(self) -> FrameStream:
+        """The first connection, which takes what is of no session."""
+        stream = self._links[0].stream
+        if stream is None:
+            raise ValueError("the store isn't open: `async with`, or `open`, opens it")
+        return stream
 
     async def ask(self, operation: Operation[Answer]) -> Answer:
         """Asks for an operation, and gives the answer."""
@@ -115,22 +183,177 @@ class Store:
             raise answer
         return answer
 
-    async def ask_each(self, operations: Sequence[Operation[Answer]]) -> list[Answer | Refused]:
-        """Asks for several operations in one trip, and gives the answer to each, or its refusal."""
-        bodies = [request_body(operation) for operation in operations]
+    async def ask_each(
+        self, operations: Sequence[Operation[Answer]], stream: FrameStream | None = None
+    ) -> list[Answer | Refused]:
+        """Asks for several operations in one trip, and gives the answer to each, or its refusal. They go to the connection that is
+        named, or to none."""
+        bodies = request_bodies(operations)
         async with asyncio.timeout(self._timeout):
-            replies = await self._stream.ask(bodies)
-        return [answer_or_refusal(operation, reply) for operation, reply in zip(operations, replies)]
+            replies = await (await self._connected(stream)).ask(bodies)
+        answers = [answer_or_refusal(operation, reply, True) for operation, reply in zip(operations, replies)]
+        self._plans.stamps.note(operations, answers)
+        return answers
+
+    async def _connected(self, wanted: FrameStream | None, link: Link | None = None) -> FrameStream:
+        """The connection of a link, the first one if none is named, made anew where the last one is known to be lost.
+        ConnectionLost where another one is wanted, which had the session that is asked, and where nobody serves any more."""
+        if wanted is not None:
+            if self._is_lost(wanted):
+                raise ConnectionLost("the session went with its connection to the gateway")
+            return wanted
+        link = link or self._links[0]
+        async with link.connecting:
+            before = link.stream or self._stream
+            if link.stream is None or (before.is_lost and not self._is_closed):
+                try:
+                    link.stream = await FrameStream.open(self._address)
+                except OSError as error:
+                    raise ConnectionLost(f"there is no connection to the gateway, and none can be made: {error}") from None
+                LOG.log(logging.WARNING if before.is_lost else logging.INFO, "connected to the gateway at %s", self._address)
+            return link.stream
+
+    def _is_lost(self, stream: FrameStream) -> bool:
+        """Whether a connection is known to be lost, or there is another one in its place."""
+        return stream.is_lost or all(link.stream is not stream for link in self._links)
+
+    async def do(self, plan: Plan[Result], stream: FrameStream | None = None) -> Result:
+        """Takes a plan to its end."""
+        try:
+            trip = next(plan)
+            while True:
+                try:
+                    answers = await self._take(trip, stream)
+                except BaseException as error:
+                    trip = plan.throw(error)
+                else:
+                    trip = plan.send(answers)
+        except StopIteration as done:
+            result: Result = done.value
+            return result
+
+    async def _take(self, trip: Trip, stream: FrameStream | None) -> list[Any]:
+        """Asks for what a plan asks, or waits."""
+        if isinstance(trip, Pause):
+            await asyncio.sleep(trip.seconds)
+            return []
+        if isinstance(trip, Unwaited):
+            (await self._connected(stream)).tell(request_body(trip.operation))
+            return []
+        return await self.ask_each(trip, stream)
 
     async def begin(self) -> int:
         """Begins a session, and returns its start."""
         return await self.ask(Begin())
 
-    async def get(self, start: int, row: bytes, family: bytes) -> Found:
-        """Reads a cell as of the session's start."""
-        return await self.ask(Get(start, row, family))
+    @overload
+    async def get(self, row: bytes, family: bytes) -> bytes | None: ...
 
-    async def scan(
+    @overload
+    async def get(self, start: int, row: bytes, family: bytes) -> Found: ...
+
+    async def get(self, *given: Any, **named: Any) -> bytes | Found | None:
+        """The value of a cell, or None. With a session's start: reads the cell as of it."""
+        if is_of_session(given, named):
+            return await self.ask(Get(*given, **named))
+        [value] = await self.get_many([cell_of(*given, **named)])
+        return value
+
+    async def get_many(self, cells: Iterable[tuple[bytes, bytes]]) -> list[bytes | None]:
+        """The values of cells, all as of one moment and in one trip, or two where others use the store."""
+        wanted = [Cell(*cell) for cell in cells]
+        values: list[bytes | None] | None = None
+        with suppress(ConnectionLost, TooManySessions):
+            values = await self._to_its_end(self._read(wanted))
+        return await self.run(lambda t: t.get_many(wanted)) if values is None else values
+
+    async def _read(self, cells: Sequence[Cell]) -> list[bytes | None] | None:
+        """What cells hold as of now: None if one of them is locked."""
+        link = await self._link()
+        try:
+            return await self.do(self._plans.read(cells), await self._connected(None, link))
+        finally:
+            self.left(link)
+
+    async def _to_its_end(self, work: Coroutine[Any, Any, Result]) -> Result:
+        """Awaits what begins and stops a session. It goes on if the task is cancelled, for nobody else would stop the session."""
+        task = asyncio.ensure_future(work)
+        self._ending.add(task)
+        task.add_done_callback(self._note_ended)
+        return await asyncio.shield(task)
+
+    def _note_ended(self, task: asyncio.Future[Any]) -> None:
+        """Forgets a task that has ended. Nobody else may be there to hear why it failed."""
+        self._ending.discard(task)
+        if not task.cancelled():
+            task.exception()
+
+    async def row(self, row: bytes) -> dict[bytes, bytes]:
+        """The values of a row, by their families."""
+        return await self.run(lambda t: t.row(row))
+
+    async def put(self, row: bytes, family: bytes, value: bytes) -> None:
+        """Writes a value to a cell."""
+
+        async def work(t: Transaction) -> None:
+            t.put(row, family, value)
+
+        await self.run(work)
+
+    @overload
+    async def set(self, row: bytes, family: bytes, value: bytes) -> None: ...
+
+    @overload
+    async def set(self, start: int, row: bytes, family: bytes, value: bytes) -> None: ...
+
+    async def set(self, *given: Any, **named: Any) -> None:
+        """Another name of `put`. With a session's start: buffers a write in the session."""
+        await (self.ask(Set(*given, **named)) if is_of_session(given, named) else self.put(*given, **named))
+
+    @overload
+    async def delete(self, row: bytes, family: bytes) -> None: ...
+
+    @overload
+    async def delete(self, start: int, row: bytes, family: bytes) -> None: ...
+
+    async def delete(self, *given: Any, **named: Any) -> None:
+        """Deletes a cell. With a session's start: buffers the deletion in the session."""
+
+        async def work(t: Transaction) -> None:
+            t.delete(*given, **named)
+
+        await (self.ask(Delete(*given, **named)) if is_of_session(given, named) else self.run(work))
+
+    @overload
+    def scan(
+        self,
+        start: bytes | None = None,
+        end: bytes | None = None,
+        *,
+        prefix: bytes | None = None,
+        family: bytes | None = None,
+        keys: Literal[False] = False,
+        after: bytes | None = None,
+        before: bytes | None = None,
+        limit: int | None = None,
+    ) -> AsyncIterator[tuple[bytes, bytes, bytes]]: ...
+
+    @overload
+    def scan(
+        self,
+        start: bytes | None = None,
+        end: bytes | None = None,
+        *,
+        prefix: bytes | None = None,
+        family: bytes | None = None,
+        keys: Literal[True],
+        after: bytes | None = None,
+        before: bytes | None = None,
+        limit: int | None = None,
+    ) -> AsyncIterator[tuple[bytes, bytes, None]]: ...
+
+    @overload
+    def scan(
         self,
         start: int,
         after: tuple[bytes, bytes] | None = None,
@@ -138,17 +361,42 @@ class Store:
         family: bytes | None = None,
         keys_only: bool = False,
         cells: int = MOST_CELLS,
-    ) -> Scanned:
-        """Reads the cells of a range as of the session's start, as `duqishom.Store.scan` does."""
-        return await self.ask(Scan(start, after, end, family, keys_only, cells))
+    ) -> Coroutine[Any, Any, Scanned]: ...
 
-    async def set(self, start: int, row: bytes, family: bytes, value: bytes) -> None:
-        """Buffers a write in the session."""
-        await self.ask(Set(start, row, family, value))
+    def scan(
+        self, start: bytes | int | None = None, *bounds: Any, **options: Any
+    ) -> AsyncIterator[Entry] | Coroutine[Any, Any, Scanned]:
+        """The cells of a range, for `async for`, from one snapshot that ends with the iterator. With a session's start: reads cells
+        as of it, as `Store.scan` of the other twin does."""
+        if isinstance(start, int):
+            return self.ask(Scan(start, *bounds, **options))
+        return self._entries(start, *bounds, **options)
 
-    async def delete(self, start: int, row: bytes, family: bytes) -> None:
-        """Buffers the deletion of a cell in the session."""
-        await self.ask(Delete(start, row, family))
+    def _entries(
+        self, start: bytes | None = None, end: bytes | None = None, *, limit: int | None = None, keys: bool = False, **bounds: Any
+    ) -> AsyncIterator[Entry]:
+        """The cells of a range. Its bounds are checked at once."""
+        asked = range_of(start, end, **bounds)
+
+        async def entries() -> AsyncIterator[Entry]:
+            async with self.snapshot() as snapshot:
+                async for entry in snapshot.entries(asked, keys, limit):
+                    yield entry
+
+        return entries()
+
+    async def count(
+        self,
+        start: bytes | None = None,
+        end: bytes | None = None,
+        *,
+        prefix: bytes | None = None,
+        family: bytes | None = None,
+        after: bytes | None = None,
+        before: bytes | None = None,
+    ) -> int:
+        """How many cells of a range have a value."""
+        return await self.run(lambda t: t.count(start, end, prefix=prefix, family=family, after=after, before=before))
 
     async def step(self, start: int) -> Progress:
         """Takes the session's next step towards its end."""
@@ -167,32 +415,12 @@ class Store:
         return await self.ask(CleanStep(cleaner))
 
     async def clean(self, row: bytes, family: bytes) -> Cleaned | None:
-        """Clears the lock of a cell, whether its session runs or has stopped. Returns the outcome, or None if the cell
-        wasn't locked."""
-        cleaner = await self.clean_begin(row, family)
-        if cleaner is None:
-            return None
-        cleaned = await self._clean_step(cleaner.number)
-        while cleaned == Decided():
-            cleaned = await self._clean_step(cleaner.number)
-        return cleaned
-
-    async def _clean_step(self, cleaner: int) -> Cleaned:
-        try:
-            return await self.clean_step(cleaner)
-        except MemtableFull:
-            await self.make_room()
-            return await self.clean_step(cleaner)
+        """Clears the lock of a cell, whether its session runs or has stopped: what became of it, and None where none stood."""
+        return await self.do(self._plans.clean(row, family))
 
     async def free(self, row: bytes, family: bytes, patience: Patience) -> None:
         """Waits for the lock of a cell to go, as long as the patience says, and then cleans it."""
-        first = await self.raw(row, family, Qualifier.LOCK)
-        for _ in range(patience.tries):
-            lock = await self.raw(row, family, Qualifier.LOCK)
-            if lock is None or first is None or lock.stamp != first.stamp:
-                return
-            await asyncio.sleep(patience.pause)
-        await self.clean(row, family)
+        await self.do(self._plans.free(Cell(row, family), patience))
 
     async def collect_begin(self) -> Collector:
         """Opens a collector of old versions. Its floor is the least start of an active session."""
@@ -203,19 +431,8 @@ class Store:
         return await self.ask(CollectStep(collector, visits))
 
     async def collect(self, visits: int = MOST_VISITS) -> int:
-        """Erases the versions that no active or later session can read. Returns the floor up to which it erased."""
-        collector = await self.collect_begin()
-        while (done := await self._collect_step(collector.number, visits)) != Collected():
-            if isinstance(done, Blocked):
-                await self.clean(done.row, done.family)
-        return collector.floor
-
-    async def _collect_step(self, collector: int, visits: int) -> Collection:
-        while True:
-            try:
-                return await self.collect_step(collector, visits)
-            except MemtableFull:
-                await self.make_room()
+        """Erases the versions that no active session reads, and none that begins later: the floor up to which that was done."""
+        return await self.do(self._plans.collect(visits))
 
     async def minor(self, tablet: int) -> None:
         """Writes the memtable of a tablet as a new file."""
@@ -243,13 +460,8 @@ class Store:
         return await self.ask(Sweep())
 
     async def checkpoint(self) -> None:
-        """Writes the store's whole state to its files. If a tablet has too many files, they are first merged into
-        one."""
-        try:
-            await self.ask(Checkpoint())
-        except TooManyFiles:
-            await self.make_room()
-            await self.ask(Checkpoint())
+        """Writes all that the store keeps into its files. Where a tablet has too many files, all of its files become one first."""
+        await self.do(self._plans.checkpoint())
 
     async def restart_oracle(self) -> None:
         """Restarts the oracle of stamps from its stored mark."""
@@ -263,54 +475,123 @@ class Store:
         return await self.ask(Raw(row, family, qualifier, lo, hi))
 
     async def make_room(self) -> None:
-        """Writes the memtable of each tablet to a file, and makes a checkpoint, since the log may be full. A gateway
-        with an administrator's socket refuses this, and has done it itself."""
-        with suppress(UnknownTablet, BadRequest):
-            for tablet in range(1, MOST_TABLETS + 1):
-                try:
-                    await self.minor(tablet)
-                except TooManyFiles:
-                    await self.major(tablet)
-        with suppress(BadRequest):
-            await self.ask(Checkpoint())
+        """Writes the memtable of each tablet to a file, and makes a checkpoint, for the log may be what is full. A gateway whose
+        administrator has a socket refuses that, and has done it itself."""
+        await self.do(self._plans.make_room())
 
-    async def fate(self, start: int, row: bytes, family: bytes) -> Fate:
-        """The fate of a commit whose answer was lost: of the session with this start, by its first cell."""
-        lock = await self.raw(row, family, Qualifier.LOCK, start, start)
-        if lock is not None and self._patience.cleans:
-            await self.free(row, family, self._patience)
-        elif lock is not None:
-            return Pending(start)
-        record = await self.raw(row, family, Qualifier.WRITE, start)
-        while record is not None:
-            if read_record(record.value).start == start:
-                return Committed(record.stamp)
-            record = await self.raw(row, family, Qualifier.WRITE, start, record.stamp - 1)
-        return Lost()
+    async def fate(self, start: int, row: bytes, family: bytes, patience: Patience | None = None) -> Fate:
+        """What became of a commit whose answer was lost: of the session of this start, by its first cell."""
+        return await self.do(self._plans.fate(start, row, family, patience or self._patience))
 
     def transaction(self) -> Transaction:
-        """A transaction, begun by `async with`. It commits at the end of the block, and stops if an exception leaves
-        it."""
-        return Transaction(self, self._patience)
+        """A transaction, that `async with` begins. It commits at the end, and stops where an exception leaves."""
+        return Transaction(self)
+
+    def snapshot(self) -> Snapshot:
+        """A snapshot, that `async with` begins: the store as of then. While it is open, collectors keep what it shows."""
+        return Snapshot(self)
+
+    async def begun(self) -> tuple[Session, FrameStream, Link]:
+        """A new session of a snapshot or a transaction, the connection that has it, and its link. It waits for a place there first,
+        which `left` gives back; and where the gateway has fewer, for another one to end."""
+        link = await self._link()
+        try:
+            while True:
+                stream = await self._connected(None, link)
+                start = await self._begun(stream)
+                if isinstance(start, int):
+                    return Session(start, self._plans), stream, link
+                if not (isinstance(start, TooManySessions) and await self._places.one_left()):
+                    raise start
+        except BaseException:
+            self.left(link)
+            raise
+
+    async def _link(self) -> Link:
+        """The link with the fewest sessions, and a place for one there."""
+        await self._places.take()
+        link = min(self._links, key=lambda each: each.sessions)
+        link.sessions += 1
+        return link
+
+    async def _begun(self, stream: FrameStream) -> int | Refused:
+        """The start of a new session, or the refusal. If the task is cancelled meanwhile, the session is stopped when it is there,
+        for nobody would."""
+        beginning = asyncio.ensure_future(self.ask_each([Begin()], stream))
+        try:
+            [start] = await asyncio.shield(beginning)
+            return start
+        except asyncio.CancelledError:
+            stopping = asyncio.ensure_future(self._stop_begun(beginning, stream))
+            self._ending.add(stopping)
+            stopping.add_done_callback(self._note_ended)
+            raise
+
+    async def _stop_begun(self, beginning: asyncio.Future[list[int | Refused]], stream: FrameStream) -> None:
+        """Stops a session whose begin is on its way."""
+        with suppress(ProgramEnded, TimeoutError):
+            [start] = await beginning
+            if isinstance(start, int):
+                await self.ask_each([Stop(start)], stream)
+
+    def left(self, link: Link) -> None:
+        """Gives the place of a session back."""
+        link.sessions -= 1
+        self._places.give_back()
 
     async def run(self, work: Callable[[Transaction], Awaitable[Result]], attempts: int = 10) -> Result:
-        """Does work in a transaction, and retries in a new one after a conflict, a loss or a lock that stays, as
-        `Store.run` does."""
-        attempt = 1
+        """Does work in a transaction, and once more in a new one where it conflicts, is lost or stays pending, as `Store.run`
+        does."""
+        tried = Attempts(self._patience, attempts)
+        while True:
+            transaction = self.transaction()
+            results: list[Result] = []
+            try:
+                async with transaction:
+                    results.append(await work(transaction))
+                return results[0]
+            except (TransactionConflict, TransactionLost, StillPending) as failure:
+                pause = tried.pause_after(failure)
+            except ConnectionLost as lost:
+                if await self._is_done_nonetheless(lost, transaction):
+                    if results:
+                        return results[0]
+                    raise
+                pause = tried.pause_after(lost)
+            await asyncio.sleep(pause)
+
+    async def _is_done_nonetheless(self, lost: ConnectionLost, transaction: Transaction) -> bool:
+        """Whether a transaction was committed whose connection was lost. It connects anew first. The loss is raised where that
+        comes to nothing, another store's connection was lost, or it can't be told."""
+        if transaction.stream is not None and not self._is_lost(transaction.stream):
+            raise lost
+        end = asyncio.get_running_loop().time() + self._reconnect
         while True:
             try:
-                async with self.transaction() as transaction:
-                    return await work(transaction)
-            except (TransactionConflict, TransactionLost, StillPending):
-                if attempt >= attempts:
+                await self._connected(None)
+                return await self._is_committed(lost, transaction)
+            except ConnectionLost:
+                if self._is_closed or asyncio.get_running_loop().time() >= end:
                     raise
-            await asyncio.sleep(self._patience.between(attempt - 1))
-            attempt += 1
+            await asyncio.sleep(RECONNECT_PAUSE)
+
+    async def _is_committed(self, lost: ConnectionLost, transaction: Transaction) -> bool:
+        """Whether a transaction was committed whose connection was lost. The loss is raised where a lock of it stands, and may not
+        be cleaned."""
+        if transaction.stream is None or not transaction.session.has_stepped or transaction.session.first is None:
+            return False
+        session = transaction.session
+        fate = await self.fate(session.start, *transaction.session.first)
+        LOG.warning("the connection was lost while session %d committed: %s", session.start, fate)
+        if isinstance(fate, Pending):
+            raise lost
+        session.commit_stamp = fate.commit if isinstance(fate, Committed) else None
+        return isinstance(fate, Committed)
 
     async def backup(self, path: str | PathLike[str]) -> None:
-        """Has the gateway copy the store's folder to a path, as `duqishom.Store.backup` does. Cancelling the task stops
-        the copy."""
-        asked, stream = Backup(fspath(path)), await FrameStream.open(self._path)
+        """Has the gateway make a copy of the store's folder at a path, as `Store.backup` of the other twin does. A task that is
+        cancelled meanwhile stops the copy."""
+        asked, stream = Backup(fspath(path)), await FrameStream.open(self._address)
         try:
             [reply] = await stream.ask([request_body(asked)])
         finally:
@@ -318,8 +599,11 @@ class Store:
         check_copied(asked, reply)
 
     async def close(self) -> int:
-        """Disconnects from the gateway, which ends the sessions, cleaners and collectors that are still open."""
-        self._stream.close()
+        """Leaves the gateway, which ends what is open."""
+        self._is_closed = True
+        for link in self._links:
+            if link.stream is not None:
+                link.stream.close()
         return 0
 
     async def __aenter__(self) -> Store:
@@ -332,57 +616,41 @@ class Store:
         await self.close()
 
 
-class Cleanings:
-    """The store of a transaction's plan: it records the cells that must be cleaned."""
+class Snapshot:
+    """The store as of one moment, the start of a session. It begins and ends with `async with`, or by `begin` and `stop`."""
 
-    def __init__(self) -> None:
-        self.cells: list[Cell] = []
-
-    def clean(self, row: bytes, family: bytes) -> None:
-        """Records a cell."""
-        self.cells.append(Cell(row, family))
-
-
-class Transaction:
-    """One session, from its begin to its end. Its writes are buffered here, and sent when it commits.
-
-    A transaction without a store keeps the writes and the results of the steps.
-    """
-
-    def __init__(self, asked: Store, patience: Patience) -> None:
+    def __init__(self, asked: Store) -> None:
         self._store = asked
-        self._patience = patience
-        self._cleanings = Cleanings()
+        self._link: Link | None = None
+        self.stream: FrameStream | None = None
 
     async def begin(self) -> None:
         """Begins the session."""
-        start = await self._store.begin()
-        self._plan = transactions.Transaction(cast("store.Store", self._cleanings), start, self._patience)
+        self._leave()
+        self.session, self.stream, self._link = await self._store.begun()
 
     @property
     def start(self) -> int:
         """The session's start."""
-        return self._plan.start
+        return self.session.start
 
     @property
     def is_active(self) -> bool:
         """Whether the session hasn't ended."""
-        return self._plan.is_active
-
-    @property
-    def commit_stamp(self) -> int | None:
-        """The stamp at which it has committed, or None if it hasn't."""
-        return self._plan.commit_stamp
+        return self.session.is_active
 
     async def get(self, row: bytes, family: bytes, own: bool = True) -> bytes | None:
-        """The transaction's own write to the cell, if any; otherwise the last value committed by the start."""
-        cell = Cell(row, family)
-        if own and cell in self._plan._writes:
-            return self._plan._writes[cell]
-        found = await self._store.get(self.start, row, family)
-        if isinstance(found, Pending):
-            return (await self._read_locked({cell: found.start}))[cell]
-        return value_of(found)
+        """What the transaction has written to the cell; otherwise the value that was committed last by the start."""
+        [value] = await self.get_many([(row, family)], own)
+        return value
+
+    async def get_many(self, cells: Iterable[tuple[bytes, bytes]], own: bool = True) -> list[bytes | None]:
+        """What each of these cells holds, as `get` gives it, in one trip."""
+        return await self._do(self.session.get_many(cells, own))
+
+    async def row(self, row: bytes, own: bool = True) -> dict[bytes, bytes]:
+        """The values of a row, by their families."""
+        return {family: value async for _, family, value in self.scan(row, row, own=own)}
 
     @overload
     def scan(
@@ -394,6 +662,9 @@ class Transaction:
         family: bytes | None = None,
         keys: Literal[False] = False,
         own: bool = True,
+        after: bytes | None = None,
+        before: bytes | None = None,
+        limit: int | None = None,
     ) -> AsyncIterator[tuple[bytes, bytes, bytes]]: ...
 
     @overload
@@ -406,6 +677,9 @@ class Transaction:
         family: bytes | None = None,
         keys: Literal[True],
         own: bool = True,
+        after: bytes | None = None,
+        before: bytes | None = None,
+        limit: int | None = None,
     ) -> AsyncIterator[tuple[bytes, bytes, None]]: ...
 
     def scan(
@@ -417,12 +691,13 @@ class Transaction:
         family: bytes | None = None,
         keys: bool = False,
         own: bool = True,
-    ) -> AsyncIterator[tuple[bytes, bytes, bytes | None]]:
-        """The cells that have a value, in order, each as its row, its family and its value, for `async for`: as `scan`
-        of `duqishom.Transaction` gives them."""
-        asked = range_of(start, end, prefix, family)
-        writes = {cell: value for cell, value in self._plan._writes.items() if asked.has(cell)} if own else {}
-        return self._entries(asked, keys, writes)
+        after: bytes | None = None,
+        before: bytes | None = None,
+        limit: int | None = None,
+    ) -> AsyncIterator[Entry]:
+        """The cells that have a value, in order, each as its row, its family and its value, for `async for`: as `scan` of the
+        other twin gives them."""
+        return self.entries(range_of(start, end, prefix, family, after, before), keys, limit, own)
 
     async def count(
         self,
@@ -432,129 +707,80 @@ class Transaction:
         prefix: bytes | None = None,
         family: bytes | None = None,
         own: bool = True,
+        after: bytes | None = None,
+        before: bytes | None = None,
     ) -> int:
-        """The number of cells of a range that have a value. The values aren't sent. The range is given as to `scan`."""
-        count = 0
-        async for _ in self.scan(start, end, prefix=prefix, family=family, keys=True, own=own):
-            count += 1
+        """How many cells of a range have a value. Their values aren't sent. The range is that of `scan`."""
+        count, scan = 0, self.session.scan(range_of(start, end, prefix, family, after, before), True, own, None)
+        while piece := await self._do(scan.piece()):
+            count += len(piece)
         return count
 
-    async def _entries(
-        self, asked: CellRange, keys: bool, writes: dict[Cell, bytes | None]
-    ) -> AsyncIterator[tuple[bytes, bytes, bytes | None]]:
-        is_done = False
-        while not is_done:
-            scanned = await self._store.scan(self.start, asked.after, asked.end, asked.family, keys)
-            async for entry in self._batch(entries_of(scanned, writes), keys):
+    def entries(self, asked: CellRange, keys: bool, limit: int | None, own: bool = True) -> AsyncIterator[Entry]:
+        """The cells of a range, as `scan` gives them."""
+        return self._pieces(self.session.scan(asked, keys, own, limit))
+
+    async def _pieces(self, scan: RangeScan) -> AsyncIterator[Entry]:
+        """The cells of a scan, piece by piece."""
+        while piece := await self._do(scan.piece()):
+            for entry in piece:
                 yield entry
-            is_done = scanned.upto is None
-            asked = asked if scanned.upto is None else asked.behind(Cell(*scanned.upto))
 
-    async def _batch(
-        self, entries: dict[Cell, Value | Pending | Unsent], keys: bool
-    ) -> AsyncIterator[tuple[bytes, bytes, bytes | None]]:
-        read = await self._read_locked({cell: found.start for cell, found in entries.items() if isinstance(found, Pending)})
-        for cell, found in entries.items():
-            if isinstance(found, Unsent):
-                value = None if keys else await self.get(*cell, own=False)
-            else:
-                value = found.value if isinstance(found, Value) else read[cell]
-                if value is None:
-                    continue
-            yield cell.row, cell.family, None if keys else value
+    async def stop(self) -> None:
+        """Ends the session where it stands. Before its first step nothing of it stays."""
+        try:
+            await self._do(self.session.stop())
+        finally:
+            self._leave()
 
-    async def _read_locked(self, locks: dict[Cell, int]) -> dict[Cell, bytes | None]:
-        values: dict[Cell, bytes | None] = {}
-        tries = 0
-        while locks:
-            tries += 1
-            await self._wait(locks, tries)
-            cells, locks = list(locks), {}
-            for cell, found in zip(cells, await self._store.ask_each([Get(self.start, *cell) for cell in cells])):
-                if isinstance(found, Refused):
-                    raise found
-                if isinstance(found, Pending):
-                    locks[cell] = found.start
-                else:
-                    values[cell] = value_of(found)
-        return values
+    async def _do(self, plan: Plan[Result]) -> Result:
+        """Does a plan, at the connection that has the session."""
+        return await self._store.do(plan, self.stream)
 
-    async def _wait(self, locks: dict[Cell, int], tries: int) -> None:
-        if tries < self._patience.tries:
-            await asyncio.sleep(self._patience.pause)
-        elif self._patience.cleans:
-            for cell in locks:
-                await self._store.clean(*cell)
-        else:
-            raise StillPending(*next(iter(locks.items())))
+    def _leave(self) -> None:
+        """Gives the place back."""
+        link, self._link = self._link, None
+        if link is not None:
+            self._store.left(link)
 
-    def set(self, row: bytes, family: bytes, value: bytes) -> None:
+    async def __aenter__(self: Own) -> Own:
+        await self.begin()
+        return self
+
+    async def __aexit__(
+        self, kind: type[BaseException] | None, error: BaseException | None, trace: TracebackType | None
+    ) -> None:
+        with suppress(UnknownSession, ProgramEnded, TimeoutError):
+            await self.stop()
+
+
+class Transaction(Snapshot):
+    """One session, from its begin to its end. Its writes are kept here, and sent when it commits."""
+
+    @property
+    def commit_stamp(self) -> int | None:
+        """The stamp at which it has committed, and None where it hasn't."""
+        return self.session.commit_stamp
+
+    def put(self, row: bytes, family: bytes, value: bytes) -> None:
         """Writes a value to a cell, when the transaction commits. The first cell that is written is the primary."""
-        self._plan.set(row, family, value)
+        self.session.write(row, family, value)
+
+    set = put
 
     def delete(self, row: bytes, family: bytes) -> None:
         """Deletes a cell, when the transaction commits."""
-        self._plan.delete(row, family)
-
-    async def stop(self) -> None:
-        """Ends the session in its current phase. Before its first step it leaves nothing behind."""
-        if self._plan.is_active:
-            self._plan.is_active = False
-            await self._store.stop(self.start)
+        self.session.write(row, family, None)
 
     async def commit(self) -> int | None:
-        """Commits all writes atomically, and returns the commit stamp, or None if nothing was written. Raises the same
-        exceptions as `commit` of `duqishom.Transaction`."""
-        if not self._plan.is_active:
-            raise UnknownSession(named("session", self.start))
-        if not self._plan._writes:
-            await self.stop()
-            return None
-        failure = await self._commit()
-        for cell in self._cleanings.cells:
-            await self._store.clean(cell.row, cell.family)
-        if failure is not None:
-            if isinstance(failure, TransactionConflict) and self._patience.cleans:
-                await self._store.free(failure.cell.row, failure.cell.family, self._patience)
-            raise failure
-        return self.commit_stamp
-
-    async def _commit(self) -> TransactionFailed | None:
-        """Sends the writes and takes the steps. Returns the failure, if the transaction failed."""
-        plan = self._plan
-        operations = [plan._request(cell) for cell in plan._unsent()]
-        if len(plan._writes) == 1:
-            failure, rest = await self._ask([*operations, *plan._steps_left()], len(operations))
-        else:
-            await self._ask(operations, len(operations))
-            failure, rest = await self._ask(plan._steps_left(), 0)
-        while plan.is_active:
-            before = plan._steps
-            if isinstance(rest, MemtableFull):
-                await self._store.make_room()
-            elif rest is not None:
-                raise rest
-            failure, rest = await self._ask(plan._steps_left(), 0)
-            if rest is not None and plan._steps == before:
-                raise rest
-        return failure
-
-    async def _ask(
-        self, operations: Sequence[Set | Delete | Step], writes: int
-    ) -> tuple[TransactionFailed | None, Refused | None]:
-        """Sends writes and steps in one trip, and passes the answers to the plan."""
-        plan = self._plan
-        plan._has_stepped = plan._has_stepped or len(operations) > writes
+        """Commits all writes at once, and gives the commit stamp: None where nothing was written. It raises what `commit` of
+        the other twin does."""
         try:
-            answers = await self._store.ask_each(operations)
-        except (ProgramEnded, TimeoutError, asyncio.CancelledError):
-            plan.is_active = not plan._has_stepped
-            raise
-        return plan._take_answers(operations, answers, writes)
-
-    async def __aenter__(self) -> Transaction:
-        await self.begin()
-        return self
+            await self._do(self.session.commit())
+        finally:
+            if not self.is_active:
+                self._leave()
+        return self.commit_stamp
 
     async def __aexit__(
         self, kind: type[BaseException] | None, error: BaseException | None, trace: TracebackType | None
@@ -563,6 +789,6 @@ class Transaction:
             if kind is None and self.is_active:
                 await self.commit()
         finally:
-            if not self._plan._has_stepped:
-                with suppress(UnknownSession, ProgramEnded, TimeoutError):
-                    await self.stop()
+            if not self.session.has_stepped:
+                await super().__aexit__(kind, error, trace)
+            self._leave()

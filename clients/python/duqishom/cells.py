@@ -48,21 +48,39 @@ class CellRange:
         return replace(self, after=cell)
 
 
-def range_of(start: bytes | None, end: bytes | None, prefix: bytes | None, family: bytes | None) -> CellRange:
-    """The range from a row up to another one, both included, of the rows that begin with a prefix, and of a family.
-    Arguments that aren't given don't bound it. A row `start` and a prefix may have no bytes.
+# No cell comes behind this one.
+LAST_CELL = Cell(b"\xff" * LONGEST_ROW, LAST_FAMILY)
+
+
+def range_of(
+    start: bytes | None,
+    end: bytes | None,
+    prefix: bytes | None = None,
+    family: bytes | None = None,
+    after: bytes | None = None,
+    before: bytes | None = None,
+) -> CellRange:
+    """The range from a row up to another one, both included, between two others, neither included, of the rows that begin with a
+    prefix, and of a family; what isn't given bounds nothing. A row `start` and a prefix may have no bytes.
 
     BadRow and BadColumn, as the store would refuse it.
     """
     start, end = row_argument("start", start, 0), row_argument("end", end, 1)
     prefix = row_argument("prefix", prefix, 0)
+    after, before = row_argument("after", after, 1), row_argument("before", before, 1)
     if family is not None and not FAMILY.fullmatch(family := bytes_argument("family", family)):
         raise BadColumn(named("family", family))
     if prefix is not None:
         last = prefix.ljust(LONGEST_ROW, b"\xff")
         start = prefix if start is None else max(start, prefix)
         end = last if end is None else min(end, last)
-    return CellRange(None if start is None else last_before(start), end, family)
+    first = None if start is None else last_before(start)
+    if after is not None:
+        first = max(first or Cell(b"", b""), Cell(after, LAST_FAMILY))
+    if before is not None and (end is None or before <= end):
+        last_cell = last_before(before)
+        return CellRange(LAST_CELL, None, family) if last_cell is None else CellRange(first, last_cell.row, family)
+    return CellRange(first, end, family)
 
 
 def row_argument(name: str, row: bytes | None, shortest: int) -> bytes | None:

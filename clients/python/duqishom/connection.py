@@ -7,6 +7,7 @@ import select
 import time
 import weakref
 from collections.abc import Sequence
+from contextlib import suppress
 from typing import Protocol
 
 LONGEST_BODY = 1_048_576
@@ -24,6 +25,10 @@ class Connection(Protocol):
         FrameTooLarge if a body is too long: then nothing is sent. RequestTimedOut after `timeout` seconds. ProgramEnded
         if the store ends instead of replying.
         """
+
+    def tell(self, body: bytes, timeout: float | None = None) -> None:
+        """Sends the body of a request, and doesn't wait for its reply. What fails, the next request finds out. RequestTimedOut
+        where an earlier request that was interrupted has no reply in so many seconds."""
 
     def kill(self) -> None:
         """Disconnects from the store at once, whatever it is doing."""
@@ -62,11 +67,15 @@ class Trip:
     can be completed later.
     """
 
-    def __init__(self, bodies: Sequence[bytes]) -> None:
+    def __init__(self, bodies: Sequence[bytes], behind: Trip | None = None, is_waited_for: bool = True) -> None:
+        """A trip may go behind one that nobody waits for: it takes its replies, too."""
         self.data = b"".join([len(body).to_bytes(4, "big") + body for body in bodies])
-        self.count = len(bodies)
+        self.requests: bytes = self.data if behind is None else behind.requests + self.data
+        self.passed: int = 0 if behind is None else behind.count
+        self.count: int = self.passed + len(bodies)
         self.written: list[int] = []
-        self.pieces: list[bytes] = []
+        self.pieces: list[bytes] = [] if behind is None else behind.pieces
+        self.is_waited_for = is_waited_for
 
     def unsent(self) -> memoryview:
         """The bytes that aren't written yet."""
@@ -90,10 +99,33 @@ class Frames:
         StreamEnded if the other side closes, and RequestTimedOut.
         """
         deadline = None if timeout is None else time.monotonic() + timeout
-        if self._trip is not None:
-            self._finish(self._trip, deadline)
-        self._trip = trip = Trip(bodies)
-        return self._finish(trip, deadline)
+        self._trip = trip = Trip(bodies, self._unwaited(deadline))
+        return self._finish(trip, deadline)[trip.passed :]
+
+    def _unwaited(self, deadline: float | None) -> Trip | None:
+        """The trip before the next one, if it is sent and nobody waits for it. Another one is taken to its end."""
+        trip = self._trip
+        if trip is not None and (trip.is_waited_for or trip.unsent()):
+            self._finish(trip, deadline)
+            return None
+        return trip
+
+    def tell(self, body: bytes, timeout: float | None = None) -> None:
+        """Sends a request whose reply the next trip takes. What fails, that one finds out.
+
+        StreamEnded where the other side has closed before it replied to an earlier one, and RequestTimedOut.
+        """
+        deadline = None if timeout is None else time.monotonic() + timeout
+        self._trip = trip = Trip([body], self._unwaited(deadline), is_waited_for=False)
+        with suppress(BlockingIOError, ConnectionError, ValueError):
+            trip.written.extend(map(os.write, (self._writes.fileno(),), (trip.unsent(),)))
+
+    def settle(self, timeout: float) -> None:
+        """Takes the reply to a request that wasn't waited for, if there is one, as long as that takes no more than so many
+        seconds."""
+        if self._trip is not None and not self._trip.is_waited_for:
+            with suppress(StreamEnded, RequestTimedOut):
+                self._finish(self._trip, time.monotonic() + timeout)
 
     def _finish(self, trip: Trip, deadline: float | None) -> list[bytes]:
         """Completes a trip, and returns the bodies of its replies."""
@@ -107,7 +139,7 @@ class Frames:
             rest = rest[whole_frames(rest, replies) :]
         self._trip = None
         if self._recorder is not None:
-            self._recorder.note_requests(trip.data)
+            self._recorder.note_requests(trip.requests)
             self._recorder.note_replies(b"".join(trip.pieces))
         return replies
 

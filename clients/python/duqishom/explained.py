@@ -8,7 +8,7 @@ from dataclasses import dataclass
 from duqishom.answers import Committed, Pending, Qualifier, Version
 from duqishom.cells import Cell, CellRange
 from duqishom.columns import Kind, Lock, read_lock, read_record
-from duqishom.remote import Fate, fate
+from duqishom.remote import Fate
 from duqishom.store import Store
 from duqishom.tellings import Told, as_data, cell_data
 from duqishom.texts import text_of
@@ -65,7 +65,7 @@ def versions(store: Store, cell: Cell, qualifier: Qualifier) -> Iterator[Version
 def lock_of(store: Store, cell: Cell, version: Version) -> Locked:
     """The lock in a version of a cell."""
     lock = read_lock(version.value)
-    return Locked(cell, version.stamp, lock, fate(store, version.stamp, lock.row, lock.family, LOOKS))
+    return Locked(cell, version.stamp, lock, store.fate(version.stamp, lock.row, lock.family, LOOKS))
 
 
 def locks(store: Store, asked: CellRange) -> Iterator[Locked]:

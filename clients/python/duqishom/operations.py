@@ -25,7 +25,7 @@ from duqishom.answers import (
     read_version,
 )
 from duqishom.fields import FieldReader, MalformedReply, counted_argument, number
-from duqishom.refusals import BY_NUMBER, Refused
+from duqishom.refusals import BY_NUMBER, Refused, TooManySessions
 
 REFUSED = 0xFF
 
@@ -351,8 +351,9 @@ def request_bodies(operations: Sequence[Operation[Answer]]) -> list[bytes]:
     return bodies
 
 
-def answer_or_refusal(operation: Operation[Answer], body: bytes) -> Answer | Refused:
-    """The answer in the reply to an operation, or the refusal. MalformedReply if it is neither."""
+def answer_or_refusal(operation: Operation[Answer], body: bytes, is_remote: bool = False) -> Answer | Refused:
+    """The answer in the reply to an operation, or the refusal, at a gateway or at a store of one's own. MalformedReply where it is
+    none."""
     fields = FieldReader(body)
     code = fields.number(1)
     if code == REFUSED:
@@ -360,7 +361,10 @@ def answer_or_refusal(operation: Operation[Answer], body: bytes) -> Answer | Ref
         fields.end()
         if refusal is None:
             raise MalformedReply(f"no refusal has this number: {body.hex(' ')}")
-        return refusal(spoken_of(refusal, operation))
+        refused = refusal(spoken_of(refusal, operation))
+        if isinstance(refused, TooManySessions):
+            refused.of_operation(operation.code, is_remote)
+        return refused
     if code != operation.code | 0x80:
         raise MalformedReply(f"this is no reply to {operation}: {body.hex(' ')}")
     answer = operation.read(fields)

@@ -8,6 +8,7 @@ import signal
 import subprocess
 import sys
 from collections.abc import Sequence
+from contextlib import suppress
 from pathlib import Path
 from typing import NoReturn
 
@@ -86,6 +87,11 @@ class Program:
         except StreamEnded:
             raise ProgramEnded(self.close()) from None
 
+    def tell(self, body: bytes, timeout: float | None = None) -> None:
+        """Sends a body in a frame, and doesn't wait for its reply."""
+        with suppress(StreamEnded):
+            self._frames.tell(body, timeout)
+
     def kill(self) -> None:
         """Kills the program at once, whatever it is doing."""
         if self._child.poll() is None:
@@ -93,6 +99,8 @@ class Program:
 
     def close(self) -> int:
         """Ends the input, waits for the program's end, and gives its exit status. It may be called again."""
+        if self._child.poll() is None:
+            self._frames.settle(PATIENCE)
         self._frames.close()
         if self._recording is not None:
             self._recording.close()

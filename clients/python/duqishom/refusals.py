@@ -13,7 +13,7 @@ class Refused(Exception):
     limit."""
 
     number: ClassVar[int] = 0
-    limit: ClassVar[str] = ""
+    limit: str = ""
     speaks_of: ClassVar[tuple[str, ...]] = ()
 
     def __init__(self, what: str = "") -> None:
@@ -85,6 +85,24 @@ class TooManySessions(Refused):
 
     number = 7
     limit = "1,024 sessions, 1,024 cleaners and 64 collectors are the most; a gateway has limits of its own, of connections too"
+
+    # By the operation that was refused: what there are too many of, the most of a store, and of a connection to a gateway.
+    limits: ClassVar[dict[int, tuple[str, str, str]]] = {
+        0x01: ("sessions", "1,024", "64"),
+        0x06: ("cleaners", "1,024", "64"),
+        0x08: ("collectors", "64", "4"),
+    }
+
+    def of_operation(self, code: int, is_remote: bool) -> None:
+        """Takes the limits that are those of an operation, at a gateway or at a store of one's own."""
+        if code in self.limits:
+            what, most, each = self.limits[code]
+            self.limit = (
+                f"a connection to a gateway may have {each} {what} (serve --{what}), and all clients {most};"
+                " or the gateway has no place for another connection (serve --clients)"
+                if is_remote
+                else f"{most} {what} are the most"
+            )
 
 
 class EmptyCommit(Refused):

@@ -1,54 +1,81 @@
-"""A gateway's store: the connection to it, and the fate of a commit whose answer was lost."""
+"""A gateway's store: the way to it, and the copy of its folder."""
 
 from __future__ import annotations
 
 import os
+import re
 import socket
-from collections.abc import Iterator, Sequence
+from collections.abc import Sequence
 from contextlib import suppress
 from dataclasses import dataclass
-from typing import TYPE_CHECKING, ClassVar
+from typing import ClassVar
 
-from duqishom.answers import Committed, Lost, Pending, Qualifier
-from duqishom.columns import read_record
 from duqishom.connection import LONGEST_BODY, Frames, StreamEnded
 from duqishom.copies import NotCopied
 from duqishom.fields import FieldReader
-from duqishom.operations import Checkpoint, answer_or_refusal, request_body
+from duqishom.operations import answer_or_refusal, request_body
+from duqishom.plans import MOST_TABLETS, Fate
 from duqishom.program import ProgramEnded
-from duqishom.refusals import BadRequest, FrameTooLarge, Refused, TooManyFiles, UnknownTablet
-from duqishom.transactions import Patience
+from duqishom.refusals import FrameTooLarge, Refused
 
-if TYPE_CHECKING:
-    from duqishom.store import Store
+__all__ = ["MOST_TABLETS", "Address", "Backup", "ConnectionLost", "Fate", "Gateway", "address_of", "back_up", "check_copied"]
 
-MOST_TABLETS = 1024
+# The path of a Unix socket, or a host and its port.
+Address = str | tuple[str, int]
 
-# The fate of a commit: it was made, it wasn't, or its session's lock is still there.
-Fate = Committed | Lost | Pending
+HOST_AND_PORT = re.compile(r"(?:tcp:(?://)?)?(?:\[(?P<six>[0-9A-Fa-f:.]+)\]|(?P<host>[^/:\[\]]+)):(?P<port>\d{1,5})")
+
+
+def address_of(text: str) -> Address | None:
+    """The gateway that a text names, as `unix:PATH` or HOST:PORT: None where it names none."""
+    if text.startswith("unix:"):
+        return text.removeprefix("unix:")
+    if found := HOST_AND_PORT.fullmatch(text):
+        return found["six"] or found["host"], int(found["port"])
+    return None
 
 
 class ConnectionLost(ProgramEnded):
     """The gateway has closed the connection, or has ended. Unanswered requests may have been done: `Store.fate` tells
     the fate of a commit. The program's status isn't known, and is given as 0."""
 
-    def __init__(self) -> None:
-        Exception.__init__(self, "the gateway has closed the connection; what had no answer may be done or not")
+    def __init__(self, why: str = "the gateway has closed the connection; what had no answer may be done or not") -> None:
+        Exception.__init__(self, why)
         self.status = 0
 
 
-class Gateway:
-    """A connection to a gateway at a Unix socket."""
-
-    def __init__(self, path: str) -> None:
-        """Connects. OSError if no gateway serves at the path."""
+def connected(address: Address) -> socket.socket:
+    """A socket that is connected to a gateway. OSError, with the path or the host, where nobody serves there."""
+    try:
+        if isinstance(address, tuple):
+            ours = socket.create_connection(address)
+            ours.setsockopt(socket.IPPROTO_TCP, socket.TCP_NODELAY, 1)
+            return ours
         ours = socket.socket(socket.AF_UNIX)
         try:
-            ours.connect(path)
+            ours.connect(address)
         except OSError:
             ours.close()
             raise
-        self._socket = ours
+        return ours
+    except OSError as error:
+        raise named_error(error, address) from None
+
+
+def named_error(error: OSError, address: Address) -> OSError:
+    """An error of a connection, with the address at which it was to be."""
+    where = address if isinstance(address, str) else ":".join(map(str, address))
+    return OSError(error.errno, error.strerror or str(error), where)
+
+
+class Gateway:
+    """A connection to a gateway."""
+
+    def __init__(self, address: Address) -> None:
+        """Connects. OSError where nobody serves there."""
+        self.is_lost = False
+        self._is_closed = False
+        ours = connected(address)
         self._frames = Frames(ours, ours)
 
     def ask(self, bodies: Sequence[bytes], timeout: float | None = None) -> list[bytes]:
@@ -59,18 +86,28 @@ class Gateway:
         """
         if any(len(body) > LONGEST_BODY for body in bodies):
             raise FrameTooLarge()
+        if self._is_closed:
+            raise ConnectionLost("the connection to the gateway is closed")
         try:
             return self._frames.ask(bodies, timeout)
         except StreamEnded:
+            self.is_lost = True
             self.close()
             raise ConnectionLost() from None
+
+    def tell(self, body: bytes, timeout: float | None = None) -> None:
+        """Sends a body in a frame, and doesn't wait for its reply."""
+        if not self._is_closed:
+            with suppress(StreamEnded):
+                self._frames.tell(body, timeout)
 
     def kill(self) -> None:
         """Disconnects at once. The gateway ends what is open."""
         self.close()
 
     def close(self) -> int:
-        """Disconnects. It may be called again."""
+        """Leaves. It may be called again."""
+        self._is_closed = True
         self._frames.close()
         return 0
 
@@ -90,10 +127,10 @@ class Backup:
         return fields.rest().decode(errors="replace")
 
 
-def back_up(socket_path: str, path: str) -> None:
-    """Has the gateway at a socket copy its store's folder to a path, over a connection of its own, so other requests go
-    on meanwhile, and an interrupt stops the copy. OSError if no gateway serves at the socket."""
-    asked, gateway = Backup(path), Gateway(socket_path)
+def back_up(address: Address, path: str) -> None:
+    """Has the gateway at an address copy its store's folder to a path, over a connection of its own: so others go on meanwhile, and
+    the copy is stopped where this is interrupted. OSError where nobody serves there."""
+    asked, gateway = Backup(path), Gateway(address)
     try:
         [reply] = gateway.ask([request_body(asked)])
     finally:
@@ -108,42 +145,3 @@ def check_copied(asked: Backup, reply: bytes) -> None:
         raise answer
     if answer:
         raise NotCopied(answer)
-
-
-def write_all(store: Store) -> None:
-    """Writes the memtable of each tablet to a file, whichever client has split them, and makes a checkpoint, since the
-    log may be full. If a tablet has too many files, they are merged into one.
-
-    A gateway with an administrator's socket refuses this, and has done it itself when a memtable was full.
-    """
-    with suppress(UnknownTablet, BadRequest):
-        for tablet in range(1, MOST_TABLETS + 1):
-            try:
-                store.minor(tablet)
-            except TooManyFiles:
-                store.major(tablet)
-    with suppress(BadRequest):
-        store.ask(Checkpoint())
-
-
-def fate(store: Store, start: int, row: bytes, family: bytes, patience: Patience) -> Fate:
-    """The fate of a session's commit, by its first cell. A record there that names the session says that it has
-    committed. Its lock is waited for, and then cleaned, unless the patience says otherwise; without a record and a
-    lock, nothing was committed."""
-    lock = store.raw(row, family, Qualifier.LOCK, start, start)
-    if lock is not None and patience.cleans:
-        store.free(row, family, patience)
-    elif lock is not None:
-        return Pending(start)
-    for commit, of in records(store, row, family, start):
-        if of == start:
-            return Committed(commit)
-    return Lost()
-
-
-def records(store: Store, row: bytes, family: bytes, above: int) -> Iterator[tuple[int, int]]:
-    """The commit records of a cell above a stamp, newest first: each record's stamp, and the start that it names."""
-    record = store.raw(row, family, Qualifier.WRITE, above)
-    while record is not None:
-        yield record.stamp, read_record(record.value).start
-        record = store.raw(row, family, Qualifier.WRITE, above, record.stamp - 1)

@@ -9,40 +9,34 @@ import threading
 import time
 import warnings
 import weakref
-from collections.abc import Callable, Sequence
-from contextlib import AbstractContextManager
+from collections.abc import Callable, Iterable, Sequence
+from contextlib import AbstractContextManager, suppress
 from os import PathLike, fspath
 from types import TracebackType
-from typing import TypeVar
+from typing import Any, TypeVar
 
 from duqishom.answers import (
-    Blocked,
     Cleaned,
     Cleaner,
-    Collected,
     Collection,
     Collector,
-    Decided,
-    Found,
+    Committed,
+    Pending,
     Progress,
     Qualifier,
-    Scanned,
     Version,
 )
-from duqishom.columns import read_lock
+from duqishom.autocommit import AutoCommit
+from duqishom.cells import Cell
 from duqishom.connection import Connection
 from duqishom.copies import NotCopied, copy_checkpoint
 from duqishom.folders import Unsaved, has_log, started
 from duqishom.operations import (
-    MOST_CELLS,
     Begin,
-    Checkpoint,
     CleanBegin,
     CleanStep,
     CollectBegin,
     CollectStep,
-    Delete,
-    Get,
     Major,
     Merge,
     Minor,
@@ -50,30 +44,41 @@ from duqishom.operations import (
     Operation,
     OracleRestart,
     Raw,
-    Scan,
-    Set,
     Split,
     Step,
     Stop,
     Sweep,
     answer_or_refusal,
     request_bodies,
+    request_body,
+)
+from duqishom.plans import (
+    LOG,
+    MOST_STAMP,
+    Attempts,
+    Patience,
+    Pause,
+    Plan,
+    StillPending,
+    StorePlans,
+    TransactionConflict,
+    TransactionLost,
+    Trip,
+    Unwaited,
+    patience_of,
 )
 from duqishom.program import ProgramEnded
 from duqishom.recording import Recording
-from duqishom.refusals import MemtableFull, Refused, TooManyFiles
-from duqishom.remote import ConnectionLost, Fate, Gateway, back_up, fate, write_all
+from duqishom.refusals import Refused
+from duqishom.remote import Address, ConnectionLost, Fate, Gateway, back_up
+from duqishom.sessions import Session
 from duqishom.tablets import NEW_STORE, Tablet, TabletMap, tablets_of
-from duqishom.transactions import (
-    MOST_STAMP,
-    Patience,
-    StillPending,
-    Transaction,
-    TransactionConflict,
-    TransactionLost,
-)
+from duqishom.transactions import Snapshot, Transaction
 
 MOST_VISITS = 1000
+
+# The seconds between two attempts to connect anew.
+RECONNECT_PAUSE = 0.1
 
 Answer = TypeVar("Answer")
 Result = TypeVar("Result")
@@ -83,9 +88,9 @@ class ForkedStore(Exception):
     """The store was opened by a parent process. Each process opens one of its own."""
 
 
-class Store:
-    """A store in a child process that ends with it: a new one in memory, which is lost then, or a folder's. If the
-    folder has a log, it is durable up to its last answer; if not, up to its last checkpoint: `close` makes one.
+class Store(AutoCommit):
+    """A store in a child process that ends with it: a new one in memory, which is lost then, or that of a folder, which lasts
+    as of its last answer where the folder has a log. Where it has none, it lasts as its last checkpoint left it: `close` makes one.
 
     Several threads may use one store, each with transactions of its own; a process that is forked may not. Each method
     that sends a request raises a `Refused` if the store refuses it, `ProgramEnded` if the program has ended, and
@@ -95,14 +100,16 @@ class Store:
     def __init__(
         self,
         program: str | None = None,
-        patience: Patience = Patience(),
+        patience: Patience | None = None,
         words: Sequence[str] = (),
         folder: str | PathLike[str] | None = None,
         checkpoint_at_close: bool = True,
         timeout: float | None = None,
-        socket: str | PathLike[str] | None = None,
+        socket: str | PathLike[str] | tuple[str, int] | None = None,
         record: str | PathLike[str] | None = None,
         log: bool | None = None,
+        lock_wait: float | None = None,
+        reconnect: float = 10.0,
     ) -> None:
         """Starts the program, from TABLETD, PATH or the repository if none is named, with these words on its command
         line.
@@ -115,20 +122,24 @@ class Store:
         With a log, everything answered is durable, whatever ends the program. A new folder gets a log, unless `log` is
         false; a folder with a store gets one if `log` is true. A folder that has a log is always opened with it.
 
-        With a socket, no program is started: the store is the one that a gateway serves there to this and other
-        clients. When this client ends, the gateway ends its open sessions, cleaners and collectors. OSError if no
-        gateway serves there, and ConnectionLost if it ends.
+        With a socket, no program is started: the store is the one that a gateway serves there, beside other clients. What of it
+        is open when this client ends, the gateway ends. OSError where nobody serves there, and ConnectionLost where the gateway
+        ends. The next request behind a ConnectionLost connects anew; `run` tries that for `reconnect` seconds. A socket is a path,
+        or a host and a port.
+
+        A lock is waited for `lock_wait` seconds, and then cleaned: 1 s at a gateway, and 0.03 s alone. A patience says more.
 
         With `record`, a folder, all frames sent and received are recorded there for `tablet_audit`: see `Recording`.
         """
         self._owner = os.getpid()
         self._turn = threading.RLock()
-        self._patience = patience
+        self._patience = patience_of(patience, lock_wait, socket is not None)
+        self._reconnect = reconnect
         self._timeout = timeout
         self.folder = None if folder is None else fspath(folder)
         self._checkpoint_at_close = checkpoint_at_close and folder is not None
         self._is_closed = True
-        self._socket = None if socket is None else fspath(socket)
+        self._socket: Address | None = socket if socket is None or isinstance(socket, tuple) else fspath(socket)
         self._is_remote = socket is not None
         if self._is_remote and (program is not None or words or folder is not None or record is not None):
             raise ValueError("a store at a socket has its program and folder already, and is recorded by its gateway")
@@ -140,6 +151,7 @@ class Store:
         self._is_closed = False
         self._unsaved = Unsaved(self.folder is not None, self.has_log)
         self._tablets = TabletMap(NEW_STORE if self.folder is None else tablets_of(self.folder))
+        self._plans = StorePlans(self._patience, None if self._is_remote else self._tablets, lambda: self.has_log)
         OPEN.add(self)
 
     @property
@@ -154,23 +166,66 @@ class Store:
             raise answer
         return answer
 
-    def ask_each(self, operations: Sequence[Operation[Answer]]) -> list[Answer | Refused]:
-        """Asks for several operations in one trip, and gives the answer to each, or its refusal. All are sent before a
-        reply is read, so each is done even if one before it is refused."""
+    def ask_each(
+        self, operations: Sequence[Operation[Answer]], connection: Connection | None = None
+    ) -> list[Answer | Refused]:
+        """Asks for several operations in one trip, and gives the answer to each, or its refusal. All are sent before a reply is
+        looked at, so each is done whatever becomes of those before it. They go to the connection that is named, or to none."""
         bodies = request_bodies(operations)
         with self.alone():
             self._unsaved.note_asked(operations)
             try:
-                replies = self._connection.ask(bodies, self._timeout)
+                replies = self._connected(connection).ask(bodies, self._timeout)
             except ConnectionLost:
                 raise
             except ProgramEnded as ended:
                 lost = self._unsaved.lost()
                 self._unsaved.forget()
                 raise ProgramEnded(ended.status, lost) from None
-            answers = [answer_or_refusal(operation, reply) for operation, reply in zip(operations, replies)]
+            answers = [answer_or_refusal(operation, reply, self._is_remote) for operation, reply in zip(operations, replies)]
             self._unsaved.note_answered(operations, answers)
+            self._plans.stamps.note(operations, answers)
             return answers
+
+    def _connected(self, wanted: Connection | None) -> Connection:
+        """The connection, made anew where the last one is known to be lost. ConnectionLost where another one is wanted, which had
+        the session that is asked, and where nobody serves any more."""
+        connection = self._connection
+        if wanted is not None and (wanted is not connection or is_lost(wanted)):
+            raise ConnectionLost("the session went with its connection to the gateway")
+        if is_lost(connection) and self._socket is not None and not self._is_closed:
+            try:
+                self._connection = Gateway(self._socket)
+            except OSError as error:
+                raise ConnectionLost(f"the connection to the gateway was lost, and can't be made anew: {error}") from None
+            LOG.warning("connected anew to the gateway at %s", self._socket)
+        return self._connection
+
+    def do(self, plan: Plan[Result], connection: Connection | None = None) -> Result:
+        """Takes a plan to its end."""
+        try:
+            trip = next(plan)
+            while True:
+                try:
+                    answers = self._take(trip, connection)
+                except BaseException as error:
+                    trip = plan.throw(error)
+                else:
+                    trip = plan.send(answers)
+        except StopIteration as done:
+            result: Result = done.value
+            return result
+
+    def _take(self, trip: Trip, connection: Connection | None) -> list[Any]:
+        """Asks for what a plan asks, or waits."""
+        if isinstance(trip, Pause):
+            time.sleep(trip.seconds)
+            return []
+        if isinstance(trip, Unwaited):
+            with self.alone():
+                self._connected(connection).tell(request_body(trip.operation), self._timeout)
+            return []
+        return self.ask_each(trip, connection)
 
     def alone(self) -> AbstractContextManager[object]:
         """In a `with`, no other thread sends this store a request. ForkedStore in a process forked from the store's."""
@@ -181,32 +236,6 @@ class Store:
     def begin(self) -> int:
         """Begins a session, and returns its start."""
         return self.ask(Begin())
-
-    def get(self, start: int, row: bytes, family: bytes) -> Found:
-        """Reads a cell as of the session's start."""
-        return self.ask(Get(start, row, family))
-
-    def scan(
-        self,
-        start: int,
-        after: tuple[bytes, bytes] | None = None,
-        end: bytes | None = None,
-        family: bytes | None = None,
-        keys_only: bool = False,
-        cells: int = MOST_CELLS,
-    ) -> Scanned:
-        """Reads the cells of a range as of the session's start: those after a cell (a row and a family), up to and
-        including a row, of one family or of all. It visits at most `cells` cells, 1 to 1,000; if it stops before the
-        end of the range, `upto` of the answer is the `after` of the next scan. A transaction's `scan` does all that."""
-        return self.ask(Scan(start, after, end, family, keys_only, cells))
-
-    def set(self, start: int, row: bytes, family: bytes, value: bytes) -> None:
-        """Buffers a write in the session."""
-        self.ask(Set(start, row, family, value))
-
-    def delete(self, start: int, row: bytes, family: bytes) -> None:
-        """Buffers the deletion of a cell in the session."""
-        self.ask(Delete(start, row, family))
 
     def step(self, start: int) -> Progress:
         """Takes the session's next step towards its end."""
@@ -232,34 +261,11 @@ class Store:
         Lost.
         """
         with self.alone():
-            cleaner = self.clean_begin(row, family)
-            if cleaner is None:
-                return None
-            cleaned = self._clean_step(cleaner.number, row, family)
-            while cleaned == Decided():
-                cleaned = self._clean_step(cleaner.number, row, family)
-            return cleaned
-
-    def _clean_step(self, cleaner: int, row: bytes, family: bytes) -> Cleaned:
-        """A cleaner's step. Full memtables of its cell and of the lock's first cell are written to files."""
-        try:
-            return self.clean_step(cleaner)
-        except MemtableFull:
-            lock = self.raw(row, family, Qualifier.LOCK)
-            self.make_room(row)
-            if lock is not None:
-                self.make_room(read_lock(lock.value).row)
-            return self.clean_step(cleaner)
+            return self.do(self._plans.clean(row, family))
 
     def free(self, row: bytes, family: bytes, patience: Patience) -> None:
         """Waits for the lock of a cell to go, as long as the patience says, and then cleans it."""
-        first = lock = self.raw(row, family, Qualifier.LOCK)
-        for _ in range(patience.tries):
-            if lock is None or first is None or lock.stamp != first.stamp:
-                return
-            time.sleep(patience.pause)
-            lock = self.raw(row, family, Qualifier.LOCK)
-        self.clean(row, family)
+        self.do(self._plans.free(Cell(row, family), patience))
 
     def collect_begin(self) -> Collector:
         """Opens a collector of old versions. Its floor is the least start of an active session."""
@@ -277,20 +283,7 @@ class Store:
         sessions that have no more to do. A lock below the floor isn't an active session's, and is cleaned. Between two
         requests of `visits` visits other threads may use the store. If a refusal is raised, the collector stays open.
         """
-        collector = self.collect_begin()
-        while (done := self._collect_step(collector.number, visits)) != Collected():
-            if isinstance(done, Blocked):
-                self.clean(done.row, done.family)
-        return collector.floor
-
-    def _collect_step(self, collector: int, visits: int) -> Collection:
-        """A collector's step. If a memtable is full, all are written to files, since the refusal doesn't say which one
-        it is. The visits made before it keep their effect, so each retry gets further."""
-        while True:
-            try:
-                return self.collect_step(collector, visits)
-            except MemtableFull:
-                self._make_all_room()
+        return self.do(self._plans.collect(visits))
 
     def minor(self, tablet: int) -> None:
         """Writes the memtable of a tablet as a new file."""
@@ -327,11 +320,7 @@ class Store:
         """Writes the store's whole state to its files: all commits and all locks. A folder is opened as its last
         checkpoint left it, with no session. If a tablet has too many files, they are first merged into one."""
         with self.alone():
-            try:
-                self.ask(Checkpoint())
-            except TooManyFiles:
-                self._write_all()
-                self.ask(Checkpoint())
+            self.do(self._plans.checkpoint())
 
     def restart_oracle(self) -> None:
         """Restarts the oracle of stamps from its stored mark."""
@@ -356,35 +345,9 @@ class Store:
         """Makes room in the memtable of the tablet that holds a row, and in the log if there is one. If the tablet has
         too many files, they are merged into one."""
         with self.alone():
-            if self._is_remote or self.has_log:
-                self._make_all_room()
-            else:
-                self._write(self._tablets.holder(row).number)
+            self.do(self._plans.make_room(row))
 
-    def _make_all_room(self) -> None:
-        """Makes room in all memtables, and in the log if there is one, which a checkpoint empties."""
-        if self.has_log:
-            self.checkpoint()
-        else:
-            self._write_all()
-
-    def _write_all(self) -> None:
-        """Writes the memtable of each tablet to a file."""
-        if self._is_remote:
-            write_all(self)
-        else:
-            for tablet in self.tablets():
-                self._write(tablet.number)
-
-    def _write(self, tablet: int) -> None:
-        """Writes the memtable of a tablet to a file. If the tablet has too many files, they are merged into one."""
-        with self.alone():
-            try:
-                self.minor(tablet)
-            except TooManyFiles:
-                self.major(tablet)
-
-    def fate(self, start: int, row: bytes, family: bytes) -> Fate:
+    def fate(self, start: int, row: bytes, family: bytes, patience: Patience | None = None) -> Fate:
         """The fate of a commit whose answer was lost: of the session with this start, by its first cell. Committed with
         its stamp, or Lost.
 
@@ -392,28 +355,88 @@ class Store:
         collected. A lock of it is waited for, and then cleaned; if the patience says otherwise, the answer is Pending.
         """
         with self.alone():
-            return fate(self, start, row, family, self._patience)
+            return self.do(self._plans.fate(start, row, family, patience or self._patience))
 
     def transaction(self) -> Transaction:
-        """Begins a transaction. In a `with` it commits at the end, and stops if an exception leaves it."""
-        return Transaction(self, self.begin(), self._patience)
+        """Begins a transaction. In a `with` it commits at the end, and stops where an exception leaves."""
+        return Transaction(self, *self._begun())
+
+    def get_many(self, cells: Iterable[tuple[bytes, bytes]]) -> list[bytes | None]:
+        """The values of cells, all as of one moment and in one trip, or two where others use the store."""
+        wanted = [Cell(*cell) for cell in cells]
+        values: list[bytes | None] | None = None
+        with suppress(ConnectionLost):
+            with self.alone():
+                connection = self._connected(None)
+            values = self.do(self._plans.read(wanted), connection)
+        return self.run(lambda t: t.get_many(wanted)) if values is None else values
+
+    def snapshot(self) -> Snapshot:
+        """The store as of now, to be read in a `with`. While it is open, collectors keep what it shows."""
+        return Snapshot(self, *self._begun())
+
+    def _begun(self) -> tuple[Session, Connection]:
+        """A new session, and the connection that has it."""
+        with self.alone():
+            start = self.begin()
+            return Session(start, self._plans), self._connection
 
     def run(self, work: Callable[[Transaction], Result], attempts: int = 10) -> Result:
         """Does work in a transaction, and retries in a new one after a conflict, a loss or a lock that stays.
 
-        After each failed attempt there is a random pause up to a time that doubles: first the patience's pause, at most
-        a second. The failure of the last attempt is raised.
+        Behind each attempt there is a pause, by chance, up to a time that doubles: first the patience's pause, and at most a
+        second. After the last attempt that failure is raised.
+
+        A connection to a gateway that is lost meanwhile is made anew. Where it was lost in the commit, `fate` tells whether there
+        is something left to do.
         """
-        attempt = 1
+        tried = Attempts(self._patience, attempts)
         while True:
+            transaction: Transaction | None = None
+            results: list[Result] = []
             try:
                 with self.transaction() as transaction:
-                    return work(transaction)
-            except (TransactionConflict, TransactionLost, StillPending):
-                if attempt >= attempts:
+                    results.append(work(transaction))
+                return results[0]
+            except (TransactionConflict, TransactionLost, StillPending) as failure:
+                pause = tried.pause_after(failure)
+            except ConnectionLost as lost:
+                if self._is_done_nonetheless(lost, transaction):
+                    if results:
+                        return results[0]
                     raise
-            time.sleep(self._patience.between(attempt - 1))
-            attempt += 1
+                pause = tried.pause_after(lost)
+            time.sleep(pause)
+
+    def _is_done_nonetheless(self, lost: ConnectionLost, transaction: Transaction | None) -> bool:
+        """Whether a transaction was committed whose connection was lost. It connects anew first. The loss is raised where that
+        comes to nothing, another store's connection was lost, or it can't be told."""
+        connection = self._connection if transaction is None else transaction._connection
+        if connection is self._connection and not is_lost(connection):
+            raise lost
+        end = time.monotonic() + self._reconnect
+        while True:
+            try:
+                with self.alone():
+                    self._connected(None)
+                return transaction is not None and self._is_committed(lost, transaction)
+            except ConnectionLost:
+                if self._is_closed or time.monotonic() >= end:
+                    raise
+            time.sleep(RECONNECT_PAUSE)
+
+    def _is_committed(self, lost: ConnectionLost, transaction: Transaction) -> bool:
+        """Whether a transaction was committed whose connection was lost. The loss is raised where a lock of it stands, and may not
+        be cleaned."""
+        session = transaction._session
+        if not session.has_stepped or session.first is None:
+            return False
+        fate = self.fate(session.start, *session.first)
+        LOG.warning("the connection was lost while session %d committed: %s", session.start, fate)
+        if isinstance(fate, Pending):
+            raise lost
+        session.commit_stamp = fate.commit if isinstance(fate, Committed) else None
+        return isinstance(fate, Committed)
 
     def backup(self, path: str | PathLike[str]) -> None:
         """Makes a copy of the store's folder at a path, which must be an empty folder or not exist: the state of a
@@ -475,6 +498,11 @@ class Store:
         if not self.__dict__.get("_is_closed", True) and self._owner == os.getpid():
             warnings.warn(f"{self!r} wasn't closed", ResourceWarning, stacklevel=2)
             self.close()
+
+
+def is_lost(connection: Connection) -> bool:
+    """Whether a connection is one to a gateway, and is known to be lost."""
+    return bool(getattr(connection, "is_lost", False))
 
 
 OPEN: weakref.WeakSet[Store] = weakref.WeakSet()

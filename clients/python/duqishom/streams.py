@@ -9,7 +9,7 @@ from typing import cast
 
 from duqishom.connection import LONGEST_BODY, whole_frames
 from duqishom.refusals import FrameTooLarge
-from duqishom.remote import ConnectionLost
+from duqishom.remote import Address, ConnectionLost, named_error
 
 
 class Trip:
@@ -18,6 +18,7 @@ class Trip:
     def __init__(self, count: int) -> None:
         self.count = count
         self.replies: list[bytes] = []
+        self.is_waited_for = True
         self.done: asyncio.Future[list[bytes]] = asyncio.get_running_loop().create_future()
 
 
@@ -31,11 +32,19 @@ class FrameStream(asyncio.Protocol):
         self._has_room = asyncio.Event()
         self._has_room.set()
         self.is_open = True
+        self.is_lost = False
 
     @classmethod
-    async def open(cls, path: str) -> FrameStream:
-        """Connects to a gateway's socket. OSError if none serves there."""
-        _, stream = await asyncio.get_running_loop().create_unix_connection(cls, path)
+    async def open(cls, address: Address) -> FrameStream:
+        """Connects to a gateway. OSError, with the path or the host, where none serves there."""
+        loop = asyncio.get_running_loop()
+        try:
+            if isinstance(address, str):
+                _, stream = await loop.create_unix_connection(cls, address)
+            else:
+                _, stream = await loop.create_connection(cls, *address)
+        except OSError as error:
+            raise named_error(error, address) from None
         return stream
 
     async def ask(self, bodies: Sequence[bytes]) -> list[bytes]:
@@ -48,11 +57,21 @@ class FrameStream(asyncio.Protocol):
             raise FrameTooLarge()
         await self._has_room.wait()
         if not self.is_open:
+            self.is_lost = True
             raise ConnectionLost()
         trip = Trip(len(bodies))
         self._trips.append(trip)
         self._transport.write(b"".join(len(body).to_bytes(4, "big") + body for body in bodies))
         return await trip.done
+
+    def tell(self, body: bytes) -> None:
+        """Sends a body in a frame, and doesn't wait for its reply."""
+        if self.is_open:
+            trip = Trip(1)
+            trip.done.add_done_callback(lambda done: done.cancelled() or done.exception())
+            trip.is_waited_for = False
+            self._trips.append(trip)
+            self._transport.write(len(body).to_bytes(4, "big") + body)
 
     def connection_made(self, transport: asyncio.BaseTransport) -> None:
         self._transport = cast(asyncio.Transport, transport)
@@ -76,6 +95,7 @@ class FrameStream(asyncio.Protocol):
     def connection_lost(self, error: Exception | None) -> None:
         self.is_open = False
         self._has_room.set()
+        self.is_lost = any(trip.is_waited_for for trip in self._trips)
         for trip in self._trips:
             if not trip.done.done():
                 trip.done.set_exception(ConnectionLost())

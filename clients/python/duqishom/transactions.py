@@ -1,119 +1,64 @@
-"""Transactions over many cells, built from sessions."""
+"""Transactions over many cells, and snapshots that are only read."""
 
 from __future__ import annotations
 
-import random
-import time
-from collections.abc import Iterator, Sequence
+from collections.abc import Iterable, Iterator
 from contextlib import suppress
-from dataclasses import dataclass
 from types import TracebackType
-from typing import TYPE_CHECKING, Literal, overload
+from typing import TYPE_CHECKING, Literal, TypeVar, overload
 
-from duqishom.answers import (
-    Committed,
-    Conflict,
-    Finished,
-    Held,
-    Lost,
-    Nothing,
-    Pending,
-    Progress,
-    Stamped,
-    Unsent,
-    Value,
+from duqishom.cells import CellRange, range_of
+from duqishom.connection import Connection, RequestTimedOut
+from duqishom.plans import (
+    MOST_STAMP,
+    Patience,
+    Plan,
+    StillPending,
+    TransactionConflict,
+    TransactionFailed,
+    TransactionLost,
 )
-from duqishom.cells import FAMILY, LONGEST_ROW, Cell, CellRange, entries_of, range_of
-from duqishom.connection import RequestTimedOut
-from duqishom.fields import bytes_argument
-from duqishom.operations import Delete, Get, Set, Step, named
 from duqishom.program import ProgramEnded
-from duqishom.refusals import (
-    BadColumn,
-    BadRow,
-    BadValue,
-    MemtableFull,
-    Refused,
-    TooManyWrites,
-    UnknownSession,
-    WrongPhase,
-)
+from duqishom.refusals import UnknownSession
+from duqishom.sessions import MOST_WRITES, Entry, RangeScan, Session, value_of
 
 if TYPE_CHECKING:
     from duqishom.store import Store
 
-MOST_STAMP = 9_223_372_036_854_775_807
-MOST_WRITES = 256
-LONGEST_VALUE = 65_536
+__all__ = [
+    "MOST_STAMP",
+    "MOST_WRITES",
+    "Patience",
+    "Snapshot",
+    "StillPending",
+    "Transaction",
+    "TransactionConflict",
+    "TransactionFailed",
+    "TransactionLost",
+    "value_of",
+]
 
-# The longest pause between two attempts, in seconds.
-LONGEST_PAUSE = 1.0
-
-
-class TransactionFailed(Exception):
-    """A transaction failed: none of its writes is committed, and none will be."""
-
-
-class StillPending(TransactionFailed):
-    """A read met a lock each time it was tried. The lock's session has the start `start`."""
-
-    def __init__(self, cell: Cell, start: int) -> None:
-        super().__init__(f"{cell} is locked by the session that began at {start}")
-        self.cell = cell
-        self.start = start
+Own = TypeVar("Own", bound="Snapshot")
+Result = TypeVar("Result")
 
 
-class TransactionConflict(TransactionFailed):
-    """A cell that was to be written is locked, or was committed since the transaction began.
+class Snapshot:
+    """The store as of one moment, the start of a session. It ends with the `with`, or by `stop`."""
 
-    The transaction's locks are released.
-    """
-
-    def __init__(self, cell: Cell) -> None:
-        super().__init__(f"{cell} is locked, or was written since the transaction began")
-        self.cell = cell
-
-
-class TransactionLost(TransactionFailed):
-    """A cleaner rolled the transaction back before it committed. The transaction's locks are released."""
-
-
-@dataclass(frozen=True)
-class Patience:
-    """How often a locked cell is tried, the seconds between two tries, and whether the lock is then treated as
-    abandoned, and cleaned."""
-
-    tries: int = 3
-    pause: float = 0.01
-    cleans: bool = True
-
-    def between(self, attempt: int) -> float:
-        """The seconds to wait after this many attempts: random, up to a time that doubles and is at most a second."""
-        return random.uniform(0, min(LONGEST_PAUSE, self.pause * 2.0 ** min(attempt, 30)))
-
-
-def value_of(found: Nothing | Value) -> bytes | None:
-    """The value that a read found, or None for nothing."""
-    return found.value if isinstance(found, Value) else None
-
-
-class Transaction:
-    """One session, from its begin to its end. Its writes are buffered here, and sent when it commits.
-
-    In a `with` it commits at the end. If an exception leaves the block, it stops, unless it has taken a step: then its
-    cells stay locked until another `commit` or a cleaner releases them.
-    """
-
-    def __init__(self, store: Store, start: int, patience: Patience) -> None:
+    def __init__(self, store: Store, session: Session, connection: Connection) -> None:
         self._store = store
-        self._patience = patience
-        self._writes: dict[Cell, bytes | None] = {}
-        self._sent: list[Cell] = []
-        self._steps = 0
-        self._has_stepped = False
-        self.start = start
-        self.is_active = True
-        self.commit_stamp: int | None = None
+        self._session = session
+        self._connection = connection
+
+    @property
+    def start(self) -> int:
+        """The session's start."""
+        return self._session.start
+
+    @property
+    def is_active(self) -> bool:
+        """Whether the session hasn't ended."""
+        return self._session.is_active
 
     def get(self, row: bytes, family: bytes, own: bool = True) -> bytes | None:
         """The transaction's own write to the cell, if any; otherwise the last value committed by the start. None if the
@@ -122,13 +67,16 @@ class Transaction:
         With `own=False` the transaction's own writes are ignored. A lock that is still there after some tries is
         cleaned, unless the patience says otherwise: then StillPending is raised.
         """
-        cell = Cell(row, family)
-        if own and cell in self._writes:
-            return self._writes[cell]
-        found = self._store.get(self.start, row, family)
-        if isinstance(found, Pending):
-            return self._read_locked({cell: found.start})[cell]
-        return value_of(found)
+        [value] = self.get_many([(row, family)], own)
+        return value
+
+    def get_many(self, cells: Iterable[tuple[bytes, bytes]], own: bool = True) -> list[bytes | None]:
+        """What each of these cells holds, as `get` gives it, in one trip."""
+        return self._do(self._session.get_many(cells, own))
+
+    def row(self, row: bytes, own: bool = True) -> dict[bytes, bytes]:
+        """The values of a row, by their families."""
+        return {family: value for _, family, value in self.scan(row, row, own=own)}
 
     @overload
     def scan(
@@ -140,6 +88,9 @@ class Transaction:
         family: bytes | None = None,
         keys: Literal[False] = False,
         own: bool = True,
+        after: bytes | None = None,
+        before: bytes | None = None,
+        limit: int | None = None,
     ) -> Iterator[tuple[bytes, bytes, bytes]]: ...
 
     @overload
@@ -152,6 +103,9 @@ class Transaction:
         family: bytes | None = None,
         keys: Literal[True],
         own: bool = True,
+        after: bytes | None = None,
+        before: bytes | None = None,
+        limit: int | None = None,
     ) -> Iterator[tuple[bytes, bytes, None]]: ...
 
     def scan(
@@ -163,21 +117,22 @@ class Transaction:
         family: bytes | None = None,
         keys: bool = False,
         own: bool = True,
-    ) -> Iterator[tuple[bytes, bytes, bytes | None]]:
-        """The cells that have a value, in order, each as its row, its family and its value: the values that `get`
-        returns for the cells of the range, without the cells that have none. With `keys=True` values aren't sent, and
-        are given as None.
+        after: bytes | None = None,
+        before: bytes | None = None,
+        limit: int | None = None,
+    ) -> Iterator[Entry]:
+        """The cells that have a value, in order, each as its row, its family and its value: what `get` gives for every cell of the
+        range, without those that have nothing. With `keys=True` values aren't sent, and None stands in their places.
 
-        The range goes from the row `start` up to the row `end`, both included, and is limited to the rows that begin
-        with a prefix, and to one family, if these are given. It is read in batches as the iterator goes on; all show
-        the transaction's start. The transaction's own writes up to the call of `scan` are included, unless `own=False`.
-        The locks of a batch are waited for together, and then cleaned, as `get` does.
+        The range goes from the row `start` up to the row `end`, both included, lies between the rows `after` and `before`, neither
+        included, and has the rows that begin with a prefix, and one family, where these are given. With a limit, the first so many
+        cells are given. It is read in batches as the iterator goes on; all show the transaction's start. What the transaction had
+        written when `scan` was called is shown too, unless `own=False`. The locks of a batch are waited for together, and then
+        cleaned, as `get` does.
 
         BadRow or BadColumn at once, as the store would refuse it.
         """
-        asked = range_of(start, end, prefix, family)
-        writes = {cell: value for cell, value in self._writes.items() if asked.has(cell)} if own else {}
-        return self._entries(asked, keys, writes)
+        return self.entries(range_of(start, end, prefix, family, after, before), keys, limit, own)
 
     def count(
         self,
@@ -187,98 +142,64 @@ class Transaction:
         prefix: bytes | None = None,
         family: bytes | None = None,
         own: bool = True,
+        after: bytes | None = None,
+        before: bytes | None = None,
     ) -> int:
-        """The number of cells of a range that have a value. The values aren't sent. The range is given as to `scan`."""
-        return sum(1 for _ in self.scan(start, end, prefix=prefix, family=family, keys=True, own=own))
+        """How many cells of a range have a value. Their values aren't sent. The range is that of `scan`."""
+        asked = range_of(start, end, prefix, family, after, before)
+        return sum(1 for _ in self.entries(asked, True, None, own))
 
-    def _entries(
-        self, asked: CellRange, keys: bool, writes: dict[Cell, bytes | None]
-    ) -> Iterator[tuple[bytes, bytes, bytes | None]]:
-        """The cells of a range, batch by batch."""
-        is_done = False
-        while not is_done:
-            scanned = self._store.scan(self.start, asked.after, asked.end, asked.family, keys)
-            yield from self._batch(entries_of(scanned, writes), keys)
-            is_done = scanned.upto is None
-            asked = asked if scanned.upto is None else asked.behind(Cell(*scanned.upto))
+    def entries(self, asked: CellRange, keys: bool, limit: int | None, own: bool = True) -> Iterator[Entry]:
+        """The cells of a range, as `scan` gives them."""
+        return self._pieces(self._session.scan(asked, keys, own, limit))
 
-    def _batch(
-        self, entries: dict[Cell, Value | Pending | Unsent], keys: bool
-    ) -> Iterator[tuple[bytes, bytes, bytes | None]]:
-        """The cells of a batch. Locked cells are read first, and a value that wasn't sent is read when its cell
-        comes."""
-        read = self._read_locked({cell: found.start for cell, found in entries.items() if isinstance(found, Pending)})
-        for cell, found in entries.items():
-            if isinstance(found, Unsent):
-                value = None if keys else self.get(*cell, own=False)
-            else:
-                value = found.value if isinstance(found, Value) else read[cell]
-                if value is None:
-                    continue
-            yield cell.row, cell.family, None if keys else value
+    def _pieces(self, scan: RangeScan) -> Iterator[Entry]:
+        """The cells of a scan, piece by piece."""
+        while piece := self._do(scan.piece()):
+            yield from piece
 
-    def _read_locked(self, locks: dict[Cell, int]) -> dict[Cell, bytes | None]:
-        """The values of cells locked by sessions with these starts, after their locks are gone."""
-        values: dict[Cell, bytes | None] = {}
-        tries = 0
-        while locks:
-            tries += 1
-            self._wait(locks, tries)
-            cells, locks = list(locks), {}
-            for cell, found in zip(cells, self._store.ask_each([Get(self.start, *cell) for cell in cells])):
-                if isinstance(found, Refused):
-                    raise found
-                if isinstance(found, Pending):
-                    locks[cell] = found.start
-                else:
-                    values[cell] = value_of(found)
-        return values
+    def stop(self) -> None:
+        """Ends the session where it stands. Before its first step nothing of it stays."""
+        self._do(self._session.stop())
 
-    def _wait(self, locks: dict[Cell, int], tries: int) -> None:
-        """Waits for locks to go, and after this many tries cleans them, or gives up."""
-        if tries < self._patience.tries:
-            time.sleep(self._patience.pause)
-        elif self._patience.cleans:
-            for cell in locks:
-                self._store.clean(*cell)
-        else:
-            raise StillPending(*next(iter(locks.items())))
+    def _do(self, plan: Plan[Result]) -> Result:
+        """Does a plan, at the connection that has the session."""
+        return self._store.do(plan, self._connection)
 
-    def set(self, row: bytes, family: bytes, value: bytes) -> None:
+    def __enter__(self: Own) -> Own:
+        return self
+
+    def __exit__(
+        self, kind: type[BaseException] | None, error: BaseException | None, trace: TracebackType | None
+    ) -> None:
+        with suppress(UnknownSession, ProgramEnded, RequestTimedOut):
+            self.stop()
+
+
+class Transaction(Snapshot):
+    """One session, from its begin to its end. Its writes are kept here, and sent when it commits.
+
+    In a `with` it commits at the end. Where an exception leaves, it stops, unless it has taken a step: then its cells are
+    locked, and another `commit` or a cleaner frees them.
+    """
+
+    @property
+    def commit_stamp(self) -> int | None:
+        """The stamp at which it has committed, and None where it hasn't."""
+        return self._session.commit_stamp
+
+    def put(self, row: bytes, family: bytes, value: bytes) -> None:
         """Writes a value to a cell, when the transaction commits. The first cell that is written is the primary.
 
         UnknownSession, WrongPhase, BadRow, BadColumn, BadValue or TooManyWrites at once, as the store would refuse it.
         """
-        value = bytes_argument("value", value)
-        self._write(row, family, value)
+        self._session.write(row, family, value)
+
+    set = put
 
     def delete(self, row: bytes, family: bytes) -> None:
-        """Deletes a cell, when the transaction commits: a write like any other. Refused as `set` is."""
-        self._write(row, family, None)
-
-    def _write(self, row: bytes, family: bytes, value: bytes | None) -> None:
-        """Buffers a write, and replaces an earlier write of the same cell."""
-        row, family = bytes_argument("row", row), bytes_argument("family", family)
-        if not self.is_active:
-            raise UnknownSession(named("session", self.start))
-        if self._has_stepped:
-            raise WrongPhase(named("session", self.start))
-        if not 1 <= len(row) <= LONGEST_ROW:
-            raise BadRow(named("row", row))
-        if not FAMILY.fullmatch(family):
-            raise BadColumn(named("family", family))
-        if value is not None and len(value) > LONGEST_VALUE:
-            raise BadValue(named("value", value))
-        cell = Cell(row, family)
-        if len(self._writes) == MOST_WRITES and cell not in self._writes:
-            raise TooManyWrites(named("row", row))
-        self._writes[cell] = value
-
-    def stop(self) -> None:
-        """Ends the session in its current phase. Before its first step it leaves nothing behind."""
-        if self.is_active:
-            self.is_active = False
-            self._store.stop(self.start)
+        """Deletes a cell, when the transaction commits: a write like any other. Refused as `put` is."""
+        self._session.write(row, family, None)
 
     def commit(self) -> int | None:
         """Commits all writes atomically, and returns the commit stamp, or None if nothing was written.
@@ -288,131 +209,8 @@ class Transaction:
         refused, the session continues, and `commit` may be called again. If a request is interrupted or times out, it
         isn't known whether everything is committed or nothing.
         """
-        if not self.is_active:
-            raise UnknownSession(named("session", self.start))
-        if not self._writes:
-            self.stop()
-            return None
-        with self._store.alone():
-            failure = self._commit()
-        if failure is not None:
-            if isinstance(failure, TransactionConflict) and self._patience.cleans:
-                self._store.free(failure.cell.row, failure.cell.family, self._patience)
-            raise failure
+        self._do(self._session.commit())
         return self.commit_stamp
-
-    def _commit(self) -> TransactionFailed | None:
-        """Sends the writes and takes the steps. Returns the failure, if the transaction failed."""
-        operations = [self._request(cell) for cell in self._unsent()]
-        if len(self._writes) == 1:
-            # A refused write leaves the session without a write, and its steps are refused
-            failure, rest = self._ask([*operations, *self._steps_left()], len(operations))
-        else:
-            # With a refused write, the steps would commit the other writes, so they wait for the replies
-            if operations:
-                self._ask(operations, len(operations))
-            failure, rest = self._ask(self._steps_left(), 0)
-        while self.is_active:
-            before = self._steps
-            if isinstance(rest, MemtableFull):
-                self._store.make_room(self._sent[self._place()].row)
-            elif rest is not None:
-                raise rest
-            failure, rest = self._ask(self._steps_left(), 0)
-            if rest is not None and self._steps == before:
-                raise rest
-        return failure
-
-    def _unsent(self) -> list[Cell]:
-        """The cells whose writes aren't sent yet: all, or none after all were sent."""
-        return [] if len(self._sent) == len(self._writes) else list(self._writes)
-
-    def _request(self, cell: Cell) -> Set | Delete:
-        """The request for a write."""
-        value = self._writes[cell]
-        return Delete(self.start, *cell) if value is None else Set(self.start, *cell, value)
-
-    def _steps_left(self) -> list[Step]:
-        """The steps not taken yet: each cell is held, the stamp is drawn, the first cell commits, and each other cell
-        is finished."""
-        return [Step(self.start)] * (2 * len(self._writes) + 1 - self._steps)
-
-    def _place(self) -> int:
-        """The position of the next cell."""
-        count = len(self._writes)
-        return self._steps if self._steps < count else max(0, self._steps - count - 1)
-
-    def _ask(
-        self, operations: Sequence[Set | Delete | Step], writes: int
-    ) -> tuple[TransactionFailed | None, Refused | None]:
-        """Sends writes and steps in one trip. Returns the failure, if the transaction failed, and the refusal of the
-        last step, if it was refused. A refused write raises its refusal."""
-        self._has_stepped = self._has_stepped or len(operations) > writes
-        try:
-            answers = self._store.ask_each(operations)
-        except (ProgramEnded, RequestTimedOut, KeyboardInterrupt):
-            self.is_active = not self._has_stepped
-            raise
-        return self._take_answers(operations, answers, writes)
-
-    def _take_answers(
-        self,
-        operations: Sequence[Set | Delete | Step],
-        answers: Sequence[Progress | Refused | None],
-        writes: int,
-    ) -> tuple[TransactionFailed | None, Refused | None]:
-        """Records the answers to writes and to the steps after them."""
-        for operation, answer in zip(operations[:writes], answers):
-            if isinstance(answer, Refused):
-                self._has_stepped = self._steps > 0
-                raise answer
-            assert not isinstance(operation, Step)
-            cell = Cell(operation.row, operation.family)
-            if cell not in self._sent:
-                self._sent.append(cell)
-        return self._take_all(answers[writes:])
-
-    def _take_all(
-        self, answers: Sequence[Progress | Refused | None]
-    ) -> tuple[TransactionFailed | None, Refused | None]:
-        """Records the results of steps. Steps after the session's end are refused, which is ignored."""
-        rest: Refused | None = None
-        for answer in answers:
-            if isinstance(answer, Refused):
-                rest = answer
-            elif answer is not None:
-                rest = None
-                failure = self._take(answer)
-                if failure is not None or not self.is_active:
-                    return failure, None
-        return None, rest
-
-    def _take(self, progress: Progress) -> TransactionFailed | None:
-        """Records the result of a step. Returns the failure, if the transaction failed."""
-        self._steps += 1
-        match progress:
-            case Held(_, _) | Stamped(_):
-                return None
-            case Committed(commit):
-                self.commit_stamp = commit
-                self.is_active = len(self._sent) > 1
-            case Finished(place, count):
-                self.is_active = place < count
-            case Conflict(place):
-                return self._given_up(place - 1, TransactionConflict(self._sent[place - 1]))
-            case Lost():
-                return self._given_up(len(self._sent), TransactionLost("a cleaner has rolled it back"))
-        return None
-
-    def _given_up(self, count: int, failure: TransactionFailed) -> TransactionFailed:
-        """Releases the first `count` cells, which the session held to its end."""
-        self.is_active = False
-        for held in self._sent[:count]:
-            self._store.clean(held.row, held.family)
-        return failure
-
-    def __enter__(self) -> Transaction:
-        return self
 
     def __exit__(
         self, kind: type[BaseException] | None, error: BaseException | None, trace: TracebackType | None
@@ -421,6 +219,5 @@ class Transaction:
             if kind is None and self.is_active:
                 self.commit()
         finally:
-            if not self._has_stepped:
-                with suppress(UnknownSession, ProgramEnded, RequestTimedOut):
-                    self.stop()
+            if not self._session.has_stepped:
+                super().__exit__(kind, error, trace)

@@ -10,14 +10,15 @@ NO_MEMORY = b"\xff\x14"
 
 
 class Poor:
-    """A connection to a store that refuses some requests of one operation with NoMemory, given by the position of the
-    first among the operation's requests, and their number."""
+    """A connection to a store that refuses some requests of one operation, NoMemory if nothing else is said: the first of them, and
+    how many, from the place in which they are asked."""
 
-    def __init__(self, connection: Connection, code: int, first: int, count: int = 1) -> None:
+    def __init__(self, connection: Connection, code: int, first: int, count: int = 1, refusal: bytes = NO_MEMORY) -> None:
         self._connection = connection
         self._code = code
         self._refused = range(first, first + count)
         self._asked = 0
+        self._refusal = refusal
 
     def ask(self, bodies: Sequence[bytes], timeout: float | None = None) -> list[bytes]:
         refused = []
@@ -27,8 +28,11 @@ class Poor:
                 refused.append(place)
         replies = self._connection.ask([body for place, body in enumerate(bodies) if place not in refused], timeout)
         for place in refused:
-            replies.insert(place, NO_MEMORY)
+            replies.insert(place, self._refusal)
         return replies
+
+    def tell(self, body: bytes, timeout: float | None = None) -> None:
+        self._connection.tell(body, timeout)
 
     def kill(self) -> None:
         self._connection.kill()

@@ -192,20 +192,21 @@ class Refusals(FolderTest):
         (full / "file").touch()
         refuses = stand_in(self, "return bytes((0xFF, 0x13)) if body[0] == 18 else plain(body)")
         with_folder = ["--dir", str(folder)]
-        for words, path, why in (
+        cases: list[tuple[list[str], str, str]] = [
             ([], "copy", "a store in memory has no folder to copy"),
             (with_folder, "full", "full is not empty"),
             (with_folder, "full/file", "File exists"),
             (with_folder, "none/copy", "No such file or directory"),
             ([*with_folder, "--program", refuses], "copy", "the store has refused the checkpoint"),
-        ):
+        ]
+        for words, place, why in cases:
             with self.subTest(why):
                 gateway = Gateway(self, words)
                 with Store(socket=gateway.path) as store:
-                    self.assertRaisesRegex(NotCopied, why, store.backup, self.path / path)
+                    self.assertRaisesRegex(NotCopied, why, store.backup, self.path / place)
                     store.stop(store.begin())
                 gateway.stop()
-                self.assertFalse((self.path / path / ROOT_FILE).exists())
+                self.assertFalse((self.path / place / ROOT_FILE).exists())
 
     def test_a_full_disk(self) -> None:
         """A limit of the file size simulates it."""

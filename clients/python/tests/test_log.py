@@ -394,7 +394,8 @@ class Killed(unittest.TestCase):
         with self.opened() as store, store.transaction() as t:
             for number in range(ACCOUNTS):
                 t.set(account(number), FAMILY, b"%d" % FIRST)
-        ways = ([], ["--flush", "40", "--merge", "3"], ["--log-bytes", "20000", "--merge", "4"], ["--checkpoint", "0.05"])
+        small = ["--log-bytes", "20000", "--merge", "4"]
+        ways: list[list[str]] = [[], ["--flush", "40", "--merge", "3"], small, ["--checkpoint", "0.05"]]
         for number in range(KILLS):
             self.kill_once(ways[number % len(ways)], dice.uniform(0, 0.3))
             self.check()

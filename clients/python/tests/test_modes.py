@@ -35,7 +35,7 @@ PATIENCE = 60
 def fill(store: Store) -> None:
     """Commits a cell twice, with a checkpoint between."""
     for value in (b"1", b"2"):
-        store.run(lambda t, value=value: t.set(ROW, FAMILY, value))
+        store.put(ROW, FAMILY, value)
         store.checkpoint()
 
 

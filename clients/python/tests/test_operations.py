@@ -6,7 +6,6 @@ import unittest
 from collections.abc import Callable
 from functools import partial
 from typing import Any
-from unittest.mock import patch
 
 from duqishom import (
     BadColumn,
@@ -55,7 +54,9 @@ from duqishom import (
     read_record,
 )
 from duqishom.folders import tuned
+from duqishom.operations import CollectStep
 from duqishom.refusals import BY_NUMBER
+from tests.poor import Poor
 
 BOB, JOE, BAL = b"Bob", b"Joe", b"bal"
 
@@ -553,8 +554,8 @@ class Refusals(StoreTest):
 
     def test_full_memtable_of_a_collector(self) -> None:
         self.commit(BOB, b"1")
-        with patch.object(self.store, "collect_step", side_effect=[MemtableFull(), Collected()]):
-            self.store.collect()
+        self.store._connection = Poor(self.store._connection, CollectStep.code, 1, refusal=b"\xff\x0f")
+        self.store.collect()
         self.commit(BOB, b"2")
         self.store.minor(1)
         self.store.merge(1, 2)

@@ -7,6 +7,7 @@ import stat
 import subprocess
 import tempfile
 import unittest
+from collections.abc import Callable
 from pathlib import Path
 
 from duqishom import Store
@@ -65,7 +66,8 @@ class Recordings(unittest.TestCase):
 
     def test_no_link_is_followed_and_no_pipe_is_written(self) -> None:
         for name in ("requests", "replies"):
-            for make in (os.mkfifo, lambda path: os.symlink(self.place / "else", path)):
+            ways: list[Callable[[Path], None]] = [os.mkfifo, lambda path: os.symlink(self.place / "else", path)]
+            for make in ways:
                 with self.subTest(name), tempfile.TemporaryDirectory() as folder:
                     make(Path(folder) / name)
                     self.assertRaises(OSError, Store, record=folder)

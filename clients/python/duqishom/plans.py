@@ -1,0 +1,329 @@
+"""What a client does in several requests, without input or output, so that `Store` and its twin for `asyncio` share it.
+
+A plan is a generator. It yields the requests of a trip and is sent their answers, or it yields a pause. Whoever drives
+it sends, reads and waits.
+"""
+
+from __future__ import annotations
+
+import logging
+import random
+from collections.abc import Callable, Generator, Sequence
+from contextlib import suppress
+from dataclasses import dataclass
+from typing import Any, TypeVar
+
+from duqishom.answers import (
+    Blocked,
+    Cleaned,
+    Collected,
+    Collection,
+    Committed,
+    Decided,
+    Lost,
+    Pending,
+    Qualifier,
+    Stamped,
+    Value,
+)
+from duqishom.cells import Cell
+from duqishom.columns import read_lock, read_record
+from duqishom.operations import (
+    Begin,
+    Checkpoint,
+    CleanBegin,
+    CleanStep,
+    CollectBegin,
+    CollectStep,
+    Get,
+    Major,
+    Minor,
+    Operation,
+    Raw,
+    Stop,
+)
+from duqishom.refusals import BadRequest, MemtableFull, Refused, TooManyFiles, UnknownTablet
+from duqishom.tablets import TabletMap
+
+LOG = logging.getLogger("duqishom")
+LOG.addHandler(logging.NullHandler())
+
+MOST_STAMP = 9_223_372_036_854_775_807
+MOST_TABLETS = 1024
+
+# The longest pause between two attempts, in seconds.
+LONGEST_PAUSE = 1.0
+
+# How long a lock is waited for at a gateway, in seconds: its session may be of a client that still runs.
+GATEWAY_LOCK_WAIT = 1.0
+
+Answer = TypeVar("Answer")
+Result = TypeVar("Result")
+
+# What became of a commit: it was made, it wasn't, or its session's lock still stands.
+Fate = Committed | Lost | Pending
+
+
+@dataclass(frozen=True)
+class Pause:
+    """So many seconds in which nothing is asked."""
+
+    seconds: float
+
+
+@dataclass(frozen=True)
+class Unwaited:
+    """A request whose reply isn't waited for, and says nothing that is needed."""
+
+    operation: Operation[Any]
+
+
+Trip = Sequence[Operation[Any]] | Pause | Unwaited
+Plan = Generator[Trip, list[Any], Result]
+
+
+def ask(operation: Operation[Answer]) -> Plan[Answer]:
+    """Asks for one operation. Its refusal is raised."""
+    [answer] = yield [operation]
+    if isinstance(answer, Refused):
+        raise answer
+    result: Answer = answer
+    return result
+
+
+class TransactionFailed(Exception):
+    """A transaction came to nothing: none of its writes is committed, and none will be."""
+
+
+class StillPending(TransactionFailed):
+    """A read met a lock each time that it was asked. The session of the lock began at `start`."""
+
+    def __init__(self, cell: Cell, start: int) -> None:
+        super().__init__(f"{cell} is locked by the session that began at {start}")
+        self.cell = cell
+        self.start = start
+
+
+class TransactionConflict(TransactionFailed):
+    """A cell that was to be written is locked, or was committed since the transaction began.
+
+    What the transaction held is free again.
+    """
+
+    def __init__(self, cell: Cell) -> None:
+        super().__init__(f"{cell} is locked, or was written since the transaction began")
+        self.cell = cell
+
+
+class TransactionLost(TransactionFailed):
+    """A cleaner rolled the transaction back before it committed. What the transaction held is free again."""
+
+
+@dataclass(frozen=True)
+class Patience:
+    """How often a cell is looked at while it is locked, the seconds between two of these, and whether the lock is then
+    taken for one that was left behind, and cleaned."""
+
+    tries: int = 3
+    pause: float = 0.01
+    cleans: bool = True
+
+    @classmethod
+    def waiting(cls, seconds: float) -> Patience:
+        """The patience that waits so many seconds for a lock, and then cleans it."""
+        return cls(tries=1 + round(seconds / cls.pause))
+
+    def between(self, attempt: int) -> float:
+        """How many seconds to wait behind so many attempts: by chance, up to a time that doubles, and is at most a
+        second."""
+        return random.uniform(0, min(LONGEST_PAUSE, self.pause * 2.0 ** min(attempt, 30)))
+
+
+def patience_of(patience: Patience | None, lock_wait: float | None, is_remote: bool) -> Patience:
+    """The patience that was given, or that of so many seconds. A client that is alone waits for no other one."""
+    if patience is not None and lock_wait is not None:
+        raise ValueError("a patience says already how long a lock is waited for")
+    if lock_wait is not None:
+        return Patience.waiting(lock_wait)
+    return patience or (Patience.waiting(GATEWAY_LOCK_WAIT) if is_remote else Patience())
+
+
+class Attempts:
+    """The attempts to do work in a transaction."""
+
+    def __init__(self, patience: Patience, most: int) -> None:
+        self._patience = patience
+        self._most = most
+        self._made = 0
+
+    def pause_after(self, failure: Exception) -> float:
+        """How many seconds to wait behind an attempt that failed. After the last one the failure is raised."""
+        self._made += 1
+        if self._made >= self._most:
+            raise failure
+        pause = self._patience.between(self._made - 1)
+        LOG.info("attempt %d of %d failed: %s; the next one in %.3f s", self._made, self._most, failure, pause)
+        return pause
+
+
+class Stamps:
+    """The stamps that a client has seen. If nobody else draws any, the next session's start is one more than the last
+    one."""
+
+    def __init__(self) -> None:
+        self._last = 0
+        self._was_next = False
+
+    def note(self, operations: Sequence[Operation[Any]], answers: Sequence[object]) -> None:
+        """Notes the stamps in the answers to a trip."""
+        for operation, answer in zip(operations, answers):
+            if isinstance(operation, Begin) and isinstance(answer, int):
+                self._was_next = answer == self._last + 1
+                self._last = answer
+            elif isinstance(answer, (Stamped, Committed)):
+                self._last = max(self._last, answer.commit)
+
+    def next(self) -> int | None:
+        """The start that the next session will have, if the last one was as expected."""
+        return self._last + 1 if self._was_next else None
+
+
+class StorePlans:
+    """The plans of a store."""
+
+    def __init__(self, patience: Patience, tablets: TabletMap | None, has_log: Callable[[], bool]) -> None:
+        """Without tablets it is a gateway's store, which others may split."""
+        self.patience = patience
+        self.stamps = Stamps()
+        self._tablets = tablets
+        self._has_log = has_log
+
+    def read(self, cells: Sequence[Cell]) -> Plan[list[bytes | None] | None]:
+        """What cells hold as of now: None if one of them is locked. It takes one trip if the start is as expected: the
+        reads go behind the Begin that they need, and are asked again if it has another answer."""
+        start = self.stamps.next()
+        reads = [] if start is None else [Get(start, *cell) for cell in cells]
+        begun, *answers = yield [Begin(), *reads]
+        if isinstance(begun, Refused):
+            raise begun
+        try:
+            if begun != start:
+                answers = yield [Get(begun, *cell) for cell in cells]
+        except GeneratorExit:
+            raise
+        except BaseException:
+            yield Unwaited(Stop(begun))
+            raise
+        yield Unwaited(Stop(begun))
+        for answer in answers:
+            if isinstance(answer, Refused):
+                raise answer
+        if any(isinstance(answer, Pending) for answer in answers):
+            return None
+        return [answer.value if isinstance(answer, Value) else None for answer in answers]
+
+    def make_room(self, row: bytes | None = None) -> Plan[None]:
+        """Makes room in the memtable of the tablet that holds a row, or in all, and in the log if there is one. Where a
+        tablet has too many files, all become one."""
+        LOG.info("a memtable or the log is full: makes room")
+        if self._tablets is None or row is None:
+            yield from self.checkpoint() if self._has_log() else self._write_all()
+        elif self._has_log():
+            yield from self.checkpoint()
+        else:
+            yield from self._write(self._tablets.holder(row).number)
+
+    def checkpoint(self) -> Plan[None]:
+        """Makes a checkpoint. Where a tablet has too many files, all of its files become one first."""
+        try:
+            yield from ask(Checkpoint())
+        except TooManyFiles:
+            yield from self._write_all()
+            yield from ask(Checkpoint())
+
+    def _write_all(self) -> Plan[None]:
+        """Writes the memtable of each tablet to a file. Of a gateway's store the tablets aren't known, and a checkpoint
+        is made too, for the log may be what is full; a gateway that has a socket of the administrator refuses both, and
+        has done it itself."""
+        if self._tablets is not None:
+            for each in self._tablets.all():
+                yield from self._write(each.number)
+            return
+        with suppress(UnknownTablet, BadRequest):
+            for tablet in range(1, MOST_TABLETS + 1):
+                yield from self._write(tablet)
+        with suppress(BadRequest):
+            yield from ask(Checkpoint())
+
+    def _write(self, tablet: int) -> Plan[None]:
+        """Writes the memtable of a tablet to a file. Where the tablet has too many files, all become one."""
+        try:
+            yield from ask(Minor(tablet))
+        except TooManyFiles:
+            yield from ask(Major(tablet))
+
+    def clean(self, row: bytes, family: bytes) -> Plan[Cleaned | None]:
+        """Clears the lock of a cell: what became of it, and None where none stood."""
+        cleaner = yield from ask(CleanBegin(row, family))
+        if cleaner is None:
+            return None
+        cleaned: Cleaned = Decided()
+        while cleaned == Decided():
+            cleaned = yield from self._clean_step(cleaner.number, row, family)
+        LOG.info("cleaned the lock that session %d had on %s: %s", cleaner.start, Cell(row, family), cleaned)
+        return cleaned
+
+    def _clean_step(self, cleaner: int, row: bytes, family: bytes) -> Plan[Cleaned]:
+        """A cleaner's step. Full memtables of its cell and of the lock's first cell are written to files."""
+        try:
+            return (yield from ask(CleanStep(cleaner)))
+        except MemtableFull:
+            lock = yield from ask(Raw(row, family, Qualifier.LOCK, 0, MOST_STAMP))
+            yield from self.make_room(row)
+            if lock is not None:
+                yield from self.make_room(read_lock(lock.value).row)
+            return (yield from ask(CleanStep(cleaner)))
+
+    def free(self, cell: Cell, patience: Patience) -> Plan[None]:
+        """Waits for the lock of a cell to go, as long as the patience says, and then cleans it."""
+        first = lock = yield from ask(Raw(*cell, Qualifier.LOCK, 0, MOST_STAMP))
+        for _ in range(patience.tries):
+            if lock is None or first is None or lock.stamp != first.stamp:
+                return
+            yield Pause(patience.pause)
+            lock = yield from ask(Raw(*cell, Qualifier.LOCK, 0, MOST_STAMP))
+        yield from self.clean(*cell)
+
+    def collect(self, visits: int) -> Plan[int]:
+        """Erases old versions, by requests of so many visits: the floor up to which that was done."""
+        collector = yield from ask(CollectBegin())
+        while (done := (yield from self._collect_step(collector.number, visits))) != Collected():
+            if isinstance(done, Blocked):
+                yield from self.clean(done.row, done.family)
+        return collector.floor
+
+    def _collect_step(self, collector: int, visits: int) -> Plan[Collection]:
+        """A collector's step. Where a memtable is full, all are written to files, for the refusal doesn't tell which it
+        is; the visits that were made before it stay, so each try comes further."""
+        while True:
+            try:
+                return (yield from ask(CollectStep(collector, visits)))
+            except MemtableFull:
+                yield from self.make_room()
+
+    def fate(self, start: int, row: bytes, family: bytes, patience: Patience) -> Plan[Fate]:
+        """What became of a session's commit, by its first cell. A record there that names the session says that it has
+        committed. Its lock is waited for, and then cleaned, unless the patience says otherwise; where neither stands,
+        nothing was committed."""
+        lock = yield from ask(Raw(row, family, Qualifier.LOCK, start, start))
+        if lock is not None and patience.cleans:
+            yield from self.free(Cell(row, family), patience)
+        elif lock is not None:
+            return Pending(start)
+        above = MOST_STAMP
+        while record := (yield from ask(Raw(row, family, Qualifier.WRITE, start, above))):
+            if read_record(record.value).start == start:
+                return Committed(record.stamp)
+            above = record.stamp - 1
+        return Lost()
+

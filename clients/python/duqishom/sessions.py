@@ -1,0 +1,352 @@
+"""A session as a transaction has it: what it has written, how far its commit is, and what it asks, as plans."""
+
+from __future__ import annotations
+
+import time
+from collections.abc import Iterable, Sequence
+
+from duqishom.answers import (
+    Committed,
+    Conflict,
+    Finished,
+    Held,
+    Lost,
+    Nothing,
+    Pending,
+    Progress,
+    Stamped,
+    Unsent,
+    Value,
+)
+from duqishom.cells import FAMILY, LONGEST_ROW, Cell, CellRange, entries_of
+from duqishom.fields import bytes_argument
+from duqishom.operations import MOST_CELLS, Delete, Get, Scan, Set, Step, Stop, named
+from duqishom.plans import (
+    LOG,
+    Pause,
+    Plan,
+    StillPending,
+    StorePlans,
+    TransactionConflict,
+    TransactionFailed,
+    TransactionLost,
+    Unwaited,
+    ask,
+)
+from duqishom.refusals import (
+    BadColumn,
+    BadRow,
+    BadValue,
+    FrameTooLarge,
+    MemtableFull,
+    Refused,
+    TooManyWrites,
+    UnknownSession,
+    WrongPhase,
+)
+
+MOST_WRITES = 256
+LONGEST_VALUE = 65_536
+
+# So many values that a scan didn't send are read in one trip.
+MOST_UNSENT = 16
+
+# A row, a family and a value, or None where keys alone were asked for.
+Entry = tuple[bytes, bytes, bytes | None]
+
+
+def value_of(found: Nothing | Value) -> bytes | None:
+    """What a read found: None for nothing."""
+    return found.value if isinstance(found, Value) else None
+
+
+class Session:
+    """One session, from its begin to its end. Its writes are kept here, and sent when it commits."""
+
+    def __init__(self, start: int, plans: StorePlans) -> None:
+        self.start = start
+        self.is_active = True
+        self.has_stepped = False
+        self.commit_stamp: int | None = None
+        self._plans = plans
+        self._writes: dict[Cell, bytes | None] = {}
+        self._sent: list[Cell] = []
+        self._steps = 0
+        self._stepped_at = 0.0
+        self._to_clean: list[Cell] = []
+
+    @property
+    def first(self) -> Cell | None:
+        """The first cell that was written, which is the primary: None if none was."""
+        return next(iter(self._writes), None)
+
+    def get_many(self, cells: Iterable[tuple[bytes, bytes]], own: bool = True) -> Plan[list[bytes | None]]:
+        """What cells hold, in one trip but for those that are locked."""
+        wanted = [Cell(*cell) for cell in cells]
+        values = {cell: self._writes[cell] for cell in wanted if own and cell in self._writes}
+        asked = [cell for cell in dict.fromkeys(wanted) if cell not in values]
+        values.update((yield from self._read(asked, {})))
+        return [values[cell] for cell in wanted]
+
+    def _read(self, asked: list[Cell], locks: dict[Cell, int]) -> Plan[dict[Cell, bytes | None]]:
+        """What cells hold, and others that are locked by sessions of these starts, once their locks are gone."""
+        values: dict[Cell, bytes | None] = {}
+        tries = 0
+        while asked or locks:
+            if locks:
+                tries += 1
+                yield from self._wait(locks, tries)
+            asked, locks = [*asked, *locks], {}
+            for cell, found in zip(asked, (yield [Get(self.start, *cell) for cell in asked])):
+                if isinstance(found, Refused):
+                    raise found
+                if isinstance(found, Pending):
+                    locks[cell] = found.start
+                else:
+                    values[cell] = value_of(found)
+            asked = []
+        return values
+
+    def _wait(self, locks: dict[Cell, int], tries: int) -> Plan[None]:
+        """Waits for locks to go, and after so many tries cleans them, or gives up."""
+        patience = self._plans.patience
+        if tries < patience.tries:
+            yield Pause(patience.pause)
+        elif patience.cleans:
+            for cell in locks:
+                yield from self._plans.clean(*cell)
+        else:
+            raise StillPending(*next(iter(locks.items())))
+
+    def scan(self, asked: CellRange, keys: bool, own: bool, limit: int | None) -> RangeScan:
+        """A scan of a range, which shows the writes that were made before it."""
+        writes = {cell: value for cell, value in self._writes.items() if asked.has(cell)} if own else {}
+        return RangeScan(self, asked, keys, writes, limit)
+
+    def write(self, row: bytes, family: bytes, value: bytes | None) -> None:
+        """Keeps a write, in the place of one of the same cell."""
+        row, family = bytes_argument("row", row), bytes_argument("family", family)
+        value = None if value is None else bytes_argument("value", value)
+        if not self.is_active:
+            raise UnknownSession(named("session", self.start))
+        if self.has_stepped:
+            raise WrongPhase(named("session", self.start))
+        if not 1 <= len(row) <= LONGEST_ROW:
+            raise BadRow(named("row", row))
+        if not FAMILY.fullmatch(family):
+            raise BadColumn(named("family", family))
+        if value is not None and len(value) > LONGEST_VALUE:
+            raise BadValue(named("value", value))
+        cell = Cell(row, family)
+        if len(self._writes) == MOST_WRITES and cell not in self._writes:
+            raise TooManyWrites(named("row", row))
+        self._writes[cell] = value
+
+    def stop(self) -> Plan[None]:
+        """Ends the session where it stands. Before its first step nothing of it stays."""
+        if self.is_active:
+            self.is_active = False
+            yield Unwaited(Stop(self.start))
+
+    def commit(self) -> Plan[None]:
+        """Commits all writes at once, or stops where nothing was written."""
+        if not self.is_active:
+            raise UnknownSession(named("session", self.start))
+        if not self._writes:
+            yield from self.stop()
+            return
+        failure = yield from self._commit()
+        for cell in self._to_clean:
+            yield from self._plans.clean(*cell)
+        if failure is not None:
+            if isinstance(failure, TransactionConflict) and self._plans.patience.cleans:
+                yield from self._plans.free(failure.cell, self._plans.patience)
+            raise failure
+
+    def _commit(self) -> Plan[TransactionFailed | None]:
+        """Sends the writes and takes the steps: why it came to nothing, where it did."""
+        operations = [self._request(cell) for cell in self._unsent()]
+        if len(self._writes) == 1:
+            # One that is refused leaves the session without a write, and its steps are refused
+            failure, rest = yield from self._ask([*operations, *self._steps_left()], len(operations))
+        else:
+            # Steps beside a refused one would commit the others, so they wait for the replies
+            if operations:
+                yield from self._ask(operations, len(operations))
+            failure, rest = yield from self._ask(self._steps_left(), 0)
+        while self.is_active:
+            before = self._steps
+            if isinstance(rest, MemtableFull):
+                yield from self._plans.make_room(self._sent[self._place()].row)
+            elif rest is not None:
+                raise rest
+            failure, rest = yield from self._ask(self._steps_left(), 0)
+            if rest is not None and self._steps == before:
+                raise rest
+        return failure
+
+    def _unsent(self) -> list[Cell]:
+        """The cells whose writes are to be sent: all, and none once all were."""
+        return [] if len(self._sent) == len(self._writes) else list(self._writes)
+
+    def _request(self, cell: Cell) -> Set | Delete:
+        """The request for a write."""
+        value = self._writes[cell]
+        return Delete(self.start, *cell) if value is None else Set(self.start, *cell, value)
+
+    def _steps_left(self) -> list[Step]:
+        """The steps that are to be taken: each cell is held, the stamp is drawn, the first cell commits, each other is
+        finished."""
+        return [Step(self.start)] * (2 * len(self._writes) + 1 - self._steps)
+
+    def _place(self) -> int:
+        """The place of the cell whose turn it is."""
+        count = len(self._writes)
+        return self._steps if self._steps < count else max(0, self._steps - count - 1)
+
+    def _ask(
+        self, operations: Sequence[Set | Delete | Step], writes: int
+    ) -> Plan[tuple[TransactionFailed | None, Refused | None]]:
+        """Asks for writes and steps in one trip: why the transaction came to nothing, where it did, and the refusal of
+        the last step, where it was refused. A write that is refused raises its refusal."""
+        if not self.has_stepped and len(operations) > writes:
+            self.has_stepped, self._stepped_at = True, time.monotonic()
+        try:
+            answers = yield operations
+        except FrameTooLarge:
+            raise
+        except BaseException:
+            self.is_active = not self.has_stepped
+            raise
+        return self._take_answers(operations, answers, writes)
+
+    def _take_answers(
+        self,
+        operations: Sequence[Set | Delete | Step],
+        answers: Sequence[Progress | Refused | None],
+        writes: int,
+    ) -> tuple[TransactionFailed | None, Refused | None]:
+        """Notes the answers to writes and to steps behind them."""
+        for operation, answer in zip(operations[:writes], answers):
+            if isinstance(answer, Refused):
+                self.has_stepped = self._steps > 0
+                raise answer
+            assert not isinstance(operation, Step)
+            cell = Cell(operation.row, operation.family)
+            if cell not in self._sent:
+                self._sent.append(cell)
+        return self._take_all(answers[writes:])
+
+    def _take_all(
+        self, answers: Sequence[Progress | Refused | None]
+    ) -> tuple[TransactionFailed | None, Refused | None]:
+        """Notes what steps did. Behind the session's end the others are refused, which says nothing."""
+        rest: Refused | None = None
+        for answer in answers:
+            if isinstance(answer, Refused):
+                rest = answer
+            elif answer is not None:
+                rest = None
+                failure = self._take(answer)
+                if failure is not None or not self.is_active:
+                    return failure, None
+        return None, rest
+
+    def _take(self, progress: Progress) -> TransactionFailed | None:
+        """Notes what a step did: why the transaction came to nothing, where it did."""
+        self._steps += 1
+        match progress:
+            case Held(_, _) | Stamped(_):
+                return None
+            case Committed(commit):
+                self.commit_stamp = commit
+                self.is_active = len(self._sent) > 1
+            case Finished(place, count):
+                self.is_active = place < count
+            case Conflict(place):
+                return self._given_up(place - 1, TransactionConflict(self._sent[place - 1]))
+            case Lost():
+                return self._given_up(len(self._sent), TransactionLost(self._why_lost()))
+        return None
+
+    def _why_lost(self) -> str:
+        """Why a cleaner may have rolled the transaction back."""
+        seconds = time.monotonic() - self._stepped_at
+        return (
+            f"another client met the lock of {self._sent[0]}, took its session for dead, and rolled it back; the commit"
+            f" had begun {seconds:.2f} s before. The others' `lock_wait` says how long they wait"
+        )
+
+    def _given_up(self, count: int, failure: TransactionFailed) -> TransactionFailed:
+        """Notes that the first so many cells, which the session held to its end, are to be cleaned."""
+        self.is_active = False
+        self._to_clean = self._sent[:count]
+        LOG.debug("session %d came to nothing: %s", self.start, failure)
+        return failure
+
+
+class RangeScan:
+    """The cells of a range that have a value, piece by piece."""
+
+    def __init__(
+        self, session: Session, asked: CellRange, keys: bool, writes: dict[Cell, bytes | None], limit: int | None
+    ) -> None:
+        """The writes, all in the range, are shown in place of what is there. With a limit, so many cells are given."""
+        if limit is not None and limit < 0:
+            raise ValueError(f"limit must be 0 or more, and not {limit}")
+        self._session = session
+        self._asked: CellRange | None = None if limit == 0 else asked
+        self._keys = keys
+        self._writes = writes
+        self._limit = limit
+        self._cells = MOST_CELLS if limit is None else min(MOST_CELLS, max(1, limit))
+        self._found: list[tuple[Cell, bytes | Unsent]] = []
+
+    def piece(self) -> Plan[list[Entry]]:
+        """The next cells: none at the end of the range."""
+        while not self._found and self._asked is not None:
+            yield from self._look_on(self._asked)
+        if not self._found or self._keys or not isinstance(self._found[0][1], Unsent):
+            return self._take_sent()
+        return (yield from self._take_unsent())
+
+    def _look_on(self, asked: CellRange) -> Plan[None]:
+        """Asks for the next batch. The locks of a batch are waited for together. If it had too few, the next one is
+        larger."""
+        session = self._session
+        scanned = yield from ask(Scan(session.start, asked.after, asked.end, asked.family, self._keys, self._cells))
+        entries = entries_of(scanned, self._writes)
+        locks = {cell: found.start for cell, found in entries.items() if isinstance(found, Pending)}
+        read = yield from session._read([], locks)
+        for cell, found in entries.items():
+            value: bytes | Unsent | None = found if isinstance(found, Unsent) else read.get(cell)
+            if isinstance(found, Value):
+                value = found.value
+            if value is not None:
+                self._found.append((cell, value))
+        self._asked = None if scanned.upto is None else asked.behind(Cell(*scanned.upto))
+        self._cells = min(MOST_CELLS, 2 * self._cells)
+        if self._limit is not None:
+            del self._found[self._limit :]
+            self._limit -= len(self._found)
+            self._asked = self._asked if self._limit else None
+
+    def _take_sent(self) -> list[Entry]:
+        """The cells up to the first one whose value wasn't sent; all if keys alone are asked for."""
+        found, at = self._found, 0
+        while at < len(found) and (self._keys or not isinstance(found[at][1], Unsent)):
+            at += 1
+        self._found = found[at:]
+        values = [None if self._keys or isinstance(value, Unsent) else value for _, value in found[:at]]
+        return [(row, family, value) for ((row, family), _), value in zip(found, values)]
+
+    def _take_unsent(self) -> Plan[list[Entry]]:
+        """The next cells whose values weren't sent, and are read now."""
+        cells: list[Cell] = []
+        for cell, value in self._found[:MOST_UNSENT]:
+            if not isinstance(value, Unsent):
+                break
+            cells.append(cell)
+        self._found = self._found[len(cells) :]
+        values = yield from self._session.get_many(cells, own=False)
+        return [(row, family, value) for (row, family), value in zip(cells, values)]
