@@ -456,7 +456,8 @@ class Store:
 
     async def sweep(self) -> int:
         """Removes the files that no tablet names, and returns their number. In a folder without a log, the gateway
-        makes a checkpoint right after it."""
+        makes checkpoints before and after it. If the first one is refused, its refusal is raised and nothing is
+        removed."""
         return await self.ask(Sweep())
 
     async def checkpoint(self) -> None:

@@ -41,6 +41,7 @@ from duqishom.operations import (
     Operation,
     Raw,
     Stop,
+    Sweep,
 )
 from duqishom.refusals import BadRequest, MemtableFull, Refused, TooManyFiles, UnknownTablet
 from duqishom.tablets import TabletMap
@@ -240,6 +241,17 @@ class StorePlans:
         except TooManyFiles:
             yield from self._write_all()
             yield from ask(Checkpoint())
+
+    def sweep(self) -> Plan[int]:
+        """Removes files from a folder without a log, and returns their number. Checkpoints are made before and after
+        it. If the first one is refused, nothing is removed. The second one is sent at once, whatever comes between."""
+        yield from self.checkpoint()
+        answers = yield [Sweep(), Checkpoint()]
+        for answer in answers:
+            if isinstance(answer, Refused):
+                raise answer
+        count: int = answers[0]
+        return count
 
     def _write_all(self) -> Plan[None]:
         """Writes the memtable of each tablet to a file. Of a gateway's store the tablets aren't known, and a checkpoint

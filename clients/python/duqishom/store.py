@@ -311,10 +311,14 @@ class Store(AutoCommit):
     def sweep(self) -> int:
         """Removes the files that no tablet names, and returns their number.
 
-        A file that only the root file names is removed too. So a store in a folder must make a checkpoint next, or the
-        folder is damaged when it is opened again.
+        A file that only the root file names is removed too. So in a folder without a log, checkpoints are made before
+        and after it. If the first one is refused, its refusal is raised and nothing is removed. If the second one is
+        refused, the folder is damaged unless a later one is made.
         """
-        return self.ask(Sweep())
+        with self.alone():
+            if self.folder is None or self.has_log:
+                return self.ask(Sweep())
+            return self.do(self._plans.sweep())
 
     def checkpoint(self) -> None:
         """Writes the store's whole state to its files: all commits and all locks. A folder is opened as its last

@@ -6,6 +6,7 @@ import os
 import random
 import resource
 import shutil
+import signal
 import subprocess
 import sys
 import threading
@@ -33,6 +34,7 @@ from duqishom.inspection import Folder, cells, locks
 from duqishom.operations import Checkpoint
 from duqishom.program import default_program
 from tests.folders import FolderTest
+from tests.gateways import Gateway, until
 from tests.pages import TOP
 from tests.poor import Poor
 
@@ -79,11 +81,52 @@ class Folders(FolderTest):
         Store(folder=self.folder).close()
         self.assertEqual(root.stat().st_ino, was)
 
+    def limitable(self) -> str:
+        """A program that fails to write beyond a limit of the file size, and doesn't end by it."""
+        program = self.path / "program"
+        program.write_text(f"""#!/bin/sh\ntrap '' XFSZ\necho $$ >{self.path}/number\nexec {default_program()} "$@"\n""")
+        program.chmod(0o755)
+        return str(program)
+
+    def running(self) -> int:
+        """The process of that program."""
+        return int((self.path / "number").read_text())
+
+    def limit(self, size: int) -> None:
+        """Limits the file size of that program."""
+        resource.prlimit(self.running(), resource.RLIMIT_FSIZE, (size, resource.RLIM_INFINITY))
+
+    def test_a_sweep_on_a_full_disk_removes_nothing(self) -> None:
+        """And with room again, a checkpoint follows the Sweep, since the program has merged files after the first."""
+        program = self.limitable()
+        for is_remote in (False, True):
+            with self.subTest(is_remote=is_remote):
+                folder = self.path / f"store {is_remote}"
+                folder.mkdir()
+                if is_remote:
+                    words = ["--program", program, "--dir", str(folder), "--no-log", "--merge", "2"]
+                    store = Store(socket=Gateway(self, words).path)
+                else:
+                    store = Store(program, folder=folder, log=False, words=["--merge", "2"], checkpoint_at_close=False)
+                with store:
+                    store.put(ROW, FAMILY, b"1")
+                    store.checkpoint()
+                    store.major(1)
+                    self.limit(1)
+                    self.assertRaises(Device, store.sweep)
+                    self.assertTrue((folder / FILE).exists())
+                    self.limit(resource.RLIM_INFINITY)
+                    store.put(ROW, FAMILY, b"2")
+                    self.assertGreater(store.sweep(), 1)
+                    self.assertFalse((folder / FILE).exists())
+                    os.kill(self.running(), signal.SIGKILL)
+                self.assertTrue(until(lambda: not Path(f"/proc/{self.running()}").exists()))
+                with Store(folder=folder) as again:
+                    self.assertEqual(again.get(ROW, FAMILY), b"2")
+
     def test_a_disk_that_was_full_has_room_again(self) -> None:
         """A limit of the file size simulates a full disk: writes beyond it fail or are cut short."""
-        number, program, folder = self.path / "number", self.path / "program", self.path / "store"
-        program.write_text(f"""#!/bin/sh\ntrap '' XFSZ\necho $$ >{number}\nexec {default_program()} "$@"\n""")
-        program.chmod(0o755)
+        program, folder = self.limitable(), self.path / "store"
         folder.mkdir()
         cells = {b"row%d" % row: b"v" * 100 for row in range(20)}
 
@@ -94,14 +137,13 @@ class Folders(FolderTest):
         def read(transaction: Transaction) -> list[bytes | None]:
             return [transaction.get(row, FAMILY) for row in cells]
 
-        with Store(program=str(program), folder=folder, log=False) as store:
+        with Store(program=program, folder=folder, log=False) as store:
             store.run(write)
-            process = int(number.read_text())
-            resource.prlimit(process, resource.RLIMIT_FSIZE, (1_000, resource.RLIM_INFINITY))
+            self.limit(1_000)
             for _ in range(3):
                 self.assertRaises(Device, store.minor, 1)
                 self.assertEqual(sorted(path.name for path in folder.glob("t*")), [])
-            resource.prlimit(process, resource.RLIMIT_FSIZE, (resource.RLIM_INFINITY, resource.RLIM_INFINITY))
+            self.limit(resource.RLIM_INFINITY)
             store.minor(1)
             self.assertEqual(len(list(folder.glob("t*"))), 1)
             self.assertEqual(store.sweep(), 0)

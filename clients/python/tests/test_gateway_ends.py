@@ -123,6 +123,28 @@ class Ends(unittest.TestCase):
         gateway.kill()
         self.assertTrue(until(lambda: run_program(folder) == 0))
 
+    def test_a_sweep_goes_right_behind_a_checkpoint_that_was_made(self) -> None:
+        """In a folder without a log. A raw read shows the requests that the program got."""
+        refused, full = "bytes((255, 19))", "bytes((255, 16 if asked.count(18) == 1 else 19))"
+        copy = frame(b"\x71" + folder_of(self).encode())
+        cases: list[tuple[list[str], str, bytes, bytes, str]] = [
+            (["--no-log", "--dir"], "plain(body)", SWEEP, b"\x8f", "0001120f120111"),
+            (["--no-log", "--dir"], refused, SWEEP, b"\xff\x13", "0001120111"),
+            (["--no-log", "--dir"], refused, frame(b"\x0f\0"), b"\x8f", "00010f0111"),
+            (["--no-log", "--dir"], full, copy, b"\xf1the store has refused", "0001120c12120111"),
+            (["--log", "--dir"], refused, SWEEP, b"\x8f", "00010f0111"),
+            ([], refused, SWEEP, b"\x8f", "00010f0111"),
+        ]
+        for words, checkpoint, request, begins, came in cases:
+            with self.subTest(words=words, checkpoint=checkpoint, request=request):
+                answer = f"return bytes((0x91, *asked)) if body[0] == 17 else {checkpoint} if body[0] == 18 else"
+                program = stand_in(self, f"{answer} bytes((255, 11)) if body[0] == 12 else plain(body)")
+                wire = Gateway(self, ["--program", program, *words, *([folder_of(self)] if words else [])]).wire()
+                wire.send(BEGIN + request + BEGIN + raw(b"r", 0))
+                replies = [wire.reply() for _ in range(4)]
+                self.assertEqual(replies[1][: len(begins)], begins)
+                self.assertEqual([replies[0][0], replies[2][0], replies[3]], [0x81, 0x81, b"\x91" + bytes.fromhex(came)])
+
 
 class Kills(unittest.TestCase):
     """`kill -9` of either."""

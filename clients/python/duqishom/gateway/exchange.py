@@ -16,14 +16,16 @@ from duqishom.gateway.counts import Counts
 from duqishom.gateway.failure import FAILED, GatewayFailed, begin, is_own
 from duqishom.gateway.heirs import Heirs
 from duqishom.gateway.household import Household
-from duqishom.gateway.keeper import Keeper
-from duqishom.gateway.passages import CHECKPOINT, MEMTABLE_FULL, SWEEP, passages
+from duqishom.gateway.keeper import CHECKPOINT_MADE, Keeper
+from duqishom.gateway.passages import CHECKPOINT, MEMTABLE_FULL, SWEEP, frame, passages
 from duqishom.gateway.things import Things
 from duqishom.gateway.turned_away import TurnedAway
 from duqishom.gateway.turns import Turns
 from duqishom.gateway.upstream import Run, Upstream
 from duqishom.program import ProgramEnded
 from duqishom.recording import Recording
+
+SWEEP_FRAME = frame(bytes((SWEEP,)))
 
 
 @dataclass(frozen=True)
@@ -107,11 +109,23 @@ class Exchange:
         self.turns.add(client)
 
     def send(self, frames: bytes, runs: Sequence[Run]) -> None:
-        """Sends frames to the program. In a folder without a log, a checkpoint follows a sweep immediately, since the
-        root names the files that the sweep removes."""
-        self.upstream.send(frames, runs)
-        if self.rules.has_folder and not self.rules.has_log and runs[-1].passage.code == SWEEP:
+        """Sends frames to the program. In a folder without a log, a sweep, which has a turn of its own, waits for the
+        reply to a checkpoint."""
+        if frames == SWEEP_FRAME and self.rules.has_folder and not self.rules.has_log:
+            self.household.send_next(bytes((CHECKPOINT,)), then=lambda reply: self._sweep(runs[0], reply))
+        else:
+            self.upstream.send(frames, runs)
+
+    def _sweep(self, run: Run, reply: bytes) -> None:
+        """Sends a sweep if a checkpoint got this reply and was made; otherwise the sweep is refused likewise, since it
+        might remove files that the last root names. Another checkpoint follows immediately, since the program may merge
+        files after the first."""
+        if reply == CHECKPOINT_MADE:
+            self.upstream.send(SWEEP_FRAME, [run])
             self.household.send_next(bytes((CHECKPOINT,)))
+        else:
+            run.left = 0
+            run.asker.receive(run, reply, 1)
 
     def note(self, client: Client, run: Run, reply: bytes) -> None:
         """Records the effects of a reply, before the client gets it."""

@@ -23,6 +23,9 @@ from duqishom.gateway.turns import Turns
 from duqishom.gateway.upstream import Run, Upstream
 from duqishom.program import ProgramEnded
 
+# A function that takes a reply.
+Then = Callable[[bytes], None]
+
 # The maximum number of tablets of a store. Tablets are numbered from 1.
 MOST_TABLETS = 1024
 
@@ -39,42 +42,40 @@ class Household:
         self.counts = [0, 0, 0]
         self.sees: Callable[[bytes], None] = lambda reply: None
         self._upstream, self._turns, self._all, self._table = upstream, turns, things, table
-        self._waiting: deque[tuple[bytes, bytes | None, asyncio.Future[bytes]]] = deque()
-        self._asked: deque[asyncio.Future[bytes]] = deque()
+        self._waiting: deque[tuple[bytes, asyncio.Future[bytes], Then | None]] = deque()
+        self._asked: deque[tuple[asyncio.Future[bytes], Then | None]] = deque()
         self._room_lock = asyncio.Lock()
         self._end: ProgramEnded | None = None
 
-    async def ask(self, body: bytes, then: bytes | None = None) -> bytes:
+    async def ask(self, body: bytes, then: Then | None = None) -> bytes:
         """Sends a request, and returns the frame of its reply. ProgramEnded if the program ends instead.
 
-        If another body is given, that request follows immediately, and its reply is ignored.
+        `then` gets the reply before anything else is sent, if the request is heavy.
         """
         if self._end is not None:
             raise self._end
         reply: asyncio.Future[bytes] = asyncio.get_running_loop().create_future()
-        self._waiting.append((body, then, reply))
+        self._waiting.append((body, reply, then))
         self._turns.add(self)
         return await reply
 
     def take_turn(self) -> bool:
         if self._waiting:
-            body, then, reply = self._waiting[0]
+            body, reply, then = self._waiting[0]
             weight = self._table[body[0] if body else 0].weight_of(body)
             self.needs_idle = weight > TURN_WEIGHT and self._upstream.weight > 0
             if not self.needs_idle:
                 self._waiting.popleft()
-                self._send(body, reply)
-                if then is not None:
-                    self.send_next(then)
+                self._send(body, reply, then)
         return bool(self._waiting)
 
-    def send_next(self, body: bytes) -> None:
-        """Sends a request immediately after the last one sent. Its reply is ignored."""
-        self._send(body, asyncio.get_running_loop().create_future())
+    def send_next(self, body: bytes, then: Then | None = None) -> None:
+        """Sends a request immediately after the last one sent. Only `then` gets its reply."""
+        self._send(body, asyncio.get_running_loop().create_future(), then)
 
-    def _send(self, body: bytes, reply: asyncio.Future[bytes]) -> None:
+    def _send(self, body: bytes, reply: asyncio.Future[bytes], then: Then | None) -> None:
         passage = self._table[body[0] if body else 0]
-        self._asked.append(reply)
+        self._asked.append((reply, then))
         if passage.opens is not None:
             self.counts[passage.opens] += 1
         name = body[1:NAME_END]
@@ -83,14 +84,16 @@ class Household:
     def receive(self, run: Run, frames: bytes, count: int) -> None:
         self._all.note(run.passage, run.name, frames, self)
         self.sees(frames)
-        reply = self._asked.popleft()
+        reply, then = self._asked.popleft()
+        if then is not None:
+            then(frames)
         if not reply.done():
             reply.set_result(frames)
 
     def fail(self, ended: ProgramEnded) -> None:
         """Ends all waiting, since the program has ended or the gateway has failed."""
         self._end = ended
-        for reply in (*self._asked, *(reply for _, _, reply in self._waiting)):
+        for reply in (*(reply for reply, _ in self._asked), *(reply for _, reply, _ in self._waiting)):
             if not reply.done():
                 reply.set_exception(ended)
                 reply.exception()

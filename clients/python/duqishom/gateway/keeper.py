@@ -98,17 +98,17 @@ class Keeper:
         reply = await self._ask(CHECKPOINT)
         if reply == TOO_MANY_FILES:
             await self._household.join_files()
-            await self._ask(CHECKPOINT)
-            if self.may_sweep():
-                await self._sweep()
+            await self._household.ask(bytes((CHECKPOINT,)), then=self._sweep)
             reply = await self._ask(CHECKPOINT)
         if reply != CHECKPOINT_MADE:
             tell(f"a checkpoint was refused: {body_of(reply)[1]}")
         return reply == CHECKPOINT_MADE
 
-    async def _sweep(self) -> None:
-        """Removes files, with a checkpoint immediately after."""
-        await self._household.ask(bytes((SWEEP,)), then=bytes((CHECKPOINT,)))
+    def _sweep(self, reply: bytes) -> None:
+        """Removes files if a checkpoint got this reply and was made, with another checkpoint immediately after."""
+        if reply == CHECKPOINT_MADE and self.may_sweep():
+            self._household.send_next(bytes((SWEEP,)))
+            self._household.send_next(bytes((CHECKPOINT,)))
 
     async def _ask(self, code: int) -> bytes:
         return await self._household.ask(bytes((code,)))
