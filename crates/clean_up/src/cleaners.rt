@@ -154,7 +154,9 @@ impl Cleaners {
         ensures damaged { IsNextReadable R.seen rows.old self.old number
             → IfErr result (λ refusal. refusal ≡ Refusal.Damaged
             → MeetsBadRecord (R.seen.cells rows.old) self.old number) }
-        ensures refusal { IfErr result IsStepRefusal }
+        // The refusal is a step's, and a device's has risen its count.
+        ensures refusal { IfErr result IsStepRefusal
+            × HasReason (R.faults rows.old) (R.faults rows.new) result }
         ensures err { OnErr result (SameCleaners self.old self.new) }
         ensures unknown { (st : State) → ShowsCleaners self.old st → IsUnopened st number
             → IsErrOf result Refusal.UnknownCleaner }
@@ -168,7 +170,6 @@ impl Cleaners {
         ensures room { R.seen.holds rows.old
             → IfOk result (λ reply. InEachShown (R.seen.cells rows.old) self.old (λ st.
             TakesRoom R.seen.overfills (ChangesNext st number) reply rows.old rows.new)) }
-        ensures reason { HasReason (R.faults rows.old) (R.faults rows.new) result }
     {
         let Some(cleaner) = self.cleaners.get_mut(&number) else {
             return Err(Refusal::UnknownCleaner);

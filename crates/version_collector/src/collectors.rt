@@ -167,7 +167,9 @@ impl Collectors {
         ensures undamaged { IsStepReadable R.seen rows.old self.old self.new number
             → InEachShown (R.seen.cells rows.old) self.old (λ st.
             ¬ IsErrOf result Refusal.Damaged) }
-        ensures refusal { IfErr result IsStepRefusal }
+        // The refusal is a step's, and a device's has risen its count.
+        ensures refusal { IfErr result IsStepRefusal
+            × HasReason (R.faults rows.old) (R.faults rows.new) result }
         ensures unknown { (cells : Cells) (st : State)
             → ShowsCollectors cells self.old st → IsUnopened st number
             → IsErrOf result Refusal.UnknownCollector }
@@ -176,7 +178,6 @@ impl Collectors {
         // A step is refused MemtableFull only if the rows have no room for edits of this many visits.
         ensures full { IsErrOf result Refusal.MemtableFull
             → HasNoRoom R.seen.overfills rows.old (AreOfVisitsIn visits) }
-        ensures reason { HasReason (R.faults rows.old) (R.faults rows.new) result }
     {
         let Some(collector) = self.collectors.get_mut(&number) else {
             return Err(Refusal::UnknownCollector);

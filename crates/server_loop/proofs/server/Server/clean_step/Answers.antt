@@ -14,19 +14,19 @@ returns-in-Ok g c = let told = c.in-Ok.ensures in record {
   edits = record { changes = λ st reached shown. (told.touched shown.in_order st reached shown.shows.store shown.cleaners, told.made shown.in_order st reached shown.shows.store shown.cleaners); room = λ st reached shown. told.room shown.in_order st reached shown.shows.store shown.cleaners };
   sessions = record { told = λ st shown gone. absurd (ok_not _ _ (told.unknown st shown.cleaners gone)); sessions = record { top = refl; each = λ t. refl }; cleaners = told.one; collectors = record { next = refl; floor = refl; each = λ i. refl; count = refl }; oracle = refl };
   tablets = ap unlogged told.below.stays;
-  causes = record { device = λ is. absurd (not_done _ _ tt is); told = λ _. record { files = told.reason.told (ok_not _ _); marks = refl }; full = λ is. absurd (not_done _ _ tt is); damaged = λ is. absurd (not_done _ _ tt is) };
+  causes = record { device = λ is. absurd (not_done _ _ tt is); told = λ _. record { files = told.refusal.1.told (ok_not _ _); marks = refl }; full = λ is. absurd (not_done _ _ tt is); damaged = λ is. absurd (not_done _ _ tt is) };
   tending = refl;
   logged = ap logged_in told.below.stays;
 }
 
 pub returns-in-Err : goal.returns-in-Err
 returns-in-Err g c = let told = c.in-Err.ensures in record {
-  step = record { step = cleans_as _ _ _ _ _ tt refl refl refl refl (λ st reached shown. unchanged_if _ _ st (told.same.kept)) told.step told.below.still told.below.stays (λ held st reached cells cleaners. err_undamaged _ _ refl (told.undamaged (λ k is. (seen_recorded g.F.Files.contents).each_readable _ held _) st reached cells cleaners)); refusal = told.refusal; limits = tt };
+  step = record { step = cleans_as _ _ _ _ _ tt refl refl refl refl (λ st reached shown. unchanged_if _ _ st (told.same.kept)) told.step told.below.still told.below.stays (λ held st reached cells cleaners. err_undamaged _ _ refl (told.undamaged (λ k is. (seen_recorded g.F.Files.contents).each_readable _ held _) st reached cells cleaners)); refusal = told.refusal.0; limits = tt };
   stamps = record { last = refl; restarted = tt; exhausted = λ _. tt };
   edits = record { changes = told.same.kept; room = told.same.room };
   sessions = record { told = λ st shown gone. as_refused _ _ _ refl (told.unknown st shown.cleaners gone); sessions = record { top = refl; each = λ t. refl }; cleaners = told.err; collectors = record { next = refl; floor = refl; each = λ i. refl; count = refl }; oracle = refl };
   tablets = ap unlogged told.below.stays;
-  causes = record { device = λ is. inl (told.reason.device (as_err _ _ _ refl is)); told = λ none. record { files = told.reason.told (λ is. none (as_refused _ _ _ refl is)); marks = refl }; full = λ same. (told.full (as_err _ _ _ refl same), λ st reached shown. told.full_shown shown.in_order (as_err _ _ _ refl same) st reached shown.shows.store shown.cleaners); damaged = λ is whole. told.damaged whole (refusal_is _ _ is) };
+  causes = record { device = λ is. inl (told.refusal.1.device (as_err _ _ _ refl is)); told = λ none. record { files = told.refusal.1.told (λ is. none (as_refused _ _ _ refl is)); marks = refl }; full = λ same. (told.full (as_err _ _ _ refl same), λ st reached shown. told.full_shown shown.in_order (as_err _ _ _ refl same) st reached shown.shows.store shown.cleaners); damaged = λ is whole. told.damaged whole (refusal_is _ _ is) };
   tending = refl;
   logged = ap logged_in told.below.stays;
 }
