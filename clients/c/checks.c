@@ -13,6 +13,11 @@ static dq_status write_one(dq_transaction *t, void *context) {
     return dq_write(t, dq_text("Bob"), dq_text(family), dq_text((const char *)context));
 }
 
+static dq_status write_two(dq_transaction *t, void *context) {
+    dq_status status = write_one(t, context);
+    return status == DQ_OK ? dq_erase(t, dq_text("Joe"), dq_text(family)) : status;
+}
+
 static dq_status read_one(dq_transaction *t, void *context) {
     dq_bytes value;
     dq_status status = dq_read(t, dq_text((const char *)context), dq_text(family), &value);
@@ -133,6 +138,7 @@ int main(int count, char **words) {
     else if (status == DQ_OK && strcmp(words[2], "counter") == 0) status = check_counter(&c);
     else if (status == DQ_OK && strcmp(words[2], "nested") == 0) status = dq_run(&c, run_again, value, NULL);
     else if (status == DQ_OK && strcmp(words[2], "write") == 0) status = dq_run(&c, write_one, value, NULL);
+    else if (status == DQ_OK && strcmp(words[2], "two") == 0) status = dq_run(&c, write_two, value, NULL);
     else if (status == DQ_OK) status = check_begin(&c);
     show(words[2], status);
     dq_close(&c);

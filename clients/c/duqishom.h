@@ -46,7 +46,7 @@ extern "C" {
 #define DQ_ATTEMPTS 10
 #define DQ_MOST_STAMP UINT64_C(9223372036854775807)
 
-// What a call came to. 1 to 23 are the store's refusals; docs/OPERATIONS.md says what to do at each.
+// The result of a call. 1 to 23 are the store's refusals; docs/OPERATIONS.md says what to do at each.
 typedef enum dq_status {
     DQ_OK = 0,
     DQ_UNKNOWN_SESSION = 1,
@@ -81,7 +81,8 @@ typedef enum dq_status {
     DQ_MALFORMED_REPLY,   // bytes that are no reply; the connection is closed
     DQ_NO_ROOM,           // the connection's memory is too small for the request, or for the transaction's writes
     DQ_NESTED,            // dq_run in the work of dq_run, on the same connection
-    DQ_USER = 1000        // from here on: statuses of the caller's, which dq_run passes on
+    DQ_USER = 1000,       // from here on to DQ_LAST_USER: statuses of the caller's, which dq_run passes on
+    DQ_LAST_USER = 65535
 } dq_status;
 
 // The name of a status, as the documents have it.
@@ -321,8 +322,8 @@ static inline int dqi_connect_host(const char *address, const char *colon) {
 }
 
 // Connects to the gateway at `unix:PATH`, at the path of a socket, or at HOST:PORT, with memory of at least
-// DQ_LEAST_MEMORY bytes, which is the connection's until dq_close. What is above DQ_REPLY_ROOM is for the writes of a
-// transaction, as frames: some 30 bytes for each, with its row, family and value.
+// DQ_LEAST_MEMORY bytes, which is the connection's until dq_close. The bytes above DQ_REPLY_ROOM are for the writes of
+// a transaction: 25 for each, and its row, family and value.
 // DQ_NO_ROOM, DQ_NOT_CONNECTED.
 static inline dq_status dq_connect(dq_connection *c, const char *address, void *memory, size_t size) {
     const char *colon = strrchr(address, ':');
@@ -357,7 +358,7 @@ static inline dq_status dq_begin(dq_connection *c, uint64_t *start) {
     return dqi_end(c, &fields);
 }
 
-// What a read found in a cell. The numbers are the protocol's.
+// The answer to a read of a cell. The numbers are the protocol's.
 typedef enum dq_kind { DQ_NOTHING = 0, DQ_VALUE = 1, DQ_PENDING = 2, DQ_UNSENT = 3 } dq_kind;
 
 typedef struct dq_found {
@@ -411,7 +412,7 @@ static inline dq_status dq_delete(dq_connection *c, uint64_t start, dq_bytes row
     return dqi_tell(c);
 }
 
-// What a step did. The numbers are the protocol's.
+// The answer to a step. The numbers are the protocol's.
 typedef enum dq_stage {
     DQ_HELD = 1,         // the cell `place` of `count` is locked
     DQ_CONFLICTING = 2,  // the cell `place` is another's. The session has ended; clean the cells before it
@@ -487,7 +488,7 @@ typedef struct dq_item {
     dq_found found;
 } dq_item;
 
-// A batch of a scan. Unless `is_end`, the next one is that after the cell `upto_row`, `upto_family`.
+// A batch of a scan. Unless `is_end`, the next one begins after the cell `upto_row`, `upto_family`.
 typedef struct dq_scanned {
     int is_end;
     dq_bytes upto_row, upto_family;
@@ -613,8 +614,8 @@ static inline dq_status dq_free(dq_connection *c, dq_bytes row, dq_bytes family)
     }
 }
 
-// What became of a commit whose reply was lost, on a new connection: the session's start, and the first cell that it
-// wrote. `commit` is its stamp, or 0 if nothing is committed and nothing will be.
+// The fate of a commit whose reply was lost, asked on a new connection: by the session's start, and the first cell that
+// it wrote. `commit` is its stamp, or 0 if nothing is committed and nothing will be.
 static inline dq_status dq_fate(dq_connection *c, uint64_t start, dq_bytes row, dq_bytes family, uint64_t *commit) {
     uint64_t stamp = 0, above = DQ_MOST_STAMP;
     dq_bytes value;
@@ -639,10 +640,10 @@ static inline dq_status dq_fate(dq_connection *c, uint64_t start, dq_bytes row, 
 // A transaction in the work of dq_run. Its writes are in the connection's memory until the commit.
 typedef struct dq_transaction {
     dq_connection *connection;
-    uint64_t start;   // its session, for dq_get and dq_scan, which don't show its writes
-    unsigned writes;  // calls of dq_write and dq_erase
-    unsigned cells;   // different cells among them
-    dq_status failed; // the first of these calls that didn't succeed: then nothing is committed
+    uint64_t start;    // its session, for dq_get and dq_scan, which don't show its writes
+    unsigned writes;   // calls of dq_write and dq_erase
+    unsigned cells;    // different cells among them
+    dq_status failed;  // the first of these calls that didn't succeed: then nothing is committed
 } dq_transaction;
 
 // The cell of a write in the memory, and where the next one begins.
@@ -809,6 +810,7 @@ static inline void dqi_clean_up(dq_transaction *t, const dqi_commit *commit) {
     }
 }
 
+// Commits the writes, or stops the session if there are none or one is refused.
 static inline dq_status dqi_commit_all(dq_transaction *t, uint64_t *stamp) {
     dq_connection *c = t->connection;
     dqi_commit commit;
@@ -833,7 +835,7 @@ typedef dq_status dq_work(dq_transaction *t, void *context);
 
 typedef struct dq_outcome {
     uint64_t start;     // of the last attempt's session
-    uint64_t commit;    // its commit stamp, or 0 if it hasn't committed, has written nothing, or this isn't known
+    uint64_t commit;    // its commit stamp, or 0 if it hasn't committed, has written nothing, or its fate is unknown
     unsigned attempts;
 } dq_outcome;
 

@@ -8,9 +8,11 @@ import subprocess
 import tempfile
 import threading
 import unittest
+from collections.abc import Callable
 from pathlib import Path
 
 from duqishom import Store
+from duqishom.fields import counted
 from tests.gateways import PATIENCE, Gateway, folder_of, stand_in
 from tests.pages import TOP
 
@@ -69,6 +71,29 @@ ANSWERS = (
     ("00000002 FF 00", "MalformedReply"),
 )
 
+BEGUN, STAMPED, COMMITTED = "81 0000000000000001", "84 03 0000000000000002", "84 04 0000000000000002"
+HELD, HELD_TWO, FINISHED = "84 01 0001 0001", "84 01 0001 0002, 84 01 0002 0002", "84 06 0002 0002"
+ONE_MADE = f"{BEGUN}, 83, {HELD}, {STAMPED}, {COMMITTED}"
+TWO_MADE = f"{BEGUN}, 83, 93, {HELD_TWO}, {STAMPED}, {COMMITTED}, {FINISHED}"
+
+# Commits of one cell or two: the requests by their operations, a server's replies, and the status. In order: a refused
+# step that is sent again, steps that are refused again and again, refused writes, a lost commit, conflicts.
+COMMITS = (
+    ("write", "01 03 04 04 04 04", f"{BEGUN}, 83, FF 0F, {HELD}, {STAMPED}, {COMMITTED}", "OK"),
+    ("write", "01 03 04 04 04 05", f"{BEGUN}, 83, FF 0F, FF 0F, FF 0F, 85", "MemtableFull"),
+    ("write", "01 03 04 04 04 05", f"{BEGUN}, FF 14, FF 08, FF 08, FF 08, 85", "NoMemory"),
+    ("two", "01 03 13 05", f"{BEGUN}, 83, FF 14, 85", "NoMemory"),
+    ("write", "01 03 04 04 04 06 01 03 04 04 04", f"{BEGUN}, 83, {HELD}, {STAMPED}, 84 05, 86 00, {ONE_MADE}", "OK"),
+    ("write", "01 03 04 04 04 11 01 03 04 04 04", f"{BEGUN}, 83, 84 02 0001, FF 01, FF 01, 91 00, {ONE_MADE}", "OK"),
+    (
+        "two",
+        "01 03 13 04 04 04 04 04 06 07 07 11 01 03 13 04 04 04 04 04",
+        f"{BEGUN}, 83, 93, 84 01 0001 0002, 84 02 0002, FF 01, FF 01, FF 01, 86 01 0000000000000001 0000000000000001, "
+        f"87 01, 87 03, 91 00, {TWO_MADE}",
+        "OK",
+    ),
+)
+
 
 @unittest.skipUnless(COMPILER, "there is no C compiler")
 class Client(unittest.TestCase):
@@ -82,13 +107,13 @@ class Client(unittest.TestCase):
         cls.addClassCleanup(made.cleanup)
         cls.folder = Path(made.name)
         for name in ("example", "checks"):
-            command = [COMPILER, "-std=c11", *STRICT, "-o", made.name + "/" + name, str(SOURCES / name) + ".c"]
+            command = [COMPILER, "-std=c11", *STRICT, "-o", str(cls.folder / name), str(SOURCES / f"{name}.c")]
             if subprocess.run([*command, "-fsanitize=address,undefined"], capture_output=True).returncode != 0:
                 subprocess.run(command, check=True)
 
     def check(self, address: str, case: str) -> str:
         """The output of a case of checks.c."""
-        command = [self.folder / "checks", address, case]
+        command = [str(self.folder / "checks"), address, case]
         ran = subprocess.run(command, capture_output=True, text=True, timeout=PATIENCE)
         self.assertEqual((ran.returncode, ran.stderr), (0, ""))
         return ran.stdout
@@ -105,7 +130,7 @@ class Client(unittest.TestCase):
     def test_example(self) -> None:
         gateway = Gateway(self)
         pipe = subprocess.PIPE
-        command = [self.folder / "example", "unix:" + gateway.path]
+        command = [str(self.folder / "example"), "unix:" + gateway.path]
         with subprocess.Popen(command, stdin=pipe, stdout=pipe, stderr=pipe, text=True) as example:
             assert example.stdout is not None
             lines = [example.stdout.readline() for _ in EXAMPLE.splitlines()]
@@ -125,7 +150,7 @@ class Client(unittest.TestCase):
 
     def test_several_clients(self) -> None:
         gateway = Gateway(self)
-        command = [self.folder / "checks", gateway.path, "counter"]
+        command = [str(self.folder / "checks"), gateway.path, "counter"]
         running = [subprocess.Popen(command, stdout=subprocess.PIPE, text=True) for _ in range(4)]
         self.assertEqual([each.communicate(timeout=PATIENCE)[0] for each in running], ["counter: OK\n"] * 4)
         with Store(socket=gateway.path) as store:
@@ -139,26 +164,52 @@ class Client(unittest.TestCase):
                 self.assertEqual(self.check(gateway.path, "write"), f"write: {status}\n")
                 gateway.process.wait(PATIENCE)
 
-    def test_replies(self) -> None:
+    def check_served(self, case: str, serve: Callable[[socket.socket], None]) -> str:
+        """The output of a case of checks.c whose connection is served by this function."""
         path = folder_of(self) + "/socket"
+
+        def accept() -> None:
+            client, _ = server.accept()
+            with client:
+                client.settimeout(PATIENCE)
+                serve(client)
+
         with socket.socket(socket.AF_UNIX) as server:
             server.bind(path)
             server.listen()
             server.settimeout(PATIENCE)
-            for answer, status in ANSWERS:
-                with self.subTest(answer):
-                    serving = threading.Thread(target=self.serve, args=(server, bytes.fromhex(answer)))
-                    serving.start()
-                    self.assertEqual(self.check(path, "begin"), f"begin: {status}\n")
-                    serving.join()
+            serving = threading.Thread(target=accept)
+            serving.start()
+            output = self.check(path, case)
+            serving.join()
+        return output
 
-    def serve(self, server: socket.socket, answer: bytes) -> None:
-        """Answers a client's first request with these bytes, one by one, and leaves it."""
-        client, _ = server.accept()
-        with client:
-            client.recv(64)
-            for byte in answer:
-                client.send(bytes((byte,)))
+    def test_replies(self) -> None:
+        for answer, status in ANSWERS:
+            with self.subTest(answer):
+
+                def serve(client: socket.socket, answer: bytes = bytes.fromhex(answer)) -> None:
+                    client.recv(64)
+                    for byte in answer:
+                        client.send(bytes((byte,)))
+
+                self.assertEqual(self.check_served("begin", serve), f"begin: {status}\n")
+
+    def test_commits(self) -> None:
+        for case, operations, replies, status in COMMITS:
+            with self.subTest(case=case, operations=operations, status=status):
+                asked: list[int] = []
+
+                def serve(client: socket.socket, replies: str = replies, asked: list[int] = asked) -> None:
+                    with client.makefile("rwb") as stream:
+                        for reply in map(bytes.fromhex, replies.split(", ")):
+                            length = int.from_bytes(stream.read(4), "big")
+                            asked.append(stream.read(length)[0])
+                            stream.write(counted(reply))
+                            stream.flush()
+
+                self.assertEqual(self.check_served(case, serve), f"{case}: {status}\n")
+                self.assertEqual(bytes(asked), bytes.fromhex(operations))
 
 
 if __name__ == "__main__":
