@@ -27,14 +27,26 @@ const OWNER_ALONE: u32 = 0o600;
 /// folder is synced. If the machine stops in between, the file has the old mark or the new one. If the write or the
 /// rename fails, `oracle.new` is removed.
 ///
+/// The file of the mark before stays as `oracle.old`. The next mark is written to it, so that storing a mark takes no
+/// more room on the disk. A file system without hard links keeps none.
+///
 /// Only the owner may read and write the file. What has its name and is no regular file isn't opened.
 #[derive(Drop)]
 pub struct DirMark<R> {
     rt: R,
-    folder: String,
-    path: String,
-    beside: String,
+    paths: MarkPaths,
+    /// `oracle.old` has the mark before, and isn't the file of the mark.
+    has_spare: bool,
     faults: u64,
+}
+
+/// The paths of a mark's folder and files.
+#[derive(Drop)]
+struct MarkPaths {
+    folder: String,
+    mark: String,
+    beside: String,
+    spare: String,
 }
 
 /// The number of a mark's bytes, if there are eight and the number is at most the greatest stamp.
@@ -145,24 +157,54 @@ fn write_number<W: Write + OpenFile>(file: &mut W, number: Stamp) -> io::Result<
     write_synced(file, &number.to_be_bytes())
 }
 
-/// Renames the second file over the mark's file. An error of the write before is passed on instead.
-fn put_there<R: Folders>(
-    rt: &R,
-    path: &str,
-    beside: &str,
-    written: io::Result<()>,
-) -> io::Result<()>
+/// The result of removing a file; `Ok` if it was missing. Other errors are passed on.
+fn removed(called: io::Result<()>) -> io::Result<()>
+    ensures done { OnOk called (IsOk result) }
+    ensures missing { IfErr called (λ error.
+        error_kind error ≡ ErrorKind.NotFound → IsOk result) }
+    ensures failed { IfErr called (λ error.
+        error_kind error ≢ ErrorKind.NotFound → result ≡ Err error) }
+{
+    match called {
+        Err(error) if error.kind() != ErrorKind::NotFound => Err(error),
+        _ => Ok(()),
+    }
+}
+
+/// The second file: the spare one, if there is one, else a new one. A spare file that an earlier program left is removed
+/// first.
+fn second_file<R: Folders>(rt: &R, paths: &MarkPaths, has_spare: bool) -> io::Result<R::File> {
+    if !has_spare {
+        removed(fs::remove_file(rt, paths.spare.as_str()))?;
+        return create_beside(rt, paths.beside.as_str());
+    }
+    fs::rename(rt, paths.spare.as_str(), paths.beside.as_str())?;
+    let mut how = OpenOptions::new();
+    how.write(true);
+    how.open(rt, paths.beside.as_str())
+}
+
+/// Renames the second file over the mark's file. Answers whether that one is kept as the spare file. An error of the
+/// write before is passed on instead.
+fn put_there<R: Folders>(rt: &R, paths: &MarkPaths, written: io::Result<()>) -> io::Result<bool>
     ensures failed { IfErr written (λ error. result ≡ Err error) }
 {
     written?;
-    fs::rename(rt, beside, path)
+    let is_kept = fs::hard_link(rt, paths.mark.as_str(), paths.spare.as_str()).is_ok();
+    fs::rename(rt, paths.beside.as_str(), paths.mark.as_str())?;
+    Ok(is_kept)
 }
 
-/// Writes a mark to the second file, and renames that over the mark's file.
-fn place_mark<R: Folders>(rt: &R, path: &str, beside: &str, number: Stamp) -> io::Result<()> {
-    let mut file = create_beside(rt, beside)?;
+/// Writes a mark to the second file, and renames that over the mark's file. Answers whether there is a spare file.
+fn place_mark<R: Folders>(
+    rt: &R,
+    paths: &MarkPaths,
+    has_spare: bool,
+    number: Stamp,
+) -> io::Result<bool> {
+    let mut file = second_file(rt, paths, has_spare)?;
     let written = write_number(&mut file, number);
-    put_there(rt, path, beside, written)
+    put_there(rt, paths, written)
 }
 
 /// Syncs a folder just opened. An error of the opening is passed on.
@@ -175,26 +217,27 @@ fn sync_opened<F: OpenFile + Drop>(opened: io::Result<F>) -> io::Result<()>
 
 /// Syncs the folder after the rename. If the write or the rename failed, the second file is removed, and the error is
 /// passed on.
-fn finish<R: Folders>(rt: &R, folder: &str, beside: &str, placed: io::Result<()>) -> io::Result<()>
+fn finish<R: Folders>(rt: &R, paths: &MarkPaths, placed: io::Result<bool>) -> io::Result<bool>
     ensures failed { IfErr placed (λ error. result ≡ Err error) }
 {
     if placed.is_err() {
-        let _ = fs::remove_file(rt, beside);
+        let _ = fs::remove_file(rt, paths.beside.as_str());
     }
-    placed?;
-    sync_opened(File::open(rt, folder))
+    let has_spare = placed?;
+    sync_opened(File::open(rt, paths.folder.as_str()))?;
+    Ok(has_spare)
 }
 
-/// Replaces the mark's file by a new mark. If the write or the rename fails, the second file is removed.
+/// Replaces the mark's file by a new mark. Answers whether there is a spare file for the next one. If the write or the
+/// rename fails, the second file is removed.
 fn write_mark<R: Folders>(
     rt: &R,
-    folder: &str,
-    path: &str,
-    beside: &str,
+    paths: &MarkPaths,
+    has_spare: bool,
     number: Stamp,
-) -> io::Result<()> {
-    let placed = place_mark(rt, path, beside, number);
-    finish(rt, folder, beside, placed)
+) -> io::Result<bool> {
+    let placed = place_mark(rt, paths, has_spare, number);
+    finish(rt, paths, placed)
 }
 
 impl<R: Folders + AllocGlobal + Drop> DirMark<R> {
@@ -235,14 +278,16 @@ fn open_folder<R: Folders + AllocGlobal + Drop>(rt: R, folder: &str) -> io::Resu
     if !fs::metadata(&rt, folder)?.is_dir() {
         return Err(io::Error::from(ErrorKind::NotADirectory));
     }
-    let path = format!(in alloc; "{folder}/oracle.mark")?;
-    let beside = format!(in alloc; "{folder}/oracle.new")?;
-    let folder = String::from_str(alloc, folder)?;
+    let paths = MarkPaths {
+        mark: format!(in alloc; "{folder}/oracle.mark")?,
+        beside: format!(in alloc; "{folder}/oracle.new")?,
+        spare: format!(in alloc; "{folder}/oracle.old")?,
+        folder: String::from_str(alloc, folder)?,
+    };
     Ok(DirMark {
         rt,
-        folder,
-        path,
-        beside,
+        paths,
+        has_spare: false,
         faults: 0,
     })
 }
@@ -253,19 +298,16 @@ impl<R: Folders + AllocGlobal + Drop> MarkStore for DirMark<R> {
     ghost faults = { λ mark. mark.faults };
 
     fn load(&mut self) -> Result<Stamp, MarkFault> {
-        let called = read_mark(open_regular(&self.rt, self.path.as_str()));
+        let called = read_mark(open_regular(&self.rt, self.paths.mark.as_str()));
         self.count_fault(called)
     }
 
     fn store(&mut self, number: Stamp) -> Result<(), MarkFault> {
-        let called = write_mark(
-            &self.rt,
-            self.folder.as_str(),
-            self.path.as_str(),
-            self.beside.as_str(),
-            number,
-        );
-        self.count_fault(called)
+        let has_spare = self.has_spare;
+        self.has_spare = false;
+        let called = write_mark(&self.rt, &self.paths, has_spare, number);
+        self.has_spare = self.count_fault(called)?;
+        Ok(())
     }
 
     fn faults(&self) -> u64 {
