@@ -28,7 +28,7 @@ const OWNER_ALONE: u32 = 0o600;
 /// rename fails, `oracle.new` is removed.
 ///
 /// The file of the mark before stays as `oracle.old`. The next mark is written to it, so that storing a mark takes no
-/// more room on the disk. A file system without hard links keeps none.
+/// more room on the disk.
 ///
 /// Only the owner may read and write the file. What has its name and is no regular file isn't opened.
 #[derive(Drop)]
@@ -179,20 +179,33 @@ fn second_file<R: Folders>(rt: &R, paths: &MarkPaths, has_spare: bool) -> io::Re
         return create_beside(rt, paths.beside.as_str());
     }
     fs::rename(rt, paths.spare.as_str(), paths.beside.as_str())?;
+    regular(fs::symlink_metadata(rt, paths.beside.as_str()))?;
     let mut how = OpenOptions::new();
     how.write(true);
     how.open(rt, paths.beside.as_str())
 }
 
-/// Renames the second file over the mark's file. Answers whether that one is kept as the spare file. An error of the
-/// write before is passed on instead.
+/// Makes the spare file of a store that has no mark yet.
+fn make_spare<R: Folders>(rt: &R, spare: &str) -> io::Result<()> {
+    let mut file = create_beside(rt, spare)?;
+    file.write_all(&[0; MARK_BYTES])
+}
+
+/// Keeps the file of the mark as the spare one, or makes one. Answers whether there is one now.
+fn keep_spare<R: Folders>(rt: &R, paths: &MarkPaths) -> bool {
+    let spare = paths.spare.as_str();
+    fs::hard_link(rt, paths.mark.as_str(), spare).is_ok() || make_spare(rt, spare).is_ok()
+}
+
+/// Renames the second file over the mark's file. Answers whether there is a spare file. An error of the write before
+/// is passed on instead.
 fn put_there<R: Folders>(rt: &R, paths: &MarkPaths, written: io::Result<()>) -> io::Result<bool>
     ensures failed { IfErr written (λ error. result ≡ Err error) }
 {
     written?;
-    let is_kept = fs::hard_link(rt, paths.mark.as_str(), paths.spare.as_str()).is_ok();
+    let has_spare = keep_spare(rt, paths);
     fs::rename(rt, paths.beside.as_str(), paths.mark.as_str())?;
-    Ok(is_kept)
+    Ok(has_spare)
 }
 
 /// Writes a mark to the second file, and renames that over the mark's file. Answers whether there is a spare file.
