@@ -16,7 +16,7 @@ from tests.pages import TOP
 # Folders that builds and runs leave, and git's own.
 LEFT = {".git", "out", "__pycache__", "build", ".mypy_cache", ".ruff_cache"}
 
-PAGE = re.compile(r"(?:README|CONTRIBUTING|docs/[^/]+|crates/[^/]+/DESIGN)\.md")
+PAGE = re.compile(r"(?:README|CONTRIBUTING|docs/[^/]+|crates/[^/]+/README)\.md")
 
 # Names of other programs, and of things that a program makes as it runs, which the tree needn't have.
 FOREIGN = {
