@@ -19,6 +19,7 @@ use Rattle.request_codec.specs.declared.requests.Request.TheVariants.{Split, Mov
 use Rattle.si_model.specs.Machine.{Place, State, reopened}
 use Rattle.si_model.specs.ShowsCells.{ShowsCells}
 use Rattle.durable.specs.Devices.{IsOver, Lasts}
+use Rattle.durable.specs.Due.{IsRootDue, tried_at}
 use Rattle.durable.specs.Lasting.{GoesOn, Settles}
 use Rattle.durable.specs.declared.lasting.LastingServer.{LastingServer}
 use Rattle.server_loop.specs.declared.upkeep.RootName.{RootName}
@@ -188,13 +189,22 @@ pub record IsLastingAnswer {S L : Type 0} (shows : S → State → Type 0)
   pub answered : answers (new.is_stopped ≡ true) old.server request reply new.server
   pub goes_on : GoesOn (shown_by shows) lasts logs (asked request) (replied reply) old new
 
--- Upkeep between two answers: that of a server without a log, and perhaps a checkpoint.
+-- a root was put, or refused, and the size from which the next try is counted was set
+pub record TriesRoot {S L : Type 0} (roots : Type 0 → S → Reply → S → Type 0) (written : ℕ) (mid : S)
+    (new : LastingServer S L) : Type 0 where
+  pub reply : Reply
+  pub answered : roots (new.is_stopped ≡ true) mid reply new.server
+  pub tried : new.tried_bytes ≡ tried_at reply written
+
+-- Upkeep between two answers: that of a server without a log, and then a checkpoint if one is due by the
+-- journal's size.
 pub record IsLastingTended {S L : Type 0} (shows : S → State → Type 0)
     (lasts : LastingServer S L → State → Type 0) (logs : LastingServer S L → Type 0)
-    (between same : S → S → Type 0) (roots : Type 0 → S → Reply → S → Type 0)
+    (between same : S → S → Type 0) (roots : Type 0 → S → Reply → S → Type 0) (size : S → ℕ)
     (old new : LastingServer S L) : Type 0 where
   pub mid : S
   pub tended : between old.server mid
-  pub rooted : same mid new.server
-      ⊎ ((reply : Reply) × roots (new.is_stopped ≡ true) mid reply new.server)
+  pub rooted : (IsRootDue old (size mid) × TriesRoot roots (size mid) mid new)
+      ⊎ ((¬ IsRootDue old (size mid)) × same mid new.server × (new.tried_bytes ≡ old.tried_bytes))
+  pub root_bytes : new.root_bytes ≡ old.root_bytes
   pub settles : Settles (shown_by shows) lasts logs old new

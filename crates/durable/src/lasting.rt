@@ -7,7 +7,7 @@ ghost use Rattle.commit_log.specs.Held.{Keeps, MayRenew, Renews};
 ghost use Rattle.request_codec.specs.Replies.{replied};
 ghost use Rattle.request_codec.specs.declared.replies.Reply.{Reply as CodecReply};
 ghost use Rattle.request_codec.specs.declared.requests.Request.{Request as Lent};
-ghost use Rattle.durable.specs.Due.{IsRootDue};
+ghost use Rattle.durable.specs.Due.{IsDueAlike, IsRootDue, tried_at};
 ghost use Rattle.durable.specs.Lasting.{GoesOn, IsSettled, Settles};
 ghost use Rattle.server_loop.specs.Commands.{checkpointed};
 ghost use Rattle.durable.specs.Lasts.{AnswersLasting, Checkpoints, HasNewRoot, HoldsLogged, IsLastingAnswer, LastsIn, Logs, MovesTablets, NamesItsRoot, NeedsRoot, PutsRoot, StaysRooted, named, shown_by};
@@ -43,7 +43,9 @@ pub struct LastingServer<S, L> {
 }
 
 /// The journal's size if the root was refused; 0 if it was put.
-fn tried_after(done: &Result<(), Refusal>, written: usize) -> usize {
+fn tried_after(done: &Result<(), Refusal>, written: usize) -> usize
+    ensures { result ≡ tried_at (checkpointed done.now) written }
+{
     match done {
         Ok(()) => 0,
         Err(_) => written,
@@ -60,7 +62,8 @@ fn renew_log<S: Recording, L: Log>(server: &S, log: &mut L) -> Result<(), Refusa
         (Renews (L.holds log.old) (L.holds log.new) (named (S.next_root server.now))) }
     ensures err { OnErr result
         (MayRenew (L.holds log.old) (L.holds log.new) (named (S.next_root server.now))) }
-    ensures unchanged { IsErrOf result Refusal.NoMemory → Keeps (L.holds log.old) (L.holds log.new) }
+    ensures unchanged { IsErrOf result Refusal.NoMemory
+        → Keeps (L.holds log.old) (L.holds log.new) }
     ensures refusal { IfErr result (λ refusal.
         (refusal ≡ Refusal.Device) ⊎ (refusal ≡ Refusal.NoMemory)) }
 {
@@ -97,6 +100,7 @@ impl<S: Recording, L: Log> LastingServer<S, L> {
             → LastsIn S.stores S.logged S.last L.holds self.old st
             → LastsIn S.stores S.logged S.last L.holds self.new st
             ⊎ LastsIn S.stores S.logged S.last L.holds self.new now }
+        ensures due { IsDueAlike self.old self.new }
     {
         as_many_edits();
         logs_edits();
@@ -152,6 +156,7 @@ impl<S: Recording, L: Log> LastingServer<S, L> {
             → LastsIn S.stores S.logged S.last L.holds self.old st
             → LastsIn S.stores S.logged S.last L.holds self.new st
             × Logs S.stores S.logged S.last L.holds S.is_rooted self.new }
+        ensures due { IsDueAlike self.old self.new }
     {
         logs_edits();
         names_roots();
@@ -195,6 +200,7 @@ impl<S: Recording, L: Log> LastingServer<S, L> {
             → Logs S.stores S.logged S.last L.holds S.is_rooted self.old
             → LastsIn S.stores S.logged S.last L.holds self.new now
             × (S.recording self.new.server ≡ true) × (S.waiting self.new.server ≡ [])) }
+        ensures due { IsDueAlike self.old self.new }
     {
         logs_edits();
         names_roots();
@@ -365,7 +371,7 @@ impl<S: Recording, L: Log> Answering for LastingServer<S, L> {
 
     ghost between = { IsLastingTended S.shows (LastsIn S.stores S.logged S.last L.holds)
         (Logs S.stores S.logged S.last L.holds S.is_rooted) S.between S.same
-        (PutsRoot S.same S.checkpoints) };
+        (PutsRoot S.same S.checkpoints) S.size };
 
     fn reply_to(&mut self, request: Request<'_>) -> Reply {
         match request {
