@@ -38,7 +38,7 @@ module _ {F M L : Type 0} (files : Files F) (marks : MarkStore M) (log : Log L) 
   abbrev pub IsAnswerOver : LastingServer (Server F M) L → Request → Reply
       → LastingServer (Server F M) L → Type 0
   IsAnswerOver =
-      IsLastingAnswer (Shows files.contents) (LastsOver files log) (LogsOver files log)
+      IsLastingAnswer (Shows files.contents) (LastsOver files log) (LogsOver files log) log.faults
       (AnswersLasting IsSame (AnswersCheckpoint files marks) (IsAnswer files marks)
       (AnswersSweep files marks))
 
