@@ -113,7 +113,7 @@ class FullDisk(FolderTest):
         data = self.log().read_bytes()
         log = log_of(data)
         self.assertEqual((log.end, log.later), (log.room, None))
-        self.assertGreater(len(data), 1_000_000)
+        self.assertGreater(len(data), 100_000)
         line = [default_program(), "--dir", str(self.store_folder)]
         ended = subprocess.run(line, stdin=subprocess.DEVNULL, capture_output=True, text=True)
         self.assertEqual((ended.returncode, ended.stderr), (0, ""))

@@ -315,7 +315,7 @@ class Logs(FolderTest):
         size = self.end()
         what = "format 2, store [0-9a-f]{16}, [0-9]+ records from number [0-9]+, over the root of stamp"
         self.assertRegex(self.inspected("log"), what)
-        self.assertIn(f"whole frames up to byte {size} of {size}, and 1,0", self.inspected("log"))
+        self.assertRegex(self.inspected("log"), f"whole frames up to byte {size} of {size}, and [0-9,]+ bytes of room")
 
     def inspected(self, what: str) -> str:
         """The output of `inspect` for the folder."""

@@ -38,7 +38,7 @@ const BESIDE: &str = "commit.new";
 const SIGN_HEAD: [u8; 8] = *b"TABSTORE";
 
 /// The length of a piece of room, in bytes.
-const PIECE: usize = 1_048_576;
+const PIECE: usize = 131_072;
 
 /// The mode of these files: only the owner may read and write them.
 const OWNER_ALONE: u32 = 0o600;

@@ -418,7 +418,7 @@ fn a_log_in_a_folder(rt: HostRuntime) -> Result<(), Fail> {
         made = fs::read(&rt, file.as_str())?;
     }
     // The root's record ends at 45, the edits' one at 73, and a piece of room was written behind the first
-    assert!(rt; made.len() == 45 + 1_048_576);
+    assert!(rt; made.len() == 45 + 131_072);
     let cut = format!(in rt.alloc(); "{path}/commit.cut")?;
     match open_log(&rt, path)? {
         Some(mut found) => assert!(rt; found.log.records()?.len() == 2 && found.cut == 0),

@@ -66,10 +66,10 @@ fn tried_after(done: &Result<(), Refusal>, written: usize) -> usize
     }
 }
 
-/// An upper bound of the bytes of the edits that a request writes.
+/// The bytes of edits for which a request gets room: the most that it writes, or for a collector the most of one visit.
 fn most_edit_bytes(request: Request<'_>) -> usize {
     match request {
-        Request::CollectStep { visits, .. } => (visits as usize).saturating_mul(VISIT_BYTES),
+        Request::CollectStep { .. } => VISIT_BYTES,
         _ => STEP_BYTES,
     }
 }
