@@ -201,7 +201,9 @@ def add_edits(log: Path, other: Path) -> None:
     """Appends the edits of another store's log to a log, with continued numbers."""
     to, new = log_of(log.read_bytes()), log_of(other.read_bytes())
     edits = [record for record in new.records if record.kind is RecordKind.EDITS]
-    with log.open("ab") as joined:
+    with log.open("r+b") as joined:
+        joined.truncate(to.end)
+        joined.seek(to.end)
         for number, record in enumerate(edits, start=to.first + len(to.records)):
             joined.write(frame_of(number, record.kind, 0, record.body))
 
@@ -221,7 +223,7 @@ def tabletd_opening(program: str, folder: Path, edits: int) -> tuple[float, int]
         fill_log(program, other, new, min(edits - MOST_EDITS, MOST_EDITS))
         add_edits(log, other / log.name)
         shutil.rmtree(other)
-    size = log.stat().st_size
+    size = log_of(log.read_bytes()).end
     began = time.monotonic()
     running = Program(program, folder)
     took = time.monotonic() - began

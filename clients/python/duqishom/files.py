@@ -332,14 +332,16 @@ class LogRecord(NamedTuple):
 
 @dataclass(frozen=True)
 class Log:
-    """The records of the whole frames of a log, the offset of their end, and the offset after it at which a later whole
-    frame begins, if one does. In format 1 there is no store and no first number, and all records are edits."""
+    """The records of the whole frames of a log, the offset of their end, the offset at which the room begins, which are
+    the zeros at the end of the file, and the offset before it at which a later whole frame begins, if one does. In format 1
+    there is no store and no first number, and all records are edits."""
 
     format: int
     store: int
     first: int
     records: tuple[LogRecord, ...]
     end: int
+    room: int
     later: int | None = None
 
     def edits(self) -> Iterator[Entry]:
@@ -376,7 +378,8 @@ def log_of(data: bytes) -> Log:
     if form == 1:
         frames = list(frames_of(data, len(SIGN_HEAD)))
         old = tuple(LogRecord(RecordKind.EDITS, 0, at, record) for at, record in frames)
-        return Log(1, 0, 0, old, frames[-1][0] + len(frames[-1][1]) if frames else 8)
+        end = frames[-1][0] + len(frames[-1][1]) if frames else 8
+        return Log(1, 0, 0, old, end, room_of(data, end))
     if len(data) < 16:
         raise BadForm("the log ends inside the number of its store", len(data))
     store, first = LONG_NUMBER.unpack_from(data, 8)[0], number_at(data, 16)
@@ -389,7 +392,12 @@ def log_of(data: bytes) -> Log:
             break
         records.append(log_record(record, at))
         end = at + len(record)
-    return Log(2, store, first, tuple(records), end, later_frame(data, end, first + len(records)))
+    return Log(2, store, first, tuple(records), end, room_of(data, end), later_frame(data, end, first + len(records)))
+
+
+def room_of(data: bytes, end: int) -> int:
+    """The offset from which on a log whose records end at `end` has only zeros."""
+    return max(end, len(data.rstrip(b"\0")))
 
 
 def frame_at(data: bytes, at: int) -> bytes | None:

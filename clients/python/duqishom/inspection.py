@@ -228,7 +228,7 @@ def log_lines(path: Path) -> Iterator[str]:
         yield f"format 2, store {log.store:016x}, {len(log.records):,} records from number {log.first}, over {' and '.join(over)}"
     size = (path / LOG_FILE).stat().st_size
     yield f"{sum(1 for _ in log.edits()):,} edits up to stamp {log.greatest()}"
-    yield f"whole frames up to byte {log.end} of {size}"
+    yield f"whole frames up to byte {log.end} of {log.room}, and {size - log.room:,} bytes of room"
     if log.later is not None:
         yield f"a broken frame at byte {log.end}, and behind it a whole one at byte {log.later}"
 

@@ -5,7 +5,6 @@ from __future__ import annotations
 import io
 import os
 import random
-import resource
 import shutil
 import signal
 import subprocess
@@ -129,28 +128,38 @@ class Logs(FolderTest):
                 store.minor(1)
             for _ in range(20):
                 put(store, value)
-            self.assertGreater((self.path / LOG).stat().st_size, 1_100_000)
+            self.assertGreater(self.end(), 1_100_000)
             store.major(1)
             store.checkpoint()
             for _ in range(20):
                 put(store, value)
-            self.assertLess((self.path / LOG).stat().st_size, 1_100_000)
+            self.assertLess(self.end(), 1_100_000)
+
+    def end(self) -> int:
+        """The offset of the end of the log's records."""
+        return log_of((self.path / LOG).read_bytes()).end
 
     def test_tails_of_logs(self) -> None:
-        """A log whose last frame isn't whole ends before that frame. Its bytes are reported and kept."""
+        """A log whose last frame isn't whole ends before that frame. Its bytes are reported and kept, but for the zeros
+        at the end, which are room."""
         with self.opened() as store:
             put(store, b"1")
-            short = (self.path / LOG).stat().st_size
+            short = self.end()
             put(store, b"2")
-        whole = (self.path / LOG).read_bytes()
+            store.kill()
+        file = (self.path / LOG).read_bytes()
+        whole = file[: self.end()]
         last = short + 1
         for log, value, cut in (
+            (file, b"2", b""),
             (whole, b"2", b""),
-            (whole + b"\0" * 100, b"2", b"\0" * 100),
+            (whole + b"\0" * 100, b"2", b""),
+            (whole + b"\0\1" + b"\0" * 100, b"2", b"\0\1"),
+            (whole[: short + 7] + b"\0" * 100, b"1", whole[short : short + 7].rstrip(b"\0")),
             (whole + whole[16 : short - 1], b"2", whole[16 : short - 1]),
             (whole[:short], b"1", b""),
-            (whole[: short + 7], b"1", whole[short : short + 7]),
-            (whole[:last] + b"\1" + whole[last + 1 :], b"1", whole[short:last] + b"\1" + whole[last + 1 :]),
+            (whole[: short + 7], b"1", whole[short : short + 7].rstrip(b"\0")),
+            (whole[:last] + b"\1" + whole[last + 1 :], b"1", (whole[short:last] + b"\1" + whole[last + 1 :]).rstrip(b"\0")),
             (whole[:45], None, b""),
         ):
             (self.path / LOG).write_bytes(log)
@@ -180,7 +189,7 @@ class Logs(FolderTest):
             store.checkpoint()
             for _ in range(2):
                 put(store, b"2")
-        whole = (self.path / LOG).read_bytes()
+        whole = (self.path / LOG).read_bytes()[: self.end()]
         self.assertEqual(len(log_of(whole).roots()), 1)
         table: tuple[tuple[str, bytes | Path | None, int, str], ...] = (
             (ROOT, root, 5, f"{ROOT}: the log is over another root"),
@@ -270,23 +279,25 @@ class Logs(FolderTest):
             self.assertEqual((found.format, found.is_over_any(), (self.path / SIGN).exists()), (2, False, True))
         self.assertEqual((self.path / CUT).read_bytes(), tail)
 
+    @unittest.skipUnless(shutil.which("strace"), "strace isn't here; Debian has it in the package strace")
     def test_a_log_that_failed_ends_the_program(self) -> None:
-        """A limit of the file size simulates a full disk."""
-        number, program, folder = self.path / "number", self.path / "program", self.path / "store"
-        program.write_text(f"""#!/bin/sh\ntrap '' XFSZ\necho $$ >{number}\nexec {default_program()} "$@"\n""")
+        """A sync of its file fails, as do all later ones. The commit that wasn't answered may be there."""
+        program, folder = self.path / "program", self.path / "store"
+        traced = f"-e trace=fdatasync -P {folder / LOG} -e inject=fdatasync:error=EIO:when=8+"
+        program.write_text(f"""#!/bin/sh\nexec strace -f -qq -o /dev/null {traced} {default_program()} "$@"\n""")
         program.chmod(0o755)
         folder.mkdir()
         self.folder = str(folder)
         store = Store(program=str(program), folder=folder)
-        put(store, b"1")
-        size = (folder / LOG).stat().st_size
-        resource.prlimit(int(number.read_text()), resource.RLIMIT_FSIZE, (size + 100, resource.RLIM_INFINITY))
+        done = 0
         with self.assertRaisesRegex(ProgramEnded, "under the log; the folder has all that was answered") as caught:
-            for value in (b"2", b"3"):
-                put(store, value)
+            for number in range(1, 9):
+                put(store, b"%d" % number)
+                done = number
         self.assertEqual(caught.exception.status, 4)
         store.close()
-        self.assertEqual(self.value(), b"1")
+        self.assertGreater(done, 0)
+        self.assertIn(self.value(), (b"%d" % done, b"%d" % (done + 1)))
 
     def test_inspection_shows_the_log(self) -> None:
         with self.opened() as store:
@@ -301,10 +312,10 @@ class Logs(FolderTest):
         self.assertEqual(self.inspected("cells"), "counter\tc\t2\n")
         self.assertEqual(self.inspected("locks"), f"held c: session {start} sets it; its first cell is held c\n")
         self.assertIn("10 keys in the log", self.inspected("stats"))
-        size = (self.path / LOG).stat().st_size
+        size = self.end()
         what = "format 2, store [0-9a-f]{16}, [0-9]+ records from number [0-9]+, over the root of stamp"
         self.assertRegex(self.inspected("log"), what)
-        self.assertIn(f"whole frames up to byte {size} of {size}", self.inspected("log"))
+        self.assertRegex(self.inspected("log"), f"whole frames up to byte {size} of {size}, and [0-9,]+ bytes of room")
 
     def inspected(self, what: str) -> str:
         """The output of `inspect` for the folder."""

@@ -8,7 +8,7 @@ import unittest
 from pathlib import Path
 
 from duqishom import NotOpened, Store
-from duqishom.files import LOG_FILE
+from duqishom.files import LOG_FILE, log_of
 from duqishom.folders import read_root
 from duqishom.program import Program
 from tests.folders import FolderTest
@@ -78,7 +78,7 @@ class Options(FolderTest):
                 with self.opened(*words, log=True) as store:
                     for _ in range(6):
                         self.put(store, 4)
-                        size = (self.path / LOG_FILE).stat().st_size
+                        size = log_of((self.path / LOG_FILE).read_bytes()).end
                         self.assertLess(size, most)
                     self.assertGreaterEqual(size, least)
 

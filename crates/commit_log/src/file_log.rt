@@ -133,6 +133,10 @@ impl<F: LogFile> Log for FileLog<F> {
 
     ghost faults = { λ log. F.faults log.file };
 
+    fn reserve(&mut self, more: usize) -> Result<(), LogFault> {
+        self.file.reserve(more)
+    }
+
     fn append(&mut self, kind: RecordKind, stamp: Stamp, body: &[u8]) -> Result<(), LogFault> {
         let frame = frame_to_append(self.alloc, self.next, kind, stamp, body)?;
         self.file.write(&frame)?;

@@ -5,6 +5,7 @@ ghost use Rattle.std.specs.Fs.{IsFile, file_type};
 ghost use Rattle.std.specs.Io.KnownBytes.{Appends};
 ghost use Rattle.std.specs.IoError.{error_kind};
 ghost use Rattle.commit_log.specs.Faults.{HasFaultCause};
+ghost use Rattle.commit_log.specs.Files.{IsWithoutRoom};
 ghost use Rattle.commit_log.specs.Numbered.{store_sign};
 
 use crate::checksums::crc32;
@@ -36,19 +37,27 @@ const BESIDE: &str = "commit.new";
 /// The bytes with which the sign of a store begins.
 const SIGN_HEAD: [u8; 8] = *b"TABSTORE";
 
+/// The length of a piece of room, in bytes.
+const PIECE: usize = 131_072;
+
 /// The mode of these files: only the owner may read and write them.
 const OWNER_ALONE: u32 = 0o600;
 
 /// A log in the file `commit.log` of a folder. Its contract doesn't know the bytes.
 pub type DirLog<R> = FileLog<DirFile<R>>;
 
-/// The file of a folder's log. Written bytes are forced to the disk before the call returns.
+/// The file of a folder's log. Written bytes are forced to the disk before the call returns. Behind them it has room:
+/// zeros, over which the next bytes are written, so that the file's length stays.
 /// After a failed write or renewal it takes no more bytes: the system may have dropped bytes that it could not write.
 #[derive(Drop)]
 pub struct DirFile<R> {
     rt: R,
     folder: String,
     file: File,
+    /// The offset of the end of the bytes that were written.
+    end: usize,
+    /// The offset of the end of the room.
+    len: usize,
     is_stopped: bool,
     faults: u64,
 }
@@ -58,8 +67,8 @@ pub struct DirFile<R> {
 pub struct OpenLog<R> {
     /// The log.
     pub log: DirLog<R>,
-    /// The number of bytes behind its last whole frame. They were cut; if there were any, the folder's file
-    /// `commit.cut` has them.
+    /// The number of bytes behind its last whole frame, up to the last that isn't zero. They were cut; if there were
+    /// any, the folder's file `commit.cut` has them.
     pub cut: usize,
 }
 
@@ -105,12 +114,12 @@ fn create_beside<R: Folders>(rt: &R, beside: &str) -> io::Result<R::File> {
     }
 }
 
-/// Opens the file of a folder's log, to read it and to append to it.
+/// Opens the file of a folder's log, to read it and to write it.
 fn open_file<R: Folders<File = File> + AllocGlobal>(rt: &R, folder: &str) -> io::Result<File> {
     let path = path_of(rt.alloc(), folder, LOG)?;
     look_at(rt, path.as_str())?;
     let mut how = OpenOptions::new();
-    how.read(true).append(true);
+    how.read(true).write(true);
     how.open(rt, path.as_str())
 }
 
@@ -120,6 +129,36 @@ fn write_synced<W: Write + OpenFile>(file: &mut W, bytes: &[u8]) -> io::Result<(
 {
     file.write_all(bytes)?;
     file.sync_data()
+}
+
+/// Writes bytes to a file from an offset on, and forces them to the disk.
+fn write_from<W: Write + Seek + OpenFile>(file: &mut W, at: usize, bytes: &[u8]) -> io::Result<()> {
+    file.seek(SeekFrom::Start(at as u64))?;
+    write_synced(file, bytes)
+}
+
+/// Writes so many pieces of zeros to a file from an offset on, and forces them to the disk.
+fn write_zeros<W: Write + Seek + OpenFile>(
+    alloc: Global,
+    file: &mut W,
+    at: usize,
+    pieces: usize,
+    len: usize,
+) -> io::Result<()> {
+    let zeros = vec![in alloc; 0u8; len]?;
+    file.seek(SeekFrom::Start(at as u64))?;
+    for _ in 0..pieces {
+        file.write_all(&zeros)?;
+    }
+    file.sync_data()
+}
+
+/// The first bytes of a file, so many.
+fn read_front<S: Read + Seek>(alloc: Global, file: &mut S, len: usize) -> io::Result<Vec<u8>> {
+    let mut bytes = vec![in alloc; 0u8; len]?;
+    file.seek(SeekFrom::Start(0))?;
+    file.read_exact(&mut bytes)?;
+    Ok(bytes)
 }
 
 /// All bytes of a file.
@@ -234,6 +273,20 @@ fn keep_sign<R: Folders + AllocGlobal>(
     }
 }
 
+/// The bytes behind a log's last whole frame without the zeros at their end, which are room.
+fn torn(tail: &[u8]) -> &[u8]
+    ensures { IsWithoutRoom tail.now result.now }
+{
+    let mut rest = tail;
+    while let Some((last, before)) = rest.split_last() {
+        if *last != 0 {
+            return rest;
+        }
+        rest = before;
+    }
+    rest
+}
+
 /// Saves the bytes that are to be cut from a log, if there are any.
 fn keep_cut<R: Folders + AllocGlobal>(rt: &R, folder: &str, cut: &[u8]) -> Result<(), LogFault> {
     if cut.is_empty() {
@@ -242,32 +295,34 @@ fn keep_cut<R: Folders + AllocGlobal>(rt: &R, folder: &str, cut: &[u8]) -> Resul
     place_file(rt, folder, CUT, cut).map_err(fault_of)
 }
 
-/// Replaces a log of format 1 by one of format 2 with the same records. Answers how many bytes were cut.
+/// Replaces a log of format 1 by one of format 2 with the same records. Answers the length of its records, and how many
+/// bytes were cut.
 fn upgrade_file<R: Folders + AllocGlobal>(
     rt: &R,
     folder: &str,
     bytes: &[u8],
-) -> Result<usize, LogFault> {
+) -> Result<(usize, usize), LogFault> {
     let (store, first) = draw_numbers(rt).map_err(fault_of)?;
-    let cut = &bytes[read_log(rt.alloc(), bytes)?.end..];
+    let cut = torn(&bytes[read_log(rt.alloc(), bytes)?.end..]);
     let upgraded = upgrade_log(rt.alloc(), bytes, store, first)?;
     keep_cut(rt, folder, cut)?;
     place_file(rt, folder, LOG, &upgraded).map_err(fault_of)?;
     keep_sign(rt, folder, store, None)?;
-    Ok(cut.len())
+    Ok((upgraded.len(), cut.len()))
 }
 
 /// Rewrites the records of a log. A program that was killed, or whose write failed, may have left records only in the
 /// system's page cache; afterwards they are on the disk. The first record was forced to the disk with the file. Answers
-/// how many bytes were cut.
+/// the length of the records, and how many bytes were cut.
 fn force_records<R: Folders + AllocGlobal>(
     rt: &R,
     folder: &str,
     bytes: &[u8],
     sign: Option<Vec<u8>>,
-) -> Result<usize, LogFault> {
+) -> Result<(usize, usize), LogFault> {
     let found = read_store_log(rt.alloc(), bytes)?;
-    let (whole, cut) = bytes.split_at(found.end);
+    let (whole, tail) = bytes.split_at(found.end);
+    let cut = torn(tail);
     keep_sign(rt, folder, found.store, sign)?;
     keep_cut(rt, folder, cut)?;
     if cut.is_empty() && found.records.len() == 1 {
@@ -275,7 +330,7 @@ fn force_records<R: Folders + AllocGlobal>(
     } else {
         place_file(rt, folder, LOG, whole).map_err(fault_of)?;
     }
-    Ok(cut.len())
+    Ok((whole.len(), cut.len()))
 }
 
 /// Opens the log of a folder, if there is one, with all its records on the disk. A log of format 1 is upgraded to
@@ -296,14 +351,14 @@ pub fn open_log<R: Folders<File = File> + AllocGlobal + Drop>(
             None => Ok(None),
         };
     };
-    let cut = if !bytes.starts_with(&HEAD) {
+    let (end, cut) = if !bytes.starts_with(&HEAD) {
         force_records(&rt, folder, &bytes, sign)?
     } else if sign.is_none() {
         upgrade_file(&rt, folder, &bytes)?
     } else {
         return Err(LogFault::Damaged);
     };
-    let file = DirFile::open(rt, folder).map_err(fault_of)?;
+    let file = DirFile::open(rt, folder, end).map_err(fault_of)?;
     let alloc = file.rt.alloc();
     match FileLog::open(alloc, file) {
         Ok(log) => Ok(Some(OpenLog { log, cut })),
@@ -324,8 +379,9 @@ pub fn make_log<R: Folders + AllocGlobal>(rt: &R, folder: &str) -> Result<(), Lo
 }
 
 impl<R: Folders<File = File> + AllocGlobal + Drop> DirFile<R> {
-    /// Opens the file of a folder's log, which must exist.
-    fn open(rt: R, folder: &str) -> io::Result<DirFile<R>>
+    /// Opens the file of a folder's log, which must exist and has so many bytes of records. Room that it has behind
+    /// them is written again before it is used.
+    fn open(rt: R, folder: &str, end: usize) -> io::Result<DirFile<R>>
         ensures { IfOk result (λ file. file.faults ≡ 0) }
     {
         let file = open_file(&rt, folder)?;
@@ -334,6 +390,8 @@ impl<R: Folders<File = File> + AllocGlobal + Drop> DirFile<R> {
             rt,
             folder,
             file,
+            end,
+            len: end,
             is_stopped: false,
             faults: 0,
         })
@@ -346,7 +404,40 @@ impl<R: Folders<File = File> + AllocGlobal + Drop> DirFile<R> {
     {
         place_file(&self.rt, self.folder.as_str(), LOG, bytes)?;
         self.file = open_file(&self.rt, self.folder.as_str())?;
+        self.end = bytes.len();
+        self.len = bytes.len();
         Ok(())
+    }
+
+    /// Writes bytes at the end, over the room if there is enough.
+    fn append(&mut self, more: &[u8]) -> io::Result<()>
+        ensures stopped { self.new.is_stopped ≡ self.old.is_stopped }
+        ensures faults { self.new.faults ≡ self.old.faults }
+    {
+        write_from(&mut self.file, self.end, more)?;
+        self.end = self.end.saturating_add(more.len());
+        self.len = self.len.max(self.end);
+        Ok(())
+    }
+
+    /// Makes room behind the end for so many bytes. If that fails, the file is cut back to its length before, and
+    /// stopped if it can't be cut.
+    fn make_room(&mut self, more: usize) -> io::Result<()>
+        ensures stays { self.old.is_stopped ≡ true → self.new.is_stopped ≡ true }
+        ensures faults { self.new.faults ≡ self.old.faults }
+    {
+        let wanted = self.end.saturating_add(more);
+        if wanted <= self.len {
+            return Ok(());
+        }
+        let pieces = (wanted - self.len - 1) / PIECE + 1;
+        let called = write_zeros(self.rt.alloc(), &mut self.file, self.len, pieces, PIECE);
+        if called.is_ok() {
+            self.len = self.len.saturating_add(pieces.saturating_mul(PIECE));
+        } else {
+            self.is_stopped = self.is_stopped || self.file.set_len(self.len as u64).is_err();
+        }
+        called
     }
 
     /// The value of a read, or its fault. A fault of the device is counted.
@@ -399,7 +490,16 @@ impl<R: Folders<File = File> + AllocGlobal + Drop> LogFile for DirFile<R> {
     ghost faults = { λ file. file.faults };
 
     fn read(&mut self, alloc: Global) -> Result<Vec<u8>, LogFault> {
-        let called = read_all(alloc, &mut self.file);
+        let called = read_front(alloc, &mut self.file, self.end);
+        self.count_fault(called)
+    }
+
+    fn reserve(&mut self, more: usize) -> Result<(), LogFault> {
+        let called = if self.is_stopped {
+            Err(io::Error::from(ErrorKind::Other))
+        } else {
+            self.make_room(more)
+        };
         self.count_fault(called)
     }
 
@@ -407,7 +507,7 @@ impl<R: Folders<File = File> + AllocGlobal + Drop> LogFile for DirFile<R> {
         let called = if self.is_stopped {
             Err(io::Error::from(ErrorKind::Other))
         } else {
-            write_synced(&mut self.file, more)
+            self.append(more)
         };
         self.stop_if_failed(called)
     }

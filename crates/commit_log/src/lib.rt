@@ -29,5 +29,6 @@ pub use frames::{HEAD, LONGEST_RECORD, Reading, first_record, frame_of, read_log
 pub use logs::Log;
 pub use mem_file::MemFile;
 pub use memory::MemLog;
+pub use numbered::BEFORE_BODY;
 pub use records::{RecordKind, are_up_to, is_over_any, names_root, root_sum_bytes};
 pub use store_log::{new_log, upgrade_log};

@@ -21,6 +21,13 @@ pub trait Log {
     /// How often a device has failed, up to the greatest number.
     ghost faults: { Self → ℕ };
 
+    /// Makes room for so many more bytes: of each record its body and `BEFORE_BODY`. The records are unchanged.
+    fn reserve(&mut self, more: usize) -> Result<(), LogFault>
+        ensures same { Keeps (holds self.old) (holds self.new) }
+        ensures intact { ¬ IsErrOf result LogFault.Damaged }
+        ensures taken { ¬ IsErrOf result LogFault.Refused }
+        ensures cause { HasFaultCause (faults self.old) (faults self.new) result };
+
     /// Appends a record, and forces it to the disk. After an `Err` the log is unchanged or has the whole record, never
     /// a part of it. After `Memory` or `Refused` it is unchanged.
     fn append(&mut self, kind: RecordKind, stamp: Stamp, body: &[u8]) -> Result<(), LogFault>

@@ -57,6 +57,10 @@ impl LogFile for MemFile {
         Ok(Vec::from_slice(alloc, &self.bytes)?)
     }
 
+    fn reserve(&mut self, _more: usize) -> Result<(), LogFault> {
+        Ok(())
+    }
+
     fn write(&mut self, more: &[u8]) -> Result<(), LogFault> {
         if self.is_stopped || self.bytes.extend_from_slice(more).is_err() {
             return Err(self.fail());

@@ -1,6 +1,6 @@
 //! A log in memory.
 
-ghost use Rattle.std.specs.Prelude.{◌≡◌, ◌++◌, ◌∷◌, [], IfErr, IfOk, OnErr, OnOk};
+ghost use Rattle.std.specs.Prelude.{◌≡◌, ◌++◌, ◌∷◌, [], IfErr, IfOk, IsOk, OnErr, OnOk};
 ghost use Rattle.commit_log.specs.Frames.{IsBody, bytes_of};
 ghost use Rattle.commit_log.specs.Memory.{recorded};
 ghost use Rattle.commit_log.specs.Records.{any_root, spelled_record};
@@ -52,6 +52,13 @@ impl Log for MemLog {
     ghost refuses = { λ _ _. ⊥ };
 
     ghost faults = { λ _. 0 };
+
+    fn reserve(&mut self, _more: usize) -> Result<(), LogFault>
+        ensures done { IsOk result }
+        ensures same { self.new ≡ self.old }
+    {
+        Ok(())
+    }
 
     fn append(&mut self, kind: RecordKind, stamp: Stamp, body: &[u8]) -> Result<(), LogFault>
         requires { IsBody body.now }

@@ -15,6 +15,9 @@ use std::alloc::{AllocError, Global};
 /// The bytes of a frame before its payload: a length, a checksum and a number.
 const BEFORE: usize = PREFIX + NUMBER;
 
+/// The bytes that a record has before its body in a log's file: those of its frame, its kind and its stamp.
+pub const BEFORE_BODY: usize = BEFORE + 1 + NUMBER;
+
 /// How many numbers, from the next one on, count as this log's. A log has fewer records.
 const WINDOW: u64 = 131_072;
 

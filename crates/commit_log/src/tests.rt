@@ -151,6 +151,10 @@ impl LogFile for FakeFile {
         Ok(Vec::from_slice(alloc, &self.bytes)?)
     }
 
+    fn reserve(&mut self, _more: usize) -> Result<(), LogFault> {
+        Ok(())
+    }
+
     fn write(&mut self, more: &[u8]) -> Result<(), LogFault> {
         if self.is_stopped {
             return Err(self.fail());
@@ -408,17 +412,26 @@ fn a_log_in_a_folder(rt: HostRuntime) -> Result<(), Fail> {
     if let Some(mut found) = open_log(&rt, path)? {
         found.log.append(RecordKind::Edits, 7, b"a")?;
         found.log.renew(RecordKind::Root, 9, b"\x01\x02\x03\x04")?;
-        found.log.append(RecordKind::Edits, 9, b"b")?;
+        found.log.reserve(100)?;
+        found.log.append(RecordKind::Edits, 9, b"b\0\0")?;
         assert!(rt; found.log.records()?.len() == 2 && found.log.faults() == 0);
         made = fs::read(&rt, file.as_str())?;
     }
-    let short = made.get(..made.len().saturating_sub(1));
-    fs::write(&rt, file.as_str(), short.unwrap_or_default())?;
+    // The root's record ends at 45, the edits' one at 73, and a piece of room was written behind the first
+    assert!(rt; made.len() == 45 + 131_072);
+    let cut = format!(in rt.alloc(); "{path}/commit.cut")?;
+    match open_log(&rt, path)? {
+        Some(mut found) => assert!(rt; found.log.records()?.len() == 2 && found.cut == 0),
+        None => return Err(Fail::from(LogFault::Damaged)),
+    }
+    assert!(rt; fs::metadata(&rt, cut.as_str()).is_err());
+    let mut torn = Vec::from_slice(rt.alloc(), made.get(..70).unwrap_or_default())?;
+    torn.resize(200, 0)?;
+    fs::write(&rt, file.as_str(), &torn)?;
     match open_log(&rt, path)? {
         Some(mut found) => assert!(rt; found.log.records()?.len() == 1 && found.cut == 25),
         None => return Err(Fail::from(LogFault::Damaged)),
     }
-    let cut = format!(in rt.alloc(); "{path}/commit.cut")?;
     assert!(rt; Some(fs::read(&rt, cut.as_str())?.as_slice()) == made.get(45..70));
     fs::remove_file(&rt, file.as_str())?;
     assert!(rt; matches!(open_log(&rt, path), Err(LogFault::Damaged)));

@@ -2,32 +2,47 @@
 use Rattle.std.proofs.Common.{◌≡◌, ◌⊎◌, inl, inr, sym, subst, ap}
 use Rattle.std.specs.Prelude.{Result, Ok, Err, IfErr, IsErrOf}
 use Rattle.cell_key.specs.declared.refusals.Refusal.{Refusal}
-use Rattle.cell_key.specs.declared.refusals.Refusal.TheVariants.{Device, NoMemory}
+use Rattle.cell_key.specs.declared.refusals.Refusal.TheVariants.{Damaged, Device, NoMemory}
 use Rattle.request_codec.specs.Replies.{replied}
 use Rattle.request_codec.specs.declared.replies.Reply.{Reply}
 use Rattle.request_codec.specs.declared.replies.Reply.TheVariants as codec
 use Rattle.request_codec.specs.declared.requests.Request.{Request}
-use Rattle.request_codec.specs.declared.requests.Request.TheVariants.{Split, Move, Sweep, Checkpoint}
+use Rattle.request_codec.specs.declared.requests.Request.TheVariants.{Step, CleanStep, CollectStep, Split, Move, Sweep, Checkpoint}
 use Rattle.server_loop.specs.Commands.{checkpointed}
 use Rattle.server_loop.specs.Runs.{StepsAs}
-use Rattle.si_model.specs.Machine.{IsStorageRefusal, State, Checkpoint as CheckpointAsked, refuses}
+use Rattle.si_model.specs.Machine.{IsStorageRefusal, Refused, Reply as MachineReply, Request as MachineRequest, State, Checkpoint as CheckpointAsked, refuses}
 use Rattle.si_model.specs.Refusing.{gives_up}
-use Rattle.durable.specs.Lasting.{Settles}
-use Rattle.durable.specs.Lasts.{AnswersLasting, AnswersRooted, Checkpoints, MovesTablets, NeedsRoot, PutsRoot}
+use Rattle.durable.specs.Lasting.{GoesOn, Settles}
+use Rattle.durable.specs.Lasts.{AnswersLasting, AnswersRooted, Checkpoints, LacksRoom, MovesTablets, NeedsRoot, PutsRoot, WritesEdits}
 use Rattle.durable.specs.Lasts.PutsRoot.{answered, unnamed, failed}
 
-module _ {S : Type 0} (same : S → S → Type 0) (checkpoints : S → Reply → S → Type 0) (says : S → Request → Reply → S → Type 0) (sweeps : S → Reply → S → Type 0) (stopped : Type 0) where
-  pub moves_rooted : (old new : S) (request : Request) (reply : Reply) → MovesTablets request → AnswersRooted same checkpoints (λ a r b. says a request r b) stopped old reply new → AnswersLasting same checkpoints says sweeps stopped old request reply new
+module _ {S : Type 0} (same : S → S → Type 0) (checkpoints : S → Reply → S → Type 0) (says : S → Request → Reply → S → Type 0) (sweeps : S → Reply → S → Type 0) (stopped risen : Type 0) where
+  pub moves_rooted : (old new : S) (request : Request) (reply : Reply) → MovesTablets request → AnswersRooted same checkpoints (λ a r b. says a request r b) stopped old reply new → AnswersLasting same checkpoints says sweeps stopped risen old request reply new
   moves_rooted old new (Split row) reply of p = p
   moves_rooted old new (Move tablet server) reply of p = p
   moves_rooted old new request reply of p = absurd of
 
-  pub plain_lasting : (old new : S) (request : Request) (reply : Reply) → ¬ NeedsRoot request → says old request reply new → AnswersLasting same checkpoints says sweeps stopped old request reply new
-  plain_lasting old new (Split row) reply other p = absurd (other tt)
-  plain_lasting old new (Move tablet server) reply other p = absurd (other tt)
-  plain_lasting old new Sweep reply other p = absurd (other tt)
-  plain_lasting old new Checkpoint reply other p = absurd (other tt)
-  plain_lasting old new request reply other p = p
+  pub plain_lasting : (old new : S) (request : Request) (reply : Reply) → ¬ NeedsRoot request → ¬ WritesEdits request → says old request reply new → AnswersLasting same checkpoints says sweeps stopped risen old request reply new
+  plain_lasting old new (Split row) reply other reads p = absurd (other tt)
+  plain_lasting old new (Move tablet server) reply other reads p = absurd (other tt)
+  plain_lasting old new Sweep reply other reads p = absurd (other tt)
+  plain_lasting old new Checkpoint reply other reads p = absurd (other tt)
+  plain_lasting old new (Step start) reply other reads p = absurd (reads tt)
+  plain_lasting old new (CleanStep cleaner) reply other reads p = absurd (reads tt)
+  plain_lasting old new (CollectStep collector visits) reply other reads p = absurd (reads tt)
+  plain_lasting old new request reply other reads p = p
+
+  pub writes_lasting : (old new : S) (request : Request) (reply : Reply) → WritesEdits request → says old request reply new ⊎ LacksRoom same checkpoints risen old reply new → AnswersLasting same checkpoints says sweeps stopped risen old request reply new
+  writes_lasting old new (Step start) reply writes p = p
+  writes_lasting old new (CleanStep cleaner) reply writes p = p
+  writes_lasting old new (CollectStep collector visits) reply writes p = p
+  writes_lasting old new request reply writes p = absurd writes
+
+pub rootless : (request : Request) → WritesEdits request → ¬ NeedsRoot request
+rootless (Step start) writes root = root
+rootless (CleanStep cleaner) writes root = root
+rootless (CollectStep collector visits) writes root = root
+rootless request writes root = absurd writes
 
 module _ {S : Type 0} (same : S → S → Type 0) (checkpoints : S → Reply → S → Type 0) (then : (a b c : S) → same a b → same b c → same a c) {stopped stopped' : Type 0} (still : stopped → stopped') where
   both_then : (a b c : S) (reply : Reply) → Checkpoints same checkpoints a reply b → same b c → Checkpoints same checkpoints a reply c
@@ -74,4 +89,33 @@ module _ {S : Type 0} (shows lasts : S → State → Type 0) (logs : S → Type 
           | inl y ↦ on st y
           | inr y ↦ elim (on now y) [ inl z ↦ inr z | inr z ↦ inr z ]
         ];
+  }
+
+  -- an answer after something that settled
+  pub goes_after : (request : MachineRequest) (reply : MachineReply) (a b c : S) → Settles shows lasts logs a b → GoesOn shows lasts logs request reply b c → GoesOn shows lasts logs request reply a c
+  goes_after request reply a b c first second = λ now reached s.
+      let on = second now reached (first.shown now s) in
+      record {
+        next = on.next;
+        step = on.step;
+        shown = on.shown;
+        whole = on.whole;
+        logged = λ l. on.logged (first.logged now reached s l);
+        lasting = λ l st x.
+            let l' = first.logged now reached s l in
+            elim (first.lasting now reached s l st x) [
+              | inl y ↦ on.lasting l' st y
+              | inr y ↦ elim (on.lasting l' now y) [ inl z ↦ inr (inl z) | inr z ↦ inr z ]
+            ];
+      }
+
+  -- a refusal, after nothing but something that settled
+  pub goes_nowhere : (request : MachineRequest) (refusal : Refusal) → IsStorageRefusal refusal → ¬ (refusal ≡ Damaged) → (a b : S) → Settles shows lasts logs a b → GoesOn shows lasts logs request (Refused refusal) a b
+  goes_nowhere request refusal stores whole a b settles = λ now reached s. record {
+    next = now;
+    step = refuses (gives_up stores);
+    shown = settles.shown now s;
+    whole = λ is. whole cc;
+    logged = settles.logged now reached s;
+    lasting = λ l st x. elim (settles.lasting now reached s l st x) [ inl y ↦ inl y | inr y ↦ inr (inl y) ];
   }

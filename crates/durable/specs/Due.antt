@@ -1,5 +1,7 @@
 -- The condition under which a root is put without a request.
 use Rattle.std.specs.Prelude.{◌≡◌, ◌≤◌, ◌<◌, ◌+◌, ◌⊎◌, ℕ}
+use Rattle.request_codec.specs.declared.replies.Reply.{Reply}
+use Rattle.request_codec.specs.declared.replies.Reply.TheVariants.{Refused}
 use Rattle.durable.specs.declared.lasting.LastingServer.{LastingServer}
 
 -- The journal has reached the size that was set. A refused root is due again once the journal has grown
@@ -9,3 +11,13 @@ IsRootDue server written =
     (server.root_bytes ≤ written)
     × ((written < server.tried_bytes) ⊎ (server.tried_bytes ≡ 0)
     ⊎ (server.tried_bytes + 8388608 ≤ written))
+
+-- The size from which the next try is counted, by the reply to a root that was due: the journal's size if
+-- it was refused, 0 if it was put.
+abbrev pub tried_at : Reply → ℕ → ℕ
+tried_at (Refused refusal) written = written
+tried_at reply written = 0
+
+-- it is due by the same sizes
+abbrev pub IsDueAlike : {S L : Type 0} → LastingServer S L → LastingServer S L → Type 0
+IsDueAlike old new = (new.root_bytes ≡ old.root_bytes) × (new.tried_bytes ≡ old.tried_bytes)

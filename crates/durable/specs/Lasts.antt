@@ -6,6 +6,7 @@ use Rattle.cell_key.specs.declared.edits.Edit.{Edit}
 use Rattle.cell_key.specs.declared.refusals.Refusal.{Refusal}
 use Rattle.cell_key.specs.declared.refusals.Refusal.TheVariants.{Device, NoMemory}
 use Rattle.commit_log.specs.Edits.{HoldEdits, IsStoredEdit, spelled_edits}
+use Rattle.commit_log.specs.Faults.{HasRisen}
 use Rattle.commit_log.specs.Records.{AreUpTo, HasRecord, any_root, edit_bytes, root_record}
 use Rattle.metadata_table.specs.Roots.{RootView}
 use Rattle.row_atomic.specs.Journals.{HasRoomFor, empty_journal}
@@ -15,10 +16,11 @@ use Rattle.request_codec.specs.Requests.{asked}
 use Rattle.request_codec.specs.declared.replies.Reply.{Reply}
 use Rattle.request_codec.specs.declared.replies.Reply.TheVariants as codec
 use Rattle.request_codec.specs.declared.requests.Request.{Request}
-use Rattle.request_codec.specs.declared.requests.Request.TheVariants.{Split, Move, Sweep, Checkpoint}
+use Rattle.request_codec.specs.declared.requests.Request.TheVariants.{Step, CleanStep, CollectStep, Split, Move, Sweep, Checkpoint}
 use Rattle.si_model.specs.Machine.{Place, State, reopened}
 use Rattle.si_model.specs.ShowsCells.{ShowsCells}
 use Rattle.durable.specs.Devices.{IsOver, Lasts}
+use Rattle.durable.specs.Due.{IsRootDue, tried_at}
 use Rattle.durable.specs.Lasting.{GoesOn, Settles}
 use Rattle.durable.specs.declared.lasting.LastingServer.{LastingServer}
 use Rattle.server_loop.specs.declared.upkeep.RootName.{RootName}
@@ -35,6 +37,13 @@ NeedsRoot (Move tablet server) = ⊤
 NeedsRoot Sweep = ⊤
 NeedsRoot Checkpoint = ⊤
 NeedsRoot request = ⊥
+
+-- requests that may write edits
+abbrev pub WritesEdits : Request → Type 0
+WritesEdits (Step start) = ⊤
+WritesEdits (CleanStep cleaner) = ⊤
+WritesEdits (CollectStep collector visits) = ⊤
+WritesEdits request = ⊥
 
 -- ---- the journal
 
@@ -166,35 +175,59 @@ module _ {S : Type 0} (same : S → S → Type 0) (checkpoints : S → Reply →
       ⊎ ((first next : S) × Checkpoints old codec.Checkpoint first × answers first reply next
       × (same next new ⊎ ((second : Reply) × PutsRoot stopped next second new)))
 
+  -- It was refused since the log got no room for more edits, and nothing was changed: a device failed, or
+  -- memory was refused.
+  abbrev pub LacksRoom : Type 0 → S → Reply → S → Type 0
+  LacksRoom risen old reply new =
+      (new ≡ old)
+      × (((reply ≡ codec.Refused Device) × risen) ⊎ (reply ≡ codec.Refused NoMemory))
+
   -- The answers of a server with a log are those of one without, except that checkpoints come with
-  -- splits, moves and sweeps.
+  -- splits, moves and sweeps, and that requests which may write edits are refused if the log lacks room.
   abbrev pub AnswersLasting : (S → Request → Reply → S → Type 0) → (S → Reply → S → Type 0)
-      → Type 0 → S → Request → Reply → S → Type 0
-  AnswersLasting says sweeps stopped old (Split row) reply new =
+      → (stopped risen : Type 0) → S → Request → Reply → S → Type 0
+  AnswersLasting says sweeps stopped risen old (Split row) reply new =
       AnswersRooted (λ a r b. says a (Split row) r b) stopped old reply new
-  AnswersLasting says sweeps stopped old (Move tablet server) reply new =
+  AnswersLasting says sweeps stopped risen old (Move tablet server) reply new =
       AnswersRooted (λ a r b. says a (Move tablet server) r b) stopped old reply new
-  AnswersLasting says sweeps stopped old Sweep reply new =
+  AnswersLasting says sweeps stopped risen old Sweep reply new =
       AnswersRooted sweeps stopped old reply new
-  AnswersLasting says sweeps stopped old Checkpoint reply new = PutsRoot stopped old reply new
-  AnswersLasting says sweeps stopped old request reply new = says old request reply new
+  AnswersLasting says sweeps stopped risen old Checkpoint reply new =
+      PutsRoot stopped old reply new
+  AnswersLasting says sweeps stopped risen old (Step start) reply new =
+      says old (Step start) reply new ⊎ LacksRoom risen old reply new
+  AnswersLasting says sweeps stopped risen old (CleanStep cleaner) reply new =
+      says old (CleanStep cleaner) reply new ⊎ LacksRoom risen old reply new
+  AnswersLasting says sweeps stopped risen old (CollectStep collector visits) reply new =
+      says old (CollectStep collector visits) reply new ⊎ LacksRoom risen old reply new
+  AnswersLasting says sweeps stopped risen old request reply new = says old request reply new
 
 -- An answer of a server with a log: the contract of the answer, and the devices still keep a state.
 pub record IsLastingAnswer {S L : Type 0} (shows : S → State → Type 0)
     (lasts : LastingServer S L → State → Type 0) (logs : LastingServer S L → Type 0)
-    (answers : Type 0 → S → Request → Reply → S → Type 0)
+    (faults : L → ℕ) (answers : (stopped risen : Type 0) → S → Request → Reply → S → Type 0)
     (old : LastingServer S L) (request : Request) (reply : Reply) (new : LastingServer S L)
     : Type 0 where
-  pub answered : answers (new.is_stopped ≡ true) old.server request reply new.server
+  pub answered : answers (new.is_stopped ≡ true) (HasRisen (faults old.log) (faults new.log))
+      old.server request reply new.server
   pub goes_on : GoesOn (shown_by shows) lasts logs (asked request) (replied reply) old new
 
--- Upkeep between two answers: that of a server without a log, and perhaps a checkpoint.
+-- a root was put, or refused, and the size from which the next try is counted was set
+pub record TriesRoot {S L : Type 0} (roots : Type 0 → S → Reply → S → Type 0) (written : ℕ) (mid : S)
+    (new : LastingServer S L) : Type 0 where
+  pub reply : Reply
+  pub answered : roots (new.is_stopped ≡ true) mid reply new.server
+  pub tried : new.tried_bytes ≡ tried_at reply written
+
+-- Upkeep between two answers: that of a server without a log, and then a checkpoint if one is due by the
+-- journal's size.
 pub record IsLastingTended {S L : Type 0} (shows : S → State → Type 0)
     (lasts : LastingServer S L → State → Type 0) (logs : LastingServer S L → Type 0)
-    (between same : S → S → Type 0) (roots : Type 0 → S → Reply → S → Type 0)
+    (between same : S → S → Type 0) (roots : Type 0 → S → Reply → S → Type 0) (size : S → ℕ)
     (old new : LastingServer S L) : Type 0 where
   pub mid : S
   pub tended : between old.server mid
-  pub rooted : same mid new.server
-      ⊎ ((reply : Reply) × roots (new.is_stopped ≡ true) mid reply new.server)
+  pub rooted : (IsRootDue old (size mid) × TriesRoot roots (size mid) mid new)
+      ⊎ ((¬ IsRootDue old (size mid)) × same mid new.server × (new.tried_bytes ≡ old.tried_bytes))
+  pub root_bytes : new.root_bytes ≡ old.root_bytes
   pub settles : Settles (shown_by shows) lasts logs old new

@@ -11,7 +11,7 @@ use Rattle.server_loop.specs.Answer.{IsAnswer}
 use Rattle.durable.specs.Lasting.{IsSettled, ServesLasting}
 use Rattle.durable.specs.Lasts.{AnswersLasting, IsLastingAnswer, IsLastingTended, LastsIn, Logs, PutsRoot, shown_by}
 use Rattle.server_loop.specs.Server.{Shows, journal_of, last_of}
-use Rattle.durable.specs.Stored.{AnswersCheckpoint, AnswersSweep, IsRooted, IsSame, StoresCells}
+use Rattle.durable.specs.Stored.{AnswersCheckpoint, AnswersSweep, IsRooted, IsSame, StoresCells, journal_size}
 use Rattle.server_loop.specs.Tending.{IsTended}
 use Rattle.durable.specs.declared.lasting.LastingServer.{LastingServer}
 use Rattle.server_loop.specs.declared.server.Server.{Server}
@@ -38,7 +38,7 @@ module _ {F M L : Type 0} (files : Files F) (marks : MarkStore M) (log : Log L) 
   abbrev pub IsAnswerOver : LastingServer (Server F M) L → Request → Reply
       → LastingServer (Server F M) L → Type 0
   IsAnswerOver =
-      IsLastingAnswer (Shows files.contents) (LastsOver files log) (LogsOver files log)
+      IsLastingAnswer (Shows files.contents) (LastsOver files log) (LogsOver files log) log.faults
       (AnswersLasting IsSame (AnswersCheckpoint files marks) (IsAnswer files marks)
       (AnswersSweep files marks))
 
@@ -46,7 +46,7 @@ module _ {F M L : Type 0} (files : Files F) (marks : MarkStore M) (log : Log L) 
   IsTendedOver =
       IsLastingTended (Shows files.contents) (LastsOver files log) (LogsOver files log)
       (IsTended files.contents files.faults) IsSame
-      (PutsRoot IsSame (AnswersCheckpoint files marks))
+      (PutsRoot IsSame (AnswersCheckpoint files marks)) (λ server. journal_size (journal_of server))
 
   abbrev pub ServesOver : LastingServer (Server F M) L → LastingServer (Server F M) L
       → Option (List ℕ) → Option (List ℕ) → Option (List ℕ) → Option (List ℕ) → ℕ

@@ -1,5 +1,5 @@
 -- The cells that a server's files keep under their root.
-use Rattle.std.specs.Prelude.{◌≡◌, ◌≤◌, List, [], Option}
+use Rattle.std.specs.Prelude.{◌≡◌, ◌≤◌, ◌*◌, ◌^◌, ◌-◌, ℕ, List, [], Option, max, min}
 use Rattle.cell_key.specs.Cells.{Cells}
 use Rattle.file_store.specs.Store.{Contents}
 use Rattle.file_store.specs.declared.files.Files.{Ghosts as Files}
@@ -7,7 +7,8 @@ use Rattle.metadata_table.specs.Roots.{RootView}
 use Rattle.oracle.specs.declared.marks.MarkStore.{Ghosts as MarkStore}
 use Rattle.request_codec.specs.declared.replies.Reply.{Reply}
 use Rattle.request_codec.specs.declared.requests.Request.TheVariants.{Sweep, Checkpoint}
-use Rattle.row_atomic.specs.Recorded.{TracksListed}
+use Rattle.row_atomic.specs.Journals.{JournalView}
+use Rattle.row_atomic.specs.Recorded.{TracksListed, bytes_written, edits_written}
 use Rattle.row_atomic.specs.Roots.{HasRoot}
 use Rattle.si_model.specs.Machine.{Place}
 use Rattle.server_loop.specs.Answer.{IsPlainAnswer}
@@ -33,6 +34,10 @@ module _ {F M : Type 0} (contents : F → Option Contents) where
   -- The root's cells are the shown ones, and its files all belong to tablets, so no sweep removes one.
   abbrev pub IsClean : Server F M → Type 0
   IsClean server = TracksListed contents (cluster_of server) []
+
+-- the size of a journal: its bytes, or 671 for each edit if that is more
+abbrev pub journal_size : Option JournalView → ℕ
+journal_size journal = max (bytes_written journal) (min (edits_written journal * 671) (2 ^ 64 - 1))
 
 -- two servers are the same, but for their journals
 abbrev pub IsSame : {F M : Type 0} → Server F M → Server F M → Type 0

@@ -5,12 +5,13 @@ ghost use Rattle.cell_key.specs.Cells.{Cells};
 ghost use Rattle.commit_log.specs.Edits.{LogsEdits};
 ghost use Rattle.commit_log.specs.Held.{Keeps, MayRenew, Renews};
 ghost use Rattle.request_codec.specs.Replies.{replied};
+ghost use Rattle.request_codec.specs.Requests.{asked};
 ghost use Rattle.request_codec.specs.declared.replies.Reply.{Reply as CodecReply};
 ghost use Rattle.request_codec.specs.declared.requests.Request.{Request as Lent};
-ghost use Rattle.durable.specs.Due.{IsRootDue};
+ghost use Rattle.durable.specs.Due.{IsDueAlike, IsRootDue, tried_at};
 ghost use Rattle.durable.specs.Lasting.{GoesOn, IsSettled, Settles};
 ghost use Rattle.server_loop.specs.Commands.{checkpointed};
-ghost use Rattle.durable.specs.Lasts.{AnswersLasting, Checkpoints, HasNewRoot, HoldsLogged, IsLastingAnswer, LastsIn, Logs, MovesTablets, NamesItsRoot, NeedsRoot, PutsRoot, StaysRooted, named, shown_by};
+ghost use Rattle.durable.specs.Lasts.{AnswersLasting, Checkpoints, HasNewRoot, HoldsLogged, IsLastingAnswer, LastsIn, Logs, MovesTablets, NamesItsRoot, NeedsRoot, PutsRoot, StaysRooted, WritesEdits, named, shown_by};
 ghost use Rattle.metadata_table.specs.Roots.{RootView};
 ghost use Rattle.server_loop.specs.Runs.{KeepsToLimits, StepsAs};
 ghost use Rattle.si_model.specs.Machine.{IsReached, IsStorageRefusal, State, Checkpoint as CheckpointAsked};
@@ -20,13 +21,26 @@ use crate::lasting_opening::refused_by;
 use crate::recording::Recording;
 use cell_key::Refusal;
 use commit_log::laws::{as_many_edits, logs_edits, names_roots};
-use commit_log::{Log, LogFault, RecordKind, is_over_any, root_sum_bytes};
+use commit_log::{BEFORE_BODY, Log, LogFault, RecordKind, is_over_any, root_sum_bytes};
 use request_codec::{Reply, Request};
 use server_loop::{Answering, ServeFault};
 use std::alloc::Global;
 
 /// The growth of the journal, in bytes, after which a refused root is tried again.
 const BETWEEN_TRIES: usize = 8_388_608;
+
+/// The upper bound of the bytes of the edits that wait: that of a journal.
+const MOST_WAITING_EDITS: usize = 67_108_864;
+
+/// The upper bound of the bytes of the edits that a step of a session or a cleaner writes. These are the most if it
+/// holds a cell: a put of 65,536 bytes of data, and one of a lock with the first cell's row and family. A key has at most
+/// 8,082 bytes: those of a row of 4,000 zeros, which take two each, of a family of 64, a column of four, a stamp and
+/// the ends between them.
+const STEP_BYTES: usize = 89_787;
+
+/// The upper bound of the bytes of the edits that a collector's visit writes: the erasures of 128 records and their
+/// data.
+const VISIT_BYTES: usize = 2_070_400;
 
 /// A server with a log.
 #[derive(Drop)]
@@ -43,10 +57,20 @@ pub struct LastingServer<S, L> {
 }
 
 /// The journal's size if the root was refused; 0 if it was put.
-fn tried_after(done: &Result<(), Refusal>, written: usize) -> usize {
+fn tried_after(done: &Result<(), Refusal>, written: usize) -> usize
+    ensures { result ≡ tried_at (checkpointed done.now) written }
+{
     match done {
         Ok(()) => 0,
         Err(_) => written,
+    }
+}
+
+/// The bytes of edits for which a request gets room: the most that it writes, or for a collector the most of one visit.
+fn most_edit_bytes(request: Request<'_>) -> usize {
+    match request {
+        Request::CollectStep { .. } => VISIT_BYTES,
+        _ => STEP_BYTES,
     }
 }
 
@@ -60,7 +84,8 @@ fn renew_log<S: Recording, L: Log>(server: &S, log: &mut L) -> Result<(), Refusa
         (Renews (L.holds log.old) (L.holds log.new) (named (S.next_root server.now))) }
     ensures err { OnErr result
         (MayRenew (L.holds log.old) (L.holds log.new) (named (S.next_root server.now))) }
-    ensures unchanged { IsErrOf result Refusal.NoMemory → Keeps (L.holds log.old) (L.holds log.new) }
+    ensures unchanged { IsErrOf result Refusal.NoMemory
+        → Keeps (L.holds log.old) (L.holds log.new) }
     ensures refusal { IfErr result (λ refusal.
         (refusal ≡ Refusal.Device) ⊎ (refusal ≡ Refusal.NoMemory)) }
 {
@@ -97,6 +122,7 @@ impl<S: Recording, L: Log> LastingServer<S, L> {
             → LastsIn S.stores S.logged S.last L.holds self.old st
             → LastsIn S.stores S.logged S.last L.holds self.new st
             ⊎ LastsIn S.stores S.logged S.last L.holds self.new now }
+        ensures due { IsDueAlike self.old self.new }
     {
         as_many_edits();
         logs_edits();
@@ -152,6 +178,7 @@ impl<S: Recording, L: Log> LastingServer<S, L> {
             → LastsIn S.stores S.logged S.last L.holds self.old st
             → LastsIn S.stores S.logged S.last L.holds self.new st
             × Logs S.stores S.logged S.last L.holds S.is_rooted self.new }
+        ensures due { IsDueAlike self.old self.new }
     {
         logs_edits();
         names_roots();
@@ -195,6 +222,7 @@ impl<S: Recording, L: Log> LastingServer<S, L> {
             → Logs S.stores S.logged S.last L.holds S.is_rooted self.old
             → LastsIn S.stores S.logged S.last L.holds self.new now
             × (S.recording self.new.server ≡ true) × (S.waiting self.new.server ≡ [])) }
+        ensures due { IsDueAlike self.old self.new }
     {
         logs_edits();
         names_roots();
@@ -276,7 +304,7 @@ impl<S: Recording, L: Log> LastingServer<S, L> {
     fn sweep(&mut self) -> Reply
         ensures limits { KeepsToLimits result }
         ensures says { IsLastingAnswer S.shows (LastsIn S.stores S.logged S.last L.holds)
-            (Logs S.stores S.logged S.last L.holds S.is_rooted)
+            (Logs S.stores S.logged S.last L.holds S.is_rooted) L.faults
             (AnswersLasting S.same S.checkpoints S.says S.sweeps) self.old Request.Sweep result
             self.new }
     {
@@ -294,7 +322,7 @@ impl<S: Recording, L: Log> LastingServer<S, L> {
         requires { MovesTablets request }
         ensures limits { KeepsToLimits result }
         ensures says { IsLastingAnswer S.shows (LastsIn S.stores S.logged S.last L.holds)
-            (Logs S.stores S.logged S.last L.holds S.is_rooted)
+            (Logs S.stores S.logged S.last L.holds S.is_rooted) L.faults
             (AnswersLasting S.same S.checkpoints S.says S.sweeps) self.old request.entry result
             self.new }
     {
@@ -317,7 +345,7 @@ impl<S: Recording, L: Log> LastingServer<S, L> {
     fn checkpoint(&mut self) -> Reply
         ensures limits { KeepsToLimits result }
         ensures says { IsLastingAnswer S.shows (LastsIn S.stores S.logged S.last L.holds)
-            (Logs S.stores S.logged S.last L.holds S.is_rooted)
+            (Logs S.stores S.logged S.last L.holds S.is_rooted) L.faults
             (AnswersLasting S.same S.checkpoints S.says S.sweeps) self.old Request.Checkpoint result
             self.new }
     {
@@ -338,19 +366,63 @@ impl<S: Recording, L: Log> LastingServer<S, L> {
                 || written - self.tried_bytes >= BETWEEN_TRIES)
     }
 
-    /// Answers a request that needs no root.
-    fn answer_plainly(&mut self, request: Request<'_>) -> Reply
+    /// Lets the server inside answer a request that needs no root.
+    fn answer_inside(&mut self, request: Request<'_>) -> Reply
         requires { ¬ NeedsRoot request }
         ensures limits { KeepsToLimits result }
+        ensures says { S.says self.old.server request.entry result self.new.server }
+        ensures goes_on { GoesOn (shown_by S.shows) (LastsIn S.stores S.logged S.last L.holds)
+            (Logs S.stores S.logged S.last L.holds S.is_rooted) (asked request.entry)
+            (replied result) self.old self.new }
+    {
+        logs_edits();
+        names_roots();
+        S::recording_laws();
+        self.server.reply_to(request)
+    }
+
+    /// The bytes for which the log must have room before a request that may write edits is answered: the edits that
+    /// wait, those of the request, and a record that the log is over any root.
+    fn bytes_needed(&self, request: Request<'_>) -> usize {
+        let edits = self
+            .server
+            .waiting()
+            .len()
+            .saturating_add(most_edit_bytes(request));
+        edits.min(MOST_WAITING_EDITS) + 2 * BEFORE_BODY
+    }
+
+    /// Answers a request that may write edits, if the log has room for them.
+    fn answer_writing(&mut self, request: Request<'_>) -> Reply
+        requires { WritesEdits request }
+        ensures limits { KeepsToLimits result }
         ensures says { IsLastingAnswer S.shows (LastsIn S.stores S.logged S.last L.holds)
-            (Logs S.stores S.logged S.last L.holds S.is_rooted)
+            (Logs S.stores S.logged S.last L.holds S.is_rooted) L.faults
             (AnswersLasting S.same S.checkpoints S.says S.sweeps) self.old request.entry result
             self.new }
     {
         logs_edits();
         names_roots();
         S::recording_laws();
-        self.server.reply_to(request)
+        let needed = self.bytes_needed(request);
+        match self.log.reserve(needed) {
+            Ok(()) => self.answer_inside(request),
+            Err(LogFault::Device) => Reply::Refused(Refusal::Device),
+            Err(_) => Reply::Refused(Refusal::NoMemory),
+        }
+    }
+
+    /// Answers a request that needs no root and writes no edits.
+    fn answer_plainly(&mut self, request: Request<'_>) -> Reply
+        requires rootless { ¬ NeedsRoot request }
+        requires editless { ¬ WritesEdits request }
+        ensures limits { KeepsToLimits result }
+        ensures says { IsLastingAnswer S.shows (LastsIn S.stores S.logged S.last L.holds)
+            (Logs S.stores S.logged S.last L.holds S.is_rooted) L.faults
+            (AnswersLasting S.same S.checkpoints S.says S.sweeps) self.old request.entry result
+            self.new }
+    {
+        self.answer_inside(request)
     }
 }
 
@@ -360,18 +432,21 @@ impl<S: Recording, L: Log> Answering for LastingServer<S, L> {
     ghost shows = { shown_by S.shows };
 
     ghost says = { IsLastingAnswer S.shows (LastsIn S.stores S.logged S.last L.holds)
-        (Logs S.stores S.logged S.last L.holds S.is_rooted)
+        (Logs S.stores S.logged S.last L.holds S.is_rooted) L.faults
         (AnswersLasting S.same S.checkpoints S.says S.sweeps) };
 
     ghost between = { IsLastingTended S.shows (LastsIn S.stores S.logged S.last L.holds)
         (Logs S.stores S.logged S.last L.holds S.is_rooted) S.between S.same
-        (PutsRoot S.same S.checkpoints) };
+        (PutsRoot S.same S.checkpoints) S.size };
 
     fn reply_to(&mut self, request: Request<'_>) -> Reply {
         match request {
             Request::Checkpoint => self.checkpoint(),
             Request::Sweep => self.sweep(),
             Request::Split { .. } | Request::Move { .. } => self.rearrange(request),
+            Request::Step { .. } | Request::CleanStep { .. } | Request::CollectStep { .. } => {
+                self.answer_writing(request)
+            }
             _ => self.answer_plainly(request),
         }
     }

@@ -24,7 +24,7 @@ impl<F: WholeFiles + Drop, M: MarkStore + Drop> Recording for Server<F, M> {
     ghost use Rattle.std.specs.Prelude.{is_some};
     ghost use Rattle.row_atomic.specs.Recorded.{edits_written, logged_of, waiting_of};
     ghost use Rattle.server_loop.specs.Server.{journal_of, last_of, next_root};
-    ghost use Rattle.durable.specs.Stored.{AnswersCheckpoint, AnswersSweep, IsClean, IsRooted, IsSame, StoresCells};
+    ghost use Rattle.durable.specs.Stored.{AnswersCheckpoint, AnswersSweep, IsClean, IsRooted, IsSame, StoresCells, journal_size};
     ghost use Rattle.std.proofs.Common.{refl, ◌∙◌};
 
     ghost stores = { StoresCells F.contents };
@@ -42,6 +42,8 @@ impl<F: WholeFiles + Drop, M: MarkStore + Drop> Recording for Server<F, M> {
     ghost waiting = { λ server. waiting_of (journal_of server) };
 
     ghost count = { λ server. edits_written (journal_of server) };
+
+    ghost size = { λ server. journal_size (journal_of server) };
 
     ghost last = { last_of };
 

@@ -44,6 +44,9 @@ pub(crate) trait Recording: Answering {
     /// The number of edits in both.
     ghost count: { Self → ℕ };
 
+    /// The size of the journal in bytes, or 671 for each edit if that is more.
+    ghost size: { Self → ℕ };
+
     /// The oracle's last stamp.
     ghost last: { Self → ℕ };
 
@@ -56,7 +59,8 @@ pub(crate) trait Recording: Answering {
     ghost sweeps: { Self → CodecReply → Self → Type 0 };
 
     /// The size of the journal in bytes, or 671 for each edit if that is more.
-    fn written(&self) -> usize;
+    fn written(&self) -> usize
+        ensures { result ≡ size self.now };
 
     /// Whether it has a journal.
     fn is_recording(&self) -> bool

@@ -1,21 +1,8 @@
-use Rattle.std.proofs.Common.{inl}
-use Rattle.durable.proofs.Logged.{logs_on, still_lasts}
 use Rattle.durable.proofs.Rooted.{plain_lasting}
 use Rattle.durable.proofs.lasting.LastingServer.answer_plainly.Goals as goal
 
 pub returns-clause-says : goal.returns-clause-says
-returns-clause-says g c =
-    record {
-      answered = plain_lasting g.S.Recording.same g.S.Recording.checkpoints g.S.Answering.says g.S.Recording.sweeps _ c.args.self.now.server c.reply_to.new.self c.args.request c.reply_to.result c.requires c.reply_to.ensures.says;
-      goes_on = λ now reached shown.
-          let leaves = c.recording_laws.ensures.leaves c.args.self.now.server c.reply_to.new.self c.args.request c.reply_to.result c.requires c.reply_to.ensures.says now reached shown in
-          let (next, step, shows, whole) = c.reply_to.ensures.step now reached shown in
-          record {
-            next = next;
-            step = step;
-            shown = shows;
-            whole = whole;
-            logged = logs_on g.S.Recording.stores g.S.Recording.logged g.S.Recording.waiting g.S.Recording.last g.L.Log.holds g.S.Recording.is_rooted c.logs_edits.ensures c.names_roots.ensures g.S.Recording.count c.args.self.now c.reply_to.new.self leaves.0 leaves.1;
-            lasting = λ logs st lasts. inl (still_lasts g.S.Recording.stores g.S.Recording.logged g.S.Recording.waiting g.S.Recording.last g.L.Log.holds g.S.Recording.is_rooted c.logs_edits.ensures c.names_roots.ensures g.S.Recording.count c.args.self.now c.reply_to.new.self st leaves.0.stored leaves.1 lasts);
-          };
-    }
+returns-clause-says g c = record {
+  answered = plain_lasting g.S.Recording.same g.S.Recording.checkpoints g.S.Answering.says g.S.Recording.sweeps _ _ c.args.self.now.server c.answer_inside.new.self.server c.args.request c.answer_inside.result c.requires.rootless c.requires.editless c.answer_inside.ensures.says;
+  goes_on = c.answer_inside.ensures.goes_on;
+}

@@ -10,7 +10,7 @@ pub returns-then-not-self-clause-says : goal.returns-then-not-self-clause-says
 returns-then-not-self-clause-says g c =
     let moves = c.recording_laws.ensures.moves c.root.new.self.server c.reply_to-reply.new.self c.args.request c.reply_to-reply.result c.requires c.reply_to-reply.ensures.says in
     record {
-      answered = moves_rooted g.S.Recording.same g.S.Recording.checkpoints g.S.Answering.says g.S.Recording.sweeps _ c.args.self.now.server c.root_moved.new.self.server c.args.request c.reply_to-reply.result c.requires
+      answered = moves_rooted g.S.Recording.same g.S.Recording.checkpoints g.S.Answering.says g.S.Recording.sweeps _ _ c.args.self.now.server c.root_moved.new.self.server c.args.request c.reply_to-reply.result c.requires
           (inr (c.root.new.self.server, c.reply_to-reply.new.self, c.in-Ok.ensures.done, c.reply_to-reply.ensures.says, inr c.root_moved.ensures.answered));
       goes_on = λ now reached shown.
           let mid = c.root.ensures.settles.shown now shown in
@@ -35,7 +35,7 @@ pub returns-else-not-self-clause-says : goal.returns-else-not-self-clause-says
 returns-else-not-self-clause-says g c =
     let moves = c.recording_laws.ensures.moves c.root.new.self.server c.reply_to-reply.new.self c.args.request c.reply_to-reply.result c.requires c.reply_to-reply.ensures.says in
     record {
-      answered = moves_rooted g.S.Recording.same g.S.Recording.checkpoints g.S.Answering.says g.S.Recording.sweeps _ c.args.self.now.server c.reply_to-reply.new.self c.args.request c.reply_to-reply.result c.requires
+      answered = moves_rooted g.S.Recording.same g.S.Recording.checkpoints g.S.Answering.says g.S.Recording.sweeps _ _ c.args.self.now.server c.reply_to-reply.new.self c.args.request c.reply_to-reply.result c.requires
           (inr (c.root.new.self.server, c.reply_to-reply.new.self, c.in-Ok.ensures.done, c.reply_to-reply.ensures.says, inl (g.met.S.Recording.same_self c.reply_to-reply.new.self)));
       goes_on = λ now reached shown.
           let mid = c.root.ensures.settles.shown now shown in
@@ -52,7 +52,7 @@ returns-else-not-self-clause-says g c =
 
 pub returns-in-Err-clause-says : goal.returns-in-Err-clause-says
 returns-in-Err-clause-says g c = record {
-  answered = moves_rooted g.S.Recording.same g.S.Recording.checkpoints g.S.Answering.says g.S.Recording.sweeps _ c.args.self.now.server c.root.new.self.server c.args.request (codec.Refused c.in-Err.refusal) c.requires (inl (c.in-Err.refusal, refl, c.in-Err.ensures.answered));
+  answered = moves_rooted g.S.Recording.same g.S.Recording.checkpoints g.S.Answering.says g.S.Recording.sweeps _ _ c.args.self.now.server c.root.new.self.server c.args.request (codec.Refused c.in-Err.refusal) c.requires (inl (c.in-Err.refusal, refl, c.in-Err.ensures.answered));
   goes_on = λ now reached shown. record {
     next = now;
     step = refuses (gives_up c.in-Err.ensures.refusal);

@@ -1,6 +1,7 @@
-use Rattle.std.proofs.Common.{inl, inr, refl}
+use Rattle.std.proofs.Common.{◌∙◌, ap, inl, inr, refl, subst, sym}
 use Rattle.server_loop.specs.Commands.{checkpointed}
-use Rattle.durable.proofs.Logged.{logs_on, recounted, still_lasts}
+use Rattle.durable.specs.Due.{IsRootDue, tried_at}
+use Rattle.durable.proofs.Logged.{logs_on, recounted, still_lasts, true_not_false}
 use Rattle.durable.proofs.Rooted.{settles_then}
 use Rattle.durable.proofs.lasting.LastingServerAnswering.tend.Goals as goal
 
@@ -10,7 +11,15 @@ returns-then-is_root_due-clause-between g c =
     record {
       mid = c.tend.new.self;
       tended = c.tend.ensures.between;
-      rooted = inr (checkpointed c.root-done.result, c.root-done.ensures.answered);
+      rooted = inl (
+        subst (IsRootDue c.args.self.now) c.written-written.ensures (c.is_root_due.ensures.0 c.if-is_root_due.true),
+        record {
+          reply = checkpointed c.root-done.result;
+          answered = c.root-done.ensures.answered;
+          tried = c.tried_after-self.ensures ∙ ap (tried_at (checkpointed c.root-done.result)) c.written-written.ensures;
+        },
+      );
+      root_bytes = c.root-done.ensures.due.0;
       settles = settles_then _ _ _ c.args.self.now (record c.args.self.now { server = c.tend.new.self }) _ (record {
         shown = t.2;
         logged = λ now reached shown. logs_on g.S.Recording.stores g.S.Recording.logged g.S.Recording.waiting g.S.Recording.last g.L.Log.holds g.S.Recording.is_rooted c.logs_edits.ensures c.names_roots.ensures g.S.Recording.count c.args.self.now c.tend.new.self t.0 t.1;
@@ -24,7 +33,12 @@ returns-else-is_root_due-clause-between g c =
     record {
       mid = c.tend.new.self;
       tended = c.tend.ensures.between;
-      rooted = inl (g.met.S.Recording.same_self c.tend.new.self);
+      rooted = inr (
+        λ due. true_not_false _ (c.is_root_due.ensures.1 (subst (IsRootDue c.args.self.now) (sym c.written-written.ensures) due)) c.if-is_root_due.false,
+        g.met.S.Recording.same_self c.tend.new.self,
+        refl,
+      );
+      root_bytes = refl;
       settles = record {
         shown = t.2;
         logged = λ now reached shown. logs_on g.S.Recording.stores g.S.Recording.logged g.S.Recording.waiting g.S.Recording.last g.L.Log.holds g.S.Recording.is_rooted c.logs_edits.ensures c.names_roots.ensures g.S.Recording.count c.args.self.now c.tend.new.self t.0 t.1;

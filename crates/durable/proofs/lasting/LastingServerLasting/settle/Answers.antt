@@ -1,4 +1,4 @@
-use Rattle.std.proofs.Common.{inl, inr}
+use Rattle.std.proofs.Common.{◌∙◌, inl, inr}
 use Rattle.durable.proofs.Rooted.{puts_more, settles_then}
 use Rattle.durable.proofs.lasting.LastingServerLasting.settle.Goals as goal
 
@@ -9,7 +9,18 @@ returns-then-log_waiting-clause-between g c = λ first b.
     record {
       mid = b.mid;
       tended = b.tended;
-      rooted = elim b.rooted [ inl same ↦ inl (g.met.S.Recording.same_then b.mid _ _ same w.same) | inr put ↦ inr (put.0, puts_more g.S.Recording.same g.S.Recording.checkpoints g.met.S.Recording.same_then w.still b.mid c.args.self.now.server c.log_waiting.new.self.server put.0 put.1 w.same) ];
+      rooted = elim b.rooted [
+        | inl (due, put) ↦ inl (
+          due,
+          record {
+            reply = put.reply;
+            answered = puts_more g.S.Recording.same g.S.Recording.checkpoints g.met.S.Recording.same_then w.still b.mid c.args.self.now.server c.log_waiting.new.self.server put.reply put.answered w.same;
+            tried = w.due.1 ∙ put.tried;
+          },
+        )
+        | inr (not, same, tried) ↦ inr (not, g.met.S.Recording.same_then b.mid _ _ same w.same, w.due.1 ∙ tried)
+      ];
+      root_bytes = w.due.0 ∙ b.root_bytes;
       settles = settles_then _ _ _ first c.args.self.now _ b.settles (record {
         shown = w.shown;
         logged = λ now reached shown logs. inr (w.ok is now shown logs).0;
@@ -27,7 +38,18 @@ returns-else-log_waiting-clause-between g c = λ first b.
     record {
       mid = b.mid;
       tended = b.tended;
-      rooted = elim b.rooted [ inl same ↦ inl (g.met.S.Recording.same_then b.mid _ _ same w.same) | inr put ↦ inr (put.0, puts_more g.S.Recording.same g.S.Recording.checkpoints g.met.S.Recording.same_then w.still b.mid c.args.self.now.server c.log_waiting.new.self.server put.0 put.1 w.same) ];
+      rooted = elim b.rooted [
+        | inl (due, put) ↦ inl (
+          due,
+          record {
+            reply = put.reply;
+            answered = puts_more g.S.Recording.same g.S.Recording.checkpoints g.met.S.Recording.same_then w.still b.mid c.args.self.now.server c.log_waiting.new.self.server put.reply put.answered w.same;
+            tried = w.due.1 ∙ put.tried;
+          },
+        )
+        | inr (not, same, tried) ↦ inr (not, g.met.S.Recording.same_then b.mid _ _ same w.same, w.due.1 ∙ tried)
+      ];
+      root_bytes = w.due.0 ∙ b.root_bytes;
       settles = settles_then _ _ _ first c.args.self.now _ b.settles (record {
         shown = w.shown;
         logged = λ now reached shown logs. inl (w.stopped is);

@@ -1,0 +1,126 @@
+"""A full disk: a server with a log refuses to write, and goes on."""
+
+from __future__ import annotations
+
+import os
+import resource
+import subprocess
+import unittest
+from collections.abc import Callable
+from pathlib import Path
+
+from duqishom import Committed, Device, Store, Value
+from duqishom.files import log_of
+from duqishom.program import default_program
+from tests.folders import FolderTest
+
+FAMILY = b"c"
+
+
+class FullDisk(FolderTest):
+    """A store whose disk gets full, and has room again."""
+
+    def setUp(self) -> None:
+        super().setUp()
+        self.store_folder = self.path / "store"
+        self.store_folder.mkdir()
+        self.number, self.program = self.path / "number", self.path / "program"
+        self.program.write_text(f"""#!/bin/sh\ntrap '' XFSZ\necho $$ >{self.number}\nexec {default_program()} "$@"\n""")
+        self.program.chmod(0o755)
+
+    def opened(self) -> Store:
+        """The store of the folder. Its end makes no checkpoint."""
+        return Store(program=str(self.program), folder=self.store_folder, checkpoint_at_close=False, log=True)
+
+    def log(self) -> Path:
+        """The log's file."""
+        return self.store_folder / "commit.log"
+
+    def begun(self, store: Store, number: int) -> int:
+        """A session that is to commit a cell of 60,000 bytes."""
+        start = store.begin()
+        store.set(start, b"%03d" % number, FAMILY, bytes(60_000))
+        return start
+
+    def commit(self, store: Store, start: int) -> None:
+        """Takes the remaining steps of a session."""
+        while not isinstance(store.step(start), Committed):
+            pass
+
+    def put(self, store: Store, number: int) -> None:
+        """Commits a cell."""
+        self.commit(store, self.begun(store, number))
+
+    def fill(self, store: Store) -> tuple[int, int]:
+        """Commits cells until a step is refused. Returns the number of the cell, and its session."""
+        for number in range(100):
+            start = self.begun(store, number)
+            try:
+                self.commit(store, start)
+            except Device:
+                return number, start
+        return self.fail("no step was refused")
+
+    def goes_on(self, fill: Callable[[], None], free: Callable[[], None]) -> None:
+        """Commits are refused once `fill` was called and the room is used up, and answered again after `free`."""
+        with self.opened() as store:
+            self.put(store, 0)
+            fill()
+            count, start = self.fill(store)
+            self.assertGreater(count, 0)
+            size = self.log().stat().st_size
+            for _ in range(3):
+                self.assertRaises(Device, store.step, start)
+            self.assertEqual(self.log().stat().st_size, size)
+            self.assertEqual(store.get(store.begin(), b"000", FAMILY), Value(bytes(60_000)))
+            free()
+            self.commit(store, start)
+            self.put(store, count + 1)
+            self.assertGreater(self.log().stat().st_size, size)
+            store.kill()
+        with self.opened() as store:
+            rows = store.run(lambda t: [t.get(b"%03d" % number, FAMILY) for number in range(count + 3)])
+        self.assertEqual(rows, [bytes(60_000)] * (count + 2) + [None])
+
+    def limit(self, most: int) -> None:
+        """No file of the program may have more bytes."""
+        resource.prlimit(int(self.number.read_text()), resource.RLIMIT_FSIZE, (most, resource.RLIM_INFINITY))
+
+    def test_a_limit_of_the_file_size(self) -> None:
+        self.goes_on(lambda: self.limit(self.log().stat().st_size + 100), lambda: self.limit(resource.RLIM_INFINITY))
+
+    def test_a_small_disk(self) -> None:
+        mount = ["mount", "-t", "tmpfs", "-o", "size=16m", "none", str(self.store_folder)]
+        if os.geteuid() != 0 or subprocess.run(mount, capture_output=True).returncode != 0:
+            self.skipTest("no disk can be mounted here")
+        self.addCleanup(subprocess.run, ["umount", str(self.store_folder)], check=True)
+        ballast = self.store_folder / "ballast"
+
+        def fill() -> None:
+            with ballast.open("wb", buffering=0) as file:
+                try:
+                    while True:
+                        file.write(bytes(4096))
+                except OSError:
+                    pass
+
+        self.goes_on(fill, ballast.unlink)
+
+    def test_a_kill_with_room_behind_the_log(self) -> None:
+        with self.opened() as store:
+            self.put(store, 0)
+            store.kill()
+        data = self.log().read_bytes()
+        log = log_of(data)
+        self.assertEqual((log.end, log.later), (log.room, None))
+        self.assertGreater(len(data), 100_000)
+        line = [default_program(), "--dir", str(self.store_folder)]
+        ended = subprocess.run(line, stdin=subprocess.DEVNULL, capture_output=True, text=True)
+        self.assertEqual((ended.returncode, ended.stderr), (0, ""))
+        self.assertFalse((self.store_folder / "commit.cut").exists())
+        with self.opened() as store:
+            self.assertEqual(store.run(lambda t: t.get(b"000", FAMILY)), bytes(60_000))
+
+
+if __name__ == "__main__":
+    unittest.main()
