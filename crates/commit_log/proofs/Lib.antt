@@ -8,3 +8,4 @@ mod Storing
 mod Logging
 mod Numbering
 mod Results
+mod Windows

@@ -74,11 +74,27 @@ fn is_next(number: u64, next: u64) -> bool
     number >= next && number - next < WINDOW
 }
 
-/// Whether a whole frame with one of the next numbers stands at the front. The number is compared before the checksum.
+/// Whether a number in the window may stand behind the first eight bytes, by its first byte. That excludes most places
+/// at little cost.
+fn may_stand(bytes: &[u8], next: u64) -> bool
+    requires { next + 131072 ≤ 2 ^ 64 }
+    ensures { StandsFrom next bytes.now → IsTrue result }
+{
+    let Some(first) = bytes.get(NUMBER) else {
+        return false;
+    };
+    *first == number_bytes(next)[0] || *first == number_bytes(next + (WINDOW - 1))[0]
+}
+
+/// Whether a whole frame with one of the next numbers stands at the front. The number's first byte is compared
+/// first, then the number, and then the checksum.
 fn stands_from(bytes: &[u8], next: u64) -> bool
     requires { next + 131072 ≤ 2 ^ 64 }
     ensures { IsTrue result ↔ StandsFrom next bytes.now }
 {
+    if !may_stand(bytes, next) {
+        return false;
+    }
     let Some(number) = number_at(bytes) else {
         return false;
     };
