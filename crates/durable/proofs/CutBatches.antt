@@ -1,4 +1,4 @@
--- How batches join, and what lasts where one is cut.
+-- Batches join; and the states that last if a batch is cut.
 use Rattle.std.proofs.Common.{◌≡◌, ℕ, suc, ◌+◌, ◌<◌, ◌≤◌, List, [], ◌∷◌, ◌++◌, length, take, drop, map, Option, Some, None, Result, Ok, Err, ◌⊎◌, inl, inr, refl, sym, ap, ◌∙◌, subst, arith, append_assoc, append-nil, length-append, take-append-drop, IfErr, IfOk}
 use Rattle.std.proofs.Math.Seq.{take-append-add, take-length}
 use Rattle.std.specs.Io.KnownBytes.{Appends, Consumes, Keeps}
@@ -31,7 +31,7 @@ length-run a e (t ∷ ts) (r ∷ rs) p = let more : length ts ≡ length rs = le
 length-run a e [] (r ∷ rs) p = absurd p
 length-run a e (t ∷ ts) [] p = absurd p
 
--- what is written of no reply
+-- no bytes are of no replies
 written_none : (rs : List Reply) → written_of rs ≡ [] → rs ≡ []
 written_none [] p = refl
 written_none (r ∷ rs) p = let size : length (written_of (r ∷ rs)) ≡ 0 = ap length p in absurd (omega (arith, size, length-append (frame (reply_body r)) (written_of rs), frame-long (reply_body r)))
@@ -40,7 +40,7 @@ written_some : (rs : List Reply) → 0 < length (written_of rs) → 0 < length r
 written_some [] p = absurd (omega (arith, p))
 written_some (r ∷ rs) p = omega arith
 
--- where bodies were taken fewer bytes are left
+-- if bodies were taken, fewer bytes are left
 fewer_taken : (bodies : List (List ℕ)) (bytes rest : List ℕ) → bytes ≡ frames bodies ++ rest → 0 < length (map Body bodies) → length rest < length bytes
 fewer_taken [] bytes rest whole some = absurd (omega (arith, some))
 fewer_taken (b ∷ bs) bytes rest whole some =
@@ -60,14 +60,14 @@ module _ {S : Type 0} (says : S → Lent → CodecReply → S → Type 0) (betwe
   length-said a e [] (r ∷ rs) p = absurd p
   length-said a e (t ∷ ts) [] p = absurd p
 
-  -- where nothing was replied nothing was done
+  -- without a reply nothing was done
   none_said : (a e : S) (ts : List Taken) (rs : List Reply) → rs ≡ [] → SaysAll says between a ts rs e → e ≡ a
   none_said a e [] [] is p = p
   none_said a e [] (r ∷ rs) is p = absurd p
   none_said a e (t ∷ ts) [] is p = absurd p
   none_said a e (t ∷ ts) (r ∷ rs) is p = absurd (let size : length (r ∷ rs) ≡ 0 = ap length is in omega (arith, size))
 
-  -- what comes after the last reply may go on
+  -- upkeep after the last reply may continue
   SaysAll-settles : (m e : S) → ((first : S) → between first m → between first e) → (a : S) (ts : List Taken) (rs : List Reply) → 0 < length rs → SaysAll says between a ts rs m → SaysAll says between a ts rs e
   SaysAll-settles m e joins a [] [] some p = absurd (omega (arith, some))
   SaysAll-settles m e joins a [] (r ∷ rs) some p = absurd p
@@ -77,7 +77,7 @@ module _ {S : Type 0} (says : S → Lent → CodecReply → S → Type 0) (betwe
   SaysAll-settles m e joins a (t ∷ u ∷ ts) (r ∷ []) some p = absurd p.4
   SaysAll-settles m e joins a (t ∷ u ∷ ts) (r ∷ q ∷ rs) some p = (p.0, p.1, p.2, p.3, SaysAll-settles m e joins p.1 (u ∷ ts) (q ∷ rs) (omega arith) p.4)
 
-  -- what each answer keeps, and all that comes between two
+  -- a fact that each answer and each upkeep keeps is kept by all
   module _ (P : S → Type 0) (answers : (old new : S) (request : Lent) (reply : CodecReply) → says old request reply new → P old → P new) (tends : (old new : S) → between old new → P old → P new) where
     SaysOf-keeps : (a b : S) (t : Taken) (r : Reply) → SaysOf says a t r b → P a → P b
     SaysOf-keeps a b (Body body) r (inl p) x = answers a b p.0 p.1 p.4 x
@@ -119,7 +119,7 @@ module _ {S : Type 0} (shows : S → State → Type 0) (says : S → Lent → Co
     inl p.0,
   )
 
-  -- its replies were written, after what came of settling
+  -- its replies were written after it was settled
   module _ (a m e : S) (joins : (first : S) → between first m → between first e) (shown : (st : State) → shows m st → shows e st) (bytes rest waiting : List ℕ) (h i : Option (List ℕ)) (wrote : Appends h i waiting) (some : 0 < length waiting) where
     written_answered : Answered shows says between a m bytes rest (Some []) (Some waiting) → Answered shows says between a e bytes rest h i
     written_answered p =
@@ -210,7 +210,7 @@ module _ {S : Type 0} (shows : S → State → Type 0) (says : S → Lent → Co
       × ((old new : S) → between old new → Settles shows lasts logs old new)
 
   module _ (laws : Laws) where
-    -- one answer: the machine goes on, and what lasts is what did or what is shown
+    -- one answer: the machine goes on, and the old state lasts or the shown one
     abbrev One : S → S → Taken → Reply → State → State → Type 0
     One a b t r now st = (next : State) × Answers now t r next × IsReached next × shows b next × logs b × (lasts b st ⊎ (lasts b now ⊎ lasts b next))
 
@@ -230,7 +230,7 @@ module _ {S : Type 0} (shows : S → State → Type 0) (says : S → Lent → Co
     one_said a b (Body body) r now st (inr p) reached shown logged lasting = of_same a b (Body body) r now st p.2 (inr (p.0, p.1, refl)) reached shown logged lasting
     one_said a b Oversize r now st p reached shown logged lasting = of_same a b Oversize r now st p.1 (p.0, refl) reached shown logged lasting
 
-    -- and what comes after it
+    -- and the upkeep after it
     then_tends : (a b c : S) (t : Taken) (r : Reply) (now st : State) → between b c → One a b t r now st → One a c t r now st
     then_tends a b c t r now st tends p =
         let law = laws.1 b c tends in
@@ -286,7 +286,7 @@ module _ {S : Type 0} (shows : S → State → Type 0) (says : S → Lent → Co
       → (IsTooLong rest ⊎ (length rest < length bytes)) × CutsBatch shows says between lasts logs a e bytes rest h i → BatchesFirst shows says between lasts logs result a e bytes rest h i
   batch_fails result fault a e bytes rest h i is of p = subst (λ (r : Result (Option Rest) ServeFault). BatchesFirst shows says between lasts logs r a e bytes rest h i) (sym is) (fails_so fault a e bytes rest h i of p)
 
-  -- what failed with a cut batch is passed on
+  -- the fault of a cut batch is passed on
   cut_is : (fault : ServeFault) (a e : S) (bytes rest : List ℕ) (h i : Option (List ℕ)) → BatchesTo shows says between lasts logs (Err fault) a e bytes rest h i
       → ((fault ≡ faults.Log) ⊎ (fault ≡ faults.Write)) × ((IsTooLong rest ⊎ (length rest < length bytes)) × CutsBatch shows says between lasts logs a e bytes rest h i)
   cut_is faults.Write a e bytes rest h i p = (inr refl, p)
@@ -308,7 +308,7 @@ module _ {S : Type 0} (shows : S → State → Type 0) (says : S → Lent → Co
         replied = subst (λ (qs : List Reply). length written ≤ length (written_of qs)) (sym (take-length rs)) few;
       }
 
-  -- after those before it
+  -- after earlier requests
   kept_after : (e : S) (before mid : State) (ts us : List Taken) (rs qs : List Reply) (written : List ℕ) → RunOver before ts rs mid → KeepsBeginning (lasts e) mid us qs written → KeepsBeginning (lasts e) before (ts ++ us) (rs ++ qs) (written_of rs ++ written)
   kept_after e before mid ts us rs qs written run k =
       let as_many : length ts ≡ length rs = length-run before mid ts rs run in
@@ -385,7 +385,7 @@ module _ {S : Type 0} (shows : S → State → Type 0) (says : S → Lent → Co
     kept = c.kept;
   }
 
-  -- bytes that were not looked at come after the rest
+  -- unread bytes come after the rest
   pub cut_more : (a e : S) (bytes rest more : List ℕ) (h i : Option (List ℕ)) → CutsBatch shows says between lasts logs a e bytes rest h i → CutsBatch shows says between lasts logs a e (bytes ++ more) (rest ++ more) h i
   cut_more a e bytes rest more h i c = record {
     mid = c.mid;
@@ -410,7 +410,7 @@ module _ {S : Type 0} (shows : S → State → Type 0) (says : S → Lent → Co
     kept = c.kept;
   }
 
-  -- a flush failed, where all was settled
+  -- a flush failed after all was settled
   pub cut_none : (a : S) (bytes : List ℕ) (h i : Option (List ℕ)) → Keeps h i → CutsBatch shows says between lasts logs a a bytes bytes h i
   cut_none a bytes h i keeps = record {
     mid = a;
@@ -452,7 +452,7 @@ module _ {S : Type 0} (shows : S → State → Type 0) (says : S → Lent → Co
   pub then_stays : (a b e : S) (ts : List Taken) (rs : List Reply) → RunsAs shows a b ts rs → StaysSettled shows lasts logs a b → StaysSettled shows lasts logs b e → StaysSettled shows lasts logs a e
   then_stays a b e ts rs run first then now reached shown settled = let one = run now reached shown in then one.after one.reached one.shows (first now reached shown settled)
 
-  -- what lasts where all that was answered does
+  -- the state after all answers lasts
   all_kept : (a e : S) (ts : List Taken) (rs : List Reply) (written : List ℕ) → RunsAs shows a e ts rs → StaysSettled shows lasts logs a e → length written ≤ length (written_of rs) → Settled a → (before : State) → IsReached before → shows a before → KeepsBeginning (lasts e) before ts rs written
   all_kept a e ts rs written run stays few settled before reached shown =
       let r = run before reached shown in
@@ -630,7 +630,7 @@ module _ {S : Type 0} (shows : S → State → Type 0) (says : S → Lent → Co
       → BatchesTo shows says between lasts logs (Err fault) b e behind rest i j → BatchesTo shows says between lasts logs result a e bytes rest h j
   all_fails result fault a b e bytes behind rest h i j is front stays p = subst (λ (r : Result Rest ServeFault). BatchesTo shows says between lasts logs r a e bytes rest h j) (sym is) (fails_behind fault a b e bytes behind rest h i j front stays p)
 
-  -- some of a piece was taken, after those before it, and then a batch was cut
+  -- after earlier frames some of a piece were taken, and then a batch was cut
   pub piece_cut : (result : Result Rest ServeFault) (fault : ServeFault) (a b e : S) (first piece part hand hand' rest after : List ℕ) (at n : ℕ) (h i j : Option (List ℕ)) → result ≡ Err fault → Answered shows says between a b (first ++ take at piece) hand h i
       → StaysSettled shows lasts logs a b → hand' ≡ hand ++ take n part → take at piece ++ take n part ≡ take (at + n) piece → BatchesTo shows says between lasts logs (Err fault) b e hand' rest i j
       → (left : List ℕ) × IsRest result left after × BatchesTo shows says between lasts logs result a e (first ++ piece) left h j
@@ -667,7 +667,7 @@ module _ {S : Type 0} (shows : S → State → Type 0) (says : S → Lent → Co
     kept = c.kept;
   }
 
-  -- a batch of what was read was cut
+  -- a batch of the bytes that were read was cut
   pub read_cut : (result : Result (Option End) ServeFault) (fault : ServeFault) (a e : S) (hand hand' read : List ℕ) (l m h i j : Option (List ℕ)) (r s : ℕ) → result ≡ Err fault → Consumes l m read → IsPartial hand → length read ≤ 65536 → Keeps h i
       → ((rest : List ℕ) × IsRest (Err fault) rest hand' × BatchesTo shows says between lasts logs (Err fault) a e (hand ++ read) rest i j) → ReadsBatches shows says between lasts logs result hand hand' a e l m h j r s
   read_cut result fault a e hand hand' read l m h i j r s is consumed partial within keeps p =

@@ -18,7 +18,7 @@ use Rattle.server_loop.specs.Server.{Shows, ShowsNoSession, last_of, machine_pla
 use Rattle.server_loop.specs.declared.server.Server.{Server}
 use Rattle.server_loop.proofs.Opened.{not_below}
 
--- what a state recovers to after a clean restart it recovers to
+-- a state recovers to each state that it recovers to after a clean restart
 of_reopened : (st next : State) (mark : ℕ) → IsRecovered mark (reopened st) next → IsRecovered mark st next
 of_reopened st next mark r = record {
   top = r.top;

@@ -1,4 +1,4 @@
--- What is on a log makes what is shown.
+-- The edits in a log lead to the state that is shown.
 use Rattle.std.proofs.Common.{◌≡◌, ◌≤◌, ◌⊎◌, ℕ, Bool, true, false, List, [], ◌∷◌, ◌++◌, ◌+◌, length, length-append, inl, inr, refl, sym, ap, ◌∙◌, subst, arith, append-nil}
 use Rattle.std.specs.List.{AllByRecursion, flat_map}
 use Rattle.std.specs.Prelude.{Result, Ok, Err, OnErr, OnOk, is_err}
@@ -32,7 +32,7 @@ all-later : {A : Type 0} (P : A → Type 0) (xs ys : List A) → AllByRecursion 
 all-later P [] ys p = p
 all-later P (x ∷ xs) ys p = all-later P xs ys p.1
 
--- edits of one spelling are as many
+-- edit lists with the same bytes have the same length
 abbrev pub AsManyEdits : Type 0
 AsManyEdits = (a b : List Edit) → AllByRecursion IsStoredEdit a → AllByRecursion IsStoredEdit b → spelled_edits a ≡ spelled_edits b → length a ≡ length b
 
@@ -42,7 +42,7 @@ true_not_false b is not = cc
 pub stays_stored : {S : Type 0} (stores : S → RootView → Cells → List Place → Type 0) (last : S → ℕ) (s : S) → StaysStored stores last s s
 stays_stored stores last s = record { kept = λ root base places is. is; later = omega arith }
 
--- what a call's contract says by its outcome
+-- a clause on `Ok` holds of a result that is no `Err`
 pub on_ok : {T E P : Type 0} (r : Result T E) (b : Bool) → b ≡ is_err r → b ≡ false → OnOk r P → P
 on_ok (Ok x) b told is p = p
 on_ok (Err e) b told is p = true_not_false b told is
@@ -59,12 +59,12 @@ pub err_through : {T E P Q : Type 0} (r : Result T E) → (P → Q) → OnErr r 
 err_through (Ok x) f p = tt
 err_through (Err e) f p = f p
 
--- what holds after whatever a call did
+-- a fact that holds after any outcome holds after `Ok`
 pub on_any : {T E P : Type 0} (r : Result T E) → P → OnOk r P
 on_any (Ok x) p = p
 on_any (Err e) p = tt
 
--- a log of the name of a root alone has no record that it may be over any root
+-- a log of a root's name alone has no record "any root"
 pub names_it : (root : RootView) → ¬ HasRecord (named root ∷ []) any_root
 names_it root ([], then, is) = cc
 names_it root (x ∷ [], then, is) = cc
@@ -79,7 +79,7 @@ pub named_so : (root : RootView) (top sum : ℕ) (bytes : List ℕ) → top ≡ 
 named_so root top sum bytes same as' is =
     ap (λ (b : List ℕ). spelled_record kind.Root top b) (is ∙ ap (to_be_bytes w32) as') ∙ ap (λ (n : ℕ). spelled_record kind.Root n (to_be_bytes w32 (root_sum root))) same
 
--- a record that the log is over whichever root is there adds no bytes of edits
+-- a record "any root" adds no bytes of edits
 any_adds_none : (records : List (List ℕ)) → flat_map edit_bytes (records ++ any_root ∷ []) ≡ flat_map edit_bytes records
 any_adds_none records = flat_map-append edit_bytes records (any_root ∷ []) ∙ append-nil (flat_map edit_bytes records)
 
@@ -90,7 +90,7 @@ module _ {S L : Type 0} (stores : S → RootView → Cells → List Place → Ty
   abbrev Lasting : LastingServer S L → State → Type 0
   Lasting s st = LastsIn stores logged last holds s st
 
-  -- what lasted lasts where the log holds records of the same edits, over the same root
+  -- a state lasts if the log holds records of the same edits, over the same root
   lasts_with : (old new : LastingServer S L) (st : State) → StaysStored stores last old.server new.server → (lasts : Lasting old st) → (records : List (List ℕ)) → holds new.log records → IsOver records lasts.kept.root → AreUpTo (last new.server) records
       → HoldEdits records lasts.kept.edits → (new.is_stopped ≡ true) ⊎ (flat_map edit_bytes records ≡ logged new.server) → Lasting new st
   lasts_with old new st stays lasts records in_log over up_to held bytes = record {
@@ -112,16 +112,16 @@ module _ {S L : Type 0} (stores : S → RootView → Cells → List Place → Ty
     };
   }
 
-  -- no stamp of what lasted is later than the last one
+  -- no stamp of a state that lasts is above the last one
   pub stamps_low : (old : LastingServer S L) (next : S) (st : State) → last old.server ≤ last next → (lasts : Lasting old st) → AreUpTo (last next) lasts.kept.records
   stamps_low old next st later lasts = let low = lasts.kept.stamps.1 in names.higher lasts.kept.records lasts.kept.stamps.0 (last next) (omega (arith, low, later)) lasts.kept.stamps.2
 
-  -- what lasted lasts where the log holds it still
+  -- a state lasts as long as the log holds its records
   pub lasts_on : (old new : LastingServer S L) (st : State) → StaysStored stores last old.server new.server → (lasts : Lasting old st) → holds new.log lasts.kept.records
       → (new.is_stopped ≡ true) ⊎ (flat_map edit_bytes lasts.kept.records ≡ logged new.server) → Lasting new st
   lasts_on old new st stays lasts in_log bytes = lasts_with old new st stays lasts lasts.kept.records in_log lasts.kept.over (stamps_low old new.server st stays.later lasts) lasts.kept.held bytes
 
-  -- and where it holds one more, that it is over whichever root is there
+  -- and also with a further record "any root"
   pub lasts_any : (old new : LastingServer S L) (st : State) → StaysStored stores last old.server new.server → (lasts : Lasting old st) → holds new.log (lasts.kept.records ++ any_root ∷ [])
       → (new.is_stopped ≡ true) ⊎ (flat_map edit_bytes lasts.kept.records ≡ logged new.server) → Lasting new st
   lasts_any old new st stays lasts in_log bytes = lasts_with old new st stays lasts (lasts.kept.records ++ any_root ∷ []) in_log
@@ -130,7 +130,7 @@ module _ {S L : Type 0} (stores : S → RootView → Cells → List Place → Ty
       (laws.any lasts.kept.records lasts.kept.edits lasts.kept.held)
       (elim bytes [ inl stopped ↦ inl stopped | inr is ↦ inr (any_adds_none lasts.kept.records ∙ is) ])
 
-  -- a state that is shown lasts, where the log holds all that is written down
+  -- a state that is shown lasts if the log holds all edits of the journal
   pub shown_lasts : (old : S) (new : LastingServer S L) (root : RootView) (st : State) → FollowsIn old root st → StaysStored stores last old new.server → (records : List (List ℕ)) → holds new.log records → IsOver records root → AreUpTo (last new.server) records → (edits : List Edit) → HoldEdits records edits
       → AllByRecursion IsStoredEdit edits → HasRoomFor empty_journal edits → flat_map edit_bytes records ≡ logged old ++ waiting old → (new.is_stopped ≡ true) ⊎ (flat_map edit_bytes records ≡ logged new.server) → Lasting new st
   shown_lasts old new root st f stays records in_log over up_to edits held stored room all bytes =
@@ -155,7 +155,7 @@ module _ {S L : Type 0} (stores : S → RootView → Cells → List Place → Ty
         };
       }
 
-  -- records after what waited was put on the log
+  -- the records after the waiting edits were appended
   pub record Gained (old : S) (stamp : ℕ) (records : List (List ℕ)) : Type 0 where
     pub edits : List Edit
     pub held : HoldEdits (records ++ spelled_record kind.Edits stamp (waiting old) ∷ []) edits
@@ -181,7 +181,7 @@ module _ {S L : Type 0} (stores : S → RootView → Cells → List Place → Ty
         all = laws.whole _ _ more ∙ (laws.after edits f.then ∙ (ap (λ (x : List ℕ). x ++ spelled_edits f.then) (sym (laws.whole records edits held) ∙ bytes) ∙ ap (λ (x : List ℕ). logged old ++ x) (sym f.waiting_bytes)));
       }
 
-  -- a state that a new root has lasts where the log holds the one record that says which root
+  -- a new root's state lasts if the log holds the root's name alone
   pub emptied_lasts : (old : S) (new : LastingServer S L) (root : RootView) (st : State) → (put : HasNewRoot stores is_rooted last root old st) → StaysStored stores last old new.server → root.top ≤ last new.server → holds new.log (named root ∷ []) → (new.is_stopped ≡ true) ⊎ ([] ≡ logged new.server) → Lasting new st
   emptied_lasts old new root st put stays low is bytes = record {
     kept = record {
@@ -202,7 +202,7 @@ module _ {S L : Type 0} (stores : S → RootView → Cells → List Place → Ty
     };
   }
 
-  -- such a log holds what a server takes it to have of which nothing is logged
+  -- such a log agrees with a server whose journal is empty
   pub holds_root : (new : LastingServer S L) (root : RootView) → root.top ≤ last new.server → holds new.log (named root ∷ []) → logged new.server ≡ [] → HoldsLogged stores logged last holds new root
   holds_root new root low one none = record {
     records = named root ∷ [];
@@ -216,11 +216,11 @@ module _ {S L : Type 0} (stores : S → RootView → Cells → List Place → Ty
     bytes = sym none;
   }
 
-  -- what the log holds it holds still, beside a server that takes the same to be logged
+  -- the log still agrees with a server that counts the same edits as logged
   pub holds_on : (mid : LastingServer S L) (next : S) (root : RootView) → last mid.server ≤ last next → HoldsLogged stores logged last holds mid root → logged next ≡ logged mid.server → HoldsLogged stores logged last holds (record mid { server = next }) root
   holds_on mid next root later h same = record { records = h.records; in_log = h.in_log; over = h.over; stamps = names.higher h.records (last mid.server) (last next) later h.stamps; edits = h.edits; held = h.held; stored = h.stored; room = h.room; bytes = h.bytes ∙ sym same }
 
-  -- and over whichever root is there, once that was put on it
+  -- and also over any root, once that record was appended
   pub holds_any : (mid new : LastingServer S L) (old root : RootView) → last mid.server ≤ last new.server → (h : HoldsLogged stores logged last holds mid old) → logged new.server ≡ logged mid.server → holds new.log (h.records ++ any_root ∷ []) → HoldsLogged stores logged last holds new root
   holds_any mid new old root later h same in_log = record {
     records = h.records ++ any_root ∷ [];
@@ -234,7 +234,7 @@ module _ {S L : Type 0} (stores : S → RootView → Cells → List Place → Ty
     bytes = any_adds_none h.records ∙ h.bytes ∙ sym same;
   }
 
-  -- after a new root, with all on the log still
+  -- after a new root, while the log still has all edits
   pub root_lasts : (new : LastingServer S L) (root : RootView) (now : State) → FollowsIn new.server root now → HoldsLogged stores logged last holds new root → waiting new.server ≡ [] → Lasting new now
   root_lasts new root now f h none =
       shown_lasts new.server new root now f (stays_stored stores last new.server) h.records h.in_log h.over h.stamps h.edits h.held h.stored h.room (none_waits h.records (logged new.server) (waiting new.server) none h.bytes) (inr h.bytes)
@@ -257,7 +257,7 @@ module _ {S L : Type 0} (stores : S → RootView → Cells → List Place → Ty
     elim logs [ inl stopped ↦ inl stopped | inr h ↦ inr (h.0, h.1, held_still old log h.0 keeps h.2) ],
   )
 
-  -- the same server, which counts otherwise, over a log that holds the same
+  -- the same server with other counts, over a log that holds the same records
   pub recounted : (old new : LastingServer S L) → new.server ≡ old.server → ((records : List (List ℕ)) → holds old.log records → holds new.log records) → new.is_stopped ≡ old.is_stopped → (shows : S → State → Type 0) → Settles (shown_by shows) Lasting (Logs stores logged last holds is_rooted) old new
   recounted old new server log stop shows = record {
     shown = λ st s. subst (λ (x : S). shows x st) (sym server) s;

@@ -27,7 +27,7 @@ damage_named (Some m) None records is = tt
 damage_named (Some m) (Some n) records (inl is) = inl (damaged is)
 damage_named (Some m) (Some n) records (inr is) = inr (inl is)
 
--- a mark that covers a root's stamps and those of records
+-- a mark that covers the stamps of a root and of records
 pub covers_all : NamesRoots → (mark : Option ℕ) (last top named : ℕ) (records : List (List ℕ)) → CoversEach (Covers mark) records → IfSome mark (λ n. last ≡ n) → top ≤ last → named ≡ top → (named ≤ last) × AreUpTo last records
 covers_all names None last top named records covers goes low same = absurd covers.1
 covers_all names (Some n) last top named records covers goes low same = (omega (arith, low, same), let at = covers.1 in names.higher records covers.0 last (omega (arith, at, goes)) covers.2)
@@ -59,7 +59,7 @@ whole_here one (Some m) (Some n) records top last whole named goes covers = reco
         let low = covers.0 in
         absurd (omega (arith, same, tops, low, goes, less))
 
--- the last stamp of a server covers those of records
+-- the last stamp of a server covers the records' stamps
 pub covers_here : NamesRoots → (old new : Option ℕ) (last : ℕ) (records : List (List ℕ)) → new ≡ old → IfSome old (λ mark. last ≡ mark) → IsSome old → AreUpTo last records → CoversEach (Covers new) records
 covers_here names old new last records same goes known up = (last, subst (λ (o : Option ℕ). Covers o last) (sym same) (at old goes known), up)
   where

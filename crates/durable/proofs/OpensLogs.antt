@@ -54,7 +54,7 @@ pub no_room_lost : (edits : List Edit) → edits ≡ [] → HasRoomFor empty_jou
 no_room_lost [] none = record { edits = omega arith; bytes = omega arith }
 no_room_lost (e ∷ edits) none = cc
 
--- what lasts does so over a log that holds the records too
+-- a state that lasts also lasts over a log that holds the same records
 pub lasts_on_log : (keeps : RootView → Cells → List Place → Type 0) (old new : List (List ℕ) → Type 0) (covers : ℕ → Type 0) (st : State) → ((records : List (List ℕ)) → old records → new records) → Lasts keeps old covers st → Lasts keeps new covers st
 lasts_on_log keeps old new covers st same lasts = record {
   root = lasts.root;

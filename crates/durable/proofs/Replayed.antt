@@ -18,13 +18,13 @@ use Rattle.row_atomic.specs.declared.recorded.Recorded.{Recorded}
 use Rattle.durable.specs.Replaying.{FollowsLog, HasRoom, Replays, ShowsRoot, logged_journal}
 use Rattle.server_loop.specs.Server.{machine_places}
 
--- ---- what lies below
+-- ---- storage
 
--- storage without what a log has
+-- storage without its logged edits
 pub below : {F : Type 0} → (contents : F → Option Contents) → (old new : Recorded F) → (seen_recorded contents).storage new ≡ (seen_recorded contents).storage old → storage_of contents new.cluster ≡ storage_of contents old.cluster
 below contents old new same = ap (λ (s : Storage). record s { logged = [] }) same
 
--- ---- the edits that are written down
+-- ---- the edits of a journal
 
 written_on : (first then : List Edit) (journal : Option JournalView) → option_map (with_waiting then) (option_map (with_waiting first) journal) ≡ option_map (with_waiting (first ++ then)) journal
 written_on first then None = refl
@@ -33,7 +33,7 @@ written_on first then (Some journal) =
     let count : (journal.count + length first) + length then ≡ journal.count + length (first ++ then) = omega (arith, length-append first then) in
     λ i. Some (record { logged = journal.logged; waiting = bytes i; count = count i })
 
--- all edits that were written down in an empty journal are logged
+-- all edits that were put into an empty journal are logged
 pub all_logged_now : (edits : List Edit) → option_map all_logged (Some (with_waiting edits empty_journal)) ≡ Some (logged_journal edits)
 all_logged_now edits =
     let count : 0 + length edits ≡ length edits = omega arith in
@@ -114,7 +114,7 @@ not_full {F} rows row edit rest fits room over = by rows.journal room (elim over
     by None room over = over
     by (Some journal) room over = over (room_first journal edit rest room)
 
--- ---- a log's edits over what the files keep
+-- ---- a log's edits over the files' cells
 
 module _ {F : Type 0} (contents : F → Option Contents) (stored : RootIsStored contents) where
   pub starts : (state : ClusterState F) (root : RootView) (base : Cells) → ShowsRoot contents root base state → (seen_recorded contents).holds (record { cluster = state; journal = Some empty_journal })

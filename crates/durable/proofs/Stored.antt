@@ -1,4 +1,4 @@
--- What a server's files keep under their root, and what leaves it.
+-- The cells that a server's files keep under their root, and the calls that leave them.
 use Rattle.std.proofs.Common.{◌≡◌, ◌≢◌, ◌≤◌, ◌⊎◌, ℕ, Bool, true, false, List, [], ◌++◌, length, map, Option, None, Some, Result, Ok, Err, OnErr, OnOk, append-nil, inl, inr, refl, sym, ap, ◌∙◌, subst, arith}
 use Rattle.std.specs.Prelude.{is_some, option_map}
 use Rattle.std.specs.List.{AllByRecursion}
@@ -60,7 +60,7 @@ same_machine_places old new is = ap (λ (spots : List Spot). map machine_place s
 -- ---- a server
 
 module _ {F M : Type 0} (contents : F → Option Contents) where
-  -- what is written down follows what is shown
+  -- the journal leads to the state that is shown
   pub follows_in : OneRoot → ((cells : Cells) (st : State) → ShowsCells cells st → ShowsCells cells (reopened st)) → (server : Server F M) (root : RootView) (st : State) (journal : Option JournalView) → is_some journal ≡ true → Follows contents (cluster_of server) journal
       → IsRooted contents server root → Shows contents server st → lasts.Follows (StoresCells contents server root) (logged_of journal) (waiting_of journal) (edits_written journal) (last_of server) st
   follows_in one reopens server root st None is follows rooted shown = cc
@@ -88,7 +88,7 @@ module _ {F M : Type 0} (contents : F → Option Contents) where
   pub one_stored : OneRoot → (server : Server F M) (root other : RootView) (base : Cells) (places : List machine.Place) → StoresCells contents server root base places → IsRooted contents server other → root ≡ other
   one_stored one server root other base places stored rooted = same_root contents one root other base rooted.base (cluster_of server) stored.has rooted.has
 
-  -- ---- what stays
+  -- ---- unchanged roots
 
   pub stays_rooted : (old new : Server F M) → ((root : RootView) (cells : Cells) → HasRoot contents root cells (cluster_of old) → HasRoot contents root cells (cluster_of new)) → last_of old ≤ last_of new → machine_places (cluster_of new).places ≡ machine_places (cluster_of old).places
       → StaysRooted (StoresCells contents) (IsRooted contents) last_of old new
@@ -226,10 +226,10 @@ module _ {F : Type 0} (contents : F → Option Contents) (faults : F → ℕ) (f
         tended.shown,
       )
 
--- ---- what is logged
+-- ---- logged edits
 
 module _ {F : Type 0} (contents : F → Option Contents) (laws : LogsEdits) where
-  -- what waited is logged
+  -- the waiting edits become logged
   pub follows_logged : (state : ClusterState F) (journal : Option JournalView) → Follows contents state journal → Follows contents state (option_map all_logged journal)
   follows_logged state None follows = tt
   follows_logged state (Some journal) follows =
@@ -253,7 +253,7 @@ module _ {F M : Type 0} (contents : F → Option Contents) where
   pub same_rows : (old new : Server F M) (rows : Recorded F) → new ≡ record old { rows = rows } → rows.cluster ≡ cluster_of old → StaysRooted (StoresCells contents) (IsRooted contents) last_of old new
   same_rows old new rows is same = subst (λ (server : Server F M). StaysRooted (StoresCells contents) (IsRooted contents) last_of old server) (sym is) (same_cluster old rows same)
 
-  -- what is shown without a journal is shown with one that follows
+  -- a state shown without a journal is shown with one that follows
   pub remembers : (server : Server F M) (st : State) → Shows contents (forgets server) st → Follows contents (cluster_of server) (journal_of server) → Shows contents server st
   remembers server st shown follows = record { in_order = (shown.in_order.0, follows); shows = shown.shows; cleaners = shown.cleaners; collectors = shown.collectors; places = shown.places; next = shown.next }
 
