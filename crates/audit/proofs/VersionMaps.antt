@@ -4,7 +4,6 @@ use Rattle.std.specs.Prelude.{is_some, slice_get}
 use Rattle.std.specs.BTreeMap as btree
 use Rattle.std.specs.Cmp.Lexicographic.{slice_cmp}
 use Rattle.std.specs.Global.{Vec}
-use Rattle.std.specs.Map.{lookup}
 use Rattle.std.specs.Ordering.{nat_cmp}
 use Rattle.std.proofs.lemmas.Map.Lookups.{CmpEqualImpliesEq, exact_bytes, exact_pairs}
 use Rattle.std.proofs.lemmas.Bool.{cases_eq}
@@ -40,9 +39,6 @@ module _ (old new : Histories) (x : Cell) (vs : Vec Version) where
       by : (b : Bool) → is_eq (name_cmp (x.row, x.family) (y.row, y.family)) ≡ b → versions_at new y ≡ versions_at old y
       by true e = absurd (ne (sym (ap named (exact_names (x.row, x.family) (y.row, y.family) (is_equal (name_cmp (x.row, x.family) (y.row, y.family)) e)))))
       by false e = ap versions_of (at (y.row, y.family) ∙ ap (λ (b : Bool). cond b (Some vs) (btree.get name_cmp old (y.row, y.family))) e)
-
-pub no_versions : (histories : Histories) → histories.entries ≡ [] → (x : Cell) → versions_at histories x ≡ []
-no_versions histories none x = ap (λ es. versions_of (lookup (btree.is_at (name_cmp (x.row, x.family))) es)) none
 
 -- a version is added at the cell's key
 pub added_at : (old new : Histories) (x : Cell) (v : Version) (k : List ℕ × List ℕ) (vs : Vec Version) (before : List Version) → k ≡ (x.row, x.family) → versions_of (btree.get name_cmp old k) ≡ before

@@ -1,9 +1,9 @@
 -- The versions of each cell among an audit's commits, by which a search finds its commit.
-use Rattle.std.specs.Prelude.{◌≡◌, ◌≢◌, ◌↔◌, ◌⊎◌, ℕ, ◌+◌, ◌<◌, ◌≤◌, List, [], ◌∷◌, ◌++◌, length, slice_get, Option, Some, None}
+use Rattle.std.specs.Prelude.{◌≡◌, ◌≢◌, ◌↔◌, ◌⊎◌, ℕ, ◌+◌, ◌<◌, ◌≤◌, cond, List, [], ◌∷◌, ◌++◌, length, slice_get, Option, Some, None}
 use Rattle.std.specs.BTreeMap as btree
 use Rattle.std.specs.Cmp.Lexicographic.{slice_cmp}
 use Rattle.std.specs.Global.{Vec}
-use Rattle.std.specs.Ordering.{nat_cmp, ordering_then}
+use Rattle.std.specs.Ordering.{is_eq, nat_cmp, ordering_then}
 use Rattle.std.specs.declared.cmp.Ordering.{Ordering}
 use Rattle.si_model.specs.Sets.{◌∈◌}
 use Rattle.si_model.specs.declared.replies.Cell.{Cell}
@@ -81,3 +81,18 @@ pub record IsLastUpTo (versions : List Version) (stamp : ℕ) (v : Version) : Ty
   pub there : v ∈ versions
   pub low : v.stamp ≤ stamp
   pub most : (u : Version) → u ∈ versions → u.stamp ≤ stamp → u.stamp ≤ v.stamp
+
+-- the stamp of each commit, by its start
+abbrev pub Starts : Type 0
+Starts = btree.BTreeMap ℕ ℕ
+
+-- each commit's start is kept with its stamp
+abbrev pub AreStarts : List Commit → Starts → Type 0
+AreStarts commits starts = (t c : ℕ) → (btree.get nat_cmp starts t ≡ Some c)
+    ↔ ((commit : Commit) × (commit ∈ commits) × (commit.start ≡ t) × (commit.stamp ≡ c))
+
+-- a new start is added with its stamp
+pub record IsStarted (old new : Starts) (t c : ℕ) : Type 0 where
+  pub fresh : btree.get nat_cmp old t ≡ None
+  pub at : (q : ℕ) → btree.get nat_cmp new q
+      ≡ cond (is_eq (nat_cmp t q)) (Some c) (btree.get nat_cmp old q)

@@ -3,30 +3,32 @@
 ghost use Rattle.std.specs.Prelude.{◌≡◌, ◌++◌, ◌∷◌, [], ℕ, length, max, Some, IfErr, IfNone, IfSome, OnErr, OnOk};
 ghost use Rattle.si_model.specs.Reads.{cell_of};
 ghost use Rattle.audit.specs.Commits.{AreMarked, latest_of};
-ghost use Rattle.audit.specs.Histories.{AreAdded, Histories as HistoriesOf, IsHistory, IsWriteAt};
+ghost use Rattle.audit.specs.Histories.{AreAdded, AreStarts, Histories as HistoriesOf, IsHistory, IsWriteAt};
 ghost use Rattle.audit.specs.declared.audit.parts.Write.{Write as WriteOf};
 
 use crate::audit::histories::{Histories, add_all, history_of};
 use crate::audit::parts::{Commit, Version, Write};
+use crate::audit::starts::{Starts, with_start};
 use cell_key::{Refusal, Stamp};
 use std::alloc::Global;
 use std::collections::BTreeMap;
 use std::marker::Model;
 
-/// The commits, in the order in which they came. The versions of each cell are kept beside them. If there is no memory
-/// for these, or a cell's commits don't come in the order of their stamps, they are dropped, and the searches go over
-/// the list.
+/// The commits, in the order in which they came. The versions of each cell and the starts are kept beside them. These
+/// are dropped, and the searches go over the list, if there is no memory for them, if a cell's commits don't come in the
+/// order of their stamps, or if two commits have one start.
 #[derive(Drop)]
 pub(crate) struct Commits {
     alloc: Global,
     list: Vec<Commit>,
     histories: Option<Histories>,
+    starts: Option<Starts>,
 }
 
 impl Model for Commits {
     ghost use Rattle.std.specs.Prelude.{List, IfSome};
     ghost use Rattle.audit.specs.Commits.{AreMarked};
-    ghost use Rattle.audit.specs.Histories.{AreHistories};
+    ghost use Rattle.audit.specs.Histories.{AreHistories, AreStarts};
     ghost use Rattle.audit.specs.declared.audit.parts.Commit.{Commit};
 
     ghost Value = { List Commit };
@@ -34,7 +36,8 @@ impl Model for Commits {
     ghost view = { λ commits. commits.list.items };
 
     ghost invariant = { λ commits. AreMarked 0 commits.list.items
-        × IfSome commits.histories (AreHistories commits.list.items) };
+        × IfSome commits.histories (AreHistories commits.list.items)
+        × IfSome commits.starts (AreStarts commits.list.items) };
 }
 
 /// The greatest stamp of the commits, or 0 if there is none.
@@ -56,6 +59,7 @@ impl Commits {
             alloc,
             list: Vec::new(alloc),
             histories: Some(BTreeMap::new(alloc)),
+            starts: Some(BTreeMap::new(alloc)),
         }
     }
 
@@ -75,6 +79,16 @@ impl Commits {
     {
         match &self.histories {
             Some(histories) => history_of(self.alloc, histories, row, family),
+            None => None,
+        }
+    }
+
+    /// The stamp of each commit, by its start. `None` if they aren't kept.
+    pub(crate) fn starts(&self) -> Option<&Starts>
+        ensures { IfSome result (λ starts. AreStarts self.now starts.now) }
+    {
+        match &self.starts {
+            Some(starts) => Some(starts),
             None => None,
         }
     }
@@ -123,6 +137,7 @@ impl Commits {
         })?;
         let before = self.histories.take();
         self.histories = with_commit(self.alloc, before, &self.list[place], place);
+        self.starts = with_start(self.starts.take(), start, stamp);
         Ok(())
     }
 }

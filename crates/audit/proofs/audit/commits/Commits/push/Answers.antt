@@ -1,9 +1,10 @@
 use Rattle.std.proofs.Common.{◌≡◌, ◌++◌, ◌∷◌, [], ℕ, List, Option, Some, get_or, length, max, ap, sym, subst, ◌∙◌}
 use Rattle.std.specs.Prelude.{IfSome}
 use Rattle.audit.specs.Commits.{AreMarked, latest_of}
-use Rattle.audit.specs.Histories.{AreAdded, AreHistories, Histories, versions_at}
+use Rattle.audit.specs.Histories.{AreAdded, AreHistories, AreStarts, Histories, IsStarted, Starts, versions_at}
 use Rattle.audit.specs.declared.audit.parts.Commit.{Commit}
 use Rattle.audit.proofs.SearchesBack.{marked_push}
+use Rattle.audit.proofs.Started.{starts_more}
 use Rattle.audit.proofs.Versions.{history_more, if_some_weaker, pushed}
 use Rattle.audit.proofs.audit.commits.Commits.push.Goals as goal
 
@@ -27,4 +28,8 @@ invariant_of-self-2 c =
           (subst (λ (n : ℕ). AreAdded r.0 after it.writes.items it.stamp n (length it.writes.items)) place r.2) in
           history_more old commit x (versions_at r.0 x) (versions_at after x) (kept x) (added.rises x) (added.same x))
           c.with_commit.result c.with_commit.ensures),
+      subst (λ (l : List Commit). IfSome c.with_start.result (AreStarts l)) (sym items)
+          (if_some_weaker (λ (after : Starts). (before : Starts) × (c.take.result ≡ Some before) × IsStarted before after c.args.start c.args.stamp) (AreStarts (old ++ commit ∷ []))
+          (λ after r. starts_more old commit r.0 after (subst (λ (o : Option Starts). IfSome o (AreStarts old)) (sym c.take.ensures.value ∙ r.1) c.self.invariant.2) r.2)
+          c.with_start.result c.with_start.ensures),
     )
