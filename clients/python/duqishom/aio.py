@@ -34,6 +34,7 @@ from duqishom.answers import (
     Version,
 )
 from duqishom.autocommit import cell_of, is_of_session
+from duqishom.batches import Batch, answers_of, request_frame, request_frames
 from duqishom.cells import Cell, CellRange, range_of
 from duqishom.operations import (
     MOST_CELLS,
@@ -57,9 +58,6 @@ from duqishom.operations import (
     Step,
     Stop,
     Sweep,
-    answer_or_refusal,
-    request_bodies,
-    request_body,
 )
 from duqishom.opening import either
 from duqishom.places import Places
@@ -184,14 +182,14 @@ class Store:
         return answer
 
     async def ask_each(
-        self, operations: Sequence[Operation[Answer]], stream: FrameStream | None = None
+        self, operations: Sequence[Operation[Answer] | Batch], stream: FrameStream | None = None
     ) -> list[Answer | Refused]:
         """Asks for several operations in one trip, and gives the answer to each, or its refusal. They go to the connection that is
         named, or to none."""
-        bodies = request_bodies(operations)
+        requests, count = request_frames(operations)
         async with asyncio.timeout(self._timeout):
-            replies = await (await self._connected(stream)).ask(bodies)
-        answers = [answer_or_refusal(operation, reply, True) for operation, reply in zip(operations, replies)]
+            replies = await (await self._connected(stream)).ask(requests, count)
+        answers = answers_of(operations, replies, is_remote=True)
         self._plans.stamps.note(operations, answers)
         return answers
 
@@ -238,7 +236,7 @@ class Store:
             await asyncio.sleep(trip.seconds)
             return []
         if isinstance(trip, Unwaited):
-            (await self._connected(stream)).tell(request_body(trip.operation))
+            (await self._connected(stream)).tell(request_frame(trip.operation))
             return []
         return await self.ask_each(trip, stream)
 
@@ -594,10 +592,10 @@ class Store:
         cancelled meanwhile stops the copy."""
         asked, stream = Backup(fspath(path)), await FrameStream.open(self._address)
         try:
-            [reply] = await stream.ask([request_body(asked)])
+            replies = await stream.ask(request_frame(asked), 1)
         finally:
             stream.close()
-        check_copied(asked, reply)
+        check_copied(asked, replies)
 
     async def close(self) -> int:
         """Leaves the gateway, which ends what is open."""

@@ -6,11 +6,10 @@ import os
 import select
 import time
 import weakref
-from collections.abc import Sequence
 from contextlib import suppress
 from typing import Protocol
 
-LONGEST_BODY = 1_048_576
+from duqishom.frames import LONGEST_BODY as LONGEST_BODY, frames_end
 
 # The maximum size of a read in bytes.
 PIECE = 65_536
@@ -19,15 +18,14 @@ PIECE = 65_536
 class Connection(Protocol):
     """A connection to a store."""
 
-    def ask(self, bodies: Sequence[bytes], timeout: float | None = None) -> list[bytes]:
-        """Sends these bodies of requests, each in a frame, and gives the bodies of their replies, in order.
+    def ask(self, requests: bytes, count: int, timeout: float | None = None) -> bytes:
+        """Sends the frames of so many requests, and gives the frames of their replies, in order.
 
-        FrameTooLarge if a body is too long: then nothing is sent. RequestTimedOut after `timeout` seconds. ProgramEnded
-        if the store ends instead of replying.
+        RequestTimedOut after `timeout` seconds. ProgramEnded if the store ends instead of replying.
         """
 
-    def tell(self, body: bytes, timeout: float | None = None) -> None:
-        """Sends the body of a request, and doesn't wait for its reply. What fails, the next request finds out. RequestTimedOut
+    def tell(self, request: bytes, timeout: float | None = None) -> None:
+        """Sends the frame of a request, and doesn't wait for its reply. What fails, the next request finds out. RequestTimedOut
         where an earlier request that was interrupted has no reply in so many seconds."""
 
     def kill(self) -> None:
@@ -67,19 +65,19 @@ class Trip:
     can be completed later.
     """
 
-    def __init__(self, bodies: Sequence[bytes], behind: Trip | None = None, is_waited_for: bool = True) -> None:
+    def __init__(self, data: bytes, count: int, behind: Trip | None = None, is_waited_for: bool = True) -> None:
         """A trip may go behind one that nobody waits for: it takes its replies, too."""
-        self.data = b"".join([len(body).to_bytes(4, "big") + body for body in bodies])
-        self.requests: bytes = self.data if behind is None else behind.requests + self.data
+        self.data = data
+        self.requests: bytes = data if behind is None else behind.requests + data
         self.passed: int = 0 if behind is None else behind.count
-        self.count: int = self.passed + len(bodies)
+        self.count: int = self.passed + count
         self.written: list[int] = []
         self.pieces: list[bytes] = [] if behind is None else behind.pieces
         self.is_waited_for = is_waited_for
 
-    def unsent(self) -> memoryview:
+    def unsent(self) -> bytes | memoryview:
         """The bytes that aren't written yet."""
-        return memoryview(self.data)[sum(self.written) :]
+        return memoryview(self.data)[sum(self.written) :] if self.written else self.data
 
 
 class Frames:
@@ -93,14 +91,15 @@ class Frames:
         os.set_blocking(writes.fileno(), False)
         OPEN.add(self)
 
-    def ask(self, bodies: Sequence[bytes], timeout: float | None = None) -> list[bytes]:
-        """The bodies of the replies to these requests. A trip that was interrupted is completed first.
+    def ask(self, requests: bytes, count: int, timeout: float | None = None) -> bytes:
+        """The frames of the replies to so many requests. A trip that was interrupted is completed first.
 
         StreamEnded if the other side closes, and RequestTimedOut.
         """
         deadline = None if timeout is None else time.monotonic() + timeout
-        self._trip = trip = Trip(bodies, self._unwaited(deadline))
-        return self._finish(trip, deadline)[trip.passed :]
+        self._trip = trip = Trip(requests, count, self._unwaited(deadline))
+        replies = self._finish(trip, deadline)
+        return replies[frames_end(replies, 0, trip.passed)[0] :] if trip.passed else replies
 
     def _unwaited(self, deadline: float | None) -> Trip | None:
         """The trip before the next one, if it is sent and nobody waits for it. Another one is taken to its end."""
@@ -110,13 +109,13 @@ class Frames:
             return None
         return trip
 
-    def tell(self, body: bytes, timeout: float | None = None) -> None:
+    def tell(self, request: bytes, timeout: float | None = None) -> None:
         """Sends a request whose reply the next trip takes. What fails, that one finds out.
 
         StreamEnded where the other side has closed before it replied to an earlier one, and RequestTimedOut.
         """
         deadline = None if timeout is None else time.monotonic() + timeout
-        self._trip = trip = Trip([body], self._unwaited(deadline), is_waited_for=False)
+        self._trip = trip = Trip(request, 1, self._unwaited(deadline), is_waited_for=False)
         with suppress(BlockingIOError, ConnectionError, ValueError):
             trip.written.extend(map(os.write, (self._writes.fileno(),), (trip.unsent(),)))
 
@@ -127,20 +126,22 @@ class Frames:
             with suppress(StreamEnded, RequestTimedOut):
                 self._finish(self._trip, time.monotonic() + timeout)
 
-    def _finish(self, trip: Trip, deadline: float | None) -> list[bytes]:
-        """Completes a trip, and returns the bodies of its replies."""
-        replies: list[bytes] = []
-        rest, taken = b"", 0
-        while len(replies) < trip.count:
+    def _finish(self, trip: Trip, deadline: float | None) -> bytes:
+        """Completes a trip, and returns the frames of its replies."""
+        rest, taken, missing = b"", 0, trip.count
+        while missing:
             if taken == len(trip.pieces):
                 self._move(trip, deadline)
+                continue
             rest = b"".join([rest, *trip.pieces[taken:]])
             taken = len(trip.pieces)
-            rest = rest[whole_frames(rest, replies) :]
+            end, missing = frames_end(rest, 0, missing)
+            rest = rest[end:]
         self._trip = None
+        replies = b"".join(trip.pieces)
         if self._recorder is not None:
             self._recorder.note_requests(trip.requests)
-            self._recorder.note_replies(b"".join(trip.pieces))
+            self._recorder.note_replies(replies)
         return replies
 
     def _move(self, trip: Trip, deadline: float | None) -> None:
@@ -155,7 +156,7 @@ class Frames:
             pass
         except ConnectionError:
             # Replies that the other side sent before it closed can still be read
-            unsent = memoryview(b"")
+            unsent = b""
         except ValueError:
             raise StreamEnded() from None
         if (unsent or deadline is not None) and not self._is_readable(bool(unsent), deadline):
@@ -196,18 +197,6 @@ class Frames:
 
 
 OPEN: weakref.WeakSet[Frames] = weakref.WeakSet()
-
-
-def whole_frames(read: bytes, replies: list[bytes]) -> int:
-    """Appends the bodies of the whole frames that were read, and returns the number of bytes that the frames take."""
-    at, end = 0, len(read)
-    while at + 4 <= end:
-        behind = at + 4 + int.from_bytes(read[at : at + 4], "big")
-        if behind > end:
-            break
-        replies.append(read[at + 4 : behind])
-        at = behind
-    return at
 
 
 def close_all() -> None:

@@ -9,7 +9,6 @@ from contextlib import suppress
 from datetime import datetime
 from pathlib import Path
 
-from duqishom.answers import Committed
 from duqishom.columns import BadForm
 from duqishom.connection import Connection
 from duqishom.files import (
@@ -28,6 +27,7 @@ from duqishom.files import (
     root_of,
     store_of,
 )
+from duqishom.frames import framed
 from duqishom.operations import (
     Checkpoint,
     CleanStep,
@@ -96,9 +96,9 @@ class Unsaved:
         if not self.is_changed:
             self.is_changed = any(getattr(operation, "code") in CHANGING for operation in operations)
 
-    def note_answered(self, operations: Sequence[object], answers: Sequence[object]) -> None:
-        """Records the answers to requests."""
-        self._commits += sum(isinstance(answer, Committed) for answer in answers)
+    def note_answered(self, operations: Sequence[object], answers: Sequence[object], commits: int) -> None:
+        """Records the answers to requests, with so many commits."""
+        self._commits += commits
         if isinstance(operations[-1], Checkpoint) and not isinstance(answers[-1], Refused):
             self.forget()
 
@@ -153,7 +153,7 @@ def started(
     running = Program(program, (*placed, *tuned(words, folder is not None)), recording)
     try:
         # An empty body is refused, and changes nothing
-        running.ask([b""])
+        running.ask(framed(b""), 1)
     except ProgramEnded as ended:
         why = ENDS.get(ended.status, "it has ended before its first reply")
         raise NotOpened(ended.status, why_not_opened(folder, ended.status) or why) from None

@@ -2,7 +2,6 @@
 
 from __future__ import annotations
 
-from collections.abc import Sequence
 from dataclasses import dataclass
 from typing import ClassVar, Protocol, TypeVar
 
@@ -339,16 +338,6 @@ def optional_arguments(*given: tuple[str, bytes]) -> bytes:
 def request_body(operation: Operation[Answer]) -> bytes:
     """The body of a request for an operation."""
     return number(1, operation.code) + operation.fields()
-
-
-def request_bodies(operations: Sequence[Operation[Answer]]) -> list[bytes]:
-    """The bodies of requests for operations. An operation repeated several times in a row is encoded once."""
-    bodies: list[bytes] = []
-    last: Operation[Answer] | None = None
-    for operation in operations:
-        bodies.append(bodies[-1] if operation is last else request_body(operation))
-        last = operation
-    return bodies
 
 
 def answer_or_refusal(operation: Operation[Answer], body: bytes, is_remote: bool = False) -> Answer | Refused:

@@ -24,8 +24,8 @@ from duqishom.answers import (
     Pending,
     Qualifier,
     Stamped,
-    Value,
 )
+from duqishom.batches import Batch, Gets, Steps
 from duqishom.cells import Cell
 from duqishom.columns import read_lock, read_record
 from duqishom.operations import (
@@ -35,11 +35,11 @@ from duqishom.operations import (
     CleanStep,
     CollectBegin,
     CollectStep,
-    Get,
     Major,
     Minor,
     Operation,
     Raw,
+    Step,
     Stop,
     Sweep,
 )
@@ -79,7 +79,8 @@ class Unwaited:
     operation: Operation[Any]
 
 
-Trip = Sequence[Operation[Any]] | Pause | Unwaited
+Requests = Sequence[Operation[Any] | Batch]
+Trip = Requests | Pause | Unwaited
 Plan = Generator[Trip, list[Any], Result]
 
 
@@ -175,14 +176,19 @@ class Stamps:
         self._last = 0
         self._was_next = False
 
-    def note(self, operations: Sequence[Operation[Any]], answers: Sequence[object]) -> None:
-        """Notes the stamps in the answers to a trip."""
+    def note(self, operations: Requests, answers: Sequence[object]) -> int:
+        """Notes the stamps in the answers to a trip, and returns the number of commits in them."""
+        commits = 0
         for operation, answer in zip(operations, answers):
             if isinstance(operation, Begin) and isinstance(answer, int):
                 self._was_next = answer == self._last + 1
                 self._last = answer
-            elif isinstance(answer, (Stamped, Committed)):
-                self._last = max(self._last, answer.commit)
+            elif isinstance(operation, (Step, Steps)):
+                for each in answer if isinstance(answer, tuple) else (answer,):
+                    if isinstance(each, (Stamped, Committed)):
+                        self._last = max(self._last, each.commit)
+                        commits += isinstance(each, Committed)
+        return commits
 
     def next(self) -> int | None:
         """The start that the next session will have, if the last one was as expected."""
@@ -202,26 +208,26 @@ class StorePlans:
     def read(self, cells: Sequence[Cell]) -> Plan[list[bytes | None] | None]:
         """What cells hold as of now: None if one of them is locked. It takes one trip if the start is as expected: the
         reads go behind the Begin that they need, and are asked again if it has another answer."""
+        if not cells:
+            return []
         start = self.stamps.next()
-        reads = [] if start is None else [Get(start, *cell) for cell in cells]
-        begun, *answers = yield [Begin(), *reads]
+        begun, *answers = yield [Begin()] if start is None else [Begin(), Gets(start, cells)]
         if isinstance(begun, Refused):
             raise begun
         try:
             if begun != start:
-                answers = yield [Get(begun, *cell) for cell in cells]
+                answers = yield [Gets(begun, cells)]
         except GeneratorExit:
             raise
         except BaseException:
             yield Unwaited(Stop(begun))
             raise
         yield Unwaited(Stop(begun))
-        for answer in answers:
-            if isinstance(answer, Refused):
-                raise answer
-        if any(isinstance(answer, Pending) for answer in answers):
-            return None
-        return [answer.value if isinstance(answer, Value) else None for answer in answers]
+        found: list[Any] = answers[0]
+        for each in found:
+            if isinstance(each, Refused):
+                raise each
+        return None if any(isinstance(each, Pending) for each in found) else found
 
     def make_room(self, row: bytes | None = None) -> Plan[None]:
         """Makes room in the memtable of the tablet that holds a row, or in all, and in the log if there is one. Where a

@@ -12,9 +12,8 @@ from contextlib import suppress
 from pathlib import Path
 from typing import NoReturn
 
-from duqishom.connection import LONGEST_BODY, Frames, StreamEnded
+from duqishom.connection import Frames, StreamEnded
 from duqishom.recording import Recording
-from duqishom.refusals import FrameTooLarge
 
 # The place of the program in a package that was built with one.
 OWN = Path(__file__).resolve().parent / "tabletd"
@@ -74,23 +73,20 @@ class Program:
         self._recording = recording
         self._frames = Frames(self._child.stdout, self._child.stdin, recording)
 
-    def ask(self, bodies: Sequence[bytes], timeout: float | None = None) -> list[bytes]:
-        """Sends these bodies in frames, and gives the bodies of the replies.
+    def ask(self, requests: bytes, count: int, timeout: float | None = None) -> bytes:
+        """Sends the frames of so many requests, and gives the frames of the replies.
 
-        FrameTooLarge if a body is too long: then nothing is sent, since the program would end at it. RequestTimedOut
-        after `timeout` seconds. ProgramEnded if the program ends instead of replying.
+        RequestTimedOut after `timeout` seconds. ProgramEnded if the program ends instead of replying.
         """
-        if any(len(body) > LONGEST_BODY for body in bodies):
-            raise FrameTooLarge()
         try:
-            return self._frames.ask(bodies, timeout)
+            return self._frames.ask(requests, count, timeout)
         except StreamEnded:
             raise ProgramEnded(self.close()) from None
 
-    def tell(self, body: bytes, timeout: float | None = None) -> None:
-        """Sends a body in a frame, and doesn't wait for its reply."""
+    def tell(self, request: bytes, timeout: float | None = None) -> None:
+        """Sends the frame of a request, and doesn't wait for its reply."""
         with suppress(StreamEnded):
-            self._frames.tell(body, timeout)
+            self._frames.tell(request, timeout)
 
     def kill(self) -> None:
         """Kills the program at once, whatever it is doing."""

@@ -7,8 +7,8 @@ from io import BufferedWriter
 from os import PathLike
 from pathlib import Path
 
-from duqishom.connection import whole_frames
 from duqishom.files import LOG_FILE, MARK_FILE, mark_of
+from duqishom.frames import whole_frames
 
 
 class Recording:

@@ -5,18 +5,17 @@ from __future__ import annotations
 import os
 import re
 import socket
-from collections.abc import Sequence
 from contextlib import suppress
 from dataclasses import dataclass
 from typing import ClassVar
 
-from duqishom.connection import LONGEST_BODY, Frames, StreamEnded
+from duqishom.batches import answers_of, request_frame
+from duqishom.connection import Frames, StreamEnded
 from duqishom.copies import NotCopied
 from duqishom.fields import FieldReader
-from duqishom.operations import answer_or_refusal, request_body
 from duqishom.plans import MOST_TABLETS, Fate
 from duqishom.program import ProgramEnded
-from duqishom.refusals import FrameTooLarge, Refused
+from duqishom.refusals import Refused
 
 __all__ = ["MOST_TABLETS", "Address", "Backup", "ConnectionLost", "Fate", "Gateway", "address_of", "back_up", "check_copied"]
 
@@ -78,28 +77,25 @@ class Gateway:
         ours = connected(address)
         self._frames = Frames(ours, ours)
 
-    def ask(self, bodies: Sequence[bytes], timeout: float | None = None) -> list[bytes]:
-        """Sends these bodies in frames, and gives the bodies of the replies.
+    def ask(self, requests: bytes, count: int, timeout: float | None = None) -> bytes:
+        """Sends the frames of so many requests, and gives the frames of the replies.
 
-        FrameTooLarge if a body is too long: then nothing is sent. RequestTimedOut after `timeout` seconds.
-        ConnectionLost if the connection ends instead of a reply.
+        RequestTimedOut after `timeout` seconds. ConnectionLost if the connection ends instead of a reply.
         """
-        if any(len(body) > LONGEST_BODY for body in bodies):
-            raise FrameTooLarge()
         if self._is_closed:
             raise ConnectionLost("the connection to the gateway is closed")
         try:
-            return self._frames.ask(bodies, timeout)
+            return self._frames.ask(requests, count, timeout)
         except StreamEnded:
             self.is_lost = True
             self.close()
             raise ConnectionLost() from None
 
-    def tell(self, body: bytes, timeout: float | None = None) -> None:
-        """Sends a body in a frame, and doesn't wait for its reply."""
+    def tell(self, request: bytes, timeout: float | None = None) -> None:
+        """Sends the frame of a request, and doesn't wait for its reply."""
         if not self._is_closed:
             with suppress(StreamEnded):
-                self._frames.tell(body, timeout)
+                self._frames.tell(request, timeout)
 
     def kill(self) -> None:
         """Disconnects at once. The gateway ends what is open."""
@@ -132,15 +128,15 @@ def back_up(address: Address, path: str) -> None:
     the copy is stopped where this is interrupted. OSError where nobody serves there."""
     asked, gateway = Backup(path), Gateway(address)
     try:
-        [reply] = gateway.ask([request_body(asked)])
+        replies = gateway.ask(request_frame(asked), 1)
     finally:
         gateway.close()
-    check_copied(asked, reply)
+    check_copied(asked, replies)
 
 
-def check_copied(asked: Backup, reply: bytes) -> None:
-    """Checks the reply to a Backup. NotCopied, or a Refused, if no copy was made."""
-    answer = answer_or_refusal(asked, reply)
+def check_copied(asked: Backup, replies: bytes) -> None:
+    """Checks the frame of the reply to a Backup. NotCopied, or a Refused, if no copy was made."""
+    [answer] = answers_of([asked], replies)
     if isinstance(answer, Refused):
         raise answer
     if answer:

@@ -4,6 +4,7 @@ from __future__ import annotations
 
 import time
 from collections.abc import Iterable, Sequence
+from itertools import repeat
 
 from duqishom.answers import (
     Committed,
@@ -11,16 +12,16 @@ from duqishom.answers import (
     Finished,
     Held,
     Lost,
-    Nothing,
     Pending,
     Progress,
     Stamped,
     Unsent,
     Value,
 )
+from duqishom.batches import Gets, Steps, Writes
 from duqishom.cells import FAMILY, LONGEST_ROW, Cell, CellRange, entries_of
 from duqishom.fields import bytes_argument
-from duqishom.operations import MOST_CELLS, Delete, Get, Scan, Set, Step, Stop, named
+from duqishom.operations import MOST_CELLS, Scan, Stop, named
 from duqishom.plans import (
     LOG,
     Pause,
@@ -37,7 +38,6 @@ from duqishom.refusals import (
     BadColumn,
     BadRow,
     BadValue,
-    FrameTooLarge,
     MemtableFull,
     Refused,
     TooManyWrites,
@@ -53,11 +53,6 @@ MOST_UNSENT = 16
 
 # A row, a family and a value, or None where keys alone were asked for.
 Entry = tuple[bytes, bytes, bytes | None]
-
-
-def value_of(found: Nothing | Value) -> bytes | None:
-    """What a read found: None for nothing."""
-    return found.value if isinstance(found, Value) else None
 
 
 class Session:
@@ -97,13 +92,14 @@ class Session:
                 tries += 1
                 yield from self._wait(locks, tries)
             asked, locks = [*asked, *locks], {}
-            for cell, found in zip(asked, (yield [Get(self.start, *cell) for cell in asked])):
+            [answers] = yield [Gets(self.start, asked)]
+            for cell, found in zip(asked, answers):
                 if isinstance(found, Refused):
                     raise found
                 if isinstance(found, Pending):
                     locks[cell] = found.start
                 else:
-                    values[cell] = value_of(found)
+                    values[cell] = found
             asked = []
         return values
 
@@ -165,91 +161,73 @@ class Session:
 
     def _commit(self) -> Plan[TransactionFailed | None]:
         """Sends the writes and takes the steps: why it came to nothing, where it did."""
-        operations = [self._request(cell) for cell in self._unsent()]
-        if len(self._writes) == 1:
-            # One that is refused leaves the session without a write, and its steps are refused
-            failure, rest = yield from self._ask([*operations, *self._steps_left()], len(operations))
-        else:
-            # Steps beside a refused one would commit the others, so they wait for the replies
-            if operations:
-                yield from self._ask(operations, len(operations))
-            failure, rest = yield from self._ask(self._steps_left(), 0)
+        batches: list[Writes | Steps] = [] if len(self._sent) == len(self._writes) else [Writes(self.start, self._writes)]
+        if batches and len(self._writes) > 1:
+            # Steps beside a refused write would commit the others, so they wait for the replies. A single write takes its steps
+            # along, which are refused if it is
+            yield from self._ask(batches)
+            batches = []
+        failure, rest = yield from self._ask([*batches, self._steps_left()])
         while self.is_active:
             before = self._steps
             if isinstance(rest, MemtableFull):
                 yield from self._plans.make_room(self._sent[self._place()].row)
             elif rest is not None:
                 raise rest
-            failure, rest = yield from self._ask(self._steps_left(), 0)
+            failure, rest = yield from self._ask([self._steps_left()])
             if rest is not None and self._steps == before:
                 raise rest
         return failure
 
-    def _unsent(self) -> list[Cell]:
-        """The cells whose writes are to be sent: all, and none once all were."""
-        return [] if len(self._sent) == len(self._writes) else list(self._writes)
-
-    def _request(self, cell: Cell) -> Set | Delete:
-        """The request for a write."""
-        value = self._writes[cell]
-        return Delete(self.start, *cell) if value is None else Set(self.start, *cell, value)
-
-    def _steps_left(self) -> list[Step]:
-        """The steps that are to be taken: each cell is held, the stamp is drawn, the first cell commits, each other is
-        finished."""
-        return [Step(self.start)] * (2 * len(self._writes) + 1 - self._steps)
+    def _steps_left(self) -> Steps:
+        """The steps that are to be taken."""
+        return Steps(self.start, len(self._writes), self._steps)
 
     def _place(self) -> int:
         """The place of the cell whose turn it is."""
         count = len(self._writes)
         return self._steps if self._steps < count else max(0, self._steps - count - 1)
 
-    def _ask(
-        self, operations: Sequence[Set | Delete | Step], writes: int
-    ) -> Plan[tuple[TransactionFailed | None, Refused | None]]:
+    def _ask(self, batches: Sequence[Writes | Steps]) -> Plan[tuple[TransactionFailed | None, Refused | None]]:
         """Asks for writes and steps in one trip: why the transaction came to nothing, where it did, and the refusal of
         the last step, where it was refused. A write that is refused raises its refusal."""
-        if not self.has_stepped and len(operations) > writes:
+        has_steps = isinstance(batches[-1], Steps)
+        if has_steps and not self.has_stepped:
             self.has_stepped, self._stepped_at = True, time.monotonic()
         try:
-            answers = yield operations
-        except FrameTooLarge:
-            raise
+            answers = yield batches
         except BaseException:
             self.is_active = not self.has_stepped
             raise
-        return self._take_answers(operations, answers, writes)
+        if isinstance(batches[0], Writes):
+            self._note_sent(batches[0], answers[0])
+        return self._take_all(answers[-1]) if has_steps else (None, None)
 
-    def _take_answers(
-        self,
-        operations: Sequence[Set | Delete | Step],
-        answers: Sequence[Progress | Refused | None],
-        writes: int,
-    ) -> tuple[TransactionFailed | None, Refused | None]:
-        """Notes the answers to writes and to steps behind them."""
-        for operation, answer in zip(operations[:writes], answers):
-            if isinstance(answer, Refused):
+    def _note_sent(self, writes: Writes, refusals: Sequence[Refused | None] | None) -> None:
+        """Notes the cells whose writes were accepted, in the store's order. The first refusal is raised."""
+        accepted = [cell for cell, refused in zip(writes.writes, refusals or repeat(None)) if refused is None]
+        self._sent = list(dict.fromkeys([*self._sent, *accepted]))
+        for refused in refusals or ():
+            if refused is not None:
                 self.has_stepped = self._steps > 0
-                raise answer
-            assert not isinstance(operation, Step)
-            cell = Cell(operation.row, operation.family)
-            if cell not in self._sent:
-                self._sent.append(cell)
-        return self._take_all(answers[writes:])
+                raise refused
 
     def _take_all(
-        self, answers: Sequence[Progress | Refused | None]
+        self, answers: Committed | Sequence[Progress | Refused]
     ) -> tuple[TransactionFailed | None, Refused | None]:
         """Notes what steps did. Behind the session's end the others are refused, which says nothing."""
+        if isinstance(answers, Committed):
+            self.commit_stamp, self.is_active = answers.commit, False
+            return None, None
         rest: Refused | None = None
         for answer in answers:
             if isinstance(answer, Refused):
                 rest = answer
-            elif answer is not None:
-                rest = None
-                failure = self._take(answer)
-                if failure is not None or not self.is_active:
-                    return failure, None
+                continue
+            rest = None
+            failure = self._take(answer)
+            if failure is not None or not self.is_active:
+                return failure, None
         return None, rest
 
     def _take(self, progress: Progress) -> TransactionFailed | None:

@@ -12,6 +12,7 @@ from collections.abc import Iterator, Mapping, Sequence
 from dataclasses import dataclass
 
 from duqishom.fields import MalformedReply
+from duqishom.frames import framed
 from duqishom.operations import REFUSED
 from duqishom.program import ProgramEnded
 from duqishom.refusals import BY_NUMBER, Refused
@@ -57,7 +58,7 @@ def statistics(path: str) -> dict[str, Counted]:
     TooManySessions if it has no place."""
     gateway = Gateway(path)
     try:
-        [reply] = gateway.ask([REQUEST])
+        reply = gateway.ask(framed(REQUEST), 1)[4:]
     finally:
         gateway.close()
     if len(reply) == 2 and reply[0] == REFUSED and reply[1] in BY_NUMBER:

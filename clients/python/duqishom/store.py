@@ -27,6 +27,7 @@ from duqishom.answers import (
     Version,
 )
 from duqishom.autocommit import AutoCommit
+from duqishom.batches import Batch, answers_of, request_frame, request_frames
 from duqishom.cells import Cell
 from duqishom.connection import Connection
 from duqishom.copies import NotCopied, copy_checkpoint
@@ -48,9 +49,6 @@ from duqishom.operations import (
     Step,
     Stop,
     Sweep,
-    answer_or_refusal,
-    request_bodies,
-    request_body,
 )
 from duqishom.plans import (
     LOG,
@@ -167,24 +165,23 @@ class Store(AutoCommit):
         return answer
 
     def ask_each(
-        self, operations: Sequence[Operation[Answer]], connection: Connection | None = None
+        self, operations: Sequence[Operation[Answer] | Batch], connection: Connection | None = None
     ) -> list[Answer | Refused]:
         """Asks for several operations in one trip, and gives the answer to each, or its refusal. All are sent before a reply is
         looked at, so each is done whatever becomes of those before it. They go to the connection that is named, or to none."""
-        bodies = request_bodies(operations)
+        requests, count = request_frames(operations)
         with self.alone():
             self._unsaved.note_asked(operations)
             try:
-                replies = self._connected(connection).ask(bodies, self._timeout)
+                replies = self._connected(connection).ask(requests, count, self._timeout)
             except ConnectionLost:
                 raise
             except ProgramEnded as ended:
                 lost = self._unsaved.lost()
                 self._unsaved.forget()
                 raise ProgramEnded(ended.status, lost) from None
-            answers = [answer_or_refusal(operation, reply, self._is_remote) for operation, reply in zip(operations, replies)]
-            self._unsaved.note_answered(operations, answers)
-            self._plans.stamps.note(operations, answers)
+            answers = answers_of(operations, replies, self._is_remote)
+            self._unsaved.note_answered(operations, answers, self._plans.stamps.note(operations, answers))
             return answers
 
     def _connected(self, wanted: Connection | None) -> Connection:
@@ -223,7 +220,7 @@ class Store(AutoCommit):
             return []
         if isinstance(trip, Unwaited):
             with self.alone():
-                self._connected(connection).tell(request_body(trip.operation), self._timeout)
+                self._connected(connection).tell(request_frame(trip.operation), self._timeout)
             return []
         return self.ask_each(trip, connection)
 

@@ -4,22 +4,20 @@ from __future__ import annotations
 
 import asyncio
 from collections import deque
-from collections.abc import Sequence
 from typing import cast
 
-from duqishom.connection import LONGEST_BODY, whole_frames
-from duqishom.refusals import FrameTooLarge
+from duqishom.frames import frames_end
 from duqishom.remote import Address, ConnectionLost, named_error
 
 
 class Trip:
-    """Requests in flight: how many, and the bodies of their replies."""
+    """Requests in flight: how many replies are missing, and the pieces of their frames."""
 
     def __init__(self, count: int) -> None:
-        self.count = count
-        self.replies: list[bytes] = []
+        self.missing = count
+        self.pieces: list[bytes] = []
         self.is_waited_for = True
-        self.done: asyncio.Future[list[bytes]] = asyncio.get_running_loop().create_future()
+        self.done: asyncio.Future[bytes] = asyncio.get_running_loop().create_future()
 
 
 class FrameStream(asyncio.Protocol):
@@ -47,50 +45,46 @@ class FrameStream(asyncio.Protocol):
             raise named_error(error, address) from None
         return stream
 
-    async def ask(self, bodies: Sequence[bytes]) -> list[bytes]:
-        """Sends these bodies, each in a frame, in one piece, and gives the bodies of the replies.
-
-        FrameTooLarge if a body is too long: then nothing is sent. ConnectionLost if the connection ends instead of a
-        reply.
-        """
-        if any(len(body) > LONGEST_BODY for body in bodies):
-            raise FrameTooLarge()
+    async def ask(self, requests: bytes, count: int) -> bytes:
+        """Sends the frames of so many requests in one piece, and gives the frames of the replies. ConnectionLost if the
+        connection ends instead of a reply."""
         await self._has_room.wait()
         if not self.is_open:
             self.is_lost = True
             raise ConnectionLost()
-        trip = Trip(len(bodies))
+        trip = Trip(count)
         self._trips.append(trip)
-        self._transport.write(b"".join(len(body).to_bytes(4, "big") + body for body in bodies))
+        self._transport.write(requests)
         return await trip.done
 
-    def tell(self, body: bytes) -> None:
-        """Sends a body in a frame, and doesn't wait for its reply."""
+    def tell(self, request: bytes) -> None:
+        """Sends the frame of a request, and doesn't wait for its reply."""
         if self.is_open:
             trip = Trip(1)
             trip.done.add_done_callback(lambda done: done.cancelled() or done.exception())
             trip.is_waited_for = False
             self._trips.append(trip)
-            self._transport.write(len(body).to_bytes(4, "big") + body)
+            self._transport.write(request)
 
     def connection_made(self, transport: asyncio.BaseTransport) -> None:
         self._transport = cast(asyncio.Transport, transport)
 
     def data_received(self, data: bytes) -> None:
-        replies: list[bytes] = []
-        rest = self._rest + data
-        self._rest = rest[whole_frames(rest, replies) :]
-        for reply in replies:
-            if not self._trips:
-                # A gateway that has no place for this connection says so before it is asked
-                self._transport.close()
-                return
+        read, at = self._rest + data, 0
+        while self._trips:
             trip = self._trips[0]
-            trip.replies.append(reply)
-            if len(trip.replies) == trip.count:
-                self._trips.popleft()
-                if not trip.done.done():
-                    trip.done.set_result(trip.replies)
+            end, trip.missing = frames_end(read, at, trip.missing)
+            trip.pieces.append(read[at:end])
+            at = end
+            if trip.missing:
+                break
+            self._trips.popleft()
+            if not trip.done.done():
+                trip.done.set_result(b"".join(trip.pieces))
+        self._rest = read[at:]
+        if not self._trips and frames_end(read, at, 1)[1] == 0:
+            # A gateway that has no place for this connection says so before it is asked
+            self._transport.close()
 
     def connection_lost(self, error: Exception | None) -> None:
         self.is_open = False

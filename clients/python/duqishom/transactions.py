@@ -20,7 +20,7 @@ from duqishom.plans import (
 )
 from duqishom.program import ProgramEnded
 from duqishom.refusals import UnknownSession
-from duqishom.sessions import MOST_WRITES, Entry, RangeScan, Session, value_of
+from duqishom.sessions import MOST_WRITES, Entry, RangeScan, Session
 
 if TYPE_CHECKING:
     from duqishom.store import Store
@@ -35,7 +35,6 @@ __all__ = [
     "TransactionConflict",
     "TransactionFailed",
     "TransactionLost",
-    "value_of",
 ]
 
 Own = TypeVar("Own", bound="Snapshot")

@@ -2,9 +2,8 @@
 
 from __future__ import annotations
 
-from collections.abc import Sequence
-
 from duqishom.connection import Connection
+from duqishom.frames import framed, whole_frames
 
 NO_MEMORY = b"\xff\x14"
 
@@ -20,19 +19,23 @@ class Poor:
         self._asked = 0
         self._refusal = refusal
 
-    def ask(self, bodies: Sequence[bytes], timeout: float | None = None) -> list[bytes]:
+    def ask(self, requests: bytes, count: int, timeout: float | None = None) -> bytes:
+        asked: list[bytes] = []
+        replies: list[bytes] = []
+        whole_frames(requests, asked)
         refused = []
-        for place, body in enumerate(bodies):
+        for place, body in enumerate(asked):
             self._asked += body[:1] == bytes([self._code])
             if body[:1] == bytes([self._code]) and self._asked in self._refused:
                 refused.append(place)
-        replies = self._connection.ask([body for place, body in enumerate(bodies) if place not in refused], timeout)
+        sent = [framed(body) for place, body in enumerate(asked) if place not in refused]
+        whole_frames(self._connection.ask(b"".join(sent), len(sent), timeout), replies)
         for place in refused:
             replies.insert(place, self._refusal)
-        return replies
+        return b"".join(map(framed, replies))
 
-    def tell(self, body: bytes, timeout: float | None = None) -> None:
-        self._connection.tell(body, timeout)
+    def tell(self, request: bytes, timeout: float | None = None) -> None:
+        self._connection.tell(request, timeout)
 
     def kill(self) -> None:
         self._connection.kill()

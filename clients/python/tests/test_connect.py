@@ -7,7 +7,7 @@ import os
 import socket
 import time
 import unittest
-from collections.abc import Callable, Sequence
+from collections.abc import Callable
 from contextlib import AsyncExitStack
 from pathlib import Path
 from typing import Any
@@ -32,7 +32,8 @@ from duqishom import (
     aio,
     protocol,
 )
-from duqishom.connection import Connection, whole_frames
+from duqishom.connection import Connection
+from duqishom.frames import whole_frames
 from duqishom.operations import Step
 from duqishom.remote import address_of
 from tests.gateways import Gateway, folder_of, until
@@ -406,6 +407,13 @@ class Twin(unittest.TestCase):
         asyncio.run(main())
 
 
+def ends_with_step(requests: bytes) -> bool:
+    """Whether the last of these requests is a Step."""
+    bodies: list[bytes] = []
+    whole_frames(requests, bodies)
+    return bodies[-1][0] == 4
+
+
 class Losing:
     """A connection that is lost in place of a reply to a Step, before it does what it was asked or behind it."""
 
@@ -414,17 +422,17 @@ class Losing:
         self._is_done = is_done
         self.is_lost = False
 
-    def ask(self, bodies: Sequence[bytes], timeout: float | None = None) -> list[bytes]:
-        if bodies[-1][0] != 4:
-            return self._connection.ask(bodies, timeout)
+    def ask(self, requests: bytes, count: int, timeout: float | None = None) -> bytes:
+        if not ends_with_step(requests):
+            return self._connection.ask(requests, count, timeout)
         if self._is_done:
-            self._connection.ask(bodies, timeout)
+            self._connection.ask(requests, count, timeout)
         self.is_lost = True
         self.close()
         raise ConnectionLost()
 
-    def tell(self, body: bytes, timeout: float | None = None) -> None:
-        self._connection.tell(body, timeout)
+    def tell(self, request: bytes, timeout: float | None = None) -> None:
+        self._connection.tell(request, timeout)
 
     def kill(self) -> None:
         self._connection.kill()
@@ -486,11 +494,11 @@ class Losses(unittest.TestCase):
                 stream, ask = store._stream, store._stream.ask
                 before = int(await store.get(ANN, BAL) or b"0")
 
-                async def losing(bodies: Sequence[bytes]) -> list[bytes]:
-                    if bodies[-1][0] != 4:
-                        return await ask(bodies)
+                async def losing(requests: bytes, count: int) -> bytes:
+                    if not ends_with_step(requests):
+                        return await ask(requests, count)
                     if is_done:
-                        await ask(bodies)
+                        await ask(requests, count)
                     stream.is_lost = True
                     stream.close()
                     raise ConnectionLost()

@@ -11,7 +11,7 @@ from collections.abc import Callable
 from pathlib import Path
 
 from duqishom import Store
-from duqishom.connection import whole_frames
+from duqishom.frames import whole_frames
 from tests.gateways import Gateway, folder_of
 from tests.pages import TOP
 

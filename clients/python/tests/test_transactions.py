@@ -239,6 +239,19 @@ class Transactions(unittest.TestCase):
                     reader = store.begin()
                     self.assertEqual([store.get(reader, row, BAL) for row in rows], [Value(row) for row in rows])
 
+    def test_a_conflict_behind_a_refused_write(self) -> None:
+        with poor(SET, 2) as store:
+            transaction = store.transaction()
+            for row in (ANN, BOB, b"Cid"):
+                transaction.set(row, BAL, b"1")
+            with self.assertRaises(NoMemory):
+                transaction.commit()
+            write(store, b"Cid", b"2")
+            with self.assertRaises(TransactionConflict) as caught:
+                transaction.commit()
+            self.assertEqual(caught.exception.cell, Cell(b"Cid", BAL))
+            self.assertIsNone(store.clean_begin(ANN, BAL))
+
 
 SLOW = """#!/usr/bin/env python3
 import sys, time
