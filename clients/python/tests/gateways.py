@@ -135,14 +135,17 @@ class Wire:
 class Gateway:
     """A gateway in a process of its own, at a socket in a folder of its own."""
 
-    def __init__(self, case: unittest.TestCase, words: Sequence[str] = (), path: str | None = None) -> None:
+    def __init__(
+        self, case: unittest.TestCase, words: Sequence[str] = (), path: str | None = None, before: Sequence[str] = ()
+    ) -> None:
+        """Starts it. Its command goes after the words `before`."""
         folder = tempfile.TemporaryDirectory()
         case.addCleanup(folder.cleanup)
         self.path = path or f"{folder.name}/socket"
         self.admin = f"{folder.name}/admin"
         self._case = case
         self.process = subprocess.Popen(
-            [*command_of(self.path), *(word.replace("ADMIN", self.admin) for word in words)],
+            [*before, *command_of(self.path), *(word.replace("ADMIN", self.admin) for word in words)],
             cwd=PACKAGE,
             stderr=subprocess.PIPE,
             stdout=subprocess.DEVNULL,

@@ -1,4 +1,4 @@
-"""Idle sessions and idle clients of a gateway: those are stopped, these are closed."""
+"""Idle sessions of a gateway are stopped, and idle clients are closed."""
 
 from __future__ import annotations
 
@@ -93,7 +93,7 @@ class Looks(unittest.IsolatedAsyncioTestCase):
         await asyncio.sleep(0)
         return has_session(self.ours.client), self.ours.client in self.exchange.clients
 
-    # What the client does, at first and before each look.
+    # Acts of the client, at first and before each look.
 
     async def nothing(self) -> None:
         """Does nothing."""

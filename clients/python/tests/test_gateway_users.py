@@ -1,4 +1,4 @@
-"""Who may connect to a gateway, and what each user may have there."""
+"""Who may connect to a gateway, and how much each user may have there."""
 
 from __future__ import annotations
 
@@ -112,7 +112,7 @@ class Access(unittest.TestCase):
 
 
 class Shares(unittest.TestCase):
-    """What a user may have. All clients over TCP are one user, those of this process are another."""
+    """Limits and shares of users. All clients over TCP are one user, those of this process are another."""
 
     def gateway(self, *words: str) -> Gateway:
         """A gateway, with a port."""
@@ -144,7 +144,7 @@ class Shares(unittest.TestCase):
             self.assertTrue(until(lambda: gateway.wire(address).ask(raw(b"r", 1)) == NOTHING))
 
     def test_sessions(self) -> None:
-        """A user who has all gives some to another, those that nobody used first, until both have as many."""
+        """A user who has all gives some to another, the longest idle ones first, until both have as many."""
         gateway = self.gateway()
         hogs = self.fill(lambda: gateway.wire(self.port), 17)
         self.assertEqual(self.had(hogs), 1024)
@@ -192,6 +192,15 @@ class Shares(unittest.TestCase):
             admins = self.fill(lambda: gateway.wire(gateway.admin), count)
             self.assertEqual(self.had(admins), had)
             self.assertEqual({wire.ask(COLLECT_BEGIN)[0] for wire, _ in admins[:4]}, {0x88})
+
+    def test_few_files(self) -> None:
+        """With few open files it takes fewer clients, and the administrator still gets in."""
+        gateway = Gateway(self, ["--admin", "ADMIN"], before=["sh", "-c", 'ulimit -n 200; exec "$@"', "sh"])
+        self.assertEqual(gateway.first, "duqishom: 200 open files are the limit: at most 56 clients get a place")
+        self.assertEqual(gateway.line(), "duqishom: ready")
+        wires = [gateway.wire() for _ in range(150)]
+        self.assertEqual([wire.ask(raw(b"r", 1)) for wire in wires[:56]], 56 * [NOTHING])
+        self.assertEqual({wire.ask(STATISTICS)[0] for wire in (gateway.wire(gateway.admin) for _ in range(20))}, {0xF0})
 
 
 if __name__ == "__main__":

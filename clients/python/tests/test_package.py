@@ -142,7 +142,7 @@ class Service(unittest.TestCase):
 
     @unittest.skipUnless(shutil.which("systemd-analyze"), "systemd isn't installed")
     def test_units(self) -> None:
-        """systemd knows each line, and the exposure of the service is at most 1 of 10, and 1.5 of those over a network."""
+        """systemd knows each line, and the exposure of the service is at most 1 of 10, or 1.5 over a network."""
         units = sorted(map(str, (*TOP.glob("packaging/*.service"), *TOP.glob("packaging/*.socket"))))
         self.assertEqual(len(units), 5)
         verified = subprocess.run(["systemd-analyze", "verify", *units], capture_output=True, text=True)

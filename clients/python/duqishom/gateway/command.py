@@ -68,7 +68,7 @@ def parser() -> argparse.ArgumentParser:
     words = argparse.ArgumentParser(prog="duqishom serve", description=DESCRIPTION)
     words.add_argument("--socket", metavar="PATH", help="the Unix socket for clients")
     words.add_argument("--mode", type=octal, help="the mode of the clients' socket (600, or 660 with --group)")
-    words.add_argument("--group", type=group, help="the group of the clients' socket, by number or name")
+    words.add_argument("--group", metavar="GROUP", type=group, help="the group of the clients' socket, by number or name")
     words.add_argument(
         "--allow-uid",
         metavar="UID",
@@ -99,7 +99,7 @@ def parser() -> argparse.ArgumentParser:
     words.add_argument("--sessions", metavar="N", type=int, default=64, help="active sessions of a connection (64)")
     words.add_argument("--cleaners", metavar="N", type=int, default=64, help="open cleaners of a connection (64)")
     words.add_argument("--user-clients", metavar="N", type=int, default=0, help="connections of a user (any number)")
-    words.add_argument("--user-sessions", metavar="N", type=int, default=0, help="active sessions of a user (any number)")
+    words.add_argument("--user-sessions", metavar="N", type=int, default=0, help="sessions of a user (any number)")
     words.add_argument(
         "--idle-session",
         metavar="SECONDS",

@@ -23,8 +23,9 @@ BLOCKED = b"\x89\x02"
 
 
 class Heirs:
-    """Ends the sessions, cleaners and collectors of dead clients, and idle sessions: a session that has committed is finished, any other
-    is stopped; a cleaner and a collector, which no request can close, take their remaining steps."""
+    """Ends the sessions, cleaners and collectors of dead clients, and idle sessions: a session that has committed is
+    finished, any other is stopped; a cleaner and a collector, which no request can close, take their remaining
+    steps."""
 
     def __init__(self, household: Household, things: Things) -> None:
         self._household = household

@@ -21,8 +21,8 @@ from duqishom.gateway.users import CONNECTION
 from duqishom.program import ProgramEnded
 from duqishom.recording import Recording
 
-# The number of open files that the gateway needs besides one connection for each client: the administrator's connections
-# too, with a copy for each, and connections that are turned away.
+# The number of open files that the gateway needs besides one connection for each client: among them are the
+# administrator's connections, with a copy for each, and connections that are turned away.
 FILES_BESIDE = 128 + KEPT[CONNECTION]
 
 # The status of a program that a signal has ended is the signal's number plus this, as in a shell.

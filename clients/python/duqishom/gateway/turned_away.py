@@ -12,8 +12,8 @@ SECONDS = 1.0
 
 
 class TurnedAway(asyncio.Protocol):
-    """Its first request gets the refusal that is given, and so does the connection if it sends none. It is read until the
-    client disconnects, since data sent to a closed connection may destroy the reply."""
+    """Its first request gets the refusal that is given, and so does the connection if it sends none. It is read until
+    the client disconnects, since data sent to a closed connection may destroy the reply."""
 
     def __init__(self, transport: asyncio.Transport, others: dict[TurnedAway, None], refusal: bytes) -> None:
         """Takes a connection over. `others` are the other turned-away connections, oldest first."""

@@ -58,8 +58,8 @@ class Upstream(asyncio.SubprocessProtocol):
     """A running program. Its standard error is the gateway's, and a Ctrl-C at the terminal isn't for it.
 
     `taken` is called when all replies of one read have gone to their askers, `ended` with the status when the program
-    has ended, and `eased` when the program takes frames again. `sent` and `answered` count requests. The frames in both directions are recorded if that is
-    asked for: OSError if they can't be.
+    has ended, and `eased` when the program takes frames again. `sent` and `answered` count requests. The frames in both
+    directions are recorded if that is asked for: OSError if they can't be.
     """
 
     def __init__(

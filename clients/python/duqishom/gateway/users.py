@@ -1,4 +1,4 @@
-"""The users of the machine: who is at the other end of a connection, and what each user has."""
+"""The users of the machine: who is at the other end of a connection, and how much each user has."""
 
 from __future__ import annotations
 
