@@ -14,7 +14,15 @@ TOP = HERE.parent
 
 PYTHON = "usr/lib/python3/dist-packages"
 UNITS = "usr/lib/systemd/system"
-SERVICE = ("duqishom.service", "duqishom.socket", "duqishom-admin.socket")
+SERVICE = (
+    "duqishom.service",
+    "duqishom.socket",
+    "duqishom-admin.socket",
+    "duqishom-tls.service",
+    "duqishom-remote.service",
+)
+SHARED = "usr/share/duqishom"
+NETWORK = ("stunnel-server.conf", "stunnel-client.conf")
 DOCUMENTS = "usr/share/doc/duqishom"
 
 COMMAND = b"""#!/usr/bin/python3
@@ -44,6 +52,7 @@ def files(tabletd: Path, python: dict[str, bytes], manuals: dict[str, str]) -> d
     found |= {f"{PYTHON}/{path}": File(data) for path, data in python.items()}
     found |= {f"usr/share/man/man1/{name}.1.gz": zipped(text) for name, text in manuals.items()}
     found |= {f"{UNITS}/{unit}": File((HERE / unit).read_bytes()) for unit in SERVICE}
+    found |= {f"{SHARED}/{name}": File((HERE / name).read_bytes()) for name in NETWORK}
     found["usr/lib/sysusers.d/duqishom.conf"] = File((HERE / "duqishom.sysusers").read_bytes())
     found[f"{DOCUMENTS}/changelog.gz"] = zipped((TOP / "docs" / "CHANGELOG.md").read_text(encoding="utf-8"))
     pages = [TOP / "README.md", *(TOP / "docs").glob("*.md")]

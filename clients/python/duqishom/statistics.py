@@ -42,7 +42,11 @@ METRICS = (
     Metric("clients", False, "clients that are connected", ("clients", "now")),
     Metric("clients_total", True, "clients that were connected", ("clients", "ever")),
     Metric("clients_turned_away_total", True, "clients for whom was no place", ("clients", "turned_away")),
+    Metric("clients_not_allowed_total", True, "clients whose users may not connect", ("clients", "not_allowed")),
     Metric("clients_closed_total", True, "clients that were closed for memory", ("clients", "closed_for_memory")),
+    Metric("ended_total", True, "idle clients and sessions, and ones taken for another user", ("ended",), "reason"),
+    Metric("user_clients", False, "clients of each user, if the asker may know", ("user_clients",), "user"),
+    Metric("user_sessions", False, "sessions of each user, if the asker may know", ("user_sessions",), "user"),
     Metric("open", False, "what is open in the program", ("open",), "kind"),
     Metric("held", False, "bytes of requests and of replies that wait, and runs that the program has", ("held",), "what"),
     Metric("checkpoints_total", True, "checkpoints that were made", ("checkpoints",)),
@@ -92,8 +96,8 @@ def prometheus(told: Mapping[str, Counted]) -> Iterator[str]:
 
 
 def found(told: Mapping[str, Counted], path: Sequence[str]) -> Counted:
-    """The value at the end of a path."""
-    counted = told[path[0]]
+    """The value at the end of a path, or nothing if the gateway hasn't told it."""
+    counted = told.get(path[0], {})
     return counted[path[1]] if len(path) > 1 and isinstance(counted, Mapping) else counted
 
 

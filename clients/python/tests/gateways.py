@@ -11,7 +11,8 @@ import sys
 import tempfile
 import time
 import unittest
-from collections.abc import Callable, Sequence
+from collections.abc import Callable, Iterator, Sequence
+from contextlib import contextmanager
 from pathlib import Path
 from typing import Any
 
@@ -21,6 +22,9 @@ from duqishom.fields import counted, number
 PATIENCE = 60
 PACKAGE = Path(__file__).resolve().parents[1]
 COLUMN = b"c"
+
+# A user and a group without rights.
+NOBODY = 65_534
 
 
 def frame(body: bytes) -> bytes:
@@ -73,11 +77,15 @@ STATISTICS = frame(b"\x70")
 
 
 class Wire:
-    """A connection to a gateway."""
+    """A connection to a gateway, at a path or at a port of this machine."""
 
-    def __init__(self, path: str) -> None:
-        self.socket = socket.socket(socket.AF_UNIX)
-        self.socket.connect(path)
+    def __init__(self, address: str | int) -> None:
+        self.socket = socket.socket(socket.AF_UNIX if isinstance(address, str) else socket.AF_INET)
+        try:
+            self.socket.connect(address if isinstance(address, str) else ("127.0.0.1", address))
+        except OSError:
+            self.close()
+            raise
         self.socket.settimeout(PATIENCE)
         self._came = b""
 
@@ -127,14 +135,17 @@ class Wire:
 class Gateway:
     """A gateway in a process of its own, at a socket in a folder of its own."""
 
-    def __init__(self, case: unittest.TestCase, words: Sequence[str] = (), path: str | None = None) -> None:
+    def __init__(
+        self, case: unittest.TestCase, words: Sequence[str] = (), path: str | None = None, before: Sequence[str] = ()
+    ) -> None:
+        """Starts it. Its command goes after the words `before`."""
         folder = tempfile.TemporaryDirectory()
         case.addCleanup(folder.cleanup)
         self.path = path or f"{folder.name}/socket"
         self.admin = f"{folder.name}/admin"
         self._case = case
         self.process = subprocess.Popen(
-            [*command_of(self.path), *(word.replace("ADMIN", self.admin) for word in words)],
+            [*before, *command_of(self.path), *(word.replace("ADMIN", self.admin) for word in words)],
             cwd=PACKAGE,
             stderr=subprocess.PIPE,
             stdout=subprocess.DEVNULL,
@@ -148,8 +159,8 @@ class Gateway:
         assert self.process.stderr is not None
         return self.process.stderr.readline().rstrip("\n")
 
-    def wire(self, path: str | None = None) -> Wire:
-        wire = Wire(path or self.path)
+    def wire(self, address: str | int | None = None) -> Wire:
+        wire = Wire(address or self.path)
         self._case.addCleanup(wire.close)
         return wire
 
@@ -195,6 +206,27 @@ def folder_of(case: unittest.TestCase) -> str:
     folder = tempfile.TemporaryDirectory()
     case.addCleanup(folder.cleanup)
     return folder.name
+
+
+def free_port() -> int:
+    """A port at which nobody listens."""
+    with socket.create_server(("127.0.0.1", 0)) as free:
+        return int(free.getsockname()[1])
+
+
+@contextmanager
+def as_user(user: int, group: int = NOBODY) -> Iterator[None]:
+    """Makes this process, which is root's, connect as another user with one group."""
+    own, groups = os.getegid(), os.getgroups()
+    os.setgroups([])
+    os.setegid(group)
+    os.seteuid(user)
+    try:
+        yield
+    finally:
+        os.seteuid(0)
+        os.setegid(own)
+        os.setgroups(groups)
 
 
 def until(holds: Callable[[], object]) -> bool:

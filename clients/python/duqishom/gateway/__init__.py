@@ -5,7 +5,8 @@
 `docs/GATEWAY.md` describes it. The parts: `passages` has each operation's costs and fields, `things` the open sessions,
 cleaners and collectors with their owners; a `client` is a connection, and the `household` makes the gateway's own
 requests; `verdicts` decides which requests the gateway answers itself, `turns` schedules askers, and the `upstream` is
-the program. `heirs` ends the sessions, cleaners and collectors of a dead client, and the `keeper` holds replies back
-until a checkpoint. `backups` are copies of the folder that clients ask for. `turned_away` is a connection for which
-there is no place, a `failure` ends everything at once, and `service` starts and ends the gateway.
+the program. `users` are at the other end of connections, and `shares` has their limits. `heirs` ends the sessions,
+cleaners and collectors of a dead client, `idle` looks for idle sessions and clients, and the `keeper` holds replies
+back until a checkpoint. `backups` are copies of the folder that clients ask for. `turned_away` is a connection for
+which there is no place, a `failure` ends everything at once, and `service` starts and ends the gateway.
 """

@@ -19,10 +19,12 @@ REQUESTS_OF_ALL = 128 << 20
 
 @dataclass
 class Bounds:
-    """The maximum number of clients and of each client's open sessions, cleaners and collectors, and the bytes that all
-    clients hold now."""
+    """The maximum number of clients, of each client's open sessions, cleaners and collectors, and of each user's
+    clients and sessions (0 for any number), and the bytes that all clients hold now."""
 
     clients: int = 1000
     open: tuple[int, int, int] = (64, 64, 4)
+    user_clients: int = 0
+    user_sessions: int = 0
     requests: int = field(default=0, init=False)
     replies: int = field(default=0, init=False)

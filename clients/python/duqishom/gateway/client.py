@@ -4,9 +4,7 @@ from __future__ import annotations
 
 import asyncio
 import os
-import socket
 import threading
-from struct import Struct
 from typing import TYPE_CHECKING, cast
 
 from duqishom.connection import LONGEST_BODY
@@ -26,13 +24,11 @@ from duqishom.gateway.passages import (
 )
 from duqishom.gateway.things import Thing
 from duqishom.gateway.upstream import Run
+from duqishom.gateway.users import Peer, User, peer_of
 from duqishom.gateway.verdicts import BACK_UP, LATER, STATISTICS_FRAME, verdict_on
 
 if TYPE_CHECKING:
     from duqishom.gateway.exchange import Exchange
-
-# The process, user and group at the other end of a socket.
-CREDENTIALS = Struct("3i")
 
 # The read buffer shared by all connections.
 READ_BUFFER = memoryview(bytearray(READ_SIZE))
@@ -46,10 +42,14 @@ class Client(asyncio.BufferedProtocol):
 
     def __init__(self, exchange: Exchange, is_admin: bool) -> None:
         self.exchange, self.is_admin = exchange, is_admin
+        self.peer = Peer()
+        self.user: User = exchange.shares.administrator
+        self.heard = exchange.counts.bytes_in
+        self.idle_looks: int = 0
         self.things: set[Thing] = set()
-        self.counts = [0, 0, 0]
+        self.counts: list[int] = [0, 0, 0]
         self.is_queued = self.needs_idle = False
-        self.waiting = bytearray()
+        self.waiting: bytearray = bytearray()
         self.in_flight = 0
         self.room = 0
         self.untaken = 0
@@ -57,6 +57,7 @@ class Client(asyncio.BufferedProtocol):
         self.kept_size = 0
         self._out: list[bytes] = []
         self._out_size = 0
+        self._written = self._taken = 0
         self.is_alive = True
         self._copying: threading.Event | None = None
         self._has_ended = False
@@ -67,19 +68,15 @@ class Client(asyncio.BufferedProtocol):
     def connection_made(self, transport: asyncio.BaseTransport) -> None:
         self.transport = cast(asyncio.Transport, transport)
         self.transport.set_write_buffer_limits(0)
+        self.peer = peer_of(self.transport.get_extra_info("socket"))
+        if not self.is_admin:
+            self.user = self.exchange.shares.user(self.peer.user)
         self.is_alive = self.exchange.admit(self)
 
-    def is_of_owner(self) -> bool:
-        """Whether the connecting process belongs to the gateway's own user or to root. Over TCP this isn't known."""
-        connected = self.transport.get_extra_info("socket")
-        if connected.family != socket.AF_UNIX:
-            return False
-        try:
-            told = connected.getsockopt(socket.SOL_SOCKET, socket.SO_PEERCRED, CREDENTIALS.size)
-        except OSError:
-            return False
-        _, user, _ = CREDENTIALS.unpack(told)
-        return user in (0, os.geteuid())
+    @property
+    def is_trusted(self) -> bool:
+        """Whether it is an administrator, or a process of the gateway's own user or of root."""
+        return self.is_admin or self.peer.is_owner
 
     def get_buffer(self, size: int) -> memoryview:
         return READ_BUFFER
@@ -90,7 +87,7 @@ class Client(asyncio.BufferedProtocol):
         self.waiting += READ_BUFFER[:count]
         self.exchange.came(self, count)
         if self.waiting.startswith(STATISTICS_FRAME) and self.in_flight == 0 and self._room() > 0:
-            self._answer(statistics(self.exchange))
+            self._answer(statistics(self.exchange, self.is_trusted))
         if len(self.waiting) >= READ_AHEAD:
             self._choose_reading()
 
@@ -113,6 +110,20 @@ class Client(asyncio.BufferedProtocol):
         """Closes the connection at once."""
         self._forget(len(self.waiting))
         self.transport.abort()
+
+    def is_active(self, heard: int) -> bool:
+        """Whether the client has sent anything since so many bytes had come from all clients, or has taken any of its
+        replies since the last call, or waits for the gateway."""
+        taken = self._written - self.transport.get_write_buffer_size()
+        takes, self._taken = taken > self._taken, taken
+        is_owed = self.in_flight > 0 or self.kept is not None or (self.untaken == 0 and self.has_whole_frame())
+        return self.heard > heard or takes or is_owed
+
+    def waits_with(self, name: bytes) -> bool:
+        """Whether the client waits for the gateway, and a request with this name may be among its waiting ones."""
+        if self.kept is not None:
+            return True
+        return self.idle_looks == 0 and name in self.waiting and self.has_whole_frame()
 
     def has_whole_frame(self) -> bool:
         """Whether the first waiting frame is whole, or too long ever to be."""
@@ -204,7 +215,7 @@ class Client(asyncio.BufferedProtocol):
     def _noted(self, passage: Passage, at: int, end: int) -> Run:
         """The run of a request whose reply is looked at."""
         if passage.opens is not None:
-            self.counts[passage.opens] += 1
+            self.exchange.things.note_begin(passage.opens, self)
         name = bytes(self.waiting[at + HEAD + 1 : at + HEAD + NAME_END])
         weight = passage.weight_of(self.body(at, end)) if passage.weight_each else passage.weight
         return Run(self, passage, name, 1, weight, passage.room)
@@ -326,6 +337,7 @@ class Client(asyncio.BufferedProtocol):
         self._out_size = 0
         if self.is_alive:
             self.exchange.counts.bytes_out += len(frames)
+            self._written += len(frames)
             self.transport.write(frames)
             self._measure(self.transport.get_write_buffer_size())
             self._end_where_done()

@@ -3,7 +3,10 @@
 from __future__ import annotations
 
 import argparse
-from collections.abc import Sequence
+import grp
+import math
+import pwd
+from collections.abc import Callable, Sequence
 
 from duqishom.folders import has_log, log_words
 from duqishom.gateway.bounds import Bounds
@@ -34,11 +37,45 @@ def port(text: str) -> int:
     return number
 
 
+def user(text: str) -> int:
+    """A user, by its number or its name."""
+    return int(text) if text.isdecimal() else named(lambda: pwd.getpwnam(text).pw_uid)
+
+
+def group(text: str) -> int:
+    """A group, by its number or its name."""
+    return int(text) if text.isdecimal() else named(lambda: grp.getgrnam(text).gr_gid)
+
+
+def named(found: Callable[[], int]) -> int:
+    """A number that is found by a name. ValueError if there is no such name."""
+    try:
+        return found()
+    except KeyError:
+        raise ValueError from None
+
+
+def seconds(text: str) -> float:
+    """A time in seconds, 0 for none."""
+    number = float(text)
+    if not 0 <= number < math.inf:
+        raise ValueError
+    return number
+
+
 def parser() -> argparse.ArgumentParser:
     """The parser of the command line."""
     words = argparse.ArgumentParser(prog="duqishom serve", description=DESCRIPTION)
     words.add_argument("--socket", metavar="PATH", help="the Unix socket for clients")
-    words.add_argument("--mode", type=octal, default=0o600, help="the mode of the clients' socket (600)")
+    words.add_argument("--mode", type=octal, help="the mode of the clients' socket (600, or 660 with --group)")
+    words.add_argument("--group", metavar="GROUP", type=group, help="the group of the clients' socket, by number or name")
+    words.add_argument(
+        "--allow-uid",
+        metavar="UID",
+        type=user,
+        action="append",
+        help="a user that may connect, by number or name, beside root and the gateway's own: may be repeated",
+    )
     words.add_argument("--admin", metavar="PATH", help="a socket that compactions, splits and the like are for alone")
     words.add_argument("--admin-mode", metavar="MODE", type=octal, default=0o600, help="the mode of that socket (600)")
     words.add_argument("--tcp", metavar="PORT", type=port, help="a port of 127.0.0.1, which every user of the machine may open")
@@ -61,6 +98,22 @@ def parser() -> argparse.ArgumentParser:
     words.add_argument("--clients", metavar="N", type=int, default=1000, help="connections at a time (1000)")
     words.add_argument("--sessions", metavar="N", type=int, default=64, help="active sessions of a connection (64)")
     words.add_argument("--cleaners", metavar="N", type=int, default=64, help="open cleaners of a connection (64)")
+    words.add_argument("--user-clients", metavar="N", type=int, default=0, help="connections of a user (any number)")
+    words.add_argument("--user-sessions", metavar="N", type=int, default=0, help="sessions of a user (any number)")
+    words.add_argument(
+        "--idle-session",
+        metavar="SECONDS",
+        type=seconds,
+        default=0,
+        help="stop a session that has been idle for this long (never)",
+    )
+    words.add_argument(
+        "--idle-client",
+        metavar="SECONDS",
+        type=seconds,
+        default=0,
+        help="close a client without a session that has been idle for this long (never)",
+    )
     words.add_argument("--collectors", metavar="N", type=int, default=4, help="open collectors of a connection (4)")
     words.add_argument("--record", metavar="FOLDER", help="keep all frames there for tablet_audit")
     words.add_argument("--grace", metavar="SECONDS", type=float, default=5, help="time for last replies at the end (5)")
@@ -81,9 +134,14 @@ def service_of(options: argparse.Namespace) -> Service:
         is_durable=options.durable and not is_logged,
         leaves=options.leave,
         is_shared=options.shared,
+        allowed=None if options.allow_uid is None else frozenset(options.allow_uid),
+        idle_session=options.idle_session,
+        idle_client=options.idle_client,
     )
-    places = Places(options.socket, options.mode, options.admin, options.admin_mode, options.tcp)
-    bounds = Bounds(options.clients, (options.sessions, options.cleaners, options.collectors))
+    mode = options.mode if options.mode is not None else 0o600 if options.group is None else 0o660
+    places = Places(options.socket, mode, options.group, options.admin, options.admin_mode, options.tcp)
+    each = (options.sessions, options.cleaners, options.collectors)
+    bounds = Bounds(options.clients, each, options.user_clients, options.user_sessions)
     checkpoint = options.checkpoint if options.dir is not None else 0
     return Service(command, places, rules, bounds, checkpoint, options.grace, options.record, options.dir)
 
@@ -97,6 +155,10 @@ def main(words: Sequence[str]) -> int:
     for word in ("durable", "log"):
         if getattr(options, word) and options.dir is None:
             parsing.error(f"--{word} needs --dir")
+    if options.group is not None and options.socket is None:
+        parsing.error("--group needs --socket")
+    if options.allow_uid is not None and options.tcp is not None:
+        parsing.error("--allow-uid excludes --tcp, over which no user is known")
     try:
         return service_of(options).run()
     except (OSError, NoSocket) as failure:

@@ -5,10 +5,12 @@ from __future__ import annotations
 import json
 import os
 import time
+from collections import Counter
 from pathlib import Path
 from typing import TYPE_CHECKING
 
-from duqishom.gateway.passages import BACKUP, SCAN, STATISTICS, STATISTICS_REPLY, frame
+from duqishom.gateway.passages import BACKUP, SCAN, STATISTICS, STATISTICS_REPLY, Kind, frame
+from duqishom.gateway.users import CONNECTION
 
 if TYPE_CHECKING:
     from duqishom.gateway.exchange import Exchange
@@ -44,15 +46,18 @@ USER_TIME, SYSTEM_TIME = 11, 12
 
 class Counts:
     """Counts since the gateway's start: requests by their first byte, bytes from and to clients, connections,
-    connections turned away because there was no place, and connections closed because too many bytes waited."""
+    connections turned away because there was no place or their users may not connect, connections closed because too
+    many bytes waited, and clients and sessions ended because they were idle or another user had fewer."""
 
     def __init__(self) -> None:
         self.requests = [0] * 256
         self.bytes_in = 0
         self.bytes_out = 0
         self.connections = 0
-        self.turned_away = 0
+        self.turned_away = self.not_allowed = 0
         self.cut = 0
+        self.idle_clients = self.idle_sessions = 0
+        self.taken_clients = self.taken_sessions = 0
         self.began = time.monotonic()
 
     def by_name(self) -> dict[str, int]:
@@ -76,8 +81,30 @@ def process(number: int) -> dict[str, float]:
     return {"process": number, "memory": pages * PAGE, "processor_seconds": seconds}
 
 
-def statistics(exchange: Exchange) -> bytes:
-    """The reply to a request for statistics: its body is a byte and a JSON text."""
+def of_users(exchange: Exchange) -> dict[str, dict[str, int]]:
+    """The connections and sessions of each user, and the user, connections and sessions of each process."""
+    users = {"tcp" if number is None else str(number): user.counts for number, user in exchange.shares.users.items()}
+    users["administrator"] = exchange.shares.administrator.counts
+    clients, sessions = Counter[str](), Counter[str]()
+    belongs = dict[str, int]()
+    for client in exchange.clients:
+        if client.peer.process is not None and client.peer.user is not None:
+            process = str(client.peer.process)
+            belongs[process] = client.peer.user
+            clients[process] += 1
+            sessions[process] += client.counts[Kind.SESSION]
+    return {
+        "user_clients": {name: counts[CONNECTION] for name, counts in users.items() if any(counts)},
+        "user_sessions": {name: counts[Kind.SESSION] for name, counts in users.items() if any(counts)},
+        "process_user": belongs,
+        "process_clients": clients,
+        "process_sessions": sessions,
+    }
+
+
+def statistics(exchange: Exchange, is_trusted: bool) -> bytes:
+    """The reply to a request for statistics: its body is a byte and a JSON text. Users and processes are only in it if
+    the asker is trusted."""
     counts, bounds, upstream = exchange.counts, exchange.bounds, exchange.upstream
     sessions, cleaners, collectors = (len(things) for things in exchange.things.by_name)
     told = {
@@ -88,12 +115,20 @@ def statistics(exchange: Exchange) -> bytes:
             "now": len(exchange.clients),
             "ever": counts.connections,
             "turned_away": counts.turned_away,
+            "not_allowed": counts.not_allowed,
             "closed_for_memory": counts.cut,
+        },
+        "ended": {
+            "idle_clients": counts.idle_clients,
+            "idle_sessions": counts.idle_sessions,
+            "taken_clients": counts.taken_clients,
+            "taken_sessions": counts.taken_sessions,
         },
         "open": {"sessions": sessions, "cleaners": cleaners, "collectors": collectors},
         "held": {"requests": bounds.requests, "replies": bounds.replies, "asked": len(upstream.runs)},
         "checkpoints": exchange.keeper.count,
         "program": process(upstream.process),
         "gateway": process(os.getpid()),
+        **(of_users(exchange) if is_trusted else {}),
     }
     return frame(bytes((STATISTICS_REPLY,)) + json.dumps(told).encode())

@@ -16,12 +16,15 @@ from duqishom.gateway.counts import Counts
 from duqishom.gateway.failure import FAILED, GatewayFailed, begin, is_own
 from duqishom.gateway.heirs import Heirs
 from duqishom.gateway.household import Household
+from duqishom.gateway.idle import Idle
 from duqishom.gateway.keeper import CHECKPOINT_MADE, Keeper
-from duqishom.gateway.passages import CHECKPOINT, MEMTABLE_FULL, SWEEP, frame, passages
+from duqishom.gateway.passages import BAD_REQUEST, CHECKPOINT, MEMTABLE_FULL, STOP, SWEEP, TOO_MANY, Kind, frame, passages
+from duqishom.gateway.shares import Shares
 from duqishom.gateway.things import Things
 from duqishom.gateway.turned_away import TurnedAway
 from duqishom.gateway.turns import Turns
 from duqishom.gateway.upstream import Run, Upstream
+from duqishom.gateway.users import CONNECTION, Peer, User
 from duqishom.program import ProgramEnded
 from duqishom.recording import Recording
 
@@ -32,7 +35,8 @@ SWEEP_FRAME = frame(bytes((SWEEP,)))
 class Rules:
     """How clients are served: whether the store is in a folder and whether that has a log, whether replies wait for
     checkpoints, whether a dead client's sessions, cleaners and collectors are left open, whether clients may use each
-    other's, and whether the administrator has a socket."""
+    other's, whether the administrator has a socket, the users that may connect (all where it is None), and the seconds
+    after which idle sessions and idle clients are ended (0 for never)."""
 
     has_folder: bool = False
     has_log: bool = False
@@ -40,6 +44,13 @@ class Rules:
     leaves: bool = False
     is_shared: bool = False
     has_admin: bool = False
+    allowed: frozenset[int] | None = None
+    idle_session: float = 0
+    idle_client: float = 0
+
+    def allow(self, peer: Peer) -> bool:
+        """Whether a peer may connect. The gateway's own user and root always may."""
+        return self.allowed is None or peer.is_owner or peer.user in self.allowed
 
 
 class Exchange:
@@ -64,10 +75,12 @@ class Exchange:
         self._recording = recording
         self.upstream = Upstream(self._taken, self._program_ended, self._eased, recording)
         self.turns = Turns(self.upstream, self._flush)
-        self.household = Household(self.upstream, self.turns, self.things, self.table, rules.has_log)
+        self.shares = Shares(bounds, rules.has_admin, self._take)
+        self.household = Household(self.upstream, self.turns, self.things, self.table, self.shares.administrator, rules.has_log)
         self.heirs = Heirs(self.household, self.things)
         self.keeper = Keeper(self.household, rules.is_durable)
         self.backups = Backups(folder, self.keeper, self._copied)
+        self.idle = Idle(self, rules.idle_session, rules.idle_client)
         self._ended = ended
         self.gone: asyncio.Future[ProgramEnded] = asyncio.get_running_loop().create_future()
         self._idle = asyncio.Event()
@@ -82,26 +95,52 @@ class Exchange:
         """
         await self.upstream.start(command)
         await self.household.ask(b"")
+        self.idle.start()
 
     # Events of clients.
 
     def admit(self, client: Client) -> bool:
-        """Accepts a client if there is a place for it. Otherwise it is told so."""
-        if not self.is_closing and len(self.clients) < self.bounds.clients:
+        """Accepts a client if it may connect and there is a place for it. Otherwise it is told so."""
+        if self.is_closing:
+            self.counts.turned_away += 1
+            client.transport.abort()
+        elif not self.rules.allow(client.peer):
+            self.counts.not_allowed += 1
+            TurnedAway(client.transport, self.turned_away, BAD_REQUEST)
+        elif not self.shares.allow(client.user, CONNECTION):
+            self.counts.turned_away += 1
+            TurnedAway(client.transport, self.turned_away, TOO_MANY)
+        else:
             self.clients.add(client)
+            client.user.add(CONNECTION, 1)
             self.counts.connections += 1
             return True
-        self.counts.turned_away += 1
-        if self.is_closing:
-            client.transport.abort()
-        else:
-            TurnedAway(client.transport, self.turned_away)
         return False
+
+    def _take(self, kind: int, user: User) -> bool:
+        """Takes a connection or a session from a user: the one that has asked for nothing for the longest time. Returns
+        whether there is one."""
+        if kind == CONNECTION:
+            clients = (each for each in self.clients if each.user is user)
+            client = min(clients, key=lambda each: (each.in_flight > 0, each.heard), default=None)
+            if client is not None:
+                self.counts.taken_clients += 1
+                self.lost(client)
+                client.cut()
+            return client is not None
+        sessions = (each for each in self.things.by_name[Kind.SESSION].values() if each.user is user)
+        session = min(sessions, key=lambda each: each.asked, default=None)
+        if session is not None:
+            self.counts.taken_sessions += 1
+            self.things.close(session)
+            self.household.send_next(bytes((STOP,)) + session.name)
+        return session is not None
 
     def came(self, client: Client, count: int) -> None:
         """Counts bytes that came from a client. If all clients together have too many waiting, the client with the most
         is closed."""
         self.counts.bytes_in += count
+        client.heard = self.counts.bytes_in
         self.bounds.requests += count
         if self.bounds.requests > REQUESTS_OF_ALL:
             self.counts.cut += 1
@@ -129,7 +168,7 @@ class Exchange:
 
     def note(self, client: Client, run: Run, reply: bytes) -> None:
         """Records the effects of a reply, before the client gets it."""
-        self.things.note(run.passage, run.name, reply, client)
+        self.things.note(run.passage, run.name, reply, client, self.upstream.sent)
         self.keeper.note(client, run, reply)
         if reply == MEMTABLE_FULL and self.rules.has_admin and not client.is_admin:
             self.need_room.add(client)
@@ -152,8 +191,10 @@ class Exchange:
         self.turns.call()
 
     def lost(self, client: Client) -> None:
-        """Removes a client."""
-        self.clients.discard(client)
+        """Removes a client, if that isn't done."""
+        if client in self.clients:
+            self.clients.remove(client)
+            client.user.add(CONNECTION, -1)
 
     def bequeath(self, client: Client) -> None:
         """Has the heirs end the sessions, cleaners and collectors of a client that is gone, unless they are to be left

@@ -1,4 +1,4 @@
-"""The end of the sessions, cleaners and collectors of a client that is gone."""
+"""The end of the sessions, cleaners and collectors of a client that is gone, and of idle sessions."""
 
 from __future__ import annotations
 
@@ -23,8 +23,9 @@ BLOCKED = b"\x89\x02"
 
 
 class Heirs:
-    """Ends the sessions, cleaners and collectors of dead clients: a session that has committed is finished, any other
-    is stopped; a cleaner and a collector, which no request can close, take their remaining steps."""
+    """Ends the sessions, cleaners and collectors of dead clients, and idle sessions: a session that has committed is
+    finished, any other is stopped; a cleaner and a collector, which no request can close, take their remaining
+    steps."""
 
     def __init__(self, household: Household, things: Things) -> None:
         self._household = household
@@ -34,11 +35,17 @@ class Heirs:
     def take(self, owner: Owner, leaves: bool) -> None:
         """Takes over everything that an owner has open, to end it or to leave it open."""
         for thing in list(owner.things):
-            self._things.give(thing, self._household)
-            if not leaves:
-                work = begin(self._end(thing))
-                self._works[work] = thing.kind
-                work.add_done_callback(self._works.pop)
+            if leaves:
+                self._things.give(thing, self._household)
+            else:
+                self.end(thing)
+
+    def end(self, thing: Thing) -> None:
+        """Takes over a thing, to end it."""
+        self._things.give(thing, self._household)
+        work = begin(self._end(thing))
+        self._works[work] = thing.kind
+        work.add_done_callback(self._works.pop)
 
     async def settle(self, seconds: float) -> None:
         """Waits at most this many seconds until everything has ended. Collectors are not waited for: they end with the

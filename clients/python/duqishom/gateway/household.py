@@ -21,6 +21,7 @@ from duqishom.gateway.passages import (
 from duqishom.gateway.things import Thing, Things
 from duqishom.gateway.turns import Turns
 from duqishom.gateway.upstream import Run, Upstream
+from duqishom.gateway.users import User
 from duqishom.program import ProgramEnded
 
 # A function that takes a reply.
@@ -34,9 +35,10 @@ class Household:
     """An asker whose requests are awaited. It owns the sessions, cleaners and collectors of dead clients."""
 
     def __init__(
-        self, upstream: Upstream, turns: Turns, things: Things, table: tuple[Passage, ...], has_log: bool = False
+        self, upstream: Upstream, turns: Turns, things: Things, table: tuple[Passage, ...], user: User, has_log: bool = False
     ) -> None:
         self._has_log = has_log
+        self.user = user
         self.is_queued = self.needs_idle = False
         self.things: set[Thing] = set()
         self.counts = [0, 0, 0]
@@ -77,12 +79,12 @@ class Household:
         passage = self._table[body[0] if body else 0]
         self._asked.append((reply, then))
         if passage.opens is not None:
-            self.counts[passage.opens] += 1
+            self._all.note_begin(passage.opens, self)
         name = body[1:NAME_END]
         self._upstream.send(frame(body), [Run(self, passage, name, 1, passage.weight_of(body), 0)])
 
     def receive(self, run: Run, frames: bytes, count: int) -> None:
-        self._all.note(run.passage, run.name, frames, self)
+        self._all.note(run.passage, run.name, frames, self, self._upstream.sent)
         self.sees(frames)
         reply, then = self._asked.popleft()
         if then is not None:

@@ -15,12 +15,15 @@ from duqishom.gateway.bounds import Bounds
 from duqishom.gateway.client import Client
 from duqishom.gateway.exchange import Exchange, Rules
 from duqishom.gateway.failure import tell
+from duqishom.gateway.shares import KEPT
 from duqishom.gateway.sockets import BACKLOG, NoSocket, SocketFile, inherited, lock_beside, notify, tcp_socket, unix_socket
+from duqishom.gateway.users import CONNECTION
 from duqishom.program import ProgramEnded
 from duqishom.recording import Recording
 
-# The number of open files that the gateway needs besides one connection for each client.
-FILES_BESIDE = 64
+# The number of open files that the gateway needs besides one connection for each client: among them are the
+# administrator's connections, with a copy for each, and connections that are turned away.
+FILES_BESIDE = 128 + KEPT[CONNECTION]
 
 # The status of a program that a signal has ended is the signal's number plus this, as in a shell.
 BY_SIGNAL = 128
@@ -28,10 +31,12 @@ BY_SIGNAL = 128
 
 @dataclass(frozen=True)
 class Places:
-    """Where the gateway listens, and the modes of its Unix sockets."""
+    """Where the gateway listens, the modes of its Unix sockets, and the group of the clients' socket, if it has one of
+    its own."""
 
     socket: str | None = None
     mode: int = 0o600
+    group: int | None = None
     admin: str | None = None
     admin_mode: int = 0o600
     tcp: int | None = None
@@ -54,7 +59,10 @@ class Service:
 
     def run(self) -> int:
         """Serves until the end, and returns the exit status."""
-        raise_file_limit(self.bounds.clients + FILES_BESIDE)
+        files = raise_file_limit(self.bounds.clients + FILES_BESIDE)
+        if files < self.bounds.clients + FILES_BESIDE:
+            self.bounds.clients = max(1, files - FILES_BESIDE)
+            tell(f"{files} open files are the limit: at most {self.bounds.clients} clients get a place")
         return asyncio.run(self._serve())
 
     async def _serve(self) -> int:
@@ -92,10 +100,13 @@ class Service:
         stack."""
         listening = inherited(os.environ)
         places = self.places
-        for path, mode, is_admin in ((places.socket, places.mode, False), (places.admin, places.admin_mode, True)):
+        for path, mode, group, is_admin in (
+            (places.socket, places.mode, places.group, False),
+            (places.admin, places.admin_mode, None, True),
+        ):
             if path is not None:
                 stack.enter_context(lock_beside(path))
-                listening.append((stack.enter_context(unix_socket(path, mode)), is_admin))
+                listening.append((stack.enter_context(unix_socket(path, mode, group)), is_admin))
                 stack.callback(SocketFile(path).remove)
         if places.tcp is not None:
             listening.append((stack.enter_context(tcp_socket(places.tcp)), False))
@@ -153,8 +164,10 @@ async def accept(exchange: Exchange, listening: socket.socket, is_admin: bool) -
     return await loop.create_server(client, sock=listening, backlog=BACKLOG)
 
 
-def raise_file_limit(wanted: int) -> None:
-    """Raises this process's limit of open files, if the system allows it."""
+def raise_file_limit(wanted: int) -> int:
+    """Raises this process's limit of open files as far as the system allows. Returns how many of the wanted it has."""
     soft, hard = resource.getrlimit(resource.RLIMIT_NOFILE)
-    if soft < wanted:
-        resource.setrlimit(resource.RLIMIT_NOFILE, (min(wanted, hard), hard))
+    allowed = wanted if hard == resource.RLIM_INFINITY else min(wanted, hard)
+    if soft != resource.RLIM_INFINITY and soft < allowed:
+        resource.setrlimit(resource.RLIMIT_NOFILE, (allowed, hard))
+    return allowed

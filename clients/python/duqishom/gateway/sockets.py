@@ -40,9 +40,9 @@ def lock_beside(path: str) -> BufferedWriter:
     return file
 
 
-def unix_socket(path: str, mode: int) -> socket.socket:
-    """A listening socket at a path, which at no moment can be opened by users that the mode excludes. A socket at which
-    nobody answers is replaced."""
+def unix_socket(path: str, mode: int, group: int | None = None) -> socket.socket:
+    """A listening socket at a path, of this group if one is given, which at no moment can be opened by users that the
+    mode excludes. A socket at which nobody answers is replaced."""
     remove_stale(path)
     listening = socket.socket(socket.AF_UNIX)
     before = os.umask(0o777 & ~mode)
@@ -53,6 +53,14 @@ def unix_socket(path: str, mode: int) -> socket.socket:
         raise
     finally:
         os.umask(before)
+    if group is not None:
+        try:
+            # Nobody can connect before it listens
+            os.chown(path, -1, group, follow_symlinks=False)
+        except OSError:
+            listening.close()
+            os.unlink(path)
+            raise
     listening.listen(BACKLOG)
     return listening
 

@@ -5,6 +5,7 @@ from __future__ import annotations
 from typing import Protocol
 
 from duqishom.gateway.passages import HEAD, NAME, PLACES, STEP, STOP, Kind, Passage
+from duqishom.gateway.users import User
 
 # The offsets in a reply's frame of the body's first byte, of its tag or refusal, and of the fields after that.
 CODE, TAG, FIELDS = HEAD, HEAD + 1, HEAD + 2
@@ -16,24 +17,29 @@ NUMBERS_OF_UNKNOWN = (1, 9, 10)
 
 
 class Owner(Protocol):
-    """An owner of things: its open things, and how many of each kind are open or being opened."""
+    """An owner of things: its user, its open things, and how many of each kind are open or being opened."""
 
+    user: User
     things: set[Thing]
     counts: list[int]
 
 
 class Thing:
-    """An open session, cleaner or collector. Of a session: how many cells it writes, once one is held, and whether it has
-    committed."""
+    """An open session, cleaner or collector. Its user stays the same if its owner changes. `asked` is how many requests
+    the program had got before the last one that names it. Of a session: how many cells it writes, once one is held,
+    whether it has committed, and in how many looks in a row it was idle."""
 
-    __slots__ = ("kind", "name", "owner", "cells", "has_committed")
+    __slots__ = ("kind", "name", "owner", "user", "asked", "cells", "has_committed", "idle_looks")
 
-    def __init__(self, kind: Kind, name: bytes, owner: Owner) -> None:
+    def __init__(self, kind: Kind, name: bytes, owner: Owner, asked: int) -> None:
         self.kind = kind
         self.name = name
         self.owner = owner
+        self.user = owner.user
+        self.asked = asked
         self.cells = 0
         self.has_committed = False
+        self.idle_looks = 0
 
 
 class Things:
@@ -50,28 +56,37 @@ class Things:
         heir.things.add(thing)
         heir.counts[thing.kind] += 1
 
-    def note(self, passage: Passage, name: bytes, reply: bytes, asker: Owner) -> None:
-        """Records a reply's news of a thing: that it has opened, continues, or has ended."""
+    def note_begin(self, kind: Kind, asker: Owner) -> None:
+        """Records that a thing is being opened."""
+        asker.counts[kind] += 1
+        asker.user.add(kind, 1)
+
+    def note(self, passage: Passage, name: bytes, reply: bytes, asker: Owner, sent: int) -> None:
+        """Records a reply's news of a thing: that it has opened, continues, or has ended. The program has got `sent`
+        requests so far."""
         if passage.opens is not None:
-            self._note_opening(passage.opens, reply, asker)
+            self._note_opening(passage.opens, reply, asker, sent)
         elif passage.names is not None:
             thing = self.by_name[passage.names].get(name)
             if thing is not None and self._has_ended(thing, passage, reply):
-                self._close(thing)
+                self.close(thing)
 
-    def _note_opening(self, kind: Kind, reply: bytes, asker: Owner) -> None:
+    def _note_opening(self, kind: Kind, reply: bytes, asker: Owner, sent: int) -> None:
         name = opened(kind, reply)
         if name is None:
             asker.counts[kind] -= 1
+            asker.user.add(kind, -1)
             return
-        thing = Thing(kind, name, asker)
+        thing = Thing(kind, name, asker, sent - 1)
         self.by_name[kind][name] = thing
         asker.things.add(thing)
 
-    def _close(self, thing: Thing) -> None:
+    def close(self, thing: Thing) -> None:
+        """Removes a thing that has ended, or that ends before any request that is still to be sent."""
         del self.by_name[thing.kind][thing.name]
         thing.owner.things.discard(thing)
         thing.owner.counts[thing.kind] -= 1
+        thing.user.add(thing.kind, -1)
 
     def _has_ended(self, thing: Thing, passage: Passage, reply: bytes) -> bool:
         if reply[CODE] == REFUSED:

@@ -1,11 +1,9 @@
-"""A connection for which there is no place: it is refused, and then closed."""
+"""A connection for which there is no place, or of a user that may not connect: it is refused, and then closed."""
 
 from __future__ import annotations
 
 import asyncio
 from contextlib import suppress
-
-from duqishom.gateway.passages import TOO_MANY
 
 # The maximum number of such connections, and the seconds that each has to send a request, and then to take its reply.
 # If there are more, the oldest is closed.
@@ -14,12 +12,12 @@ SECONDS = 1.0
 
 
 class TurnedAway(asyncio.Protocol):
-    """Its first request is refused TooManySessions, and so is the connection if it sends none. It is read until the
-    client disconnects, since data sent to a closed connection may destroy the reply."""
+    """Its first request gets the refusal that is given, and so does the connection if it sends none. It is read until
+    the client disconnects, since data sent to a closed connection may destroy the reply."""
 
-    def __init__(self, transport: asyncio.Transport, others: dict[TurnedAway, None]) -> None:
+    def __init__(self, transport: asyncio.Transport, others: dict[TurnedAway, None], refusal: bytes) -> None:
         """Takes a connection over. `others` are the other turned-away connections, oldest first."""
-        self._transport, self._others = transport, others
+        self._transport, self._others, self._refusal = transport, others, refusal
         self._has_refused = False
         self._timer = asyncio.get_running_loop().call_later(SECONDS, self._refuse)
         transport.set_protocol(self)
@@ -44,7 +42,7 @@ class TurnedAway(asyncio.Protocol):
         """Refuses, once, and says that no more will come."""
         if not self._has_refused:
             self._has_refused = True
-            self._transport.write(TOO_MANY)
+            self._transport.write(self._refusal)
             with suppress(OSError):
                 self._transport.write_eof()
             self._timer.cancel()

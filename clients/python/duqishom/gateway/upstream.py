@@ -58,8 +58,8 @@ class Upstream(asyncio.SubprocessProtocol):
     """A running program. Its standard error is the gateway's, and a Ctrl-C at the terminal isn't for it.
 
     `taken` is called when all replies of one read have gone to their askers, `ended` with the status when the program
-    has ended, and `eased` when the program takes frames again. The frames in both directions are recorded if that is
-    asked for: OSError if they can't be.
+    has ended, and `eased` when the program takes frames again. `sent` and `answered` count requests. The frames in both
+    directions are recorded if that is asked for: OSError if they can't be.
     """
 
     def __init__(
@@ -71,6 +71,7 @@ class Upstream(asyncio.SubprocessProtocol):
     ) -> None:
         self.runs: deque[Run] = deque()
         self.weight = 0
+        self.sent = self.answered = 0
         self.is_full = False
         self.status: int | None = None
         self._has_ended = asyncio.Event()
@@ -94,6 +95,7 @@ class Upstream(asyncio.SubprocessProtocol):
         self._gathered.append(frames)
         self.runs.extend(runs)
         self.weight += sum(run.weight for run in runs)
+        self.sent += sum(run.left for run in runs)
 
     def flush(self) -> None:
         """Writes the gathered frames, in one piece."""
@@ -128,6 +130,7 @@ class Upstream(asyncio.SubprocessProtocol):
     def _hand(self, frames: bytes, count: int) -> None:
         """Passes `count` replies of the first run to its asker."""
         run = self.runs[0]
+        self.answered += count
         if run.left == 0:
             self.runs.popleft()
             self.weight -= run.weight

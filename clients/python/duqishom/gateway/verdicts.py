@@ -38,24 +38,34 @@ def verdict_on(client: Client, passage: Passage, at: int, end: int) -> bytes | N
     """
     exchange = client.exchange
     if passage.names is not None:
-        is_theirs = end - at >= HEAD + NAME_END and not exchange.rules.is_shared and not owns(client, passage.names, at)
-        return UNKNOWN[passage.names] if is_theirs and passage.has_form(client.body(at, end)) else None
+        is_unknown = not has(client, passage.names, at) and not exchange.rules.is_shared
+        return UNKNOWN[passage.names] if is_unknown and passage.has_form(client.body(at, end)) else None
     if passage.opens is not None:
-        is_full = client.counts[passage.opens] >= exchange.bounds.open[passage.opens]
-        return TOO_MANY if is_full and passage.has_form(client.body(at, end)) else None
+        return TOO_MANY if passage.has_form(client.body(at, end)) and not may_open(client, passage.opens) else None
     if passage.is_for_admin and exchange.rules.has_admin and not client.is_admin:
         return BAD_REQUEST
     if passage.code == SWEEP:
         return LATER if exchange.backups.are_made else None
-    if passage.code == BACKUP and not (client.is_admin or client.is_of_owner()):
+    if passage.code == BACKUP and not client.is_trusted:
         return BAD_REQUEST
     if passage.code == BACKUP:
         return BACK_UP if end - at > len(STATISTICS_FRAME) else None
-    return statistics(exchange) if passage.code == STATISTICS and end - at == len(STATISTICS_FRAME) else None
+    if passage.code == STATISTICS and end - at == len(STATISTICS_FRAME):
+        return statistics(exchange, client.is_trusted)
+    return None
 
 
-def owns(client: Client, kind: Kind, at: int) -> bool:
-    """Whether a client owns the thing that a request names, by the offset of its frame."""
-    name_at = at + HEAD + NAME_END - NAME
-    thing = client.exchange.things.by_name[kind].get(bytes(client.waiting[name_at : name_at + NAME]))
-    return thing is not None and thing.owner is client
+def has(client: Client, kind: Kind, at: int) -> bool:
+    """Whether a client may use the thing that a request names, by the offset of its frame, and does so now."""
+    exchange, name_at = client.exchange, at + HEAD + NAME_END - NAME
+    thing = exchange.things.by_name[kind].get(bytes(client.waiting[name_at : name_at + NAME]))
+    if thing is None or not (thing.owner is client or exchange.rules.is_shared):
+        return False
+    thing.asked = exchange.upstream.sent
+    return True
+
+
+def may_open(client: Client, kind: Kind) -> bool:
+    """Whether a client may open one more thing of a kind: by its own limit, and by its user's share."""
+    exchange = client.exchange
+    return client.counts[kind] < exchange.bounds.open[kind] and exchange.shares.allow(client.user, kind)
