@@ -1,0 +1,169 @@
+"""A store's folder as the page shows it: read from its files every few seconds, and nothing is written."""
+
+from __future__ import annotations
+
+import os
+import time
+from collections.abc import Mapping
+from dataclasses import dataclass, field, replace
+from pathlib import Path
+
+from duqishom.answers import Qualifier
+from duqishom.columns import BadForm
+from duqishom.files import LOG_FILE, MOST_FILES, ROOT_FILE, Key, Root, file_name
+from duqishom.folders import FolderDamaged, has_log, read_mark, read_root
+from duqishom.inspection import Folder
+from duqishom.states import folder_state, size_of
+from duqishom.texts import text_of
+
+# The seconds between two reads of a folder.
+INTERVAL = 5.0
+
+# Locks are looked for in no folder with more bytes of files. After a search nothing is looked for until so many times
+# its duration, and no less than the least pause in seconds, has passed. So many locks are told apart at most.
+MOST_BYTES = 256 << 20
+REST = 20
+LEAST_PAUSE = 10.0
+MOST_LOCKS = 10_000
+
+# The files of a tablet, of at most 64, that are many.
+MANY_FILES = MOST_FILES * 3 // 4
+
+
+@dataclass(frozen=True)
+class TabletState:
+    """A tablet, and the number and the bytes of its files."""
+
+    number: int
+    end: bytes | None
+    files: int
+    bytes: int
+
+
+@dataclass(frozen=True)
+class LockState:
+    """A lock: its cell, the start of its session, and the seconds for which it has been there at least."""
+
+    cell: str
+    session: int
+    seconds: float
+
+
+@dataclass(frozen=True)
+class FolderState:
+    """A folder: the figures that the line `status` shows, its tablets, its mark, whether it has a log, the bytes of
+    that now and at the read before, the free part of the disk, and the reason why it can't be read, if there is one.
+    Of the locks those that are there longest come first, with their number, and the reason why they weren't looked
+    for."""
+
+    figures: Mapping[str, object] = field(default_factory=dict)
+    tablets: tuple[TabletState, ...] = ()
+    mark: int = 0
+    has_log: bool = False
+    log: int = 0
+    log_before: int = 0
+    free: float = 1.0
+    failure: str | None = None
+    locks: tuple[LockState, ...] = ()
+    lock_count: int = 0
+    unsearched: str | None = "the first search isn't done"
+
+
+class FolderReader:
+    """Reads a folder again and again. `state` is its last state, which any thread may take."""
+
+    def __init__(self, path: str) -> None:
+        self.path = Path(path)
+        self.state = FolderState()
+        self._search_at = 0.0
+        self._first: dict[Key, float] = {}
+
+    def run(self) -> None:
+        """Reads for ever."""
+        while True:
+            self.read()
+            time.sleep(INTERVAL)
+
+    def read(self) -> None:
+        """Reads the folder once."""
+        try:
+            self.state = self._now()
+            if time.monotonic() >= self._search_at:
+                self._search()
+        except (OSError, FolderDamaged, BadForm) as failure:
+            self.state = replace(self.state, failure=str(failure))
+
+    def _now(self) -> FolderState:
+        """The state, with the locks of the last search."""
+        root, disk = read_root(self.path), os.statvfs(self.path)
+        return replace(
+            self.state,
+            figures=dict(folder_state(self.path)),
+            tablets=tablets_of(self.path, root),
+            mark=read_mark(self.path),
+            has_log=has_log(str(self.path)),
+            log=size_of(self.path / LOG_FILE),
+            log_before=self.state.log,
+            free=disk.f_bavail / max(disk.f_blocks, 1),
+            failure=None,
+        )
+
+    def _search(self) -> None:
+        """Looks for locks."""
+        total = sum(tablet.bytes for tablet in self.state.tablets)
+        if total > MOST_BYTES:
+            self.state = replace(self.state, locks=(), lock_count=0, unsearched=f"the files have more than {MOST_BYTES:,} bytes")
+            self._search_at = time.monotonic() + LEAST_PAUSE
+            return
+        began, moment = time.monotonic(), self._moment()
+        found, count = locks_in(Folder(self.path))
+        self._first = {key: self._first.get(key, moment) for key in found}
+        locks = sorted((LockState(cell_of(key), key.stamp, moment - self._first[key]) for key in found), key=by_age)
+        self.state = replace(self.state, locks=tuple(locks), lock_count=count, unsearched=None)
+        took = time.monotonic() - began
+        self._search_at = time.monotonic() + max(LEAST_PAUSE, REST * took)
+
+    def _moment(self) -> float:
+        """The time as of which the folder has the locks: now with a log, and without one that of the last
+        checkpoint."""
+        return time.time() if self.state.has_log else time_of(self.path / ROOT_FILE)
+
+
+def time_of(file: Path) -> float:
+    """The time at which a file was written, 0 if there is none."""
+    try:
+        return file.stat().st_mtime
+    except FileNotFoundError:
+        return 0.0
+
+
+def tablets_of(path: Path, root: Root) -> tuple[TabletState, ...]:
+    """The tablets of a root."""
+    said = {file for tablet in root.tablets for file in tablet.files}
+    sizes = {file.name: size_of(path / file_name(file.name)) if file.length is None else file.length for file in said}
+    return tuple(
+        TabletState(tablet.number, tablet.end, len(tablet.files), sum(sizes[file.name] for file in tablet.files))
+        for tablet in root.tablets
+    )
+
+
+def locks_in(folder: Folder) -> tuple[list[Key], int]:
+    """The keys of the locks of a folder, up to the most that are told apart, and their number."""
+    keys, count = list[Key](), 0
+    if folder.may_have_locks():
+        for found in folder.versions():
+            if found.key.column is Qualifier.LOCK:
+                count += 1
+                if len(keys) < MOST_LOCKS:
+                    keys.append(found.key)
+    return keys, count
+
+
+def cell_of(key: Key) -> str:
+    """The cell of a key, in words."""
+    return f"{text_of(key.row)} {text_of(key.family)}"
+
+
+def by_age(lock: LockState) -> tuple[float, str]:
+    """The order of locks: those that are there longest come first."""
+    return -lock.seconds, lock.cell
