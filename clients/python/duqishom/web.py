@@ -57,7 +57,8 @@ class Site:
     def health(self) -> Reply:
         """`ok`, with a line for each warning, or 503 and the reason if the store is down."""
         _, found = self._health()
-        return down(found) if found.word == DOWN else Reply(200, "".join(["ok\n", *(f"warning: {why}\n" for why in found.reasons)]))
+        warnings = (f"warning: {why}\n" for why in found.reasons)
+        return down(found) if found.word == DOWN else Reply(200, "".join(["ok\n", *warnings]))
 
 
 def down(found: Health) -> Reply:
@@ -69,7 +70,7 @@ def parser() -> argparse.ArgumentParser:
     """The parser of the command line."""
     words = argparse.ArgumentParser(prog="duqishom web", description=DESCRIPTION)
     words.add_argument("--socket", metavar="PATH", required=True, help="the gateway's socket")
-    words.add_argument("--listen", metavar="PORT", required=True, help="a port of 127.0.0.1, or ADDRESS:PORT; 0 takes any free port")
+    words.add_argument("--listen", metavar="PORT", required=True, help="a port of 127.0.0.1, or ADDRESS:PORT; 0 is any free port")
     words.add_argument("--any-address", action="store_true", help="let the address be one that other machines reach")
     words.add_argument("--dir", metavar="FOLDER", help="the store's folder: shows its tablets, its log and its locks, too")
     return words

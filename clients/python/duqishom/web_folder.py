@@ -19,12 +19,13 @@ from duqishom.texts import text_of
 # The seconds between two reads of a folder.
 INTERVAL = 5.0
 
-# Locks are looked for in no folder with more bytes of files. After a search nothing is looked for until so many times
-# its duration, and no less than the least pause in seconds, has passed. So many locks are told apart at most.
+# The bytes of files beyond which locks aren't looked for, and the most locks that are told apart.
 MOST_BYTES = 256 << 20
+MOST_LOCKS = 10_000
+
+# The pause after a search for locks: so many times its duration, and so many seconds at least.
 REST = 20
 LEAST_PAUSE = 10.0
-MOST_LOCKS = 10_000
 
 # The files of a tablet, of at most 64, that are many.
 MANY_FILES = MOST_FILES * 3 // 4
@@ -92,6 +93,8 @@ class FolderReader:
                 self._search()
         except (OSError, FolderDamaged, BadForm) as failure:
             self.state = replace(self.state, failure=str(failure))
+        except Exception as failure:  # Damaged bytes may fail in any way
+            self.state = replace(self.state, failure=f"{type(failure).__name__}: {failure}")
 
     def _now(self) -> FolderState:
         """The state, with the locks of the last search."""
@@ -109,19 +112,24 @@ class FolderReader:
         )
 
     def _search(self) -> None:
-        """Looks for locks."""
-        total = sum(tablet.bytes for tablet in self.state.tablets)
-        if total > MOST_BYTES:
-            self.state = replace(self.state, locks=(), lock_count=0, unsearched=f"the files have more than {MOST_BYTES:,} bytes")
-            self._search_at = time.monotonic() + LEAST_PAUSE
-            return
-        began, moment = time.monotonic(), self._moment()
-        found, count = locks_in(Folder(self.path))
+        """Looks for locks, if the files aren't too large, and decides when to do so again."""
+        began = time.monotonic()
+        try:
+            if sum(tablet.bytes for tablet in self.state.tablets) > MOST_BYTES:
+                reason = f"the files have more than {MOST_BYTES:,} bytes"
+                self.state = replace(self.state, locks=(), lock_count=0, unsearched=reason)
+            else:
+                self._note_locks(*locks_in(Folder(self.path)))
+        finally:
+            ended = time.monotonic()
+            self._search_at = ended + max(LEAST_PAUSE, REST * (ended - began))
+
+    def _note_locks(self, found: list[Key], count: int) -> None:
+        """Records the locks that were found."""
+        moment = self._moment()
         self._first = {key: self._first.get(key, moment) for key in found}
         locks = sorted((LockState(cell_of(key), key.stamp, moment - self._first[key]) for key in found), key=by_age)
         self.state = replace(self.state, locks=tuple(locks), lock_count=count, unsearched=None)
-        took = time.monotonic() - began
-        self._search_at = time.monotonic() + max(LEAST_PAUSE, REST * took)
 
     def _moment(self) -> float:
         """The time as of which the folder has the locks: now with a log, and without one that of the last

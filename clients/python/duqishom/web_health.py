@@ -10,7 +10,7 @@ from pathlib import Path
 from duqishom.files import MOST_FILES
 from duqishom.web_folder import MANY_FILES, FolderState
 from duqishom.web_markup import duration, size
-from duqishom.web_samples import Sample, Samples, View, grown, oldest_session
+from duqishom.web_samples import SPAN, Sample, Samples, View, grown, measure, oldest_session
 
 OK, WARNING, DOWN = "ok", "warning", "down"
 
@@ -49,10 +49,12 @@ def health(view: View, folder: FolderState | None) -> Health:
 
 def of_clients(samples: Samples) -> Iterator[str]:
     """The reasons that lie with clients: those to whom something happened while the samples were taken."""
-    for part, what in (("turned_away", "turned away, for there was no place"), ("closed_for_memory", "closed for memory")):
-        count = grown(samples, lambda sample, part=part: sample.number("clients", part))  # type: ignore[misc]
-        if count > 0:
-            yield f"{counted(int(count), 'client')} {'was' if count == 1 else 'were'} {what}"
+    away = int(grown(samples, measure("clients", "turned_away")))
+    if away:
+        yield f"{counted(away, 'client')} turned away in the last {duration(SPAN)}, for there was no place"
+    closed = int(grown(samples, measure("clients", "closed_for_memory")))
+    if closed:
+        yield f"{counted(closed, 'client')} closed for memory in the last {duration(SPAN)}"
 
 
 def of_sessions(samples: Samples, last: Sample) -> Iterator[str]:
@@ -72,7 +74,7 @@ def of_folder(folder: FolderState, last: Sample) -> Iterator[str]:
     most = max(folder.tablets, key=lambda tablet: tablet.files, default=None)
     if most is not None and most.files >= MANY_FILES:
         yield f"tablet {most.number} has {most.files} files of at most {MOST_FILES}"
-    limit = log_bytes(int(last.number("program", "process")))
+    limit = log_bytes(last)
     if folder.log >= LONG_LOG:
         yield f"the log is near its bound: {size(folder.log)} of {size(2 * LOG_BYTES)}"
     elif folder.log > limit and folder.log_before > limit:
@@ -81,7 +83,7 @@ def of_folder(folder: FolderState, last: Sample) -> Iterator[str]:
         yield f"{folder.free:.0%} of the disk is free"
     long = [lock for lock in folder.locks if lock.seconds >= LONG_LOCK]
     if long:
-        yield f"{counted(len(long), 'lock')} left behind for {duration(LONG_LOCK)} or longer"
+        yield f"{counted(len(long), 'lock')} held for {duration(LONG_LOCK)} or longer"
 
 
 def counted(count: int, what: str) -> str:
@@ -89,11 +91,11 @@ def counted(count: int, what: str) -> str:
     return f"{count:,} {what}{'' if count == 1 else 's'}"
 
 
-def log_bytes(process: int) -> int:
-    """The bytes at which a program's log is emptied, by the words of its command line."""
+def log_bytes(last: Sample | None) -> int:
+    """The bytes at which the program empties its log, by the words of its command line."""
     words: Sequence[bytes] = ()
     with suppress(OSError):
-        words = Path(f"/proc/{process}/cmdline").read_bytes().split(b"\0")
+        words = Path(f"/proc/{last.number('program', 'process') if last else 0}/cmdline").read_bytes().split(b"\0")
     for word, value in zip(words, words[1:]):
         if word == b"--log-bytes" and value.isdigit():
             return int(value)

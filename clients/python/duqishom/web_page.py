@@ -3,54 +3,33 @@
 from __future__ import annotations
 
 import time
-from collections.abc import Callable, Iterator
+from collections import Counter
+from collections.abc import Iterator
+from itertools import islice
 
 from duqishom.version import VERSION
 from duqishom.web_charts import are_labelled, large_line, range_of, small_line, tablet_bar
 from duqishom.web_folder import FolderState
 from duqishom.web_health import MOST_SESSIONS, Health, log_bytes
-from duqishom.web_markup import Markup, duration, size, speed, table, tag, together
-from duqishom.web_samples import INTERVAL, MOST_SAMPLES, Sample, View, oldest_session, rates, recent_rate
-
-# The seconds after which a browser asks for the page again.
-REFRESH = 5
+from duqishom.web_markup import Markup, duration, size, speed, table, tag
+from duqishom.web_samples import INTERVAL, MOST_SAMPLES, SPAN, Sample, View, measure, oldest_session, rates, recent_rate
+from duqishom.web_style import whole
 
 # The rows that a table of tablets or of locks has at most.
-MOST_ROWS = 8
+MOST_ROWS = 6
 
 # The counts of clients that have another name on the page.
 CLIENTS = {"now": "connected", "ever": "since the start"}
 
 # The figures of a folder in bytes, with their names on the page.
-FILES = (("bytes of files", "files"), ("bytes of files that no tablet has", "files of no tablet"), ("bytes free on the disk", "free on the disk"))
+FILES = (
+    ("bytes of files", "files"),
+    ("bytes of files that no tablet has", "files of no tablet"),
+    ("bytes free on the disk", "free on the disk"),
+)
 
 # The operations that the page itself asks for, and that aren't part of the sum.
 OWN = ("Statistics", "other")
-
-STYLE = """
-body { font: 14px/1.4 system-ui, sans-serif; color: #222; background: #fff; margin: 16px auto; max-width: 1200px; padding: 0 24px }
-h1 { font-size: 18px; margin: 0; display: inline } h2 { font-size: 14px; margin: 0 0 4px }
-header { border-bottom: 1px solid #ddd; padding-bottom: 8px } header span { margin-left: 16px }
-header span, .figures div, .note, th, .pairs td:first-child { color: #666 }
-.health { display: flex; align-items: baseline; margin: 8px 0 12px } .health ul { list-style: none; margin: 0 0 0 16px; padding: 0 }
-.word { font-weight: bold; font-size: 18px } .ok { color: #25702f } .warning { color: #a85000 } .down { color: #b00020 }
-.figures { display: flex; justify-content: space-between; margin-bottom: 16px }
-.figures b { display: block; font-size: 20px; font-weight: normal; color: #222 }
-main { display: grid; grid-template-columns: 560px 1fr; gap: 16px 48px } .wide { grid-column: 1 / 3 }
-.beside { display: grid; grid-template-columns: 1fr 1fr; gap: 16px 40px; align-content: start }
-table { border-collapse: collapse; width: 100%; font-variant-numeric: tabular-nums } .note { margin: 4px 0 0 }
-td, th { text-align: left; font-weight: normal; padding: 2px 12px 2px 0; overflow-wrap: anywhere; vertical-align: top }
-td:last-child, th:last-child { padding-right: 0 } tr + tr td { border-top: 1px solid #eee } .pairs td:last-child { text-align: right; white-space: nowrap }
-.numbers td:nth-child(n+2):nth-child(-n+3), .numbers th:nth-child(n+2):nth-child(-n+3) { text-align: right; width: 90px }
-svg { display: block; max-width: 100% } svg text { font-size: 13px; fill: #666 } .end { text-anchor: end } .numbers svg { margin-left: auto }
-.line polyline { fill: none; stroke: #2a62a5; stroke-width: 1.5 } .line .scale { stroke: #ddd }
-.tablet { fill: #e3ebf5; stroke: #fff } .many { fill: #f3d9bd; stroke: #fff } .bar text { fill: #222 }
-"""
-
-HEAD = Markup(
-    f'<!doctype html><html lang="en"><head><meta charset="utf-8"><meta http-equiv="refresh" content="{REFRESH}">'
-    f'<meta name="viewport" content="width=device-width"><title>duqishom</title><style>{STYLE}</style></head>'
-)
 
 
 def page(path: str, view: View, health: Health, folder: FolderState | None) -> str:
@@ -58,8 +37,14 @@ def page(path: str, view: View, health: Health, folder: FolderState | None) -> s
     last = view.last()
     parts = [header(path, last, view), word(health)]
     if last is not None:
-        parts += [figures(view, last), tag("main", *sections(view, last, folder))]
-    return together(HEAD, tag("body", *parts), Markup("</html>\n"))
+        parts += [tag("p", f"The gateway's figures are {age(last)} old.", class_="note")] if view.failure else []
+        parts += [figures(view, last)]
+    return whole(f"{health.word}: duqishom", tag("body", *parts, tag("main", *sections(view, last, folder))))
+
+
+def age(sample: Sample) -> str:
+    """The time since a sample."""
+    return duration(time.monotonic() - sample.at)
 
 
 def header(path: str, last: Sample | None, view: View) -> Markup:
@@ -95,7 +80,7 @@ def figures(view: View, last: Sample) -> Markup:
 
 def share(view: View, process: str) -> str:
     """The part of a processor that a process takes."""
-    taken = recent_rate(view.samples, lambda sample: sample.number(process, "processor_seconds"))
+    taken = recent_rate(view.samples, measure(process, "processor_seconds"))
     return "–" if taken is None else f"{taken:.0%}"
 
 
@@ -109,29 +94,42 @@ def pairs(rows: Iterator[tuple[object, object]]) -> Markup:
     return table((), list(rows), class_="pairs")
 
 
-def sections(view: View, last: Sample, folder: FolderState | None) -> Iterator[Markup]:
+def sections(view: View, last: Sample | None, folder: FolderState | None) -> Iterator[Markup]:
     """The parts under the figures."""
-    yield section("Requests a second", *requests(view, last))
-    beside = [section("Clients", pairs(clients(view, last)))]
-    beside += [section("Folder", pairs(folder_rows(folder, last)))] if folder else []
-    beside += [section("Processes", processes(view, last), class_="wide")]
-    beside += [section("Clients by process", *by_process(last), class_="wide")] if last.group("process_clients") else []
-    beside += [section("Locks left behind", locks(folder), class_="wide")] if folder else []
-    yield tag("div", *beside, class_="beside")
+    if last is not None:
+        yield section("Requests a second", *requests(view, last))
+    yield tag("div", *beside(view, last, folder), class_="beside")
     if folder and folder.tablets:
         yield section("Tablets, as of the last checkpoint", *tablets(folder), class_="wide")
 
 
+def beside(view: View, last: Sample | None, folder: FolderState | None) -> Iterator[Markup]:
+    """The parts beside the requests."""
+    if last is not None:
+        yield section("Clients", pairs(clients(view, last)))
+    if folder is not None:
+        yield section("Folder", pairs(folder_rows(folder, last)))
+    if last is not None:
+        yield section("Processes", processes(view, last), class_="wide")
+        if last.group("process_clients"):
+            yield section("Clients by process", *by_process(last), class_="wide")
+    if folder is not None:
+        yield section(title_of_locks(folder), *locks(folder), class_="wide")
+
+
+def title_of_locks(folder: FolderState) -> str:
+    """The title of the locks: without a log they aren't those of now."""
+    return "Locks" if folder.has_log else "Locks, as of the last checkpoint"
+
+
 def requests(view: View, last: Sample) -> Iterator[Markup]:
     """The requests a second: a line of all, and each operation that was asked for."""
-    span = duration(INTERVAL * MOST_SAMPLES)
-    yield large_line(rates(view.samples, operations), MOST_SAMPLES - 1, span)
+    yield large_line(rates(view.samples, operations), MOST_SAMPLES - 1, duration(SPAN))
     rows: list[tuple[object, ...]] = []
     for name, count in last.group("requests").items():
         if count:
-            of: Callable[[Sample], float] = lambda sample, name=name: sample.number("requests", name)  # type: ignore[misc]
-            line = small_line(rates(view.samples, of), MOST_SAMPLES - 1)
-            rows.append((name, speed(recent_rate(view.samples, of)), f"{count:,}", line))
+            line = small_line(rates(view.samples, measure("requests", name)), MOST_SAMPLES - 1)
+            rows.append((name, speed(recent_rate(view.samples, measure("requests", name))), f"{count:,}", line))
     yield table(("operation", "a second", "in all", ""), rows, class_="numbers")
     yield tag("p", f"This page asks for one of Statistics and one of other every {INTERVAL:g} s.", class_="note")
 
@@ -141,6 +139,8 @@ def clients(view: View, last: Sample) -> Iterator[tuple[object, object]]:
     for part, count in last.group("clients").items():
         yield CLIENTS.get(part, part.replace("_", " ")), f"{count:,}"
     yield "open sessions", f"{last.number('open', 'sessions'):,} of {MOST_SESSIONS:,}"
+    fewest = min(sample.number("open", "sessions") for sample in view.samples if sample is not None)
+    yield f"fewest in {duration(SPAN)}", f"{fewest:,}"
     oldest = oldest_session(view.samples)
     if oldest is not None:
         yield "open for long", f"{oldest[0]:,} for {duration(oldest[1])}"
@@ -187,15 +187,16 @@ def tablets(folder: FolderState) -> Iterator[Markup]:
     yield more(len(folder.tablets) - len(most))
 
 
-def folder_rows(folder: FolderState, last: Sample) -> Iterator[tuple[object, object]]:
+def folder_rows(folder: FolderState, last: Sample | None) -> Iterator[tuple[object, object]]:
     """The figures of the folder."""
     figures = folder.figures
     if "seconds since the checkpoint" in figures:
         yield "last checkpoint", f"{duration(int(str(figures['seconds since the checkpoint'])))} ago"
     else:
         yield "last checkpoint", "none"
-    yield "by the gateway", f"{last.told.get('checkpoints', 0)} checkpoints"
-    limit = log_bytes(int(last.number("program", "process")))
+    if last is not None:
+        yield "checkpoints asked for", last.told.get("checkpoints", 0)
+    limit = log_bytes(last)
     yield "log", f"{size(folder.log)} of {size(limit)}" if folder.has_log else "none"
     yield "mark", f"{folder.mark:,}"
     for name, what in FILES:
@@ -203,13 +204,18 @@ def folder_rows(folder: FolderState, last: Sample) -> Iterator[tuple[object, obj
             yield what, size(int(str(figures[name])))
 
 
-def locks(folder: FolderState) -> Markup:
-    """The locks that are there longest."""
+def locks(folder: FolderState) -> Iterator[Markup]:
+    """The locks by their sessions, those that are there longest first."""
     if folder.unsearched is not None:
-        return tag("p", f"Not looked for: {folder.unsearched}.", class_="note")
-    if not folder.locks:
-        return tag("p", "None.", class_="note")
-    rows: list[tuple[object, ...]] = [
-        (lock.cell, f"{lock.session:,}", f"{duration(lock.seconds)} or longer") for lock in folder.locks[:MOST_ROWS]
-    ]
-    return together(table(("cell", "session", "for"), rows), more(folder.lock_count - len(rows)))
+        yield tag("p", f"Not looked for: {folder.unsearched}.", class_="note")
+    elif not folder.locks:
+        yield tag("p", "None.", class_="note")
+    else:
+        first = {lock.session: lock for lock in reversed(folder.locks)}
+        counts = Counter(lock.session for lock in folder.locks)
+        rows: list[tuple[object, ...]] = [
+            (f"{session:,}", f"{count:,}", first[session].cell, duration(first[session].seconds))
+            for session, count in islice(counts.items(), MOST_ROWS)
+        ]
+        yield table(("session", "locks", "one of them", "at least for"), rows)
+        yield more(len(counts) - len(rows))

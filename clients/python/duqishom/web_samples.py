@@ -13,16 +13,17 @@ from itertools import pairwise
 from typing import ClassVar
 
 from duqishom.connection import RequestTimedOut
-from duqishom.fields import FieldReader, MalformedReply
+from duqishom.fields import FieldReader
 from duqishom.operations import answer_or_refusal, request_body
 from duqishom.program import ProgramEnded
 from duqishom.refusals import Refused
 from duqishom.remote import Gateway
 from duqishom.statistics import Counted, Number, prometheus
 
-# The seconds between two samples, and the number of samples that are kept: ten minutes.
+# The seconds between two samples, the number of samples that are kept, and the seconds that these cover.
 INTERVAL = 2.0
 MOST_SAMPLES = 300
+SPAN = INTERVAL * MOST_SAMPLES
 
 # The seconds after which a request without an answer counts as a failure.
 PATIENCE = 10.0
@@ -79,6 +80,11 @@ Measure = Callable[[Sample], Number]
 Samples = Sequence[Sample | None]
 
 
+def measure(name: str, part: str) -> Measure:
+    """The function from a sample to this number of its counts."""
+    return lambda sample: sample.number(name, part)
+
+
 @dataclass(frozen=True)
 class View:
     """The last samples of a gateway, the oldest first, with None where it didn't answer, and the reason why it doesn't
@@ -93,7 +99,7 @@ class View:
 
 
 class NoAnswer(Exception):
-    """The gateway, or its program, didn't answer."""
+    """The gateway, or its program, hasn't answered in time. The next request waits for both replies."""
 
 
 class Sampler:
@@ -103,6 +109,7 @@ class Sampler:
         self.path = path
         self.is_ready = threading.Event()
         self._gateway: Gateway | None = None
+        self._late: str | None = None
         self._lock = threading.Lock()
         self._samples: deque[Sample | None] = deque(maxlen=MOST_SAMPLES)
         self._failure: str | None = f"the gateway at {path} hasn't been asked yet"
@@ -119,17 +126,20 @@ class Sampler:
             time.sleep(INTERVAL)
 
     def take(self) -> None:
-        """Takes one sample, or records why there is none."""
+        """Takes one sample, or records why there is none. After a late answer the connection stays: another one might
+        find no place."""
         sample, failure = None, None
         try:
             sample = self._sample()
+        except NoAnswer as error:
+            failure = str(error)
         except (FileNotFoundError, ConnectionRefusedError):
             failure = f"no gateway serves {self.path}"
-        except (OSError, ProgramEnded, Refused, NoAnswer) as error:
+        except (OSError, ProgramEnded, Refused) as error:
             failure = str(error)
-        except (MalformedReply, ValueError, LookupError, TypeError, AttributeError) as error:
+        except Exception as error:  # Anything may serve at the socket
             failure = f"the counts of {self.path} aren't those of a gateway of this version: {error}"
-        if failure is not None:
+        if failure is not None and self._late is None:
             self._leave()
         with self._lock:
             self._samples.append(sample)
@@ -149,10 +159,12 @@ class Sampler:
     def _ask(self, who: str, body: bytes) -> bytes:
         """The reply to a request. NoAnswer if there is none in time."""
         self._gateway = self._gateway or Gateway(self.path)
+        late, self._late = self._late, None
         try:
             [reply] = self._gateway.ask([body], PATIENCE)
         except RequestTimedOut:
-            raise NoAnswer(f"{who} hasn't answered for {PATIENCE:g} s") from None
+            self._late = late or who
+            raise NoAnswer(f"{self._late} hasn't answered for {PATIENCE:g} s") from None
         return reply
 
     def _leave(self) -> None:

@@ -9,10 +9,10 @@ import sys
 import threading
 from collections.abc import Callable, Mapping
 from contextlib import suppress
+from http import HTTPStatus
 from http.server import BaseHTTPRequestHandler
 from socketserver import ThreadingTCPServer
 from typing import Any, NamedTuple
-from urllib.parse import urlsplit
 
 # The connections at a time. If there are more, the oldest is closed.
 MOST_CONNECTIONS = 32
@@ -23,8 +23,9 @@ PATIENCE = 10.0
 TEXT = "text/plain; charset=utf-8"
 
 # A page may load nothing, and no other page may have it in a frame.
+POLICY = "default-src 'none'; style-src 'unsafe-inline'; frame-ancestors 'none'; base-uri 'none'; form-action 'none'"
 HEADERS = (
-    ("Content-Security-Policy", "default-src 'none'; style-src 'unsafe-inline'; frame-ancestors 'none'; base-uri 'none'; form-action 'none'"),
+    ("Content-Security-Policy", POLICY),
     ("X-Content-Type-Options", "nosniff"),
     ("Referrer-Policy", "no-referrer"),
     ("Cache-Control", "no-store"),
@@ -97,7 +98,7 @@ class Handler(BaseHTTPRequestHandler):
 
     def do_GET(self) -> None:
         """Answers with the page at the path."""
-        page = self.server.pages.get(urlsplit(self.path).path)
+        page = self.server.pages.get(self.path.partition("?")[0])
         if self.server.names and not self._is_named():
             self._reply(Reply(421, f"this page answers to {', '.join(sorted(self.server.names))}\n"))
         elif page is None:
@@ -123,7 +124,7 @@ class Handler(BaseHTTPRequestHandler):
 
     def send_error(self, code: int, message: str | None = None, explain: str | None = None) -> None:
         """Answers a request that can't be read."""
-        self._reply(Reply(code, f"{message or self.responses.get(code, ('', ''))[0]}\n"))
+        self._reply(Reply(code, f"{HTTPStatus(code).phrase}\n"))
 
     def version_string(self) -> str:
         return "duqishom"

@@ -23,7 +23,7 @@ from duqishom.statistics import Counted
 from duqishom.version import VERSION
 from duqishom.web_folder import FolderState, LockState, TabletState
 from duqishom.web_health import DOWN, OK, WARNING, health
-from duqishom.web_samples import Sample, View, oldest_session, rates, recent_rate
+from duqishom.web_samples import Sample, View, measure, oldest_session, rates, recent_rate
 from duqishom.web_server import MOST_CONNECTIONS
 from tests.gateways import CHECKPOINT, PACKAGE, PATIENCE, Gateway, Wire, folder_of, frame, set_, step, until
 
@@ -31,7 +31,8 @@ CHROMIUM = shutil.which("chromium")
 EVIL = b"<script>alert('1')</script>&\""
 
 # The numbers of metrics that move by themselves, or by being asked for.
-MOVING = re.compile(r"(?m)^(duqishom_(?:\w+_seconds\w*|bytes_total|held|clients|clients_total|\w+_memory_bytes)\S*|.*\"(?:Statistics|other)\"}) .*$")
+NAMES = r"duqishom_(?:\w+_seconds\w*|bytes_total|held|clients|clients_total|\w+_memory_bytes)\S*"
+MOVING = re.compile(rf"(?m)^({NAMES}|.*\"(?:Statistics|other)\"}}) .*$")
 
 # The elements that have no end.
 VOID = {"meta"}
@@ -130,8 +131,8 @@ class Pages(unittest.TestCase):
             self.assertIn(fact, page.texts)
         at = page.texts.index("Step")
         self.assertEqual(page.texts[at : at + 3], ["Step", "0", "9"])
-        at = page.texts.index("by the gateway")
-        self.assertEqual(page.texts[at + 1], "1 checkpoints")
+        at = page.texts.index("checkpoints asked for")
+        self.assertEqual(page.texts[at + 1], "1")
         self.assertIn(f"program {gateway.program()}", page.texts)
 
     def test_metrics_are_those_of_stats(self) -> None:
@@ -289,11 +290,8 @@ class Judgements(unittest.TestCase):
     """Rates and health, of samples and folders that are given."""
 
     def test_rates(self) -> None:
-        samples = (sample(0, begins(0)), sample(2, begins(10)), None, sample(4, begins(14)), sample(6, begins(2), 2), sample(8, begins(2), 2))
-
-        def of(each: Sample) -> float:
-            return each.number("requests", "Begin")
-
+        before = (sample(0, begins(0)), sample(2, begins(10)), None, sample(4, begins(14)))
+        samples, of = (*before, sample(6, begins(2), 2), sample(8, begins(2), 2)), measure("requests", "Begin")
         self.assertEqual(rates(samples, of), [5, None, None, None, 0])
         self.assertEqual([recent_rate(samples[:count], of) for count in range(7)], [None, None, 5, None, 3.5, None, 0])
 
@@ -310,8 +308,8 @@ class Judgements(unittest.TestCase):
         tablet, name, disk = TabletState(7, None, 48, 1), LockState("a c", 3, 61.0), 33_554_433
         gateways: tuple[tuple[Groups, str], ...] = (
             ({}, ""),
-            ({"clients": {"turned_away": 3}}, "2 clients were turned away, for there was no place"),
-            ({"clients": {"turned_away": 1, "closed_for_memory": 1}}, "1 client was closed for memory"),
+            ({"clients": {"turned_away": 3}}, "2 clients turned away in the last 10 min, for there was no place"),
+            ({"clients": {"turned_away": 1, "closed_for_memory": 1}}, "1 client closed for memory in the last 10 min"),
             (begins(2000, 768), "768 of 1,024 sessions are open"),
         )
         for change, reason in gateways:
@@ -320,15 +318,16 @@ class Judgements(unittest.TestCase):
                 self.assertEqual((found.word, found.reasons), (WARNING, (reason,)) if reason else (OK, ()))
         found = health(View((sample(0, begins(5, 1)), sample(300, begins(5, 1))), None), None)
         self.assertEqual(found.reasons, ("1 session open for 5 min or longer",))
+        log = "the log has 32.0 MiB, and is to be emptied at 32.0 MiB"
         folders = (
             (FolderState(), ""),
             (FolderState(failure="why"), "the folder can't be read: why"),
             (FolderState(tablets=(tablet,)), "tablet 7 has 48 files of at most 64"),
             (FolderState(log=disk, log_before=0), ""),
-            (FolderState(log=disk, log_before=disk), "a checkpoint was refused: the log has 32.0 MiB, and is to be emptied at 32.0 MiB"),
+            (FolderState(log=disk, log_before=disk), f"a checkpoint was refused: {log}"),
             (FolderState(log=50_331_648), "the log is near its bound: 48.0 MiB of 64.0 MiB"),
             (FolderState(free=0.04), "4% of the disk is free"),
-            (FolderState(locks=(name, LockState("b c", 4, 59.0))), "1 lock left behind for 1 min or longer"),
+            (FolderState(locks=(name, LockState("b c", 4, 59.0))), "1 lock held for 1 min or longer"),
         )
         for folder, reason in folders:
             with self.subTest(reason):
