@@ -7,7 +7,7 @@ from itertools import groupby
 
 from duqishom.texts import text_of
 from duqishom.web_folder import MANY_FILES, TabletState
-from duqishom.web_markup import Markup, size, speed, tag
+from duqishom.web_markup import Markup, counted, size, speed, tag
 
 # The width of a letter, and the distance of a label's lines.
 LETTER, LINE = 7, 17
@@ -80,7 +80,7 @@ def tablet_bar(tablets: Sequence[TabletState]) -> Markup:
     """The tablets in the order of their rows, each as wide as its share of the bytes."""
     height, at, parts = 62, 0.0, list[Markup]()
     for tablet, width in zip(tablets, widths(tablets)):
-        files = f"{tablet.files} file{'' if tablet.files == 1 else 's'}, {size(tablet.bytes)}"
+        files = f"{counted(tablet.files, 'file')}, {size(tablet.bytes)}"
         said = (f"tablet {tablet.number}", files, range_of(tablet))
         shade = "many" if tablet.files >= MANY_FILES else "tablet"
         box = tag("rect", tag("title", ", ".join(said)), x=f"{at:.1f}", y=0, width=f"{width:.1f}", height=height, class_=shade)

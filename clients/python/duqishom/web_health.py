@@ -9,7 +9,7 @@ from pathlib import Path
 
 from duqishom.files import MOST_FILES
 from duqishom.web_folder import MANY_FILES, FolderState
-from duqishom.web_markup import duration, size
+from duqishom.web_markup import counted, duration, size
 from duqishom.web_samples import SPAN, Sample, Samples, View, grown, measure, oldest_session
 
 OK, WARNING, DOWN = "ok", "warning", "down"
@@ -84,11 +84,6 @@ def of_folder(folder: FolderState, last: Sample) -> Iterator[str]:
     long = [lock for lock in folder.locks if lock.seconds >= LONG_LOCK]
     if long:
         yield f"{counted(len(long), 'lock')} held for {duration(LONG_LOCK)} or longer"
-
-
-def counted(count: int, what: str) -> str:
-    """A number of things."""
-    return f"{count:,} {what}{'' if count == 1 else 's'}"
 
 
 def log_bytes(last: Sample | None) -> int:

@@ -58,3 +58,8 @@ def speed(a_second: float | None) -> str:
     if a_second is None:
         return "–"
     return f"{a_second:,.0f}" if a_second >= 100 or a_second == 0 else f"{a_second:,.1f}"
+
+
+def counted(count: int, what: str) -> str:
+    """A number of things."""
+    return f"{count:,} {what}{'' if count == 1 else 's'}"

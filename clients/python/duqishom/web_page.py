@@ -11,7 +11,7 @@ from duqishom.version import VERSION
 from duqishom.web_charts import are_labelled, large_line, range_of, small_line, tablet_bar
 from duqishom.web_folder import FolderState
 from duqishom.web_health import MOST_SESSIONS, Health, log_bytes
-from duqishom.web_markup import Markup, duration, size, speed, table, tag
+from duqishom.web_markup import Markup, counted, duration, size, speed, table, tag
 from duqishom.web_samples import INTERVAL, MOST_SAMPLES, SPAN, Sample, View, measure, oldest_session, rates, recent_rate
 from duqishom.web_style import whole
 
@@ -37,7 +37,7 @@ def page(path: str, view: View, health: Health, folder: FolderState | None) -> s
     last = view.last()
     parts = [header(path, last, view), word(health)]
     if last is not None:
-        parts += [tag("p", f"The gateway's figures are {age(last)} old.", class_="note")] if view.failure else []
+        parts += [tag("p", f"The gateway's figures are {age(last)} old.", class_="note old")] if view.failure else []
         parts += [figures(view, last)]
     return whole(f"{health.word}: duqishom", tag("body", *parts, tag("main", *sections(view, last, folder))))
 
@@ -49,7 +49,7 @@ def age(sample: Sample) -> str:
 
 def header(path: str, last: Sample | None, view: View) -> Markup:
     """The store, how long it is up, the version, and the time."""
-    life = "not up" if last is None or view.failure is not None else f"up for {duration(last.up)}"
+    life = "no answer" if last is None or view.failure is not None else f"up for {duration(last.up)}"
     texts = (path, life, f"version {VERSION}", time.strftime("%Y-%m-%d %H:%M:%S %Z"))
     return tag("header", tag("h1", "duqishom"), *(tag("span", text) for text in texts))
 
@@ -137,7 +137,8 @@ def requests(view: View, last: Sample) -> Iterator[Markup]:
 def clients(view: View, last: Sample) -> Iterator[tuple[object, object]]:
     """The figures of clients and of what they have open."""
     for part, count in last.group("clients").items():
-        yield CLIENTS.get(part, part.replace("_", " ")), f"{count:,}"
+        yield CLIENTS.get(part, spoken(part)), f"{count:,}"
+    yield from ((spoken(part), f"{count:,}") for part, count in last.group("ended").items() if count)
     yield "open sessions", f"{last.number('open', 'sessions'):,} of {MOST_SESSIONS:,}"
     fewest = min(sample.number("open", "sessions") for sample in view.samples if sample is not None)
     yield f"fewest in {duration(SPAN)}", f"{fewest:,}"
@@ -146,6 +147,11 @@ def clients(view: View, last: Sample) -> Iterator[tuple[object, object]]:
         yield "open for long", f"{oldest[0]:,} for {duration(oldest[1])}"
     yield "cleaners, collectors", f"{last.number('open', 'cleaners'):,}, {last.number('open', 'collectors'):,}"
     yield "bytes that wait", size(last.number("held", "requests") + last.number("held", "replies"))
+
+
+def spoken(name: str) -> str:
+    """The name of a count in words."""
+    return name.replace("_", " ")
 
 
 def processes(view: View, last: Sample) -> Markup:
@@ -195,7 +201,7 @@ def folder_rows(folder: FolderState, last: Sample | None) -> Iterator[tuple[obje
     else:
         yield "last checkpoint", "none"
     if last is not None:
-        yield "checkpoints asked for", last.told.get("checkpoints", 0)
+        yield "on request", counted(int(last.alone("checkpoints")), "checkpoint")
     limit = log_bytes(last)
     yield "log", f"{size(folder.log)} of {size(limit)}" if folder.has_log else "none"
     yield "mark", f"{folder.mark:,}"

@@ -19,6 +19,7 @@ from duqishom.program import ProgramEnded
 from duqishom.refusals import Refused
 from duqishom.remote import Gateway
 from duqishom.statistics import Counted, Number, prometheus
+from duqishom.web_markup import duration
 
 # The seconds between two samples, the number of samples that are kept, and the seconds that these cover.
 INTERVAL = 2.0
@@ -62,8 +63,12 @@ class Sample:
     @property
     def up(self) -> float:
         """The seconds since the gateway's start."""
-        seconds = self.told.get("seconds", 0.0)
-        return 0.0 if isinstance(seconds, Mapping) else seconds
+        return self.alone("seconds")
+
+    def alone(self, name: str) -> Number:
+        """The number under a name, 0 if the gateway doesn't count it."""
+        number = self.told.get(name, 0)
+        return 0 if isinstance(number, Mapping) else number
 
     def group(self, name: str) -> Mapping[str, Number]:
         """The numbers under a name, none if the gateway doesn't count them."""
@@ -109,7 +114,7 @@ class Sampler:
         self.path = path
         self.is_ready = threading.Event()
         self._gateway: Gateway | None = None
-        self._late: str | None = None
+        self._late: tuple[str, float] | None = None
         self._lock = threading.Lock()
         self._samples: deque[Sample | None] = deque(maxlen=MOST_SAMPLES)
         self._failure: str | None = f"the gateway at {path} hasn't been asked yet"
@@ -159,12 +164,12 @@ class Sampler:
     def _ask(self, who: str, body: bytes) -> bytes:
         """The reply to a request. NoAnswer if there is none in time."""
         self._gateway = self._gateway or Gateway(self.path)
-        late, self._late = self._late, None
+        (who, since), self._late = self._late or (who, time.monotonic()), None
         try:
             [reply] = self._gateway.ask([body], PATIENCE)
         except RequestTimedOut:
-            self._late = late or who
-            raise NoAnswer(f"{self._late} hasn't answered for {PATIENCE:g} s") from None
+            self._late = who, since
+            raise NoAnswer(f"{who} hasn't answered for {duration(time.monotonic() - since)}") from None
         return reply
 
     def _leave(self) -> None:

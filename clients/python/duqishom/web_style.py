@@ -19,7 +19,8 @@ header span, .figures div, .note, th, .pairs td:first-child { color: #666 }
 .figures b { display: block; font-size: 20px; font-weight: normal; color: #222 }
 main { display: grid; grid-template-columns: 560px 1fr; gap: 16px 48px } .wide { grid-column: 1 / 3 }
 .beside { display: grid; grid-template-columns: 1fr 1fr; gap: 16px 40px; align-content: start }
-table { border-collapse: collapse; width: 100%; font-variant-numeric: tabular-nums } .note { margin: 4px 0 0 }
+table { border-collapse: collapse; width: 100%; font-variant-numeric: tabular-nums }
+.note { margin: 4px 0 0 } .old { margin: 0 0 12px }
 td, th { text-align: left; font-weight: normal; padding: 2px 12px 2px 0; overflow-wrap: anywhere; vertical-align: top }
 td:last-child, th:last-child { padding-right: 0 } tr + tr td { border-top: 1px solid #eee }
 .pairs td:last-child { text-align: right; white-space: nowrap }

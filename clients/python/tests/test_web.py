@@ -21,8 +21,10 @@ from duqishom.__main__ import main
 from duqishom.fields import counted
 from duqishom.statistics import Counted
 from duqishom.version import VERSION
+from duqishom.web_charts import Points, small_line, tablet_bar, widths
 from duqishom.web_folder import FolderState, LockState, TabletState
-from duqishom.web_health import DOWN, OK, WARNING, health
+from duqishom.web_health import DOWN, OK, WARNING, Health, health
+from duqishom.web_page import page
 from duqishom.web_samples import Sample, View, measure, oldest_session, rates, recent_rate
 from duqishom.web_server import MOST_CONNECTIONS
 from tests.gateways import CHECKPOINT, PACKAGE, PATIENCE, Gateway, Wire, folder_of, frame, set_, step, until
@@ -31,8 +33,8 @@ CHROMIUM = shutil.which("chromium")
 EVIL = b"<script>alert('1')</script>&\""
 
 # The numbers of metrics that move by themselves, or by being asked for.
-NAMES = r"duqishom_(?:\w+_seconds\w*|bytes_total|held|clients|clients_total|\w+_memory_bytes)\S*"
-MOVING = re.compile(rf"(?m)^({NAMES}|.*\"(?:Statistics|other)\"}}) .*$")
+NAMES = r"duqishom_(?:\w+_seconds(?:_total)?|bytes_total|held|(?:user_)?clients(?:_total)?|\w+_memory_bytes)"
+MOVING = re.compile(rf"(?m)^({NAMES}(?:{{.*}})?|.*\"(?:Statistics|other)\"}}) .*$")
 
 # The elements that have no end.
 VOID = {"meta"}
@@ -89,7 +91,7 @@ class Web:
     def get(self, path: str) -> tuple[int, str]:
         return self.ask(path)[:2]
 
-    def page(self) -> Parsed:
+    def parsed(self) -> Parsed:
         return Parsed(self.get("/")[1])
 
     def end(self, number: int = signal.SIGTERM) -> int:
@@ -122,18 +124,19 @@ class Pages(unittest.TestCase):
         self.assertEqual(wire.ask(frame(b"\x0d" + counted(b"row 1")))[0], 0x8D)
         self.assertEqual(wire.ask(CHECKPOINT), b"\x92")
         web = Web(self, ["--socket", gateway.path, "--dir", folder])
-        self.assertTrue(until(lambda: "polyline" in web.page().tags and "tablet 2" in web.page().texts))
+        self.assertTrue(until(lambda: "polyline" in web.parsed().tags and "tablet 2" in web.parsed().texts))
         status, text, headers = web.ask("/")
-        page = Parsed(text)
+        shown = Parsed(text)
         self.assertEqual((status, headers["Content-Type"]), (200, "text/html; charset=utf-8"))
-        self.assertEqual((page.loaded, "script" in page.tags, page.tags.count("style")), ([], False, 1))
-        for fact in (gateway.path, f"version {VERSION}", OK, "up to the last row", r"up to row\x201", "1,000"):
-            self.assertIn(fact, page.texts)
-        at = page.texts.index("Step")
-        self.assertEqual(page.texts[at : at + 3], ["Step", "0", "9"])
-        at = page.texts.index("checkpoints asked for")
-        self.assertEqual(page.texts[at + 1], "1")
-        self.assertIn(f"program {gateway.program()}", page.texts)
+        self.assertEqual((shown.loaded, "script" in shown.tags, shown.tags.count("style")), ([], False, 1))
+        self.assertTrue({OK, WARNING} & set(shown.texts), shown.texts)
+        for fact in (gateway.path, f"version {VERSION}", "up to the last row", r"up to row\x201", "1,000"):
+            self.assertIn(fact, shown.texts)
+        at = shown.texts.index("Step")
+        self.assertEqual(shown.texts[at : at + 3], ["Step", "0", "9"])
+        at = shown.texts.index("on request")
+        self.assertEqual(shown.texts[at + 1], "1 checkpoint")
+        self.assertIn(f"program {gateway.program()}", shown.texts)
 
     def test_metrics_are_those_of_stats(self) -> None:
         gateway = Gateway(self)
@@ -155,10 +158,10 @@ class Pages(unittest.TestCase):
         gone = (503, f"no gateway serves {gateway.path}\n")
         self.assertTrue(until(lambda: web.get("/health") == gone))
         self.assertEqual(web.get("/metrics"), gone)
-        self.assertTrue({DOWN, "not up", gone[1].rstrip()} <= set(web.page().texts))
+        self.assertTrue({DOWN, "no answer", gone[1].rstrip()} <= set(web.parsed().texts))
         Gateway(self, path=gateway.path)
         self.assertTrue(until(lambda: web.get("/health") == (200, "ok\n")))
-        self.assertIn(OK, web.page().texts)
+        self.assertIn(OK, web.parsed().texts)
 
     def test_texts_are_escaped(self) -> None:
         folder, path = folder_of(self), f"{folder_of(self)}/<script>&"
@@ -168,11 +171,11 @@ class Pages(unittest.TestCase):
         self.assertEqual(wire.ask(frame(b"\x0d" + counted(EVIL)))[0], 0x8D)
         self.assertEqual(wire.ask(CHECKPOINT), b"\x92")
         web = Web(self, ["--socket", path, "--dir", folder])
-        self.assertTrue(until(lambda: EVIL.decode() + " c" in web.page().texts))
-        page = web.page()
-        self.assertNotIn("script", page.tags)
+        self.assertTrue(until(lambda: EVIL.decode() + " c" in web.parsed().texts))
+        shown = web.parsed()
+        self.assertNotIn("script", shown.tags)
         for fact in (path, f"up to {EVIL.decode()}"):
-            self.assertIn(fact, page.texts)
+            self.assertIn(fact, shown.texts)
 
     def test_counts_of_another_form(self) -> None:
         """What serves there answers with no counts, and a folder has no root that can be read."""
@@ -302,6 +305,26 @@ class Judgements(unittest.TestCase):
         self.assertEqual(oldest_session(samples[:3]), (2, 7))
         self.assertIsNone(oldest_session(samples[:2]))
         self.assertIsNone(oldest_session((sample(0, begins(0, 5)), sample(1, begins(0, 5), 2))))
+
+    def test_charts(self) -> None:
+        """A line has a gap where there is no point, and the bar is as wide for any number of tablets."""
+        lines: tuple[tuple[Points, int], ...] = (((), 0), ((0,), 1), ((1, 2), 1), ((None, 1, None, None, 2, 3, None), 2))
+        for points, count in lines:
+            self.assertEqual(small_line(points, 8).count("<polyline"), count)
+        for many, labels in ((1, 3), (5, 15), (1024, 0)):
+            tablets = [TabletState(number, b"r%d" % number, 1, 10) for number in range(many)]
+            self.assertAlmostEqual(sum(widths(tablets)), 1200)
+            self.assertEqual(tablet_bar(tablets).count("<text"), labels)
+
+    def test_pages(self) -> None:
+        """A page without any sample, and one of a gateway that tells who its clients are and then answers no more."""
+        self.assertEqual(Parsed(page("/s", View((), "why"), Health(DOWN, ("why",)), FolderState())).texts.count("why"), 1)
+        groups: Groups = {"ended": {"idle_clients": 9, "idle_sessions": 0}}
+        groups |= {"process_user": {"77": 1000}, "process_clients": {"77": 2}, "process_sessions": {"77": 5}}
+        shown = Parsed(page("/s", View((sample(1, groups), None), "why"), Health(DOWN, ("why",)), None)).texts
+        at = shown.index("77")
+        self.assertEqual(shown[at : at + 4], ["77", "1000", "2", "5"])
+        self.assertTrue({"idle clients", "9"} <= set(shown) and "idle sessions" not in shown)
 
     def test_health(self) -> None:
         calm: Groups = {"clients": {"turned_away": 1, "closed_for_memory": 0}, **begins(5, 0)}
