@@ -71,12 +71,14 @@ class FolderState:
 
 
 class FolderReader:
-    """Reads a folder again and again. `state` is its last state, which any thread may take."""
+    """Reads a folder again and again. `state` is its last state, which any thread may take, and `search_at` the moment of
+    the monotonic clock from which on locks are looked for again."""
 
     def __init__(self, path: str) -> None:
         self.path = Path(path)
         self.state = FolderState()
-        self._search_at = 0.0
+        self.search_at = 0.0
+        self._failure: str | None = None
         self._first: dict[Key, float] = {}
 
     def run(self) -> None:
@@ -89,12 +91,11 @@ class FolderReader:
         """Reads the folder once."""
         try:
             self.state = self._now()
-            if time.monotonic() >= self._search_at:
-                self._search()
-        except (OSError, FolderDamaged, BadForm) as failure:
-            self.state = replace(self.state, failure=str(failure))
-        except Exception as failure:  # Damaged bytes may fail in any way
-            self.state = replace(self.state, failure=f"{type(failure).__name__}: {failure}")
+        except Exception as error:  # Damaged bytes may fail in any way
+            self.state = replace(self.state, failure=text_of_error(error))
+            return
+        if time.monotonic() >= self.search_at:
+            self._search()
 
     def _now(self) -> FolderState:
         """The state, with the locks of the last search."""
@@ -108,21 +109,23 @@ class FolderReader:
             log=size_of(self.path / LOG_FILE),
             log_before=self.state.log,
             free=disk.f_bavail / max(disk.f_blocks, 1),
-            failure=None,
+            failure=self._failure,
         )
 
     def _search(self) -> None:
-        """Looks for locks, if the files aren't too large, and decides when to do so again."""
-        began = time.monotonic()
+        """Looks for locks, if the files aren't too large, and decides when to do so again. A failure stays until then."""
+        began, self._failure = time.monotonic(), None
         try:
             if sum(tablet.bytes for tablet in self.state.tablets) > MOST_BYTES:
                 reason = f"the files have more than {MOST_BYTES:,} bytes"
                 self.state = replace(self.state, locks=(), lock_count=0, unsearched=reason)
             else:
                 self._note_locks(*locks_in(Folder(self.path)))
-        finally:
-            ended = time.monotonic()
-            self._search_at = ended + max(LEAST_PAUSE, REST * (ended - began))
+        except Exception as error:
+            self._failure = text_of_error(error)
+        ended = time.monotonic()
+        self.search_at = ended + max(LEAST_PAUSE, REST * (ended - began))
+        self.state = replace(self.state, failure=self._failure)
 
     def _note_locks(self, found: list[Key], count: int) -> None:
         """Records the locks that were found."""
@@ -135,6 +138,11 @@ class FolderReader:
         """The time as of which the folder has the locks: now with a log, and without one that of the last
         checkpoint."""
         return time.time() if self.state.has_log else time_of(self.path / ROOT_FILE)
+
+
+def text_of_error(error: Exception) -> str:
+    """The reason why a folder can't be read. An error that isn't foreseen is named."""
+    return str(error) if isinstance(error, (OSError, FolderDamaged, BadForm)) else f"{type(error).__name__}: {error}"
 
 
 def time_of(file: Path) -> float:

@@ -16,19 +16,22 @@ from contextlib import redirect_stderr, suppress
 from http.client import HTTPConnection, HTTPMessage
 from html.parser import HTMLParser
 from io import StringIO
+from pathlib import Path
 
 from duqishom.__main__ import main
 from duqishom.fields import counted
 from duqishom.statistics import Counted
 from duqishom.version import VERSION
 from duqishom.web_charts import Points, small_line, tablet_bar, widths
-from duqishom.web_folder import FolderState, LockState, TabletState
+from duqishom.web_folder import FolderReader, FolderState, LockState, TabletState
 from duqishom.web_health import DOWN, OK, WARNING, Health, health
 from duqishom.web_page import page
 from duqishom.web_samples import Sample, View, measure, oldest_session, rates, recent_rate
 from duqishom.web_server import MOST_CONNECTIONS
+from tests.folders import FolderTest
 from tests.gateways import CHECKPOINT, PACKAGE, PATIENCE, Gateway, Wire, folder_of, frame, set_, step, until
 
+FILE = "t0000000000000001.tab"
 CHROMIUM = shutil.which("chromium")
 EVIL = b"<script>alert('1')</script>&\""
 
@@ -358,6 +361,24 @@ class Judgements(unittest.TestCase):
                 self.assertEqual((found.word, found.reasons), (WARNING, (reason,)) if reason else (OK, ()))
         for view in (View((), None), View((sample(0, {}), None), "why")):
             self.assertEqual(health(view, FolderState()).word, DOWN)
+
+
+class Folders(FolderTest):
+    """The reader of a folder."""
+
+    def test_damage(self) -> None:
+        """A file that is gone is named until a search finds it again."""
+        shutil.copytree(Path(__file__).parent / "data" / "format1", self.path, dirs_exist_ok=True)
+        reader, file, kept = FolderReader(self.folder), self.path / FILE, self.path / "kept"
+        gone = f"{file}: the root names this file, and it isn't there"
+        for moves, failure in ((), None), ((file, kept), gone), ((kept, file), None):
+            if moves:
+                os.rename(*moves)
+            reader.search_at = 0.0
+            for _ in range(2):
+                reader.read()
+                self.assertEqual(reader.state.failure, failure)
+            self.assertEqual([lock.cell for lock in reader.state.locks], ["Joe bal"])
 
 
 @unittest.skipUnless(CHROMIUM, "chromium isn't installed")
