@@ -5,8 +5,7 @@ from __future__ import annotations
 from collections.abc import Iterator, Sequence
 from itertools import groupby
 
-from duqishom.texts import text_of
-from duqishom.web_folder import MANY_FILES, TabletState
+from duqishom.web_folder import MANY_FILES, TabletState, row_of
 from duqishom.web_markup import Markup, counted, size, speed, tag
 
 # The width of a letter, and the distance of a label's lines.
@@ -68,7 +67,7 @@ def are_labelled(tablets: Sequence[TabletState]) -> bool:
 
 def range_of(tablet: TabletState) -> str:
     """The end of a tablet's rows, in words."""
-    return "up to the last row" if tablet.end is None else f"up to {text_of(tablet.end)}"
+    return "up to the last row" if tablet.end is None else f"up to {row_of(tablet.end)}"
 
 
 def cut(text: str, letters: int) -> str:

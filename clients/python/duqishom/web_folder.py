@@ -27,6 +27,9 @@ MOST_LOCKS = 10_000
 REST = 20
 LEAST_PAUSE = 10.0
 
+# The bytes of a row that are shown.
+MOST_SHOWN = 64
+
 # The files of a tablet, of at most 64, that are many.
 MANY_FILES = MOST_FILES * 3 // 4
 
@@ -177,7 +180,12 @@ def locks_in(folder: Folder) -> tuple[list[Key], int]:
 
 def cell_of(key: Key) -> str:
     """The cell of a key, in words."""
-    return f"{text_of(key.row)} {text_of(key.family)}"
+    return f"{row_of(key.row)} {text_of(key.family)}"
+
+
+def row_of(row: bytes) -> str:
+    """The front of a row, in words."""
+    return text_of(row[:MOST_SHOWN]) + "…" * (len(row) > MOST_SHOWN)
 
 
 def by_age(lock: LockState) -> tuple[float, str]:

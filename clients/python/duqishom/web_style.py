@@ -9,6 +9,7 @@ REFRESH = 5
 
 STYLE = """
 body { font: 14px/1.4 system-ui, sans-serif; color: #222; background: #fff; margin: 16px auto; max-width: 1200px; padding: 0 24px }
+header, li, td { overflow-wrap: anywhere }
 h1 { font-size: 18px; margin: 0; display: inline } h2 { font-size: 14px; margin: 0 0 4px }
 header { border-bottom: 1px solid #ddd; padding-bottom: 8px } header span { margin-left: 16px }
 header span, .figures div, .note, th, .pairs td:first-child { color: #666 }
@@ -21,7 +22,7 @@ main { display: grid; grid-template-columns: 560px 1fr; gap: 16px 48px } .wide {
 .beside { display: grid; grid-template-columns: 1fr 1fr; gap: 16px 40px; align-content: start }
 table { border-collapse: collapse; width: 100%; font-variant-numeric: tabular-nums }
 .note { margin: 4px 0 0 } .old { margin: 0 0 12px }
-td, th { text-align: left; font-weight: normal; padding: 2px 12px 2px 0; overflow-wrap: anywhere; vertical-align: top }
+td, th { text-align: left; font-weight: normal; padding: 2px 12px 2px 0; vertical-align: top }
 td:last-child, th:last-child { padding-right: 0 } tr + tr td { border-top: 1px solid #eee }
 .pairs td:last-child { text-align: right; white-space: nowrap }
 .numbers td:nth-child(n+2):nth-child(-n+3), .numbers th:nth-child(n+2):nth-child(-n+3) { text-align: right; width: 90px }

@@ -315,9 +315,11 @@ class Judgements(unittest.TestCase):
         for points, count in lines:
             self.assertEqual(small_line(points, 8).count("<polyline"), count)
         for many, labels in ((1, 3), (5, 15), (1024, 0)):
-            tablets = [TabletState(number, b"r%d" % number, 1, 10) for number in range(many)]
+            tablets = [TabletState(number, b"\xff" * 4000, 1, 10) for number in range(many)]
             self.assertAlmostEqual(sum(widths(tablets)), 1200)
-            self.assertEqual(tablet_bar(tablets).count("<text"), labels)
+            bar = tablet_bar(tablets)
+            self.assertEqual(bar.count("<text"), labels)
+            self.assertLess(len(bar), 1000 * many)
 
     def test_pages(self) -> None:
         """A page without any sample, and one of a gateway that tells who its clients are and then answers no more."""
