@@ -14,7 +14,8 @@ LETTER, LINE = 7, 17
 # The width of the bar, the least width of a tablet in it, and the least width of one with a label.
 BAR_WIDTH, LEAST_WIDTH, LABEL_WIDTH = 1200, 3.0, 130.0
 
-Points = Sequence[float | None]
+# Places from 0 to 1 with their values, or None for a gap.
+Points = Sequence[tuple[float, float] | None]
 
 
 def svg(width: int, height: int, *parts: Markup, **attributes: object) -> Markup:
@@ -22,34 +23,36 @@ def svg(width: int, height: int, *parts: Markup, **attributes: object) -> Markup
     return tag("svg", *parts, viewBox=f"0 0 {width} {height}", width=width, height=height, **attributes)
 
 
-def paths(points: Points, places: int, width: int, height: int) -> Iterator[Markup]:
-    """The lines through points, the last at the right end of so many places. There is a gap where a point is None."""
-    top = max([point for point in points if point is not None], default=0) or 1
-    first = places - len(points)
-    at = [(width * (first + number) / max(places - 1, 1), point) for number, point in enumerate(points)]
-    for is_there, run in groupby(at, key=lambda point: point[1] is not None):
-        if is_there:
-            pairs = [f"{x:.1f},{height - 1 - (height - 2) * (y or 0) / top:.1f}" for x, y in run]
+def greatest(points: Points) -> float:
+    """The greatest value, 0 if there is none."""
+    return max([point[1] for point in points if point is not None], default=0)
+
+
+def paths(points: Points, width: int, height: int) -> Iterator[Markup]:
+    """The lines through points, with a gap where one is None."""
+    top = greatest(points) or 1
+    for is_gap, run in groupby(points, key=lambda point: point is None):
+        if not is_gap:
+            pairs = [f"{width * point[0]:.1f},{height - 1 - (height - 2) * point[1] / top:.1f}" for point in run if point]
             yield tag("polyline", points=" ".join(pairs if len(pairs) > 1 else pairs * 2))
 
 
-def small_line(points: Points, places: int) -> Markup:
+def small_line(points: Points) -> Markup:
     """A line without a scale."""
-    return svg(160, 18, *paths(points, places, 160, 18), class_="line")
+    return svg(160, 18, *paths(points, 160, 18), class_="line")
 
 
-def large_line(points: Points, places: int, span: str) -> Markup:
+def large_line(points: Points, span: str) -> Markup:
     """A line with its greatest value and the time that it covers."""
     width, height = 560, 104
-    top = max([point for point in points if point is not None], default=0)
     scale = (
         tag("line", x1=0, y1=1, x2=width, y2=1, class_="scale"),
         tag("line", x1=0, y1=height - 1, x2=width, y2=height - 1, class_="scale"),
-        tag("text", speed(top), x=2, y=14),
+        tag("text", speed(greatest(points)), x=2, y=14),
         tag("text", f"{span} ago", x=2, y=height + 14),
         tag("text", "now", x=width, y=height + 14, class_="end"),
     )
-    return svg(width, height + 18, *scale, *paths(points, places, width, height), class_="line")
+    return svg(width, height + 18, *scale, *paths(points, width, height), class_="line")
 
 
 def widths(tablets: Sequence[TabletState]) -> list[float]:

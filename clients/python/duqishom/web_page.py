@@ -12,7 +12,7 @@ from duqishom.web_charts import are_labelled, large_line, range_of, small_line, 
 from duqishom.web_folder import FolderState
 from duqishom.web_health import MOST_SESSIONS, Health, log_bytes
 from duqishom.web_markup import Markup, counted, duration, size, speed, table, tag
-from duqishom.web_samples import INTERVAL, MOST_SAMPLES, SPAN, Sample, View, measure, oldest_session, rates, recent_rate
+from duqishom.web_samples import INTERVAL, SPAN, Sample, View, measure, oldest_session, points, recent_rate
 from duqishom.web_style import whole
 
 # The rows that a table of tablets or of locks has at most.
@@ -124,12 +124,12 @@ def title_of_locks(folder: FolderState) -> str:
 
 def requests(view: View, last: Sample) -> Iterator[Markup]:
     """The requests a second: a line of all, and each operation that was asked for."""
-    yield large_line(rates(view.samples, operations), MOST_SAMPLES - 1, duration(SPAN))
+    yield large_line(points(view, operations), duration(SPAN))
     rows: list[tuple[object, ...]] = []
     for name, count in last.group("requests").items():
         if count:
-            line = small_line(rates(view.samples, measure("requests", name)), MOST_SAMPLES - 1)
-            rows.append((name, speed(recent_rate(view.samples, measure("requests", name))), f"{count:,}", line))
+            of = measure("requests", name)
+            rows.append((name, speed(recent_rate(view.samples, of)), f"{count:,}", small_line(points(view, of))))
     yield table(("operation", "a second", "in all", ""), rows, class_="numbers")
     yield tag("p", f"This page asks for one of Statistics and one of other every {INTERVAL:g} s.", class_="note")
 

@@ -8,8 +8,8 @@ import time
 from collections import deque
 from collections.abc import Callable, Mapping, Sequence
 from contextlib import suppress
-from dataclasses import dataclass
-from itertools import pairwise
+from dataclasses import dataclass, field
+from itertools import dropwhile, pairwise
 from typing import ClassVar
 
 from duqishom.connection import RequestTimedOut
@@ -21,7 +21,7 @@ from duqishom.remote import Gateway
 from duqishom.statistics import Counted, Number, prometheus
 from duqishom.web_markup import duration
 
-# The seconds between two samples, the number of samples that are kept, and the seconds that these cover.
+# The seconds between two samples, the most samples that are kept, and the seconds after which they aren't.
 INTERVAL = 2.0
 MOST_SAMPLES = 300
 SPAN = INTERVAL * MOST_SAMPLES
@@ -92,11 +92,12 @@ def measure(name: str, part: str) -> Measure:
 
 @dataclass(frozen=True)
 class View:
-    """The last samples of a gateway, the oldest first, with None where it didn't answer, and the reason why it doesn't
-    answer now, if it doesn't."""
+    """The last samples of a gateway, the oldest first, with None where it didn't answer, the reason why it doesn't
+    answer now, if it doesn't, and the moment of this view."""
 
     samples: Samples
     failure: str | None
+    at: float = field(default_factory=time.monotonic)
 
     def last(self) -> Sample | None:
         """The last sample that the gateway answered."""
@@ -121,14 +122,17 @@ class Sampler:
 
     def view(self) -> View:
         """What is known now. It may be called by any thread."""
+        since = time.monotonic() - SPAN
         with self._lock:
-            return View(tuple(self._samples), self._failure)
+            fresh = dropwhile(lambda sample: sample is None or sample.at < since, self._samples)
+            return View(tuple(fresh), self._failure)
 
     def run(self) -> None:
         """Takes samples for ever."""
         while True:
+            began = time.monotonic()
             self.take()
-            time.sleep(INTERVAL)
+            time.sleep(max(0.0, began + INTERVAL - time.monotonic()))
 
     def take(self) -> None:
         """Takes one sample, or records why there is none. After a late answer the connection stays: another one might
@@ -196,6 +200,14 @@ def is_same_gateway(earlier: Sample, later: Sample) -> bool:
 def rates(samples: Samples, of: Measure) -> list[float | None]:
     """The rates between each two neighbours."""
     return [rate(earlier, later, of) for earlier, later in pairwise(samples)]
+
+
+def points(view: View, of: Measure) -> list[tuple[float, float] | None]:
+    """The same rates of a view, each with its place in the time that samples are kept, from 0 to 1."""
+    return [
+        None if later is None or each is None else (1 - (view.at - later.at) / SPAN, each)
+        for later, each in zip(view.samples[1:], rates(view.samples, of))
+    ]
 
 
 def recent_rate(samples: Samples, of: Measure) -> float | None:

@@ -28,7 +28,7 @@ td:last-child, th:last-child { padding-right: 0 } tr + tr td { border-top: 1px s
 .numbers td:nth-child(n+2):nth-child(-n+3), .numbers th:nth-child(n+2):nth-child(-n+3) { text-align: right; width: 90px }
 svg { display: block; max-width: 100% } .numbers svg { margin-left: auto }
 svg text { font-size: 13px; fill: #666 } .end { text-anchor: end }
-.line polyline { fill: none; stroke: #2a62a5; stroke-width: 1.5 } .line .scale { stroke: #ddd }
+.line polyline { fill: none; stroke: #2a62a5; stroke-width: 1.5; stroke-linecap: round } .line .scale { stroke: #ddd }
 .tablet { fill: #e3ebf5; stroke: #fff } .many { fill: #f3d9bd; stroke: #fff } .bar text { fill: #222 }
 """
 

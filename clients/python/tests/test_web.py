@@ -26,7 +26,7 @@ from duqishom.web_charts import Points, small_line, tablet_bar, widths
 from duqishom.web_folder import FolderReader, FolderState, LockState, TabletState
 from duqishom.web_health import DOWN, OK, WARNING, Health, health
 from duqishom.web_page import page
-from duqishom.web_samples import Sample, View, measure, oldest_session, rates, recent_rate
+from duqishom.web_samples import Sample, View, measure, oldest_session, points, rates, recent_rate
 from duqishom.web_server import MOST_CONNECTIONS
 from tests.folders import FolderTest
 from tests.gateways import CHECKPOINT, PACKAGE, PATIENCE, Gateway, Wire, folder_of, frame, set_, step, until
@@ -299,6 +299,7 @@ class Judgements(unittest.TestCase):
         before = (sample(0, begins(0)), sample(2, begins(10)), None, sample(4, begins(14)))
         samples, of = (*before, sample(6, begins(2), 2), sample(8, begins(2), 2)), measure("requests", "Begin")
         self.assertEqual(rates(samples, of), [5, None, None, None, 0])
+        self.assertEqual(points(View(samples[:2], None, 62), of), [(0.9, 5)])
         self.assertEqual([recent_rate(samples[:count], of) for count in range(7)], [None, None, 5, None, 3.5, None, 0])
 
     def test_oldest_session(self) -> None:
@@ -311,9 +312,14 @@ class Judgements(unittest.TestCase):
 
     def test_charts(self) -> None:
         """A line has a gap where there is no point, and the bar is as wide for any number of tablets."""
-        lines: tuple[tuple[Points, int], ...] = (((), 0), ((0,), 1), ((1, 2), 1), ((None, 1, None, None, 2, 3, None), 2))
-        for points, count in lines:
-            self.assertEqual(small_line(points, 8).count("<polyline"), count)
+        one, two = (0.5, 1.0), (1.0, 2.0)
+        lines: tuple[tuple[Points, list[str]], ...] = (
+            ((), []),
+            ((one,), ["80.0,1.0 80.0,1.0"]),
+            ((None, one, None, None, one, two, None), ["80.0,9.0 80.0,9.0", "80.0,9.0 160.0,1.0"]),
+        )
+        for given, found in lines:
+            self.assertEqual(re.findall('points="(.*?)"', small_line(given)), found)
         for many, labels in ((1, 3), (5, 15), (1024, 0)):
             tablets = [TabletState(number, b"\xff" * 4000, 1, 10) for number in range(many)]
             self.assertAlmostEqual(sum(widths(tablets)), 1200)
