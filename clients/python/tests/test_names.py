@@ -25,6 +25,8 @@ FOREIGN = {
     "--only": "an option of rt",
     "ssh": "a program",
     "PWD/clients/python": "PWD is the shell's",
+    "/health": "a path of the web page",
+    "/metrics": "a path of the web page",
     "run/recovered-at": "a file of a recording",
     "run/reopened-at": "a file of a recording",
 }
