@@ -14,6 +14,7 @@ from typing import ClassVar
 
 from duqishom.connection import RequestTimedOut
 from duqishom.fields import FieldReader
+from duqishom.frames import LENGTH, framed
 from duqishom.operations import answer_or_refusal, request_body
 from duqishom.program import ProgramEnded
 from duqishom.refusals import Refused
@@ -170,11 +171,11 @@ class Sampler:
         self._gateway = self._gateway or Gateway(self.path)
         (who, since), self._late = self._late or (who, time.monotonic()), None
         try:
-            [reply] = self._gateway.ask([body], PATIENCE)
+            reply = self._gateway.ask(framed(body), 1, PATIENCE)
         except RequestTimedOut:
             self._late = who, since
             raise NoAnswer(f"{who} hasn't answered for {duration(time.monotonic() - since)}") from None
-        return reply
+        return reply[LENGTH.size :]
 
     def _leave(self) -> None:
         """Closes the connection."""
