@@ -213,8 +213,8 @@ pub record IsLastingAnswer {S L : Type 0} (shows : S → State → Type 0)
   pub goes_on : GoesOn (shown_by shows) lasts logs (asked request) (replied reply) old new
 
 -- a root was put, or refused, and the size from which the next try is counted was set
-pub record TriesRoot {S L : Type 0} (roots : Type 0 → S → Reply → S → Type 0) (written : ℕ) (mid : S)
-    (new : LastingServer S L) : Type 0 where
+pub record TriesRoot {S L : Type 0} (roots : Type 0 → S → Reply → S → Type 0) (written : ℕ)
+    (mid : S) (new : LastingServer S L) : Type 0 where
   pub reply : Reply
   pub answered : roots (new.is_stopped ≡ true) mid reply new.server
   pub tried : new.tried_bytes ≡ tried_at reply written

@@ -33,8 +33,8 @@ const BETWEEN_TRIES: usize = 8_388_608;
 const MOST_WAITING_EDITS: usize = 67_108_864;
 
 /// The upper bound of the bytes of the edits that a step of a session or a cleaner writes. These are the most if it
-/// holds a cell: a put of 65,536 bytes of data, and one of a lock with the first cell's row and family. A key has at most
-/// 8,082 bytes: those of a row of 4,000 zeros, which take two each, of a family of 64, a column of four, a stamp and
+/// holds a cell: a put of 65,536 bytes of data, and one of a lock with the first cell's row and family. Their keys have
+/// at most 8,082 bytes: of a row of 4,000 zeros, which take two each, a family of 64, a column of four and a stamp, with
 /// the ends between them.
 const STEP_BYTES: usize = 89_787;
 
@@ -211,8 +211,8 @@ impl<S: Recording, L: Log> LastingServer<S, L> {
             (Logs S.stores S.logged S.last L.holds S.is_rooted) self.old self.new }
         ensures answered { PutsRoot S.same S.checkpoints (self.new.is_stopped ≡ true)
             self.old.server (checkpointed result) self.new.server }
-        ensures done { OnOk result
-            (Checkpoints S.same S.checkpoints self.old.server CodecReply.Checkpoint self.new.server) }
+        ensures done { OnOk result (Checkpoints S.same S.checkpoints self.old.server
+            CodecReply.Checkpoint self.new.server) }
         ensures named { OnOk result ((now : State) → S.shows self.old.server now
             → Logs S.stores S.logged S.last L.holds S.is_rooted self.old
             → NamesItsRoot (L.holds self.new.log)) }

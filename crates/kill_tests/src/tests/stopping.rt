@@ -271,14 +271,9 @@ impl<L: Log + Drop> Log for Stopping<'_, L> {
 
     ghost faults = { λ stopping. stopping.faults };
 
-    fn reserve(&mut self, more: usize) -> Result<(), LogFault> {
-        // A device that has stopped refuses the append.
-        let Some(mut log) = self.to_read() else {
-            return Ok(());
-        };
-        let called = log.reserve(more);
-        self.cell.set(Some(log));
-        self.log_answer(called, false)
+    fn reserve(&mut self, _more: usize) -> Result<(), LogFault> {
+        // A log in memory has room. After the kill its append fails.
+        Ok(())
     }
 
     fn append(&mut self, kind: RecordKind, stamp: Stamp, body: &[u8]) -> Result<(), LogFault> {
