@@ -16,6 +16,9 @@ from tests.folders import FolderTest
 
 FAMILY = b"c"
 
+# So many stamps need two further marks of the oracle.
+STAMPS = 2_500
+
 
 class FullDisk(FolderTest):
     """A store whose disk gets full, and has room again."""
@@ -62,7 +65,8 @@ class FullDisk(FolderTest):
         return self.fail("no step was refused")
 
     def goes_on(self, fill: Callable[[], None], free: Callable[[], None]) -> None:
-        """Commits are refused once `fill` was called and the room is used up, and answered again after `free`."""
+        """Commits are refused once `fill` was called and the room is used up, sessions begin, and commits are answered
+        again after `free`."""
         with self.opened() as store:
             self.put(store, 0)
             fill()
@@ -72,6 +76,8 @@ class FullDisk(FolderTest):
             for _ in range(3):
                 self.assertRaises(Device, store.step, start)
             self.assertEqual(self.log().stat().st_size, size)
+            for _ in range(STAMPS):
+                store.stop(store.begin())
             self.assertEqual(store.get(store.begin(), b"000", FAMILY), Value(bytes(60_000)))
             free()
             self.commit(store, start)
