@@ -99,7 +99,7 @@ class FullDisk(FolderTest):
         mount = ["mount", "-t", "tmpfs", "-o", "size=16m", "none", str(self.store_folder)]
         if os.geteuid() != 0 or subprocess.run(mount, capture_output=True).returncode != 0:
             self.skipTest("no disk can be mounted here")
-        self.addCleanup(subprocess.run, ["umount", str(self.store_folder)], check=True)
+        self.addCleanup(lambda: subprocess.run(["umount", str(self.store_folder)], check=True))
         ballast = self.store_folder / "ballast"
 
         def fill() -> None:
