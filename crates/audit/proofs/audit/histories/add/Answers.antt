@@ -1,7 +1,7 @@
-use Rattle.std.proofs.Common.{◌≡◌, ◌∙◌, ℕ, List, Bool, Option, Some, ap, refl, subst, sym}
+use Rattle.std.proofs.Common.{◌≡◌, ℕ, List, Option, Some, ap, refl, subst, sym}
 use Rattle.std.specs.BTreeMap as btree
 use Rattle.std.specs.Global.{Vec}
-use Rattle.std.specs.Prelude.{IsSome, IsTrue}
+use Rattle.std.specs.Prelude.{IsSome}
 use Rattle.std.proofs.lemmas.Result.{IfOk-weaker}
 use Rattle.si_model.specs.Reads.{cell_of}
 use Rattle.si_model.specs.declared.replies.Cell.{Cell}

@@ -1,4 +1,4 @@
-use Rattle.std.proofs.Common.{◌≡◌, ℕ, length, subst, sym, arith}
+use Rattle.std.proofs.Common.{◌≡◌, ℕ, length, subst, arith}
 use Rattle.audit.specs.Histories.{AreAdded}
 use Rattle.audit.proofs.KeptLists.{at_item}
 use Rattle.audit.proofs.VersionMaps.{added_more, added_none}
