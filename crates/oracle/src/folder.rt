@@ -185,27 +185,28 @@ fn second_file<R: Folders>(rt: &R, paths: &MarkPaths, has_spare: bool) -> io::Re
     how.open(rt, paths.beside.as_str())
 }
 
-/// Makes the spare file of a store that has no mark yet.
+/// Makes a spare file, and syncs it.
 fn make_spare<R: Folders>(rt: &R, spare: &str) -> io::Result<()> {
     let mut file = create_beside(rt, spare)?;
-    file.write_all(&[0; MARK_BYTES])
+    write_number(&mut file, 0)
 }
 
-/// Keeps the file of the mark as the spare one, or makes one. Answers whether there is one now.
-fn keep_spare<R: Folders>(rt: &R, paths: &MarkPaths) -> bool {
-    let spare = paths.spare.as_str();
-    fs::hard_link(rt, paths.mark.as_str(), spare).is_ok() || make_spare(rt, spare).is_ok()
-}
-
-/// Renames the second file over the mark's file. Answers whether there is a spare file. An error of the write before
-/// is passed on instead.
-fn put_there<R: Folders>(rt: &R, paths: &MarkPaths, written: io::Result<()>) -> io::Result<bool>
+/// Renames the second file over the mark's file. If the second file was the spare one, the file of the mark before
+/// becomes the spare file, else one is made: so that each is this program's. Answers whether there is one. An error of
+/// the write before is passed on instead.
+fn put_there<R: Folders>(
+    rt: &R,
+    paths: &MarkPaths,
+    has_spare: bool,
+    written: io::Result<()>,
+) -> io::Result<bool>
     ensures failed { IfErr written (λ error. result ≡ Err error) }
 {
     written?;
-    let has_spare = keep_spare(rt, paths);
-    fs::rename(rt, paths.beside.as_str(), paths.mark.as_str())?;
-    Ok(has_spare)
+    let (mark, spare) = (paths.mark.as_str(), paths.spare.as_str());
+    let is_kept = has_spare && fs::hard_link(rt, mark, spare).is_ok();
+    fs::rename(rt, paths.beside.as_str(), mark)?;
+    Ok(is_kept || make_spare(rt, spare).is_ok())
 }
 
 /// Writes a mark to the second file, and renames that over the mark's file. Answers whether there is a spare file.
@@ -217,7 +218,7 @@ fn place_mark<R: Folders>(
 ) -> io::Result<bool> {
     let mut file = second_file(rt, paths, has_spare)?;
     let written = write_number(&mut file, number);
-    put_there(rt, paths, written)
+    put_there(rt, paths, has_spare, written)
 }
 
 /// Syncs a folder just opened. An error of the opening is passed on.
