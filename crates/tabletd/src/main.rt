@@ -115,9 +115,11 @@ fn lacks_root<F: Files, M: MarkStore>(
     }
 }
 
-/// Writes the oracle's mark anew, if there is one: the mark that is read may not last if a sync of it failed before a kill.
+/// Writes the oracle's mark anew, if there is one: the mark that is read may not last if a sync of it failed before a
+/// kill. The mark is unchanged.
 fn renew_mark<M: MarkStore>(marks: &mut M) -> Result<(), Refusal>
-    ensures { IfErr result (λ refusal. refusal ≡ Refusal.Device) }
+    ensures same { M.mark marks.new ≡ M.mark marks.old }
+    ensures refusal { IfErr result (λ refusal. refusal ≡ Refusal.Device) }
 {
     let mark = marks.load()?;
     if mark > 0 {
