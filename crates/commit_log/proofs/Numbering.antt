@@ -62,13 +62,6 @@ none_in_nothing next later =
     let stands = later.1 in
     omega (arith, ap length stands.spelled, length-append (frame (numbered stands.number stands.payload)) stands.behind, length-frame (numbered stands.number stands.payload), length-drop {A = ℕ} later.0 [])
 
-pub further : (next x : ℕ) (bytes after : List ℕ) → bytes ≡ x ∷ after → (StandsFrom next bytes → ⊥) → HasLater next bytes → HasLater next after
-further next x bytes after is none (zero, stands) = absurd (none stands)
-further next x bytes after is none (suc k, stands) = (k, subst (λ (l : List ℕ). StandsFrom next (drop (suc k) l)) is stands)
-
-pub nearer : (next x : ℕ) (bytes after : List ℕ) → bytes ≡ x ∷ after → HasLater next after → HasLater next bytes
-nearer next x bytes after is later = (suc later.0, subst (λ (l : List ℕ). StandsFrom next (drop (suc later.0) l)) (sym is) later.1)
-
 -- the number of a frame comes after its length and its checksum
 pub number_behind : (bytes p rest : List ℕ) (n : ℕ) → IsShort p → bytes ≡ frame (numbered n p) ++ rest → take 8 (drop 8 bytes) ≡ spelled_number n
 number_behind bytes p rest n s front =

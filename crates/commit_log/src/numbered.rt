@@ -10,6 +10,7 @@ use crate::frames::{PREFIX, Reading, first_record, frame_of};
 use crate::numbers::{NUMBER, number_bytes, number_in, split_number};
 use crate::records::{RecordKind, push_record};
 use cell_key::Stamp;
+use memchr::memchr2;
 use std::alloc::{AllocError, Global};
 
 /// The bytes of a frame before its payload: a length, a checksum and a number.
@@ -74,27 +75,12 @@ fn is_next(number: u64, next: u64) -> bool
     number >= next && number - next < WINDOW
 }
 
-/// Whether a number in the window may stand behind the first eight bytes, by its first byte. That excludes most places
-/// at little cost.
-fn may_stand(bytes: &[u8], next: u64) -> bool
-    requires { next + 131072 ≤ 2 ^ 64 }
-    ensures { StandsFrom next bytes.now → IsTrue result }
-{
-    let Some(first) = bytes.get(NUMBER) else {
-        return false;
-    };
-    *first == number_bytes(next)[0] || *first == number_bytes(next + (WINDOW - 1))[0]
-}
-
-/// Whether a whole frame with one of the next numbers stands at the front. The number's first byte is compared
-/// first, then the number, and then the checksum.
+/// Whether a whole frame with one of the next numbers stands at the front. The number is compared first, and then the
+/// checksum.
 fn stands_from(bytes: &[u8], next: u64) -> bool
     requires { next + 131072 ≤ 2 ^ 64 }
     ensures { IsTrue result ↔ StandsFrom next bytes.now }
 {
-    if !may_stand(bytes, next) {
-        return false;
-    }
     let Some(number) = number_at(bytes) else {
         return false;
     };
@@ -107,17 +93,45 @@ fn stands_from(bytes: &[u8], next: u64) -> bool
     }
 }
 
+/// The bytes behind the first `len`.
+fn behind(bytes: &[u8], len: usize) -> &[u8]
+    requires { len ≤ length bytes.now }
+    ensures { result.now ≡ drop len bytes.now }
+{
+    &bytes[len..]
+}
+
+/// The bytes from the first place where a frame with one of the next numbers may stand: the first byte of its number is
+/// that of the least or of the greatest of them. `None` if there is no such place.
+fn next_place(bytes: &[u8], next: u64) -> Option<&[u8]>
+    requires { next + 131072 ≤ 2 ^ 64 }
+    ensures found { IfSome result (λ rest.
+        HasLater next bytes.now ↔ HasLater next rest.now) }
+    ensures within { IfSome result (λ rest.
+        (1 ≤ length rest.now) × (length rest.now ≤ length bytes.now)) }
+    ensures none { IfNone result (¬ HasLater next bytes.now) }
+{
+    if bytes.len() < PREFIX {
+        return None;
+    }
+    let numbers = behind(bytes, PREFIX);
+    let least = number_bytes(next)[0];
+    let greatest = number_bytes(next + (WINDOW - 1))[0];
+    let place = memchr2(least, greatest, numbers)?;
+    Some(behind(bytes, place))
+}
+
 /// Whether a whole frame with one of the next numbers stands anywhere in bytes.
 fn has_later(bytes: &[u8], next: u64) -> bool
     requires { next + 131072 ≤ 2 ^ 64 }
     ensures { IsTrue result ↔ HasLater next bytes.now }
 {
     let mut rest = bytes;
-    while let Some((_, after)) = rest.split_first() {
-        if stands_from(rest, next) {
+    while let Some(place) = next_place(rest, next) {
+        if stands_from(place, next) {
             return true;
         }
-        rest = after;
+        rest = behind(place, 1);
     }
     false
 }
@@ -138,14 +152,6 @@ fn next_payload(bytes: &[u8], next: u64) -> Option<&[u8]>
         return None;
     }
     Some(payload)
-}
-
-/// The bytes behind the first `len`.
-fn behind(bytes: &[u8], len: usize) -> &[u8]
-    requires { len ≤ length bytes.now }
-    ensures { result.now ≡ drop len bytes.now }
-{
-    &bytes[len..]
 }
 
 /// Whether this frame contains, behind its first byte, a whole frame with one of the numbers from its own on.

@@ -1,13 +1,10 @@
-use Rattle.std.proofs.Common.{subst}
+use Rattle.std.proofs.Common.{subst, sym}
 use Rattle.commit_log.specs.Numbered.{HasLater}
-use Rattle.commit_log.proofs.Numbering.{further, nearer, none_in_nothing, nothing_at}
+use Rattle.commit_log.proofs.Windows.{later_back, later_on}
 use Rattle.commit_log.proofs.numbered.has_later.Goals as goal
 
-pub loop-after-preserved : goal.loop-after-preserved
-loop-after-preserved c = record {
-  ahead = λ later. further c.args.next _ c.loop-after.rest.now c.in-Some.after.now c.in-Some.ensures.cases.0 (λ here. let h = c.if-stands_from.ensures.1 here in cc) (c.loop-after.invariant.ahead later);
-  back = λ later. c.loop-after.invariant.back (nearer c.args.next _ c.loop-after.rest.now c.in-Some.after.now c.in-Some.ensures.cases.0 later);
+pub loop-place-preserved : goal.loop-place-preserved
+loop-place-preserved c = record {
+  ahead = λ later. subst (HasLater c.args.next) (sym c.behind-rest.ensures) (later_on c.in-Some.place.now c.args.next (λ here. let h = c.if-stands_from.ensures.1 here in cc) (c.in-Some.ensures.found.0 (c.loop-place.invariant.ahead later)));
+  back = λ later. c.loop-place.invariant.back (c.in-Some.ensures.found.1 (later_back c.in-Some.place.now c.args.next 1 (subst (HasLater c.args.next) c.behind-rest.ensures later)));
 }
-
-pub returns : goal.returns
-returns c = (λ h. cc, λ later. absurd (none_in_nothing c.args.next (subst (HasLater c.args.next) (nothing_at c.loop-after.rest.now c.in_default.ensures.cases) (c.loop-after.invariant.ahead later))))

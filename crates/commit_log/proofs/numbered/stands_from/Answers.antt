@@ -2,9 +2,6 @@ use Rattle.std.proofs.Common.{rules}
 use Rattle.commit_log.proofs.Numbering.{stands_as, stands_not, too_short}
 use Rattle.commit_log.proofs.numbered.stands_from.Goals as goal
 
-pub returns-then-not-may_stand : goal.returns-then-not-may_stand
-returns-then-not-may_stand c = (λ h. cc, λ here. let h = c.may_stand.ensures here in cc)
-
 pub returns-in_default : goal.returns-in_default
 returns-in_default c = (λ h. cc, λ here. absurd (too_short c.args.bytes.now c.args.next c.in_default.ensures.none here))
 
