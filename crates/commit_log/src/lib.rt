@@ -16,8 +16,6 @@ mod numbered;
 mod numbers;
 mod records;
 mod store_log;
-#[cfg(test)]
-mod tests;
 
 pub use checksums::crc32;
 pub use edits::{edited_key, edits_in, push_edits};
