@@ -1,8 +1,6 @@
 //! A log in a folder: its file, the sign of its store, and the bytes that were cut.
 
-ghost use Rattle.std.specs.Prelude.{◌≡◌, ◌≢◌, ◌<◌, ◌^◌, ◌↔◌, Err, IfErr, IfOk, IfSome, IsErr, IsErrOf, IsOk, None, Ok, OnErr, OnOk, Some, true};
-ghost use Rattle.std.specs.Fs.{IsFile, file_type};
-ghost use Rattle.std.specs.Io.KnownBytes.{Appends};
+ghost use Rattle.std.specs.Prelude.{◌≡◌, ◌≢◌, ◌<◌, ◌^◌, Err, IfErr, IfOk, IfSome, IsErr, IsErrOf, IsOk, None, Ok, OnErr, OnOk, Some, true};
 ghost use Rattle.std.specs.IoError.{error_kind};
 ghost use Rattle.commit_log.specs.Faults.{HasFaultCause};
 ghost use Rattle.commit_log.specs.Files.{IsWithoutRoom};
@@ -15,12 +13,12 @@ use crate::files::LogFile;
 use crate::frames::{HEAD, read_log};
 use crate::numbers::number_bytes;
 use crate::store_log::{new_log, read_store_log, upgrade_log};
+use disk::{if_there, look_at, open_regular, replace_file, sync_folder};
 use std::alloc::{AllocError, Global};
-use std::fs::{File, Metadata, OpenFile, OpenOptions};
+use std::fs::{File, OpenFile, OpenOptions};
+use std::io;
 use std::io::{ErrorKind, Read, Seek, SeekFrom, Write};
-use std::os::unix::fs::OpenOptionsExt;
 use std::rt::Files as Folders;
-use std::{fs, io};
 
 /// The name of the log's file.
 const LOG: &str = "commit.log";
@@ -39,9 +37,6 @@ const SIGN_HEAD: [u8; 8] = *b"TABSTORE";
 
 /// The length of a piece of room, in bytes.
 const PIECE: usize = 131_072;
-
-/// The mode of these files: only the owner may read and write them.
-const OWNER_ALONE: u32 = 0o600;
 
 /// A log in the file `commit.log` of a folder. Its contract doesn't know the bytes.
 pub type DirLog<R> = FileLog<DirFile<R>>;
@@ -77,43 +72,6 @@ fn path_of(alloc: Global, folder: &str, name: &str) -> io::Result<String> {
     Ok(format!(in alloc; "{folder}/{name}")?)
 }
 
-/// The metadata of a path if it is a regular file. A failure is passed on.
-fn regular(found: io::Result<Metadata>) -> io::Result<Metadata>
-    ensures regular { IfOk found (λ metadata. IsOk result ↔ IsFile (file_type metadata)) }
-    ensures same { IfOk result (λ metadata. found ≡ Ok metadata) }
-    ensures failed { IfErr found (λ error. result ≡ Err error) }
-{
-    let metadata = found?;
-    if !metadata.is_file() {
-        return Err(io::Error::from(ErrorKind::InvalidInput));
-    }
-    Ok(metadata)
-}
-
-/// Looks whether a path is a regular file. Fails for anything else, also for a symbolic link.
-fn look_at<R: Folders>(rt: &R, path: &str) -> io::Result<Metadata> {
-    regular(fs::symlink_metadata(rt, path))
-}
-
-/// Opens a regular file to read it.
-fn open_regular<R: Folders>(rt: &R, path: &str) -> io::Result<R::File> {
-    look_at(rt, path)?;
-    File::open(rt, path)
-}
-
-/// Makes a temporary file. If something has its name, that is removed first.
-fn create_beside<R: Folders>(rt: &R, beside: &str) -> io::Result<R::File> {
-    let mut how = OpenOptions::new();
-    how.write(true).create_new(true).mode(OWNER_ALONE);
-    match how.open(rt, beside) {
-        Err(error) if error.kind() == ErrorKind::AlreadyExists => {
-            fs::remove_file(rt, beside)?;
-            how.open(rt, beside)
-        }
-        opened => opened,
-    }
-}
-
 /// Opens the file of a folder's log, to read it and to write it.
 fn open_file<R: Folders<File = File> + AllocGlobal>(rt: &R, folder: &str) -> io::Result<File> {
     let path = path_of(rt.alloc(), folder, LOG)?;
@@ -123,18 +81,11 @@ fn open_file<R: Folders<File = File> + AllocGlobal>(rt: &R, folder: &str) -> io:
     how.open(rt, path.as_str())
 }
 
-/// Writes bytes to a file, and forces them to the disk.
-fn write_synced<W: Write + OpenFile>(file: &mut W, bytes: &[u8]) -> io::Result<()>
-    ensures { OnOk result (Appends (W.contents file.old) (W.contents file.new) bytes.now) }
-{
-    file.write_all(bytes)?;
-    file.sync_data()
-}
-
 /// Writes bytes to a file from an offset on, and forces them to the disk.
 fn write_from<W: Write + Seek + OpenFile>(file: &mut W, at: usize, bytes: &[u8]) -> io::Result<()> {
     file.seek(SeekFrom::Start(at as u64))?;
-    write_synced(file, bytes)
+    file.write_all(bytes)?;
+    file.sync_data()
 }
 
 /// Writes so many pieces of zeros to a file from an offset on, and forces them to the disk.
@@ -179,12 +130,10 @@ fn read_opened<S: Read + Seek + Drop>(
     ensures failed { IfErr opened (λ error.
         error_kind error ≢ ErrorKind.NotFound → result ≡ Err error) }
 {
-    let mut file = match opened {
-        Ok(file) => file,
-        Err(error) if error.kind() == ErrorKind::NotFound => return Ok(None),
-        Err(error) => return Err(error),
-    };
-    Ok(Some(read_all(alloc, &mut file)?))
+    match if_there(opened)? {
+        Some(mut file) => Ok(Some(read_all(alloc, &mut file)?)),
+        None => Ok(None),
+    }
 }
 
 /// The bytes of a file of a folder; `None` if it doesn't exist.
@@ -197,14 +146,7 @@ fn read_file<R: Folders + AllocGlobal>(
     read_opened(rt.alloc(), open_regular(rt, path.as_str())).map_err(fault_of)
 }
 
-/// Forces a folder's entries to the disk.
-fn sync_folder<R: Folders>(rt: &R, folder: &str) -> io::Result<()> {
-    let folder = File::open(rt, folder)?;
-    folder.sync_all()
-}
-
-/// Creates or replaces a file of a folder: the bytes are written under a temporary name, forced to the disk and
-/// renamed, and the folder is forced to the disk too.
+/// Makes or replaces a file of a folder by way of a temporary one.
 fn place_file<R: Folders + AllocGlobal>(
     rt: &R,
     folder: &str,
@@ -213,10 +155,7 @@ fn place_file<R: Folders + AllocGlobal>(
 ) -> io::Result<()> {
     let path = path_of(rt.alloc(), folder, name)?;
     let beside = path_of(rt.alloc(), folder, BESIDE)?;
-    let mut file = create_beside(rt, beside.as_str())?;
-    write_synced(&mut file, bytes)?;
-    fs::rename(rt, beside.as_str(), path.as_str())?;
-    sync_folder(rt, folder)
+    replace_file(rt, folder, beside.as_str(), path.as_str(), bytes)
 }
 
 /// The fault for an error of the system.

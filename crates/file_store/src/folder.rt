@@ -1,25 +1,21 @@
 //! Files in a folder.
 
-ghost use Rattle.std.specs.Prelude.{⊤, ◌≡◌, ◌≢◌, ◌≤◌, ◌<◌, ◌↔◌, ℕ, Err, IfOk, IfErr, IsOk, None, Ok, OnOk, Some, length};
-ghost use Rattle.std.specs.Fs.{IsFile, file_type};
-ghost use Rattle.std.specs.Io.KnownBytes.{Appends, IsAtEnd};
+ghost use Rattle.std.specs.Prelude.{⊤, ◌≡◌, ◌≢◌, ◌≤◌, Err, IfOk, IfErr, IsOk, None, Ok, length};
 ghost use Rattle.std.specs.IoError.{error_kind};
 ghost use Rattle.file_store.specs.Store.{HasFaultCause};
 
 use crate::files::{FileFault, Files};
 use crate::open_files::OpenFiles;
+use disk::{OWNER_ALONE, fill, if_there, look_at, open_regular, replace_file, sync_folder};
 use std::alloc::{Allocator, Global};
-use std::fs::{DirEntry, File, Metadata, OpenFile, OpenOptions};
-use std::io::{ErrorKind, Read, Seek, SeekFrom, Write};
+use std::fs::{DirEntry, File, Metadata, OpenOptions};
+use std::io::{ErrorKind, Read, Seek, SeekFrom};
 use std::os::unix::fs::OpenOptionsExt;
 use std::rt::Files as Folders;
 use std::{fs, io};
 
 /// The number of hexadecimal digits in a file's name.
 const DIGITS: usize = 16;
-
-/// Who may read and write a file that is made: its owner alone.
-const OWNER_ALONE: u32 = 0o600;
 
 /// Files in a folder, named `t`, 16 lower-case hexadecimal digits and `.tab`. Other names in the folder aren't listed.
 /// Contracts know nothing of the bytes. The folder's file `lock` is locked while the folder is open, so that only one
@@ -64,43 +60,6 @@ fn name_of(file: &str, ending: &str) -> Option<u64> {
     u64::from_str_radix(digits, 16).ok()
 }
 
-/// The metadata of a path if it is a regular file. A failure is passed on.
-fn regular(found: io::Result<Metadata>) -> io::Result<Metadata>
-    ensures regular { IfOk found (λ metadata. IsOk result ↔ IsFile (file_type metadata)) }
-    ensures same { IfOk result (λ metadata. found ≡ Ok metadata) }
-    ensures failed { IfErr found (λ error. result ≡ Err error) }
-{
-    let metadata = found?;
-    if !metadata.is_file() {
-        return Err(io::Error::from(ErrorKind::InvalidInput));
-    }
-    Ok(metadata)
-}
-
-/// The metadata of a regular file. Fails for anything else, also for a symbolic link.
-fn look_at<R: Folders>(rt: &R, path: &str) -> io::Result<Metadata> {
-    regular(fs::symlink_metadata(rt, path))
-}
-
-/// Opens a regular file to read it.
-fn open_regular<R: Folders>(rt: &R, path: &str) -> io::Result<R::File> {
-    look_at(rt, path)?;
-    File::open(rt, path)
-}
-
-/// Makes a temporary file. If something has its name, that is removed first.
-fn create_beside<R: Folders>(rt: &R, beside: &str) -> io::Result<R::File> {
-    let mut how = OpenOptions::new();
-    how.write(true).create_new(true).mode(OWNER_ALONE);
-    match how.open(rt, beside) {
-        Err(error) if error.kind() == ErrorKind::AlreadyExists => {
-            fs::remove_file(rt, beside)?;
-            how.open(rt, beside)
-        }
-        opened => opened,
-    }
-}
-
 /// Locks a folder's file `lock`, and makes it if it is missing. Fails if it is already locked.
 fn lock_folder<R: Folders<File = File>>(rt: &R, alloc: Global, folder: &str) -> io::Result<File> {
     let path = format!(in alloc; "{folder}/lock")?;
@@ -110,59 +69,6 @@ fn lock_folder<R: Folders<File = File>>(rt: &R, alloc: Global, folder: &str) -> 
     let file = how.open(rt, path.as_str())?;
     file.try_lock()?;
     Ok(file)
-}
-
-/// Forces an opened folder to the disk. A failure to open it is passed on.
-fn sync_opened<F: OpenFile + Drop>(opened: io::Result<F>) -> io::Result<()>
-    ensures failed { IfErr opened (λ error. result ≡ Err error) }
-{
-    let folder = opened?;
-    folder.sync_all()
-}
-
-/// Forces a folder's list of names to the disk.
-fn sync_folder<R: Folders>(rt: &R, folder: &str) -> io::Result<()> {
-    sync_opened(File::open(rt, folder))
-}
-
-/// Appends bytes to a file, and forces it to the disk.
-fn write_synced<W: Write + OpenFile>(file: &mut W, bytes: &[u8]) -> io::Result<()>
-    ensures { OnOk result (Appends (W.contents file.old) (W.contents file.new) bytes.now) }
-{
-    file.write_all(bytes)?;
-    file.sync_all()
-}
-
-/// Renames a written temporary file to its path. A failure to write it is passed on.
-fn put_there<R: Folders>(
-    rt: &R,
-    beside: &str,
-    path: &str,
-    written: io::Result<()>,
-) -> io::Result<()>
-    ensures failed { IfErr written (λ error. result ≡ Err error) }
-{
-    written?;
-    fs::rename(rt, beside, path)
-}
-
-/// Writes a temporary file, and renames it to its path.
-fn place_file<R: Folders>(rt: &R, beside: &str, path: &str, bytes: &[u8]) -> io::Result<()> {
-    let mut file = create_beside(rt, beside)?;
-    let written = write_synced(&mut file, bytes);
-    put_there(rt, beside, path, written)
-}
-
-/// Forces a folder to the disk after a file was put in its place. If that failed, the temporary file is removed and the
-/// failure passed on.
-fn finish<R: Folders>(rt: &R, folder: &str, beside: &str, placed: io::Result<()>) -> io::Result<()>
-    ensures failed { IfErr placed (λ error. result ≡ Err error) }
-{
-    if placed.is_err() {
-        let _ = fs::remove_file(rt, beside);
-    }
-    placed?;
-    sync_folder(rt, folder)
 }
 
 /// Makes or replaces a file in a folder. If that fails, the temporary file is removed.
@@ -175,39 +81,7 @@ fn write_file<R: Folders>(
 ) -> io::Result<()> {
     let path = path_of(alloc, folder, name, "tab")?;
     let beside = path_of(alloc, folder, name, "new")?;
-    let placed = place_file(rt, beside.as_str(), path.as_str(), bytes);
-    finish(rt, folder, beside.as_str(), placed)
-}
-
-/// The result of a call on a file that may be missing: `None` if it is missing. Any other failure is passed on.
-fn if_there<T: Drop>(called: io::Result<T>) -> io::Result<Option<T>>
-    ensures there { IfOk called (λ value. result ≡ Ok (Some value)) }
-    ensures missing { IfErr called (λ error.
-        error_kind error ≡ ErrorKind.NotFound → result ≡ Ok None) }
-    ensures failed { IfErr called (λ error.
-        error_kind error ≢ ErrorKind.NotFound → result ≡ Err error) }
-{
-    match called {
-        Ok(value) => Ok(Some(value)),
-        Err(error) if error.kind() == ErrorKind::NotFound => Ok(None),
-        Err(error) => Err(error),
-    }
-}
-
-/// Reads into a buffer, and answers how many bytes were read: fewer than its length only at the file's end.
-fn read_full<S: Read>(file: &mut S, out: &mut [u8]) -> io::Result<usize>
-    ensures within { IfOk result (λ n. n ≤ length out.old) }
-    ensures end { IfOk result (λ n. n < length out.old → IsAtEnd (S.remaining file.new)) }
-{
-    let mut at = 0;
-    while at < out.len() {
-        let count = file.read(&mut out[at..])?;
-        if count == 0 {
-            return Ok(at);
-        }
-        at += count;
-    }
-    Ok(at)
+    replace_file(rt, folder, beside.as_str(), path.as_str(), bytes)
 }
 
 /// Reads from an offset of an open file into a buffer, and answers how many bytes were read.
@@ -218,7 +92,7 @@ fn read_part<S: Read + Seek>(file: &mut S, offset: u64, out: &mut [u8]) -> io::R
         return Ok(0);
     }
     file.seek(SeekFrom::Start(offset))?;
-    read_full(file, out)
+    fill(file, out)
 }
 
 /// Reads in the same way from a file that was opened, and answers the file too, if it exists.

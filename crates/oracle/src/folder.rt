@@ -1,25 +1,21 @@
 //! The oracle's mark in a folder.
 
-ghost use Rattle.std.specs.Prelude.{◌≡◌, ◌≢◌, ◌≤◌, ◌<◌, ◌^◌, ◌↔◌, ℕ, length, take, Err, IfErr, IfNone, IfOk, IfSome, IsErr, IsOk, None, Ok, OnErr, OnOk};
-ghost use Rattle.std.specs.Fs.{IsFile, file_type};
-ghost use Rattle.std.specs.Io.KnownBytes.{Appends, Consumes, IsAtEnd};
+ghost use Rattle.std.specs.Prelude.{◌≡◌, ◌≢◌, ◌≤◌, ◌<◌, ◌^◌, ℕ, Err, IfErr, IfNone, IfOk, IfSome, IsErr, None, Ok, OnErr, OnOk};
+ghost use Rattle.std.specs.Io.KnownBytes.{Appends};
 ghost use Rattle.std.specs.IoError.{error_kind};
 ghost use Rattle.cell_key.specs.Faults.{HasRisen};
 ghost use Rattle.oracle.specs.Marks.{IsMark, mark_bytes};
 
 use crate::marks::{MarkFault, MarkStore};
 use cell_key::{MOST_STAMP, Stamp};
-use std::fs::{File, Metadata, OpenFile, OpenOptions};
+use disk::{create_beside, fill, if_there, look_at, open_regular, sync_folder, write_synced};
+use std::fs::{OpenFile, OpenOptions};
 use std::io::{ErrorKind, Read, Write};
-use std::os::unix::fs::OpenOptionsExt;
 use std::rt::Files as Folders;
 use std::{fs, io};
 
 /// The length of the mark's file in bytes.
 const MARK_BYTES: usize = 8;
-
-/// Who may read and write the file of a mark: its owner alone.
-const OWNER_ALONE: u32 = 0o600;
 
 /// A mark in the file `oracle.mark` of a folder, as 8 bytes, big-endian. Contracts know nothing of the file's bytes.
 ///
@@ -62,56 +58,6 @@ fn number_of(bytes: &[u8]) -> Option<Stamp>
     Some(number)
 }
 
-/// The metadata of a path if it is a regular file. A failure is passed on.
-fn regular(found: io::Result<Metadata>) -> io::Result<Metadata>
-    ensures regular { IfOk found (λ metadata. IsOk result ↔ IsFile (file_type metadata)) }
-    ensures same { IfOk result (λ metadata. found ≡ Ok metadata) }
-    ensures failed { IfErr found (λ error. result ≡ Err error) }
-{
-    let metadata = found?;
-    if !metadata.is_file() {
-        return Err(io::Error::from(ErrorKind::InvalidInput));
-    }
-    Ok(metadata)
-}
-
-/// Opens a regular file for reading. Fails for anything else, also for a symbolic link.
-fn open_regular<R: Folders>(rt: &R, path: &str) -> io::Result<R::File> {
-    regular(fs::symlink_metadata(rt, path))?;
-    File::open(rt, path)
-}
-
-/// Makes a temporary file. If something has its name, that is removed first.
-fn create_beside<R: Folders>(rt: &R, beside: &str) -> io::Result<R::File> {
-    let mut how = OpenOptions::new();
-    how.write(true).create_new(true).mode(OWNER_ALONE);
-    match how.open(rt, beside) {
-        Err(error) if error.kind() == ErrorKind::AlreadyExists => {
-            fs::remove_file(rt, beside)?;
-            how.open(rt, beside)
-        }
-        opened => opened,
-    }
-}
-
-/// Fills a buffer from a file, and answers how many bytes were read: fewer than the buffer's only at the file's end.
-fn fill<F: Read>(file: &mut F, bytes: &mut [u8]) -> io::Result<usize>
-    ensures within { IfOk result (λ n. n ≤ length bytes.old) }
-    ensures end { IfOk result (λ n. n < length bytes.old → IsAtEnd (F.remaining file.new)) }
-    ensures read { IfOk result (λ n.
-        Consumes (F.remaining file.old) (F.remaining file.new) (take n bytes.new)) }
-{
-    let mut at = 0;
-    while at < bytes.len() {
-        let count = file.read(&mut bytes[at..])?;
-        if count == 0 {
-            return Ok(at);
-        }
-        at += count;
-    }
-    Ok(at)
-}
-
 /// Reads a mark; the rest of the file must be the mark.
 fn read_number<F: Read>(file: &mut F) -> io::Result<Stamp>
     ensures within { IfOk result (λ number. number < 2 ^ 63) }
@@ -133,20 +79,10 @@ fn read_mark<F: Read + Drop>(opened: io::Result<F>) -> io::Result<Stamp>
     ensures whole { IfOk opened (λ file. IfSome (F.remaining file) (λ bytes.
         IfOk result (IsMark bytes))) }
 {
-    let mut file = match opened {
-        Ok(file) => file,
-        Err(error) if error.kind() == ErrorKind::NotFound => return Ok(0),
-        Err(error) => return Err(error),
-    };
-    read_number(&mut file)
-}
-
-/// Appends bytes to a file and syncs it.
-fn write_synced<W: Write + OpenFile>(file: &mut W, bytes: &[u8]) -> io::Result<()>
-    ensures { OnOk result (Appends (W.contents file.old) (W.contents file.new) bytes.now) }
-{
-    file.write_all(bytes)?;
-    file.sync_all()
+    match if_there(opened)? {
+        Some(mut file) => read_number(&mut file),
+        None => Ok(0),
+    }
 }
 
 /// Appends a mark's bytes to a file and syncs it.
@@ -157,29 +93,15 @@ fn write_number<W: Write + OpenFile>(file: &mut W, number: Stamp) -> io::Result<
     write_synced(file, &number.to_be_bytes())
 }
 
-/// The result of removing a file; `Ok` if it was missing. Other errors are passed on.
-fn removed(called: io::Result<()>) -> io::Result<()>
-    ensures done { OnOk called (IsOk result) }
-    ensures missing { IfErr called (λ error.
-        error_kind error ≡ ErrorKind.NotFound → IsOk result) }
-    ensures failed { IfErr called (λ error.
-        error_kind error ≢ ErrorKind.NotFound → result ≡ Err error) }
-{
-    match called {
-        Err(error) if error.kind() != ErrorKind::NotFound => Err(error),
-        _ => Ok(()),
-    }
-}
-
 /// The second file: the spare one, if there is one, else a new one. A spare file that an earlier program left is removed
 /// first.
 fn second_file<R: Folders>(rt: &R, paths: &MarkPaths, has_spare: bool) -> io::Result<R::File> {
     if !has_spare {
-        removed(fs::remove_file(rt, paths.spare.as_str()))?;
+        let _ = if_there(fs::remove_file(rt, paths.spare.as_str()))?;
         return create_beside(rt, paths.beside.as_str());
     }
     fs::rename(rt, paths.spare.as_str(), paths.beside.as_str())?;
-    regular(fs::symlink_metadata(rt, paths.beside.as_str()))?;
+    look_at(rt, paths.beside.as_str())?;
     let mut how = OpenOptions::new();
     how.write(true);
     how.open(rt, paths.beside.as_str())
@@ -221,14 +143,6 @@ fn place_mark<R: Folders>(
     put_there(rt, paths, has_spare, written)
 }
 
-/// Syncs a folder just opened. An error of the opening is passed on.
-fn sync_opened<F: OpenFile + Drop>(opened: io::Result<F>) -> io::Result<()>
-    ensures failed { IfErr opened (λ error. result ≡ Err error) }
-{
-    let folder = opened?;
-    folder.sync_all()
-}
-
 /// Syncs the folder after the rename. If the write or the rename failed, the second file is removed, and the error is
 /// passed on.
 fn finish<R: Folders>(rt: &R, paths: &MarkPaths, placed: io::Result<bool>) -> io::Result<bool>
@@ -238,7 +152,7 @@ fn finish<R: Folders>(rt: &R, paths: &MarkPaths, placed: io::Result<bool>) -> io
         let _ = fs::remove_file(rt, paths.beside.as_str());
     }
     let has_spare = placed?;
-    sync_opened(File::open(rt, paths.folder.as_str()))?;
+    sync_folder(rt, paths.folder.as_str())?;
     Ok(has_spare)
 }
 

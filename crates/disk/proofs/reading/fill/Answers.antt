@@ -5,7 +5,7 @@ use Rattle.std.proofs.lemmas.Slice.{take-put_mid_below}
 use Rattle.std.specs.Io.KnownBytes.{Consumes}
 use Rattle.std.proofs.KnownBytes.{Consumes-trans}
 use borrow.Rule.Slice.PartMut.{put_mid, post_of}
-use Rattle.oracle.proofs.folder.fill.Goals as goal
+use Rattle.disk.proofs.reading.fill.Goals as goal
 
 -- a prefix, followed by more bytes
 front_then : (a b : ℕ) (old new : List ℕ) → a ≤ b → take a new ≡ take a old → take a old ++ slice_range new a b ≡ take b new
@@ -23,8 +23,8 @@ put_there a k n xs ys within fits =
 pub loop-at-preserved : goal.loop-at-preserved
 loop-at-preserved g c =
     let from = c.loop-at.at in
-    let room = length c.loop-at.bytes - from in
+    let room = length c.loop-at.out - from in
     let within = c.loop-at.invariant.0 in
-    let there = put_there from room c.in_ok-count.count c.loop-at.bytes c.read.new.buf within c.in_ok-count.ensures.bound.0 in
-    let joined = front_then from (from + c.in_ok-count.count) c.loop-at.bytes (put_mid from room c.loop-at.bytes c.read.new.buf) (omega arith) (take-put_mid_below _ _ _ _ _ (le_refl _) within) in
-    (search rules, search rules, subst (Consumes _ _) (ap (λ l. take from c.loop-at.bytes ++ l) (sym there) ∙ joined) (Consumes-trans _ _ _ _ _ c.loop-at.invariant.2 c.in_ok-count.ensures.bytes.0))
+    let there = put_there from room c.in_ok-count.count c.loop-at.out c.read.new.buf within c.in_ok-count.ensures.bound.0 in
+    let joined = front_then from (from + c.in_ok-count.count) c.loop-at.out (put_mid from room c.loop-at.out c.read.new.buf) (omega arith) (take-put_mid_below _ _ _ _ _ (le_refl _) within) in
+    (search rules, search rules, subst (Consumes _ _) (ap (λ l. take from c.loop-at.out ++ l) (sym there) ∙ joined) (Consumes-trans _ _ _ _ _ c.loop-at.invariant.2 c.in_ok-count.ensures.bytes.0))
