@@ -4,6 +4,7 @@ ghost use Rattle.std.specs.Prelude.{◌≡◌, ◌≢◌, ◌⊎◌, ◌<◌, �
 ghost use Rattle.std.specs.List.{AllByRecursion};
 ghost use Rattle.cell_key.specs.Cells.{IsEditOf, edited_key};
 ghost use Rattle.cell_key.specs.Entries.{Entry, field, lent_entry, spelled};
+ghost use Rattle.cell_key.specs.Keys.{text};
 ghost use Rattle.cell_key.specs.declared.edits.Edit.{Edit as CellEdit};
 ghost use Rattle.commit_log.specs.Edits.{HasShortParts, HoldEdits, IsStoredEdit, Part, edit_entry, made_in, spelled_edit, spelled_edits, spelled_part};
 ghost use Rattle.commit_log.specs.Frames.{bytes_of};
@@ -13,6 +14,9 @@ use crate::frames::length_in;
 use crate::records::{RecordKind, split_record};
 use cell_key::{CellKey, Edit, EntryRef, Refusal, Row, Stamp};
 use std::alloc::Global;
+
+/// The bytes of a length.
+const LENGTH: usize = 4;
 
 /// The upper bound of a value's length, in bytes.
 const MOST_VALUE: usize = 65_536;
@@ -40,6 +44,22 @@ fn push_field(out: &mut Vec<u8>, bytes: &[u8]) -> Result<(), Refusal>
     Ok(())
 }
 
+/// Appends the text of a key, behind its length. After an `Err` a part may have been appended.
+fn push_key(out: &mut Vec<u8>, key: &CellKey) -> Result<(), Refusal>
+    requires { length (text key.now) < 2 ^ 32 }
+    ensures ok { OnOk result (out.new.items ≡ out.old.items ++ field (text key.now)) }
+    ensures front { take (length out.old.items) out.new.items ≡ out.old.items }
+    ensures refusal { IfErr result (λ refusal. refusal ≡ Refusal.NoMemory) }
+{
+    let start = out.len();
+    out.extend_from_slice(&[0; LENGTH])?;
+    key.encode(out)?;
+    let end = out.len();
+    let length = (end - start - LENGTH) as u32;
+    out[start..start + LENGTH].copy_from_slice(&length.to_be_bytes());
+    Ok(())
+}
+
 /// Appends an edit of a row, encoded. After an `Err` a part may have been appended.
 fn push_edit(out: &mut Vec<u8>, row: &Row, edit: &Edit) -> Result<(), Refusal>
     requires { IsEditOf row.now edit.now }
@@ -52,9 +72,7 @@ fn push_edit(out: &mut Vec<u8>, row: &Row, edit: &Edit) -> Result<(), Refusal>
     // These calls show that row and family are within their limits.
     let _row = row.as_bytes();
     let _family = key.family.as_bytes();
-    let mut text = Vec::new(*out.allocator());
-    key.encode(&mut text)?;
-    push_field(out, &text)?;
+    push_key(out, key)?;
     match edit {
         Edit::Put(_, value) => {
             out.push(1)?;
