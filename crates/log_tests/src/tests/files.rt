@@ -1,6 +1,6 @@
 //! Logs over a file that fails, and in memory.
 
-ghost use Rattle.std.specs.Prelude.{◌≡◌, ◌≤◌, true};
+ghost use Rattle.std.specs.Prelude.{◌≡◌, ◌<◌, ◌≤◌, true};
 ghost use Rattle.commit_log.specs.Faults.{HasRisen};
 
 use super::{ENDS, FIRST, LOG, STORE, are_first};
@@ -136,7 +136,8 @@ fn both_over(alloc: Global, left: u64, part: usize) -> Result<(u64, FakeFile), L
 /// Whether the log of these bytes has so many records behind the first, or one more.
 fn has_about(alloc: Global, bytes: &[u8], count: usize) -> Result<bool, LogFault> {
     let records = opened(alloc, bytes, u64::MAX, 0)?.records()?;
-    Ok(are_first(&records, count + 1) || are_first(&records, count + 2))
+    let found = records.len();
+    Ok(are_first(&records, found) && matches!(found.checked_sub(count), Some(1 | 2)))
 }
 
 #[test]
