@@ -1,12 +1,11 @@
 -- The edits that erase old versions of a cell, and when nothing is left to erase.
-use Rattle.std.proofs.Common.{Bool, true, false, ◌==◌, IfOk, ◌≡◌, ◌≢◌, ◌∙◌, ◌⊎◌, inl, inr, ℕ, zero, suc, ◌+◌, ◌<◌, ◌≤◌, ◌^◌, List, [], ◌∷◌, ◌++◌, length, take, get_or, Option, Some, None, Result, Ok, Err, IfErr, append_assoc, add-one, refl, sym, ap, subst, arith}
+use Rattle.std.proofs.Common.{Bool, true, false, ◌==◌, ◌≡◌, ◌≢◌, ◌∙◌, ◌⊎◌, inl, inr, ℕ, zero, suc, ◌+◌, ◌<◌, ◌≤◌, ◌^◌, List, [], ◌∷◌, ◌++◌, length, take, get_or, Option, Some, None, Result, Ok, Err, IfErr, append_assoc, add-one, refl, sym, ap, subst, arith}
 use Rattle.std.proofs.Math.Seq.{take-suc}
 use Rattle.std.proofs.lemmas.Bool.{cases_lt, eqb-true}
 use Rattle.std.proofs.lemmas.Bool.Decides.{eqb_tells}
 use Rattle.std.proofs.lemmas.Option.{none-some, same_Some}
 use Rattle.std.specs.List.{AllByRecursion}
 use Rattle.std.specs.Result.{IsErrAnd}
-use Rattle.std.specs.declared.vec.Vec.{Vec}
 use Rattle.std.proofs.ByRecursion.{All-push}
 use Rattle.cell_key.specs.Cells.{Cells, IsEditOf}
 use Rattle.cell_key.specs.declared.edits.Edit.{Edit}
@@ -26,7 +25,7 @@ use Rattle.si_model.specs.declared.replies.Cell.{Cell}
 use Rattle.si_model.proofs.Bounds.{reached_bounds}
 use Rattle.version_collector.specs.Erasing.{Erases, ErasesOrIsTidy, data_erasures, deletion_erasures, record_erasures}
 use Rattle.version_collector.specs.Refusals.{IsVisitRefusal}
-use Rattle.version_collector.specs.Versions.{AreFound, AreNear, AreShown, AreUnnamed, HasOneRecord, IsLastDeletion}
+use Rattle.version_collector.specs.Versions.{AreFound, AreNamedFrom, AreNear, AreShown, AreUnnamed, HasOneRecord, IsLastDeletion}
 use Rattle.version_collector.specs.declared.versions.NearStarts.{NearStarts}
 use Rattle.version_collector.proofs.Starts.{lone_deletion}
 
@@ -148,6 +147,13 @@ shown_low cells (st, reached, shown) x c b stands =
     let same = k.stamp in
     omega arith
 
+-- a record names t, or none does
+pub named_or_not : (cells : Cells) → AreShown cells → (x : Cell) (t : ℕ) → IsNamed cells x t ⊎ (¬ IsNamed cells x t)
+named_or_not cells shown x t = elim (named_below cells x t (2 ^ 63)) [
+  | inl found ↦ inl found
+  | inr none ↦ inr (λ n. none n.0 (shown_low cells shown x n.0 n.1.0 n.1.2) n.1)
+]
+
 tidy_where_none : (cells : Cells) → AreShown cells → (x : Cell) (floor : ℕ) → AreUnnamed cells x floor [] → IsLastDeletion cells x floor None → IsTidy cells x floor
 tidy_where_none cells shown x floor none not_deleted = tidy_below cells x floor (2 ^ 63) (shown_low cells shown x) none not_deleted
 
@@ -199,35 +205,18 @@ empty_list (x ∷ xs) n b len is e = absurd (let zero_is : n ≡ 0 = eqb-true n 
 pub some_list : {A : Type 0} (xs : List A) (n : ℕ) (b : Bool) → n ≡ length xs → b ≡ (n == 0) → b ≡ false → xs ≢ []
 some_list xs n b len is e none = not_true (sym e ∙ (is ∙ ap (λ (m : ℕ). m == 0) (len ∙ ap (λ ys. length ys) none)))
 
-pub records_answered : {Z : Type 0} (Holds : Type 0) (cells : Cells) (x : Cell) (floor : ℕ) (vs lent : List (ℕ × ℕ)) (r : Result (Vec Edit Z) Refusal) → vs ≢ [] → lent ≡ vs
-    → IfOk r (λ edits. edits.items ≡ record_erasures x lent) → length vs ≤ 128 → (Holds → AreShown cells → AreFound cells x floor vs)
-    → IfOk r (λ edits. ErasesOrIsTidy Holds cells x floor edits.items)
-records_answered Holds cells x floor vs lent (Err e) some same are few found = tt
-records_answered Holds cells x floor vs lent (Ok edits) some same are few found = erases_records Holds cells x floor vs edits.items some (are ∙ ap (record_erasures x) same) few found
-
-pub data_answered : {Z : Type 0} (Holds : Type 0) (cells : Cells) (x : Cell) (floor : ℕ) (ts lent : List ℕ) (r : Result (Vec Edit Z) Refusal) → ts ≢ [] → lent ≡ ts
-    → IfOk r (λ edits. edits.items ≡ data_erasures x lent) → length ts ≤ 256 → (Holds → AreShown cells → AreUnnamed cells x floor ts) → IfOk r (λ edits. ErasesOrIsTidy Holds cells x floor edits.items)
-data_answered Holds cells x floor ts lent (Err e) some same are few found = tt
-data_answered Holds cells x floor ts lent (Ok edits) some same are few found = erases_data Holds cells x floor ts edits.items some (are ∙ ap (data_erasures x) same) few found
-
-pub deletion_answered : {Z : Type 0} (Holds : Type 0) (cells : Cells) (x : Cell) (floor : ℕ) (ts : List ℕ) (deletion : Option ℕ) (r : Result (Vec Edit Z) Refusal) → ts ≡ []
-    → IfOk r (λ edits. edits.items ≡ deletion_erasures x deletion) → (Holds → AreShown cells → AreUnnamed cells x floor ts) → (Holds → AreShown cells → IsLastDeletion cells x floor deletion)
-    → IfOk r (λ edits. ErasesOrIsTidy Holds cells x floor edits.items)
-deletion_answered Holds cells x floor ts deletion (Err e) none are first found = tt
-deletion_answered Holds cells x floor ts deletion (Ok edits) none are first found = erases_deletion Holds cells x floor ts deletion edits.items none are first found
-
 -- the result after reads that left the cells unchanged
 pub last_after : (Before Now : Type 0) (old new : Cells) (x : Cell) (floor : ℕ) (deletion : Option ℕ) → (Before → Now) → new ≡ old
     → (Now → AreShown new → IsLastDeletion new x floor deletion) → Before → AreShown old → IsLastDeletion old x floor deletion
 last_after Before Now old new x floor deletion still kept found held shown =
     subst (λ (cs : Cells). IsLastDeletion cs x floor deletion) kept (found (still held) (subst AreShown (sym kept) shown))
 
-pub found_after : (Before Now : Type 0) (old new : Cells) (x : Cell) (floor : ℕ) (near : NearStarts) (ts : List ℕ) → (Before → Now) → new ≡ old → (Before → AreNear old x floor near)
-    → (Now → AreShown new → HasOneRecord new x floor → AreNear new x floor near → AreUnnamed new x floor ts) → Before → AreShown old → HasOneRecord old x floor → AreUnnamed old x floor ts
-found_after Before Now old new x floor near ts still kept are found held shown one =
+pub found_after : (Before Now : Type 0) (old new : Cells) (x : Cell) (floor from : ℕ) (near : NearStarts) (ts : List ℕ) → (Before → Now) → new ≡ old → (Before → AreNear old x floor near) → (Before → AreNamedFrom old x floor from)
+    → (Now → AreShown new → HasOneRecord new x floor → AreNear new x floor near → AreNamedFrom new x floor from → AreUnnamed new x floor ts) → Before → AreShown old → HasOneRecord old x floor → AreUnnamed old x floor ts
+found_after Before Now old new x floor from near ts still kept are named found held shown one =
     subst (λ (cs : Cells). AreUnnamed cs x floor ts) kept
     (found (still held) (subst AreShown (sym kept) shown) (subst (λ (cs : Cells). HasOneRecord cs x floor) (sym kept) one)
-    (subst (λ (cs : Cells). AreNear cs x floor near) (sym kept) (are held)))
+    (subst (λ (cs : Cells). AreNear cs x floor near) (sym kept) (are held)) (subst (λ (cs : Cells). AreNamedFrom cs x floor from) (sym kept) (named held)))
 
 -- ---- refusals
 

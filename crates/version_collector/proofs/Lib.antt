@@ -8,4 +8,5 @@ pub mod Room
 pub mod Starts
 pub mod Table
 pub mod Thinned
+pub mod TidyCells
 pub mod VisitedCells

@@ -1,11 +1,10 @@
 -- The records and the data of a cell in a shown reached state: the starts that its records name, and the result of a
 -- search from above.
-use Rattle.std.proofs.Common.{◌≡◌, ◌≢◌, ℕ, suc, ◌+◌, ◌-◌, ◌<◌, ◌≤◌, ◌^◌, inl, inr, List, [], ◌∷◌, ◌++◌, length, map, Option, Some, None, Result, Ok, Err, IfErr, IfOk, refl, sym, ap, subst, ◌∙◌, arith}
+use Rattle.std.proofs.Common.{◌≡◌, ◌≢◌, ℕ, zero, suc, ◌+◌, ◌-◌, ◌<◌, ◌≤◌, ◌^◌, inl, inr, List, [], ◌∷◌, ◌++◌, length, map, Option, Some, None, Result, Ok, Err, IfErr, IfOk, refl, sym, ap, subst, ◌∙◌, arith}
 use Rattle.std.proofs.lemmas.Bool.{cases_lt}
 use Rattle.std.proofs.lemmas.List.{map-append}
 use Rattle.std.proofs.lemmas.Option.{none-some, same_Some}
-use Rattle.std.specs.Bool.{OnFalse}
-use Rattle.std.specs.Prelude.{Bool, IfNone, IfSome, is_some, option_map}
+use Rattle.std.specs.Prelude.{IfNone, IfSome, option_map}
 use Rattle.std.specs.declared.vec.Vec.{Vec}
 use Rattle.cell_key.specs.Cells.{Cells, IsNewest}
 use Rattle.cell_key.specs.declared.keys.Qualifier.TheVariants.{Data, Write}
@@ -29,7 +28,7 @@ use Rattle.si_model.proofs.Bounds.{reached_bounds}
 use Rattle.si_model.proofs.CleanerFates.{names_nearest}
 use Rattle.si_model.proofs.Steps.{reached_sound}
 use Rattle.rows.specs.Reads.{AreNewestFirst}
-use Rattle.version_collector.specs.Versions.{AreFound, AreGreatest, AreNear, AreShown, AreUnnamed, HasOneRecord, IsAmong, IsLastDeletion, IsLastRecord, IsLatestBelow, IsLoneDeletion, IsNamedBy, IsUnnamed, NamesLast, NamesNext, NamesNone}
+use Rattle.version_collector.specs.Versions.{AreFound, AreGreatest, AreNamedFrom, AreNear, AreShown, AreUnnamed, HasNoOldFrom, HasOneRecord, IsAmong, IsLastDeletion, IsLastRecord, IsLatestBelow, IsLoneDeletion, IsNamedBy, IsUnnamed, NamesLast, NamesNext, NamesNone}
 use Rattle.version_collector.specs.declared.versions.NearStarts.{NearStarts}
 use Rattle.version_collector.proofs.Greatest.{AreAll, all_more, all_none, all_past, greatest_all, greatest_full, in_last, length-last}
 
@@ -99,14 +98,22 @@ last_record cells x floor w b (low, high, is, last) = record {
   ];
 }
 
-pub old_begin : (cells : Cells) (x : Cell) (floor w : ℕ) (b : List ℕ) → IsNewest cells (key_of x Write) 0 floor (Some (w, b)) → AreOldFrom cells x floor w []
-old_begin cells x floor w b newest = record {
+-- no older record has a stamp from `below` on
+pub old_begin : (cells : Cells) (x : Cell) (floor from below w : ℕ) (b : List ℕ) → HasNoOldFrom cells x floor from → IsNewest cells (key_of x Write) 0 floor (Some (w, b)) → below ≤ w
+    → ((s : ℕ) → below ≤ s → s < w → from ≤ s) → AreOldFrom cells x floor below []
+old_begin cells x floor from below w b none newest low least = record {
   w = w;
-  kept = last_record cells x floor w b newest;
-  low = omega arith;
-  stamps = all_none (λ c. IsThere cells x Write c × (c < w)) w (λ s so. so.1);
+  kept = kept;
+  low = low;
+  stamps = all_none (λ c. IsThere cells x Write c × (c < w)) below (λ s so. elim (cases_lt s below) [
+    | inl less ↦ less
+    | inr more ↦ absurd (none s w (least s more so.1) so.1 kept.low so.0 kept.there)
+  ]);
   named = λ v i. elim i [ ];
 }
+  where
+    kept : IsLastRecord cells x floor w
+    kept = last_record cells x floor w b newest
 
 pub old_more : (cells : Cells) → AreShown cells → (x : Cell) (floor below c t : ℕ) (b : List ℕ) (vs : List (ℕ × ℕ)) → AreOldFrom cells x floor below vs
     → IsLatestBelow cells x Write below (Some (c, b)) → NamesStart b t → AreOldFrom cells x floor c (vs ++ (c, t) ∷ [])
@@ -166,41 +173,48 @@ old_full cells x floor below vs old full = old_are cells x floor below vs old
 pub latest_left : (cells : Cells) (x : Cell) (q : Qualifier) (below most : ℕ) (v : ℕ × List ℕ) (vs : List (ℕ × List ℕ)) → 1 ≤ below → AreNewestFirst cells (key_of x q) (below - 1) most (v ∷ vs) → IsLatestBelow cells x q below (Some v)
 latest_left cells x q below most v vs from (some, (low, high, there, above), one, rest) = (omega (arith, high), there, λ s up less. above s up (omega arith))
 
--- old records were found, and these versions remain
-pub record HasOlder (cells : Cells) (x : Cell) (floor : ℕ) (vs : List (ℕ × ℕ)) (left : List (ℕ × List ℕ)) : Type 0 where
+-- old records were found, if none was left from a stamp on, and these versions remain
+pub record HasOlder (cells : Cells) (x : Cell) (floor from : ℕ) (vs : List (ℕ × ℕ)) (left : List (ℕ × List ℕ)) : Type 0 where
   pub below : ℕ
-  pub from : 1 ≤ below
-  pub old : AreOldFrom cells x floor below vs
+  pub some : 1 ≤ below
+  pub old : HasNoOldFrom cells x floor from → AreOldFrom cells x floor below vs
   pub rest : AreNewestFirst cells (key_of x Write) (below - 1) (128 - length vs) left
 
-pub older_begin : (cells : Cells) (x : Cell) (floor w : ℕ) (b : List ℕ) (left : List (ℕ × List ℕ)) → AreNewestFirst cells (key_of x Write) floor 129 ((w, b) ∷ left) → HasOlder cells x floor [] left
-older_begin cells x floor w b left (some, newest, one, rest) = record { below = w; from = one; old = old_begin cells x floor w b newest; rest = rest }
+pub older_begin : (cells : Cells) (x : Cell) (floor from below w : ℕ) (b : List ℕ) (left : List (ℕ × List ℕ)) → IsNewest cells (key_of x Write) 0 floor (Some (w, b)) → 1 ≤ w → below ≤ w
+    → ((s : ℕ) → below ≤ s → s < w → from ≤ s) → AreNewestFirst cells (key_of x Write) (below - 1) 128 left → HasOlder cells x floor from [] left
+older_begin cells x floor from zero w b left newest one low least rest = record {
+  below = 1;
+  some = omega arith;
+  old = λ none. old_begin cells x floor from 1 w b none newest one (λ s more less. least s (omega arith) less);
+  rest = rest;
+}
+older_begin cells x floor from (suc n) w b left newest one low least rest = record {
+  below = suc n;
+  some = omega arith;
+  old = λ none. old_begin cells x floor from (suc n) w b none newest low least;
+  rest = rest;
+}
 
-pub older_there : (cells : Cells) (x : Cell) (floor c : ℕ) (b : List ℕ) (vs : List (ℕ × ℕ)) (left : List (ℕ × List ℕ)) → HasOlder cells x floor vs ((c, b) ∷ left) → at cells x Write c ≡ Some b
-older_there cells x floor c b vs left h = (latest_left cells x Write h.below (128 - length vs) (c, b) left h.from h.rest).1
+pub older_there : (cells : Cells) (x : Cell) (floor from c : ℕ) (b : List ℕ) (vs : List (ℕ × ℕ)) (left : List (ℕ × List ℕ)) → HasOlder cells x floor from vs ((c, b) ∷ left) → at cells x Write c ≡ Some b
+older_there cells x floor from c b vs left h = (latest_left cells x Write h.below (128 - length vs) (c, b) left h.some h.rest).1
 
-pub older_more : (cells : Cells) → AreShown cells → (x : Cell) (floor c t : ℕ) (b : List ℕ) (vs : List (ℕ × ℕ)) (left : List (ℕ × List ℕ)) → HasOlder cells x floor vs ((c, b) ∷ left) → NamesStart b t → HasOlder cells x floor (vs ++ (c, t) ∷ []) left
-older_more cells shown x floor c t b vs left h names = record {
+pub older_more : (cells : Cells) → AreShown cells → (x : Cell) (floor from c t : ℕ) (b : List ℕ) (vs : List (ℕ × ℕ)) (left : List (ℕ × List ℕ)) → HasOlder cells x floor from vs ((c, b) ∷ left) → NamesStart b t
+    → HasOlder cells x floor from (vs ++ (c, t) ∷ []) left
+older_more cells shown x floor from c t b vs left h names = record {
   below = c;
-  from = h.rest.2;
-  old = old_more cells shown x floor h.below c t b vs h.old (latest_left cells x Write h.below (128 - length vs) (c, b) left h.from h.rest) names;
+  some = h.rest.2;
+  old = λ none. old_more cells shown x floor h.below c t b vs (h.old none) (latest_left cells x Write h.below (128 - length vs) (c, b) left h.some h.rest) names;
   rest = subst (λ (n : ℕ). AreNewestFirst cells (key_of x Write) (c - 1) n left) fewer h.rest.3;
 }
   where
     fewer : 128 - length vs - 1 ≡ 128 - length (vs ++ (c, t) ∷ [])
     fewer = let longer = length-last vs (c, t) in omega (arith, longer)
 
-pub older_end : (cells : Cells) (x : Cell) (floor : ℕ) (vs : List (ℕ × ℕ)) → length vs ≤ 128 → HasOlder cells x floor vs [] → AreFound cells x floor vs
-older_end cells x floor vs few h = elim (cases_lt (length vs) 128) [
-  | inl less ↦ let none = h.rest (omega arith) in let from = h.from in old_all cells x floor h.below vs h.old few (λ s under. none s (omega arith) (omega arith))
-  | inr most ↦ old_full cells x floor h.below vs h.old (omega arith)
+pub older_end : (cells : Cells) (x : Cell) (floor from : ℕ) (vs : List (ℕ × ℕ)) → length vs ≤ 128 → HasOlder cells x floor from vs [] → HasNoOldFrom cells x floor from → AreFound cells x floor vs
+older_end cells x floor from vs few h clear = elim (cases_lt (length vs) 128) [
+  | inl less ↦ let none = h.rest (omega arith) in let some = h.some in old_all cells x floor h.below vs (h.old clear) few (λ s under. none s (omega arith) (omega arith))
+  | inr most ↦ old_full cells x floor h.below vs (h.old clear) (omega arith)
 ]
-
--- a cell has at most one record, unless there is one below the newest
-pub one_unless : {Z : Type 0} (cells : Cells) (x : Cell) (floor w : ℕ) (b : List ℕ) (next : Option (ℕ × Vec ℕ Z)) (has : Bool) → has ≡ is_some next → IsNewest cells (key_of x Write) 0 floor (Some (w, b))
-    → IsLatestBelow cells x Write w (option_map stamped next) → OnFalse has (HasOneRecord cells x floor)
-one_unless cells x floor w b None has is newest none = subst (λ (h : Bool). OnFalse h (HasOneRecord cells x floor)) (sym is) (old_all cells x floor w [] (old_begin cells x floor w b newest) (omega arith) none)
-one_unless cells x floor w b (Some v) has is newest some = subst (λ (h : Bool). OnFalse h (HasOneRecord cells x floor)) (sym is) tt
 
 pub nothing_left : {A : Type 0} (xs : List A) → length xs ≡ 0 → xs ≡ []
 nothing_left [] none = refl
@@ -219,17 +233,16 @@ newest_then {seen = seen} x floor most reads held (Ok found) h = subst (λ (cs :
 newest_then x floor most reads held (Err e) h = tt
 
 -- the same for decoded versions
-pub older_first : {Z : Type 0} (cells : Cells) (x : Cell) (floor : ℕ) (items older : List (ℕ × Vec ℕ Z)) (v : ℕ × Vec ℕ Z) → items ≡ v ∷ older → AreNewestFirst cells (key_of x Write) floor 129 (map stamped items) → HasOlder cells x floor [] (map stamped older)
-older_first {Z} cells x floor items older v is newest = older_begin cells x floor v.0 v.1.items (map stamped older) (subst (λ (vs : List (ℕ × Vec ℕ Z)). AreNewestFirst cells (key_of x Write) floor 129 (map stamped vs)) is newest)
+pub older_none : {Z : Type 0} (cells : Cells) (x : Cell) (floor : ℕ) (found : Option (ℕ × Vec ℕ Z)) → found ≡ None → IsNewest cells (key_of x Write) 0 floor (option_map stamped found) → AreFound cells x floor []
+older_none {Z} cells x floor found is newest = found_none cells x floor (at_none (IsNewest cells (key_of x Write) 0 floor) found is newest)
 
-pub older_none : {Z : Type 0} (cells : Cells) (x : Cell) (floor : ℕ) (items : List (ℕ × Vec ℕ Z)) → items ≡ [] → AreNewestFirst cells (key_of x Write) floor 129 (map stamped items) → AreFound cells x floor []
-older_none {Z} cells x floor items is newest = found_none cells x floor (subst (λ (vs : List (ℕ × Vec ℕ Z)). AreNewestFirst cells (key_of x Write) floor 129 (map stamped vs)) is newest (omega arith))
+pub older_next : {Z : Type 0} (cells : Cells) (x : Cell) (floor from : ℕ) (vs : List (ℕ × ℕ)) (left after : List (ℕ × Vec ℕ Z)) (v : ℕ × Vec ℕ Z) → left ≡ v ∷ after → HasOlder cells x floor from vs (map stamped left)
+    → HasOlder cells x floor from vs ((v.0, v.1.items) ∷ map stamped after)
+older_next {Z} cells x floor from vs left after v is h = subst (λ (rs : List (ℕ × Vec ℕ Z)). HasOlder cells x floor from vs (map stamped rs)) is h
 
-pub older_next : {Z : Type 0} (cells : Cells) (x : Cell) (floor : ℕ) (vs : List (ℕ × ℕ)) (left after : List (ℕ × Vec ℕ Z)) (v : ℕ × Vec ℕ Z) → left ≡ v ∷ after → HasOlder cells x floor vs (map stamped left) → HasOlder cells x floor vs ((v.0, v.1.items) ∷ map stamped after)
-older_next {Z} cells x floor vs left after v is h = subst (λ (rs : List (ℕ × Vec ℕ Z)). HasOlder cells x floor vs (map stamped rs)) is h
-
-pub older_last : {Z : Type 0} (cells : Cells) (x : Cell) (floor : ℕ) (vs : List (ℕ × ℕ)) (left : List (ℕ × Vec ℕ Z)) → left ≡ [] → length vs ≤ 128 → HasOlder cells x floor vs (map stamped left) → AreFound cells x floor vs
-older_last {Z} cells x floor vs left is few h = older_end cells x floor vs few (subst (λ (rs : List (ℕ × Vec ℕ Z)). HasOlder cells x floor vs (map stamped rs)) is h)
+pub older_last : {Z : Type 0} (cells : Cells) (x : Cell) (floor from : ℕ) (vs : List (ℕ × ℕ)) (left : List (ℕ × Vec ℕ Z)) → left ≡ [] → length vs ≤ 128 → HasOlder cells x floor from vs (map stamped left)
+    → HasNoOldFrom cells x floor from → AreFound cells x floor vs
+older_last {Z} cells x floor from vs left is few h = older_end cells x floor from vs few (subst (λ (rs : List (ℕ × Vec ℕ Z)). HasOlder cells x floor from vs (map stamped rs)) is h)
 
 -- ---- data that no record names
 
@@ -294,8 +307,11 @@ module _ (cells : Cells) (shown : AreShown cells) (x : Cell) (floor : ℕ) (one 
   ]
 
 -- data from this stamp on that no record names
-pub data_begin : (cells : Cells) (x : Cell) (floor : ℕ) → AreAll (IsUnnamed cells x floor) floor []
-data_begin cells x floor = all_none (IsUnnamed cells x floor) floor (λ s so. so.0)
+pub data_begin : (cells : Cells) (x : Cell) (floor from below : ℕ) → AreNamedFrom cells x floor from → ((s : ℕ) → below ≤ s → s < floor → from ≤ s) → AreAll (IsUnnamed cells x floor) below []
+data_begin cells x floor from below named least = all_none (IsUnnamed cells x floor) below (λ s so. elim (cases_lt s below) [
+  | inl less ↦ less
+  | inr more ↦ absurd (so.2 (named s (least s more so.0) so.0 so.1))
+])
 
 data_only : (cells : Cells) (x : Cell) (floor below t u : ℕ) (b : List ℕ) → IsLatestBelow cells x Data below (Some (t, b)) → t < u → u < below → ¬ IsUnnamed cells x floor u
 data_only cells x floor below t u b (less, there, last) more under is = none-some is.1.0 (sym (last u more under) ∙ is.1.1)

@@ -14,7 +14,7 @@ use Rattle.cell_key.specs.declared.refusals.Refusal.{Refusal}
 use Rattle.cell_key.specs.declared.refusals.Refusal.TheVariants.{TooManySessions, UnknownCollector, BadCount, MemtableFull, Device, NoMemory, Damaged}
 use Rattle.rows.specs.Calls.{OnlyReads, View}
 use Rattle.si_model.specs.Collection as model
-use Rattle.si_model.specs.Collection.{Collects, FirstPass, HasCome, SecondPass}
+use Rattle.si_model.specs.Collection.{ChangesCells, Collects, FirstPass, HasCome, IsUnmarkedBelow, SecondPass}
 use Rattle.si_model.specs.Machine as machine
 use Rattle.si_model.specs.Machine.{State, Step, accepts, refuses, tells, IsReached, IsFloor, IsStorageRefusal, Marked, Refused}
 use Rattle.si_model.specs.Refusing.Refuses.{gives_up}
@@ -35,10 +35,12 @@ use Rattle.si_model.proofs.ShownKept.{shows_beside}
 use Rattle.si_model.proofs.Tools.{eq_test, ne_test, get_same, get_other, get_removed, get_remains}
 use Rattle.version_collector.specs.Refusals.{IsVisitRefusal}
 use Rattle.version_collector.specs.Shows.{AreShownOn, Begins, ChangesOne, IsCount, Opens, SameCollectors, ShowsAt, ShowsCollector, ShowsCollectors, StepLeaves, Steps, TellsAt, VisitsAt, is_last, kept_after, kept_at}
-use Rattle.version_collector.specs.Visits.{HasVisited, IsTold, WhereCome, pass_of, position_of}
+use Rattle.version_collector.specs.Visits.{Comes, HasVisited, IsTold, WhereCome, pass_of, position_of}
 use Rattle.version_collector.specs.declared.collector.Collector.{Collector}
-use Rattle.version_collector.specs.declared.collector.Pass.TheVariants.{First}
+use Rattle.version_collector.specs.declared.collector.Pass.{Pass}
+use Rattle.version_collector.specs.declared.collector.Pass.TheVariants.{First, Second}
 use Rattle.version_collector.specs.declared.collectors.Collectors.{Collectors}
+use Rattle.version_collector.proofs.TidyCells.{progress_changed, progress_collected}
 use Rattle.version_collector.proofs.VisitedCells.{VisitsLeave, request_is}
 
 -- the entries of a map after one key has changed
@@ -52,15 +54,30 @@ upd_off old new k w h q ne = h q ∙ ap (λ (b : Bool). cond b w (old q)) (ne_te
 
 -- the progress of a collector with such a floor is kept
 abbrev KeepsCome : Cells → State → Cells → State → Type 0
-KeepsCome cells st cells' next = (floor : ℕ) → floor ≤ st.floor → (pass : model.Pass) (after : Option Place) → HasCome cells st floor pass after → HasCome cells' next floor pass after
+KeepsCome cells st cells' next = (c : Collector) → c.floor ≤ st.floor → Comes cells st c → Comes cells' next c
 
 shows_other : (cells cells' : Cells) (st next : State) → IsReached st → KeepsCome cells st cells' next → (o : Option Collector) (i : ℕ) → finmap.get next.collectors i ≡ finmap.get st.collectors i
     → ShowsAt cells o i st → ShowsAt cells' o i next
 shows_other cells cells' st next reached keeps None i same h = same ∙ h
 shows_other cells cells' st next reached keeps (Some c) i same h = record {
   kept = same ∙ h.kept;
-  come = keeps c.floor ((reached_floors reached).each i c.floor h.kept) (pass_of c.pass) (position_of c.after) h.come;
+  come = keeps c ((reached_floors reached).each i c.floor h.kept) h.come;
 }
+
+not_second : First ≡ Second → ⊥
+not_second e = cc
+
+-- a second pass has no mark below its floor
+unmarked_second : (cells : Cells) (st : State) (floor : ℕ) (pass : Pass) (after : Option Place) → HasCome cells st floor (pass_of pass) after → pass ≡ Second → IsUnmarkedBelow st floor
+unmarked_second cells st floor First after come is = absurd (not_second is)
+unmarked_second cells st floor Second after come is = come.0
+
+-- steps of others keep it
+keeps_changed : (cells cells' : Cells) (st next : State) (q : machine.Request) (r : machine.Reply) → IsReached st → ShowsCells cells st → Step st q r next → ChangesCells cells st cells' → KeepsCome cells st cells' next
+keeps_changed cells cells' st next q r reached store step changes c low come = (
+  come_stays cells st reached store next q r step cells' changes c.floor low (pass_of c.pass) (position_of c.after) come.0,
+  progress_changed cells st reached store c.floor low c.within c.pass (unmarked_second cells st c.floor c.pass (position_of c.after) come.0) cells' changes come.1,
+)
 
 -- steps of others leave the state that collectors show unchanged
 pub shows_on : AreShownOn
@@ -69,7 +86,7 @@ shows_on cells cells' collectors st next q r reached store step kind changes sho
     record {
       next = shown.next ∙ sym same.next_collector;
       floor = shown.floor ∙ sym same.floor;
-      each = λ i. shows_other cells cells' st next reached (come_stays cells st reached store next q r step cells' changes) (kept_at collectors i) i (ap (λ m. finmap.get m i) same.collectors) (shown.each i);
+      each = λ i. shows_other cells cells' st next reached (keeps_changed cells cells' st next q r reached store step changes) (kept_at collectors i) i (ap (λ m. finmap.get m i) same.collectors) (shown.each i);
       count = ap (λ m. finmap.len m) same.collectors ∙ shown.count;
     }
 
@@ -80,8 +97,10 @@ come_marks cells st next fewer floor SecondPass after come = (λ x t m. come.0 x
 
 -- a collection, after which no mark is added
 keeps_collected : (cells cells' : Cells) (st next : State) → ShowsCells cells st → Collects cells cells' st → ((x : Cell) (t : ℕ) → Marked next x t → Marked st x t) → KeepsCome cells st cells' next
-keeps_collected cells cells' st next store collects fewer floor low pass after come =
-    come_marks cells' st next fewer floor pass after (come_collected cells cells' st store collects floor pass after come)
+keeps_collected cells cells' st next store collects fewer c low come = (
+  come_marks cells' st next fewer c.floor (pass_of c.pass) (position_of c.after) (come_collected cells cells' st store collects c.floor (pass_of c.pass) (position_of c.after) come.0),
+  progress_collected cells cells' st c.floor collects c.within c.pass come.1,
+)
 
 -- ---- the state of a stored collector, and of a collector that isn't stored
 
@@ -217,10 +236,10 @@ unused cells collectors st reached shown = by (kept_at collectors st.next_collec
 
 module _ (old new : Collectors) (floor : ℕ) (room : btree.btree_map_len old.collectors < 64) (low : old.next ≤ 9223372036854775807)
     (next : new.next ≡ old.next + 1) (greatest : new.greatest_floor ≡ max old.greatest_floor floor)
-    (at : (q : ℕ) → kept_at new q ≡ cond (is_eq (nat_cmp old.next q)) (Some (record { floor = floor; pass = First; after = None })) (kept_at old q))
+    (at : (q : ℕ) → kept_at new q ≡ cond (is_eq (nat_cmp old.next q)) (Some (record { floor = floor; pass = First; after = None; within = None })) (kept_at old q))
     (len : btree.btree_map_len new.collectors ≡ btree.btree_map_len old.collectors + (if is_some (kept_at old old.next) then 0 else 1)) where
   abbrev collector : Collector
-  collector = record { floor = floor; pass = First; after = None }
+  collector = record { floor = floor; pass = First; after = None; within = None }
 
   pub begins_at : (cells : Cells) (st : State) → IsReached st → ShowsCells cells st → ShowsCollectors cells old st → IsFloor st floor
       → Begins cells new (machine.Collecting old.next floor) st
@@ -239,7 +258,7 @@ module _ (old new : Collectors) (floor : ℕ) (room : btree.btree_map_len old.co
       changed q = at q ∙ ap (λ (n : ℕ). cond (is_eq (nat_cmp n q)) (Some collector) (kept_at old q)) shown.next
 
       keeps : KeepsCome cells st cells after
-      keeps floor low pass after' come = come_marks cells st after (λ x t m. m) floor pass after' come
+      keeps c low come = (come_marks cells st after (λ x t m. m) c.floor (pass_of c.pass) (position_of c.after) come.0, come.1)
 
       collectors : ShowsCollectors cells new after
       collectors = record {
@@ -248,7 +267,7 @@ module _ (old new : Collectors) (floor : ℕ) (room : btree.btree_map_len old.co
         each = λ j. elim (cases_eq j st.next_collector) [
           | inl e ↦ subst (λ (j : ℕ). ShowsAt cells (kept_at new j) j after) (sym e)
               (subst (λ (o : Option Collector). ShowsAt cells o st.next_collector after) (sym (upd_at (kept_at old) (kept_at new) st.next_collector (Some collector) changed))
-              (record { kept = get_same st.collectors st.next_collector floor; come = λ x t passed m. absurd (passed tt) }))
+              (record { kept = get_same st.collectors st.next_collector floor; come = (λ x t passed m. absurd (passed tt), tt) }))
           | inr ne ↦ subst (λ (o : Option Collector). ShowsAt cells o j after) (sym (upd_off (kept_at old) (kept_at new) st.next_collector (Some collector) changed j ne))
               (shows_other cells cells st after reached keeps (kept_at old j) j (get_other st.collectors st.next_collector floor j ne) (shown.each j))
         ];

@@ -16,10 +16,10 @@ use Rattle.version_collector.specs.Visits.{Thins}
 use Rattle.version_collector.proofs.VisitedCells.{thins_none}
 
 -- only keys of x change, none of them a lock, and each change is an erasure
-record Leaves (x : Cell) (cells cells' : Cells) : Type 0 where
-  others : (k : CellKey) → k.row ≢ x.row → get cells' k ≡ get cells k
-  fewer : (k : CellKey) → (get cells' k ≡ get cells k) ⊎ (get cells' k ≡ None)
-  locks : (k : CellKey) → k.qualifier ≡ Lock → get cells' k ≡ get cells k
+pub record Leaves (x : Cell) (cells cells' : Cells) : Type 0 where
+  pub others : (k : CellKey) → k.row ≢ x.row → get cells' k ≡ get cells k
+  pub fewer : (k : CellKey) → (get cells' k ≡ get cells k) ⊎ (get cells' k ≡ None)
+  pub locks : (k : CellKey) → k.qualifier ≡ Lock → get cells' k ≡ get cells k
 
 leaves_none : (x : Cell) (cells : Cells) → Leaves x cells cells
 leaves_none x cells = record { others = λ k other. refl; fewer = λ k. inl refl; locks = λ k is. refl }
@@ -50,14 +50,14 @@ write_no_lock e = cc
 data_no_lock : Data ≢ Lock
 data_no_lock e = cc
 
-records_gone : (x : Cell) (vs : List (ℕ × ℕ)) (cells : Cells) → Leaves x cells (after_edits cells (record_erasures x vs))
+pub records_gone : (x : Cell) (vs : List (ℕ × ℕ)) (cells : Cells) → Leaves x cells (after_edits cells (record_erasures x vs))
 records_gone x [] cells = leaves_none x cells
 records_gone x (v ∷ vs) cells =
     let first = remove cells (key_of x Write v.0) in
     let second = remove first (key_of x Data v.1) in
     leaves_then x cells first _ (one_gone x Write v.0 write_no_lock cells) (leaves_then x first second _ (one_gone x Data v.1 data_no_lock first) (records_gone x vs second))
 
-data_gone : (x : Cell) (ts : List ℕ) (cells : Cells) → Leaves x cells (after_edits cells (data_erasures x ts))
+pub data_gone : (x : Cell) (ts : List ℕ) (cells : Cells) → Leaves x cells (after_edits cells (data_erasures x ts))
 data_gone x [] cells = leaves_none x cells
 data_gone x (t ∷ ts) cells =
     let first = remove cells (key_of x Data t) in

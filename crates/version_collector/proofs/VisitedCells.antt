@@ -22,7 +22,7 @@ use Rattle.si_model.proofs.CollectorProgress.{comes_further}
 use Rattle.si_model.proofs.Left.{left_falls}
 use Rattle.si_model.proofs.ShownAt.{cases_key, erased_at, erased_off}
 use Rattle.version_collector.specs.Versions.{AreOld, AreShown, AreUnnamed, IsLoneDeletion}
-use Rattle.version_collector.specs.Visits.{AreVisits, Comes, EndsWith, HasVisited, IsTold, IsVisit, Thins, Visits, ends, erases_data, erases_deletion, erases_records, none, passes, pass_of, position_of, left_by, stops, then, tidies, turns}
+use Rattle.version_collector.specs.Visits.{AreVisits, Comes, EndsWith, HasProgress, HasVisited, IsTold, IsVisit, Thins, Visits, ends, erases_data, erases_deletion, erases_records, none, passes, pass_of, position_of, left_by, stops, then, tidies, turns}
 use Rattle.version_collector.specs.declared.collector.Collector.{Collector}
 
 -- The effects of at most n visits: sessions read the same, keys of at most n rows are erased, and the collector has
@@ -255,12 +255,12 @@ module _ (st : State) (reached : IsReached st) where
   pub visit_is : (cells : Cells) (c : Collector) (reply : CollectReply) (cells' : Cells) (c' : Collector) → ShowsCells cells st → c.floor ≤ st.floor → Comes cells st c
       → Visits cells c reply cells' c' → VisitsLeave 1 cells c cells' c' st × IsTold 1 reply cells c cells' c' st
   visit_is cells c reply cells' c' shown low come v =
-      let l = visit_leaves cells st reached shown c.floor low (pass_of c.pass) (position_of c.after) reply cells' (pass_of c'.pass) (position_of c'.after) come v.visit in (
+      let l = visit_leaves cells st reached shown c.floor low (pass_of c.pass) (position_of c.after) reply cells' (pass_of c'.pass) (position_of c'.after) come.0 v.visit in (
         record {
           collects = l.collects;
           thins = l.thins;
           floor = v.floor;
-          come = subst (λ (f : ℕ). HasCome cells' st f (pass_of c'.pass) (position_of c'.after)) (sym v.floor) l.come;
+          come = (subst (λ (f : ℕ). HasCome cells' st f (pass_of c'.pass) (position_of c'.after)) (sym v.floor) l.come, v.progress);
         },
         told_by reply cells c cells' c' l.told,
       )
@@ -323,3 +323,7 @@ module _ (st : State) (reached : IsReached st) where
   -- cells after visits show the same state
   pub still_shown : (cells : Cells) (c : Collector) → ShowsCells cells st → c.floor ≤ st.floor → Comes cells st c → (k : ℕ) (cells' : Cells) (c' : Collector) → AreVisits cells c k cells' c' → AreShown cells'
   still_shown cells c shown low come k cells' c' did = (st, reached, shows_collected cells cells' st shown (visits_are cells c shown low come k cells' c' did).0.collects)
+
+  -- and the collector's progress within a cell is right
+  pub still_right : (cells : Cells) (c : Collector) → ShowsCells cells st → c.floor ≤ st.floor → Comes cells st c → (k : ℕ) (cells' : Cells) (c' : Collector) → AreVisits cells c k cells' c' → HasProgress cells' c'
+  still_right cells c shown low come k cells' c' did = (visits_are cells c shown low come k cells' c' did).0.come.1

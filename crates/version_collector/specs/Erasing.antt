@@ -7,7 +7,9 @@ use Rattle.cell_key.specs.declared.keys.Qualifier.TheVariants.{Data, Write}
 use Rattle.si_model.specs.Collection.{IsTidy}
 use Rattle.si_model.specs.ShowsCells.{key_of}
 use Rattle.si_model.specs.declared.replies.Cell.{Cell}
-use Rattle.version_collector.specs.Versions.{AreOld, AreShown, AreUnnamed, IsLoneDeletion}
+use Rattle.rows.specs.Calls.{View}
+use Rattle.version_collector.specs.Versions.{AreOld, AreShown, AreUnnamed, IsLoneDeletion, IsTidyFrom}
+use Rattle.version_collector.specs.declared.versions.TidyFrom.{TidyFrom}
 
 -- each record is erased with the data that it names
 abbrev pub record_erasures : Cell → List (ℕ × ℕ) → List Edit
@@ -50,6 +52,11 @@ pub record ErasesDeletion (Readable : Type 0) (cells : Cells) (x : Cell) (floor 
   pub c : ℕ
   pub are : edits ≡ deletion_erasures x (Some c)
   pub lone : Readable → AreShown cells → IsLoneDeletion cells x floor c
+
+-- the row of x is readable, and x is tidy from these stamps on
+abbrev pub IsKnown : {R : Type 0} → View R → R → Cell → ℕ → TidyFrom → Type 0
+IsKnown seen rows x floor tidy =
+    seen.readable rows x.row × IsTidyFrom (seen.cells rows) x floor tidy
 
 -- the edits erase something of the cell
 abbrev pub Erases : Type 0 → Cells → Cell → ℕ → List Edit → Type 0

@@ -12,6 +12,7 @@ use Rattle.si_model.specs.Sets.{◌∈◌}
 use Rattle.si_model.specs.ShowsCells.{IsThere, ShowsCells, at, key_of}
 use Rattle.si_model.specs.declared.replies.Cell.{Cell}
 use Rattle.version_collector.specs.declared.versions.NearStarts.{NearStarts}
+use Rattle.version_collector.specs.declared.versions.TidyFrom.{TidyFrom}
 
 -- the cells show a reached state
 abbrev pub AreShown : Cells → Type 0
@@ -102,6 +103,26 @@ IsUnnamed cells x floor t = (t < floor) × IsThere cells x Data t × (¬ IsNamed
 pub record AreUnnamed (cells : Cells) (x : Cell) (floor : ℕ) (ts : List ℕ) : Type 0 where
   pub one : HasOneRecord cells x floor
   pub starts : AreGreatest 256 (IsUnnamed cells x floor) ts
+
+-- no record from this stamp on is older than another one at or below the floor
+abbrev pub HasNoOldFrom : Cells → Cell → ℕ → ℕ → Type 0
+HasNoOldFrom cells x floor from =
+    (c d : ℕ) → from ≤ c → c < d → d ≤ floor → IsThere cells x Write c → ¬ IsThere cells x Write d
+
+-- a record names each data from this stamp on and below the floor
+abbrev pub AreNamedFrom : Cells → Cell → ℕ → ℕ → Type 0
+AreNamedFrom cells x floor from =
+    (t : ℕ) → from ≤ t → t < floor → IsThere cells x Data t → IsNamed cells x t
+
+-- the last of these numbers, or `other` if there are none
+abbrev pub last_of : ℕ → List ℕ → ℕ
+last_of other [] = other
+last_of other (n ∷ ns) = last_of n ns
+
+-- from these stamps on x has no old records, and no data that no record names
+pub record IsTidyFrom (cells : Cells) (x : Cell) (floor : ℕ) (tidy : TidyFrom) : Type 0 where
+  pub old : HasNoOldFrom cells x floor tidy.commit
+  pub named : AreNamedFrom cells x floor tidy.start
 
 -- A cell has no old records and no such data, and its record at or below the floor, at c, is a deletion's.
 pub record IsLoneDeletion (cells : Cells) (x : Cell) (floor c : ℕ) : Type 0 where

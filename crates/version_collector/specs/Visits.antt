@@ -1,5 +1,5 @@
 -- The visits of a collector, one or many in sequence, and the collector's progress after them.
-use Rattle.std.specs.Prelude.{◌≡◌, ◌≢◌, ◌⊎◌, ℕ, ◌+◌, ◌<◌, ◌≤◌, List, [], length, Option, Some, None, Result, Ok, Err}
+use Rattle.std.specs.Prelude.{◌≡◌, ◌≢◌, ◌⊎◌, ⊤, ℕ, ◌+◌, ◌<◌, ◌≤◌, List, [], length, Option, Some, None, Result, Ok, Err}
 use Rattle.std.specs.FinMap.{get}
 use Rattle.cell_key.specs.Cells.{Cells}
 use Rattle.cell_key.specs.Places.{Place, IsNextCell}
@@ -14,10 +14,11 @@ use Rattle.si_model.specs.ShowsCells.{at, IsThere, ShowsCells}
 use Rattle.si_model.specs.declared.replies.Cell.{Cell}
 use Rattle.si_model.specs.declared.replies.CollectReply.{CollectReply}
 use Rattle.si_model.specs.declared.replies.CollectReply.TheVariants.{More, Blocked, Collected}
-use Rattle.version_collector.specs.Versions.{AreOld, AreUnnamed, IsLoneDeletion}
+use Rattle.version_collector.specs.Versions.{AreOld, AreUnnamed, IsLoneDeletion, IsTidyFrom}
 use Rattle.version_collector.specs.declared.collector.Collector.{Collector}
 use Rattle.version_collector.specs.declared.collector.Pass.{Pass}
 use Rattle.version_collector.specs.declared.collector.Pass.TheVariants.{First, Second}
+use Rattle.version_collector.specs.declared.erasing.CellProgress.{CellProgress}
 
 -- One visit: it looks at the next cell with a key after the position.
 pub data IsVisit (cells : Cells) (floor : ℕ) : model.Pass → Option Place → CollectReply → Cells
@@ -74,10 +75,20 @@ read_in Second pass after = after
 abbrev pub read_from : Collector → Collector → Option Place
 read_from c c' = read_in c.pass c'.pass (position_of c.after)
 
+-- the progress within a cell is right; there is none in the first pass
+abbrev pub IsProgress : Cells → ℕ → Option CellProgress → Pass → Type 0
+IsProgress cells floor None pass = ⊤
+IsProgress cells floor (Some progress) First = ⊥
+IsProgress cells floor (Some progress) Second = IsTidyFrom cells progress.cell floor progress.tidy
+
+abbrev pub HasProgress : Cells → Collector → Type 0
+HasProgress cells c = IsProgress cells c.floor c.within c.pass
+
 -- a visit of this collector gives this reply, these cells and this collector
 pub record Visits (cells : Cells) (c : Collector) (reply : CollectReply) (cells' : Cells)
     (c' : Collector) : Type 0 where
   pub floor : c'.floor ≡ c.floor
+  pub progress : HasProgress cells' c'
   pub visit : IsVisit cells c.floor (pass_of c.pass) (position_of c.after) reply cells'
       (pass_of c'.pass) (position_of c'.after)
 
@@ -111,9 +122,10 @@ HasVisited n (Err refusal) cells c cells' c' = AreFewVisits n cells c cells' c'
 
 -- ---- their effect
 
--- the progress of this collector, and its remaining work
+-- the progress of this collector from cell to cell and within a cell, and its remaining work
 abbrev pub Comes : Cells → State → Collector → Type 0
-Comes cells st c = HasCome cells st c.floor (pass_of c.pass) (position_of c.after)
+Comes cells st c =
+    HasCome cells st c.floor (pass_of c.pass) (position_of c.after) × HasProgress cells c
 
 -- it holds if a reached state is shown in which this is the collector's progress
 abbrev pub WhereCome : State → Cells → Collector → Type 0 → Type 0

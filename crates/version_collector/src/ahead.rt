@@ -29,9 +29,12 @@ pub(crate) struct Ahead {
     places: IntoIter<(Row, Family)>,
     /// No cell comes after the last of the places.
     is_end: bool,
+    /// The number of places of the last batch.
+    found: usize,
 }
 
-fn is_same(cell: &Cell, other: &Cell) -> bool
+/// Whether two cells are the same.
+pub(crate) fn is_same(cell: &Cell, other: &Cell) -> bool
     ensures { IsTrue result ↔ (cell.now ≡ other.now) }
 {
     cell == other
@@ -80,6 +83,13 @@ fn has_key<R: Rows>(rows: &mut R, after: &Option<Cell>, cell: &Cell) -> Result<b
     }
 }
 
+/// The most places of a batch after one of this many.
+fn batch_after(found: usize) -> usize
+    ensures { 1 ≤ result }
+{
+    found.saturating_mul(4).saturating_add(1).min(MOST_AHEAD)
+}
+
 impl Ahead {
     /// Nothing found yet.
     pub(crate) fn new(alloc: Global) -> Ahead
@@ -89,6 +99,7 @@ impl Ahead {
             doubted: None,
             places: Vec::new(alloc).into_iter(),
             is_end: false,
+            found: 0,
         }
     }
 
@@ -118,7 +129,8 @@ impl Ahead {
         Ok(None)
     }
 
-    /// Finds the places needed for this number of visits.
+    /// Finds places for this number of visits. A search passes all versions of each cell before the last one found, and
+    /// the first cell may take all visits. So the first batch is one place, and batches grow.
     fn find<R: Rows>(
         &mut self,
         rows: &mut R,
@@ -136,9 +148,10 @@ impl Ahead {
             (AreReadableFrom R.seen rows.old (position_of after.now))) }
         ensures reason { HasReason (R.faults rows.old) (R.faults rows.new) result }
     {
-        let most = visits.min(MOST_AHEAD);
+        let most = visits.min(batch_after(self.found));
         let found = rows.next_cells(place_after(after), most)?;
         self.is_end = found.len() < most;
+        self.found = found.len();
         self.places = found.into_iter();
         Ok(())
     }

@@ -14,11 +14,12 @@ ghost use Rattle.version_collector.specs.Ahead.{Follow, IsAhead};
 ghost use Rattle.version_collector.specs.Locks.{IsLowLock};
 ghost use Rattle.version_collector.specs.Refusals.{IsVisitRefusal};
 ghost use Rattle.version_collector.specs.Room.{AreOfVisitsIn, TakesRoomOfVisits};
-ghost use Rattle.version_collector.specs.Versions.{AreShown};
-ghost use Rattle.version_collector.specs.Visits.{GoesOn, HasVisited, Thins, Visits, WhereCome, position_of, read_from};
+ghost use Rattle.version_collector.specs.Versions.{AreShown, IsTidyFrom};
+ghost use Rattle.version_collector.specs.Visits.{GoesOn, HasProgress, HasVisited, Thins, Visits, WhereCome, position_of, read_from};
 
-use crate::ahead::Ahead;
-use crate::erasing::erase_old;
+use crate::ahead::{Ahead, is_same};
+use crate::erasing::{CellProgress, erase_old};
+use crate::versions::TidyFrom;
 use cell_key::{Qualifier, Refusal, Stamp};
 use rows::Rows;
 use si_model::{Cell, CollectReply};
@@ -37,6 +38,8 @@ pub(crate) struct Collector {
     pub(crate) floor: Stamp,
     pub(crate) pass: Pass,
     pub(crate) after: Option<Cell>,
+    /// The progress in the cell of which the last visit erased versions; `None` once the position has moved.
+    pub(crate) within: Option<CellProgress>,
 }
 
 /// The start of a lock of the cell below the floor, if there is one.
@@ -55,10 +58,21 @@ fn low_lock<R: Rows>(rows: &mut R, cell: &Cell, floor: Stamp) -> Result<Option<S
 }
 
 impl Collector {
+    /// The stamps from which on nothing of a cell is left to erase.
+    fn tidy_from(&self, cell: &Cell) -> TidyFrom
+        ensures { (cells : Cells) → HasProgress cells self.now
+            → IsTidyFrom cells cell.now self.now.floor result }
+    {
+        match &self.within {
+            Some(progress) if is_same(&progress.cell, cell) => progress.tidy,
+            _ => TidyFrom::new(self.floor),
+        }
+    }
+
     /// Handles the end of the cells: the second pass begins before all cells, or all is collected.
     fn turn(&mut self) -> CollectReply
         ensures turned { (cells : Cells)
-            → IsNextCell cells (position_of self.old.after) None
+            → IsNextCell cells (position_of self.old.after) None → HasProgress cells self.old
             → Visits cells self.old result cells self.new }
         ensures pass { GoesOn self.old self.new }
         ensures floor { self.new.floor ≡ self.old.floor }
@@ -67,6 +81,7 @@ impl Collector {
             Pass::First => {
                 self.pass = Pass::Second;
                 self.after = None;
+                self.within = None;
                 CollectReply::More
             }
             Pass::Second => CollectReply::Collected,
@@ -76,7 +91,7 @@ impl Collector {
     /// Visits the next cell in the first pass: looks for a lock below the floor.
     fn look<R: Rows>(&mut self, rows: &mut R, cell: Cell) -> Result<CollectReply, Refusal>
         ensures visit { R.seen.readable rows.old cell.row
-            → self.old.pass ≡ Pass.First
+            → self.old.pass ≡ Pass.First → HasProgress (R.seen.cells rows.old) self.old
             → IsNextCell (R.seen.cells rows.old) (position_of self.old.after) (Some (place_at cell))
             → IfOk result (λ reply.
             Visits (R.seen.cells rows.old) self.old reply (R.seen.cells rows.old) self.new) }
@@ -106,6 +121,7 @@ impl Collector {
     ) -> Result<CollectReply, Refusal>
         ensures visit { R.seen.readable rows.old cell.row
             → AreShown (R.seen.cells rows.old) → self.old.pass ≡ Pass.Second
+            → HasProgress (R.seen.cells rows.old) self.old
             → IsNextCell (R.seen.cells rows.old) (position_of self.old.after) (Some (place_at cell))
             → IfOk result (λ reply.
             Visits (R.seen.cells rows.old) self.old reply (R.seen.cells rows.new) self.new) }
@@ -130,12 +146,14 @@ impl Collector {
             → HasNoRoom R.seen.overfills rows.old (AreOfVisitsIn 1) }
         ensures reason { HasReason (R.faults rows.old) (R.faults rows.new) result }
     {
-        let erased = erase_old(alloc, rows, &cell, self.floor)?;
-        if erased {
+        let erased = erase_old(alloc, rows, &cell, self.floor, self.tidy_from(&cell))?;
+        if let Some(progress) = erased {
+            self.within = Some(progress);
             ahead.doubted = Some(cell);
             return Ok(CollectReply::More);
         }
         self.after = Some(cell);
+        self.within = None;
         Ok(CollectReply::More)
     }
 
@@ -154,7 +172,7 @@ impl Collector {
     ) -> Result<CollectReply, Refusal>
         requires { 1 ≤ visits }
         ensures visit { AreReadableFrom R.seen rows.old (position_of self.old.after)
-            → AreShown (R.seen.cells rows.old)
+            → AreShown (R.seen.cells rows.old) → HasProgress (R.seen.cells rows.old) self.old
             → IsAhead (R.seen.cells rows.old) (position_of self.old.after) ahead.old
             → IfOk result (λ reply.
             Visits (R.seen.cells rows.old) self.old reply (R.seen.cells rows.new) self.new) }

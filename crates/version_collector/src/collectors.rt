@@ -109,6 +109,7 @@ impl Collectors {
             floor,
             pass: Pass::First,
             after: None,
+            within: None,
         };
         self.collectors.insert(number, collector)?;
         self.next = number + 1;

@@ -2,6 +2,7 @@
 
 ghost use Rattle.std.specs.Prelude.{◌≡◌, ◌↔◌, ◌⊎◌, ℕ, ◌<◌, ◌≤◌, ◌^◌, Some, length, map, IfErr, IfNone, IfOk, IfSome, IsTrue, option_map};
 ghost use Rattle.std.specs.List.{AllByRecursion};
+ghost use Rattle.cell_key.specs.Cells.{Cells};
 ghost use Rattle.cell_key.specs.Faults.{HasReason};
 ghost use Rattle.cell_key.specs.Moments.{IsMoment};
 ghost use Rattle.cell_key.specs.Versions.{IsVersion, stamped};
@@ -11,8 +12,9 @@ ghost use Rattle.cell_key.specs.declared.keys.Qualifier.TheVariants.{Write};
 ghost use Rattle.rows.specs.Calls.{OnlyReads};
 ghost use Rattle.rows.specs.Refusals.{IsRefusalOfRead};
 ghost use Rattle.si_model.specs.ShowsCells.{key_of};
+ghost use Rattle.si_model.specs.declared.replies.Cell.{Cell as Names};
 ghost use Rattle.rows.specs.Reads.{AreNewestFirst};
-ghost use Rattle.version_collector.specs.Versions.{AreFound, AreNear, AreShown, AreUnnamed, HasOneRecord, IsAmong, IsLastDeletion, IsLatestBelow, IsNamedBy, NamesNext, NamesNone};
+ghost use Rattle.version_collector.specs.Versions.{AreFound, AreNear, AreNamedFrom, AreShown, AreUnnamed, HasNoOldFrom, HasOneRecord, IsAmong, IsLastDeletion, IsLatestBelow, IsNamedBy, IsTidyFrom, NamesNext, NamesNone, last_of};
 
 use cell_key::{MOST_STAMP, Moment, Qualifier, Record, Refusal, Stamp, WriteKind};
 use rows::{Rows, oldest};
@@ -27,6 +29,65 @@ const FEW_RECORDS: usize = 32;
 
 /// The most data without a record erased at once.
 const MOST_DATA: usize = 256;
+
+/// The stamps from which on a cell has nothing to erase: from `commit` on no record older than the newest one at or below
+/// the floor, and from `start` on no data below the floor that no record names.
+#[derive(Clone, Copy, Drop)]
+pub(crate) struct TidyFrom {
+    pub(crate) commit: Stamp,
+    pub(crate) start: Stamp,
+}
+
+impl TidyFrom {
+    /// The stamps of a cell of which nothing is known.
+    pub(crate) fn new(floor: Stamp) -> TidyFrom
+        ensures { (cells : Cells) (x : Names) → IsTidyFrom cells x floor result }
+    {
+        TidyFrom {
+            commit: floor,
+            start: floor,
+        }
+    }
+
+    /// The stamps after these records are erased, which are the newest old ones, in falling order.
+    pub(crate) fn past_records(self, records: &[(Moment, Moment)]) -> TidyFrom
+        ensures commit { result.commit ≡ last_of self.commit (map (λ v. v.0) records.now) }
+        ensures start { result.start ≡ self.start }
+    {
+        match records.last() {
+            Some((commit, _)) => TidyFrom {
+                commit: commit.stamp(),
+                start: self.start,
+            },
+            None => self,
+        }
+    }
+
+    /// The stamps after these data are erased, which are the newest that no record names, in falling order.
+    pub(crate) fn past_data(self, starts: &[Moment]) -> TidyFrom
+        ensures commit { result.commit ≡ self.commit }
+        ensures start { result.start ≡ last_of self.start starts.now }
+    {
+        match starts.last() {
+            Some(start) => TidyFrom {
+                commit: self.commit,
+                start: start.stamp(),
+            },
+            None => self,
+        }
+    }
+}
+
+/// The lesser of two stamps.
+fn lesser(one: Stamp, other: Stamp) -> Stamp
+    ensures low { result ≤ one }
+    ensures least { (s : ℕ) → result ≤ s → s < one → other ≤ s }
+{
+    if other < one {
+        return other;
+    }
+    one
+}
 
 /// The version of a cell's column with the greatest stamp below this one, if there is one.
 fn latest_below<R: Rows>(
@@ -69,16 +130,16 @@ fn write_of(text: &[u8]) -> Result<(Moment, WriteKind), Refusal>
     }
 }
 
-/// The newest records of a cell at or below the floor, newest first: at most 32. Each is looked up by itself, so that
-/// its block may come from the cache.
+/// The newest records of a cell at or below a stamp, newest first: at most 32. Each is looked up by itself, so that its
+/// block may come from the cache.
 fn look_up_records<R: Rows>(
     alloc: Global,
     rows: &mut R,
     cell: &Cell,
-    floor: Stamp,
+    hi: Stamp,
 ) -> Result<Vec<(Stamp, Vec<u8>)>, Refusal>
     ensures found { R.seen.readable rows.old cell.now.row → IfOk result (λ found. AreNewestFirst
-        (R.seen.cells rows.old) (key_of cell.now Write) floor 32 (map stamped found.items)) }
+        (R.seen.cells rows.old) (key_of cell.now Write) hi 32 (map stamped found.items)) }
     ensures few { IfOk result (λ found. length found.items ≤ 32) }
     ensures limits { IfOk result (λ found.
         AllByRecursion (λ version. IsVersion version.0 version.1.items) found.items) }
@@ -87,7 +148,7 @@ fn look_up_records<R: Rows>(
     ensures reason { HasReason (R.faults rows.old) (R.faults rows.new) result }
 {
     let mut found = Vec::new(alloc);
-    let mut last = floor;
+    let mut last = hi;
     'records: while found.len() < FEW_RECORDS {
         let next = rows.newest(&cell.row, &cell.family, Qualifier::Write, 0, last)?;
         let Some((commit, text)) = next else {
@@ -99,34 +160,33 @@ fn look_up_records<R: Rows>(
     Ok(found)
 }
 
-/// The newest records of a cell at or below the floor, newest first: at most 129. They are looked up one by one up to
-/// the 32nd. If that many are found, all are read in one pass, which reads a block of each file whose range has the
-/// cell.
+/// The newest records of a cell at or below a stamp, newest first: at most 128. They are looked up one by one up to the
+/// 32nd. If that many are found, all are read in one pass, which reads a block of each file whose range has the cell.
 fn newest_records<R: Rows>(
     alloc: Global,
     rows: &mut R,
     cell: &Cell,
-    floor: Stamp,
+    hi: Stamp,
 ) -> Result<Vec<(Stamp, Vec<u8>)>, Refusal>
     ensures found { R.seen.readable rows.old cell.now.row → IfOk result (λ found. AreNewestFirst
-        (R.seen.cells rows.old) (key_of cell.now Write) floor 129 (map stamped found.items)) }
-    ensures few { IfOk result (λ found. length found.items ≤ 129) }
+        (R.seen.cells rows.old) (key_of cell.now Write) hi 128 (map stamped found.items)) }
+    ensures few { IfOk result (λ found. length found.items ≤ 128) }
     ensures limits { IfOk result (λ found.
         AllByRecursion (λ version. IsVersion version.0 version.1.items) found.items) }
     ensures reads { OnlyReads R.seen rows.old rows.new }
     ensures refusal { IfErr result (IsRefusalOfRead (R.seen.readable rows.old cell.now.row)) }
     ensures reason { HasReason (R.faults rows.old) (R.faults rows.new) result }
 {
-    let found = look_up_records(alloc, rows, cell, floor)?;
+    let found = look_up_records(alloc, rows, cell, hi)?;
     if found.len() < FEW_RECORDS {
         return Ok(found);
     }
-    let most = MOST_RECORDS + 1;
-    rows.versions(&cell.row, &cell.family, Qualifier::Write, floor, most)
+    rows.versions(&cell.row, &cell.family, Qualifier::Write, hi, MOST_RECORDS)
 }
 
 /// The newest 128 records older than the newest one at or below the floor, newest first, each as its stamp and the
-/// start that it names; all of them, if there are fewer.
+/// start that it names; all of them, if there are fewer. There is none from the stamp `from` on, so the search begins
+/// below it.
 ///
 /// # Errors
 ///
@@ -136,9 +196,11 @@ pub(crate) fn old_records<R: Rows>(
     rows: &mut R,
     cell: &Cell,
     floor: Stamp,
+    from: Stamp,
 ) -> Result<Vec<(Moment, Moment)>, Refusal>
     ensures found { R.seen.readable rows.old cell.now.row
         → AreShown (R.seen.cells rows.old)
+        → HasNoOldFrom (R.seen.cells rows.old) cell.now floor from
         → IfOk result (λ found. AreFound (R.seen.cells rows.old) cell.now floor found.items) }
     ensures few { IfOk result (λ found. length found.items ≤ 128) }
     ensures reads { OnlyReads R.seen rows.old rows.new }
@@ -147,11 +209,13 @@ pub(crate) fn old_records<R: Rows>(
     ensures reason { HasReason (R.faults rows.old) (R.faults rows.new) result }
 {
     let mut found = Vec::with_capacity(alloc, MOST_RECORDS)?;
-    let records = newest_records(alloc, rows, cell, floor)?;
-    let Some((_, older)) = records.split_first() else {
+    let newest = rows.newest(&cell.row, &cell.family, Qualifier::Write, 0, floor)?;
+    let Some((last, _text)) = newest else {
         return Ok(found);
     };
-    let mut rest = older;
+    let below = lesser(last, from);
+    let records = newest_records(alloc, rows, cell, below.saturating_sub(1))?;
+    let mut rest = records.as_slice();
     'records: while let Some((record, after)) = rest.split_first() {
         let (commit, text) = record;
         let (start, _) = write_of(text)?;
@@ -258,6 +322,7 @@ pub(crate) fn near_records<R: Rows>(
 
 /// The newest 256 data below the floor that no record names, newest first; all of them, if there are fewer. The cell
 /// has at most one record at or below the floor, and `near` has the starts named by the records nearest to the floor.
+/// A record names each data from `from` on, so the search begins below it.
 ///
 /// # Errors
 ///
@@ -267,12 +332,14 @@ pub(crate) fn unnamed_data<R: Rows>(
     rows: &mut R,
     cell: &Cell,
     floor: Stamp,
+    from: Stamp,
     near: NearStarts,
 ) -> Result<Vec<Moment>, Refusal>
     ensures found { R.seen.readable rows.old cell.now.row
         → AreShown (R.seen.cells rows.old)
         → HasOneRecord (R.seen.cells rows.old) cell.now floor
         → AreNear (R.seen.cells rows.old) cell.now floor near
+        → AreNamedFrom (R.seen.cells rows.old) cell.now floor from
         → IfOk result (λ found. AreUnnamed (R.seen.cells rows.old) cell.now floor found.items) }
     ensures few { IfOk result (λ found. length found.items ≤ 256) }
     ensures reads { OnlyReads R.seen rows.old rows.new }
@@ -280,7 +347,7 @@ pub(crate) fn unnamed_data<R: Rows>(
     ensures reason { HasReason (R.faults rows.old) (R.faults rows.new) result }
 {
     let mut found = Vec::with_capacity(alloc, MOST_DATA)?;
-    let mut below = floor;
+    let mut below = lesser(floor, from);
     while found.len() < MOST_DATA {
         let next = latest_below(rows, cell, Qualifier::Data, below)?;
         let Some((start, _value)) = next else {

@@ -1,5 +1,4 @@
-use Rattle.std.proofs.Common.{Option, None, Some, Bool, true, false, ℕ, ◌≡◌, ◌↔◌, refl, sym, ap, ◌∙◌, subst}
-use Rattle.std.specs.Prelude.{IsTrue}
+use Rattle.std.proofs.Common.{Option, Some, refl, sym, ap, ◌∙◌, subst}
 use Rattle.cell_key.specs.Cells.{Cells}
 use Rattle.cell_key.specs.Places.{HasCell, IsNextCell, Place}
 use Rattle.cell_key.specs.declared.keys.Qualifier.TheVariants.{Write}

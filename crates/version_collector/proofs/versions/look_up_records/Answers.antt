@@ -27,8 +27,8 @@ records-init g c =
       faults = refl;
       few = omega (arith, ap (λ (vs : List (ℕ × Vec ℕ Global)). length vs) none);
       limits = subst (AllByRecursion (λ (version : ℕ × Vec ℕ Global). IsVersion version.0 version.1.items)) (sym none) tt;
-      newest = λ held. subst (λ (vs : List (ℕ × Vec ℕ Global)). AreFollowed cells at c.args.floor 32 c.args.floor (32 - length vs) (map stamped vs)) (sym none)
-          (subst (λ (n : ℕ). AreFollowed cells at c.args.floor 32 c.args.floor n []) all (λ rest newest. newest));
+      newest = λ held. subst (λ (vs : List (ℕ × Vec ℕ Global)). AreFollowed cells at c.args.hi 32 c.args.hi (32 - length vs) (map stamped vs)) (sym none)
+          (subst (λ (n : ℕ). AreFollowed cells at c.args.hi 32 c.args.hi n []) all (λ rest newest. newest));
     }
 
 pub returns-in_default-clause-found : goal.returns-in_default-clause-found
@@ -36,7 +36,7 @@ returns-in_default-clause-found g c = λ held.
     let cells = g.R.Rows.seen.cells c.args.rows.now in
     let at = key_of c.args.cell.now Write in
     let i = c.records.invariant in
-    newest_end cells at c.args.floor 32 c.records.last (32 - length c.records.found.items) (map stamped c.records.found.items) (i.newest held)
+    newest_end cells at c.args.hi 32 c.records.last (32 - length c.records.found.items) (map stamped c.records.found.items) (i.newest held)
     (λ wanted. subst (λ (cs : Cells). IsNewest cs at 0 c.records.last None) i.reads.kept (at_none (IsNewest (g.R.Rows.seen.cells c.records.rows) at 0 c.records.last) c.in_ok-next.next c.in_default.is (c.in_ok-next.ensures.found (i.reads.readable c.args.cell.now.row held))))
 
 pub records-preserved : goal.records-preserved
@@ -58,13 +58,13 @@ records-preserved g c =
       limits = subst (AllByRecursion (λ (version : ℕ × Vec ℕ Global). IsVersion version.0 version.1.items)) (sym items) (each_push _ found v i.limits is.limits);
       newest = λ held.
           let newest = subst (λ (cs : Cells). IsNewest cs at 0 c.records.last (Some (stamped v))) i.reads.kept (at_some (IsNewest (g.R.Rows.seen.cells c.records.rows) at 0 c.records.last) c.in_ok-next.next v c.in-Some.is (c.in_ok-next.ensures.found (i.reads.readable c.args.cell.now.row held))) in
-          subst (λ (n : ℕ). AreFollowed cells at c.args.floor 32 (c.in-Some.commit - 1) n (map stamped c.push.new.self.items)) fewer
-          (newest_more cells at c.args.floor 32 c.records.last (32 - length found) c.in-Some.commit c.in-Some.text.items (map stamped found) (map stamped c.push.new.self.items)
+          subst (λ (n : ℕ). AreFollowed cells at c.args.hi 32 (c.in-Some.commit - 1) n (map stamped c.push.new.self.items)) fewer
+          (newest_more cells at c.args.hi 32 c.records.last (32 - length found) c.in-Some.commit c.in-Some.text.items (map stamped found) (map stamped c.push.new.self.items)
           (i.newest held) (omega (arith, less)) newest is.limits.from (ap (map stamped) items ∙ map-append stamped found (v ∷ [])));
     }
 
 pub returns-clause-found : goal.returns-clause-found
 returns-clause-found g c = λ held.
     let full : 32 ≤ length c.records.found.items = omega (arith, c.records-test.false, c.len.ensures, c.records.found.ok.0) in
-    newest_end (g.R.Rows.seen.cells c.args.rows.now) (key_of c.args.cell.now Write) c.args.floor 32 c.records.last (32 - length c.records.found.items) (map stamped c.records.found.items) (c.records.invariant.newest held)
+    newest_end (g.R.Rows.seen.cells c.args.rows.now) (key_of c.args.cell.now Write) c.args.hi 32 c.records.last (32 - length c.records.found.items) (map stamped c.records.found.items) (c.records.invariant.newest held)
     (λ wanted. absurd (omega (arith, wanted, full)))

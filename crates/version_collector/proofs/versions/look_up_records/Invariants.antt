@@ -14,7 +14,7 @@ invariant-records g l = record {
   faults : g.R.Rows.faults l.rows ≡ g.R.Rows.faults l.fn.rows;
   few : length l.found.items ≤ 32;
   limits : AllByRecursion (λ version. IsVersion version.0 version.1.items) l.found.items;
-  newest : g.R.Rows.seen.readable l.fn.rows l.cell.row → AreFollowed (g.R.Rows.seen.cells l.fn.rows) (key_of l.cell Write) l.floor 32 l.last (32 - length l.found.items) (map stamped l.found.items);
+  newest : g.R.Rows.seen.readable l.fn.rows l.cell.row → AreFollowed (g.R.Rows.seen.cells l.fn.rows) (key_of l.cell Write) l.hi 32 l.last (32 - length l.found.items) (map stamped l.found.items);
 }
 
 abbrev pub decreases-records : goal.decreases-records

@@ -10,7 +10,7 @@ abbrev pub invariant-records : goal.invariant-records
 invariant-records g l = record {
   few : length l.found.items + length l.rest ≤ 128;
   limits : AllByRecursion (λ version. IsVersion version.0 version.1.items) l.rest;
-  old : g.R.Rows.seen.readable l.fn.rows l.cell.row → AreShown (g.R.Rows.seen.cells l.fn.rows) → HasOlder (g.R.Rows.seen.cells l.fn.rows) l.cell l.floor l.found.items (map stamped l.rest);
+  old : g.R.Rows.seen.readable l.fn.rows l.cell.row → AreShown (g.R.Rows.seen.cells l.fn.rows) → HasOlder (g.R.Rows.seen.cells l.fn.rows) l.cell l.floor l.from l.found.items (map stamped l.rest);
 }
 
 abbrev pub decreases-records : goal.decreases-records

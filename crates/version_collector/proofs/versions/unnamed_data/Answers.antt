@@ -16,15 +16,15 @@ loop-near-init g c =
       faults = refl;
       len = c.in_ok-found.ensures.len ∙ sym none;
       few = omega (arith, none);
-      low = omega arith;
-      all = λ held shown one near. subst (AreAll (IsUnnamed (g.R.Rows.seen.cells c.args.rows.now) c.args.cell.now c.args.floor) c.args.floor) (sym c.in_ok-found.ensures.items)
-          (data_begin (g.R.Rows.seen.cells c.args.rows.now) c.args.cell.now c.args.floor);
+      low = c.lesser-below.ensures.low;
+      all = λ held shown one near named. subst (AreAll (IsUnnamed (g.R.Rows.seen.cells c.args.rows.now) c.args.cell.now c.args.floor) c.lesser-below.result) (sym c.in_ok-found.ensures.items)
+          (data_begin (g.R.Rows.seen.cells c.args.rows.now) c.args.cell.now c.args.floor c.args.from c.lesser-below.result named c.lesser-below.ensures.least);
     }
 
 pub returns-in_default-clause-found : goal.returns-in_default-clause-found
-returns-in_default-clause-found g c = λ held shown one near.
+returns-in_default-clause-found g c = λ held shown one near named.
     let before = c.loop-near.invariant in
-    data_all (g.R.Rows.seen.cells c.args.rows.now) c.args.cell.now c.args.floor c.loop-near.below c.loop-near.found.items one (before.all held shown one near) before.few
+    data_all (g.R.Rows.seen.cells c.args.rows.now) c.args.cell.now c.args.floor c.loop-near.below c.loop-near.found.items one (before.all held shown one near named) before.few
     (latest_none before.reads held c.args.cell.now Data c.loop-near.below c.in_ok-next.next c.in_default.is c.in_ok-next.ensures.found)
 
 -- the data is named
@@ -42,7 +42,7 @@ loop-near-preserved-then-is_among g c =
       len = before.len;
       few = before.few;
       low = omega (arith, less, under);
-      all = λ held shown one near. data_past cells x c.args.floor c.loop-near.below t c.in-Some._value.items c.loop-near.found.items (before.all held shown one near)
+      all = λ held shown one near named. data_past cells x c.args.floor c.loop-near.below t c.in-Some._value.items c.loop-near.found.items (before.all held shown one near named)
           (latest_some before.reads held x Data c.loop-near.below c.in_ok-next.next (c.in-Some.start, c.in-Some._value) c.in-Some.is c.in_ok-next.ensures.found)
           (among_named cells shown x c.args.floor one c.args.near t near (c.is_among.ensures.0 c.if-is_among.true));
     }
@@ -69,17 +69,17 @@ loop-near-preserved g c =
       len = omega (arith, len, longer, pushed);
       few = omega (arith, len, longer, room, counted);
       low = omega (arith, less, under);
-      all = λ held shown one near. subst (AreAll (IsUnnamed cells x c.args.floor) t) (sym items)
-          (data_more cells x c.args.floor c.loop-near.below t c.in-Some._value.items c.loop-near.found.items (before.all held shown one near) under
+      all = λ held shown one near named. subst (AreAll (IsUnnamed cells x c.args.floor) t) (sym items)
+          (data_more cells x c.args.floor c.loop-near.below t c.in-Some._value.items c.loop-near.found.items (before.all held shown one near named) under
           (latest_some before.reads held x Data c.loop-near.below c.in_ok-next.next (c.in-Some.start, c.in-Some._value) c.in-Some.is c.in_ok-next.ensures.found)
-          (λ named. cc (c.is_among.ensures.1 (named_among cells shown x c.args.floor one c.args.near t near (omega (arith, less, under)) top named), c.if-is_among.false)));
+          (λ is. cc (c.is_among.ensures.1 (named_among cells shown x c.args.floor one c.args.near t near (omega (arith, less, under)) top is), c.if-is_among.false)));
     }
 
 pub returns-clause-found : goal.returns-clause-found
-returns-clause-found g c = λ held shown one near.
+returns-clause-found g c = λ held shown one near named.
     let before = c.loop-near.invariant in
     let full = c.loop-near-test.false in
     let counted = c.len.ensures in
     let few = before.few in
     let len = before.len in
-    data_full (g.R.Rows.seen.cells c.args.rows.now) c.args.cell.now c.args.floor c.loop-near.below c.loop-near.found.items one (before.all held shown one near) (omega (arith, full, counted, few, len))
+    data_full (g.R.Rows.seen.cells c.args.rows.now) c.args.cell.now c.args.floor c.loop-near.below c.loop-near.found.items one (before.all held shown one near named) (omega (arith, full, counted, few, len))

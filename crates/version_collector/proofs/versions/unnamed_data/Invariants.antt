@@ -1,6 +1,6 @@
 use Rattle.std.proofs.Common.{◌≡◌, ◌≤◌, length, vec_len}
 use Rattle.rows.specs.Calls.{OnlyReads}
-use Rattle.version_collector.specs.Versions.{AreNear, AreShown, HasOneRecord, IsUnnamed}
+use Rattle.version_collector.specs.Versions.{AreNamedFrom, AreNear, AreShown, HasOneRecord, IsUnnamed}
 use Rattle.version_collector.proofs.Greatest.{AreAll}
 use Rattle.version_collector.proofs.versions.unnamed_data.Given as goal
 
@@ -13,7 +13,7 @@ invariant-loop-near g l = record {
   few : length l.found.items ≤ 256;
   low : l.below ≤ l.floor;
   all : g.R.Rows.seen.readable l.fn.rows l.cell.row → AreShown (g.R.Rows.seen.cells l.fn.rows) → HasOneRecord (g.R.Rows.seen.cells l.fn.rows) l.cell l.floor
-      → AreNear (g.R.Rows.seen.cells l.fn.rows) l.cell l.floor l.near → AreAll (IsUnnamed (g.R.Rows.seen.cells l.fn.rows) l.cell l.floor) l.below l.found.items;
+      → AreNear (g.R.Rows.seen.cells l.fn.rows) l.cell l.floor l.near → AreNamedFrom (g.R.Rows.seen.cells l.fn.rows) l.cell l.floor l.from → AreAll (IsUnnamed (g.R.Rows.seen.cells l.fn.rows) l.cell l.floor) l.below l.found.items;
 }
 
 abbrev pub decreases-loop-near : goal.decreases-loop-near

@@ -1,7 +1,6 @@
-use Rattle.std.proofs.Common.{Option, Some, Bool, true, false, ◌≡◌, sym, ◌∙◌, subst}
+use Rattle.std.proofs.Common.{Option, Bool, false, ◌≡◌, sym, ◌∙◌, subst}
 use Rattle.std.specs.Prelude.{IsTrue}
 use Rattle.std.specs.Vec.Iter.{into_iter_items}
-use Rattle.si_model.specs.Collection.{place_at}
 use Rattle.si_model.specs.declared.replies.Cell.{Cell}
 use Rattle.version_collector.specs.Ahead.{AreAhead}
 use Rattle.version_collector.specs.Visits.{position_of}

@@ -9,7 +9,7 @@ use Rattle.version_collector.proofs.Reading.{from_earlier, readable_now}
 use Rattle.version_collector.proofs.Room.{no_room_then, room_few, room_same, room_then}
 use Rattle.rows.specs.Calls.{AreReadableFrom, OnlyReads, View}
 use Rattle.cell_key.proofs.Passed.{as_err, passed as passed_on}
-use Rattle.version_collector.proofs.VisitedCells.{still_shown, thins_few, thins_none, thins_then}
+use Rattle.version_collector.proofs.VisitedCells.{still_right, still_shown, thins_few, thins_none, thins_then}
 use Rattle.version_collector.proofs.collector.Collector.advance.Goals as goal
 
 one_more : (k n : ℕ) → k < n → k + 1 ≤ n
@@ -63,12 +63,13 @@ returns-in-Blocked-clause-visited g c = λ held st reached store low come.
     let whole : AreReadableFrom g.R.Rows.seen c.args.rows.now (read_from c.args.self.now c.loop-made.self) = λ row from. g.R.Rows.seen.each_readable c.args.rows.now held row in
     let did = before.visited whole st reached store low come in
     let shown = still_shown st reached (g.R.Rows.seen.cells c.args.rows.now) c.args.self.now store low come c.loop-made.made (g.R.Rows.seen.cells c.loop-made.rows) c.loop-made.self did in
+    let right = still_right st reached (g.R.Rows.seen.cells c.args.rows.now) c.args.self.now store low come c.loop-made.made (g.R.Rows.seen.cells c.loop-made.rows) c.loop-made.self did in
     record {
       mid = g.R.Rows.seen.cells c.loop-made.rows;
       before = c.loop-made.self;
       visits = record { count = c.loop-made.made; few = c.loop-made-test.true; visits = did };
       last = subst (λ (r : CollectReply). Visits (g.R.Rows.seen.cells c.loop-made.rows) c.loop-made.self r (g.R.Rows.seen.cells c.visit.new.rows) c.visit.new.self) c.in-Blocked.is
-          (c.in_ok-visit.ensures.visit (readable_now g.R.Rows.seen c.args.rows.now c.loop-made.rows before.below did whole) shown (before.ahead whole st reached store low come));
+          (c.in_ok-visit.ensures.visit (readable_now g.R.Rows.seen c.args.rows.now c.loop-made.rows before.below did whole) shown right (before.ahead whole st reached store low come));
     }
 
 pub returns-in-Blocked-clause-room : goal.returns-in-Blocked-clause-room
@@ -82,12 +83,13 @@ returns-in-Collected-clause-visited g c = λ held st reached store low come.
     let whole : AreReadableFrom g.R.Rows.seen c.args.rows.now (read_from c.args.self.now c.loop-made.self) = λ row from. g.R.Rows.seen.each_readable c.args.rows.now held row in
     let did = before.visited whole st reached store low come in
     let shown = still_shown st reached (g.R.Rows.seen.cells c.args.rows.now) c.args.self.now store low come c.loop-made.made (g.R.Rows.seen.cells c.loop-made.rows) c.loop-made.self did in
+    let right = still_right st reached (g.R.Rows.seen.cells c.args.rows.now) c.args.self.now store low come c.loop-made.made (g.R.Rows.seen.cells c.loop-made.rows) c.loop-made.self did in
     record {
       mid = g.R.Rows.seen.cells c.loop-made.rows;
       before = c.loop-made.self;
       visits = record { count = c.loop-made.made; few = c.loop-made-test.true; visits = did };
       last = subst (λ (r : CollectReply). Visits (g.R.Rows.seen.cells c.loop-made.rows) c.loop-made.self r (g.R.Rows.seen.cells c.visit.new.rows) c.visit.new.self) c.in-Collected.is
-          (c.in_ok-visit.ensures.visit (readable_now g.R.Rows.seen c.args.rows.now c.loop-made.rows before.below did whole) shown (before.ahead whole st reached store low come));
+          (c.in_ok-visit.ensures.visit (readable_now g.R.Rows.seen c.args.rows.now c.loop-made.rows before.below did whole) shown right (before.ahead whole st reached store low come));
     }
 
 pub returns-in-Collected-clause-room : goal.returns-in-Collected-clause-room
@@ -122,7 +124,8 @@ loop-made-preserved g c =
           let whole = from_earlier g.R.Rows.seen c.args.rows.now c.args.self.now c.loop-made.self c.visit.new.self now.pass held in
           let did = before.visited whole st reached store low come in
           let shown = still_shown st reached (g.R.Rows.seen.cells c.args.rows.now) c.args.self.now store low come c.loop-made.made (g.R.Rows.seen.cells c.loop-made.rows) c.loop-made.self did in
-          then did (subst (λ (r : CollectReply). Visits (g.R.Rows.seen.cells c.loop-made.rows) c.loop-made.self r (g.R.Rows.seen.cells c.visit.new.rows) c.visit.new.self) c.in-More.is (now.visit (readable_now g.R.Rows.seen c.args.rows.now c.loop-made.rows before.below did whole) shown (before.ahead whole st reached store low come)));
+          let right = still_right st reached (g.R.Rows.seen.cells c.args.rows.now) c.args.self.now store low come c.loop-made.made (g.R.Rows.seen.cells c.loop-made.rows) c.loop-made.self did in
+          then did (subst (λ (r : CollectReply). Visits (g.R.Rows.seen.cells c.loop-made.rows) c.loop-made.self r (g.R.Rows.seen.cells c.visit.new.rows) c.visit.new.self) c.in-More.is (now.visit (readable_now g.R.Rows.seen c.args.rows.now c.loop-made.rows before.below did whole) shown right (before.ahead whole st reached store low come)));
       ahead = λ held st reached store low come.
           let whole = from_earlier g.R.Rows.seen c.args.rows.now c.args.self.now c.loop-made.self c.visit.new.self now.pass held in
           let did = before.visited whole st reached store low come in

@@ -8,7 +8,7 @@ use Rattle.si_model.specs.declared.replies.Cell.{Cell}
 use Rattle.si_model.specs.declared.replies.CollectReply.{CollectReply}
 use Rattle.version_collector.specs.Ahead.{AreAhead, Follow}
 use Rattle.version_collector.specs.Versions.{AreShown}
-use Rattle.version_collector.specs.Visits.{Thins, Visits, position_of}
+use Rattle.version_collector.specs.Visits.{HasProgress, Thins, Visits, position_of}
 use Rattle.rows.proofs.RowsFrom.{row_after}
 use Rattle.version_collector.proofs.PassedRefusals.{read_not_damaged}
 use Rattle.version_collector.proofs.Room.{room_none}
@@ -27,19 +27,19 @@ pub returns-in_err-cell-clause-room : goal.returns-in_err-cell-clause-room
 returns-in_err-cell-clause-room g c = room_none g.R.Rows.seen.overfills 1 c.args.rows.now c.next.new.rows c.in_err-cell.ensures.reads.room
 
 pub returns-in_default-clause-visit : goal.returns-in_default-clause-visit
-returns-in_default-clause-visit g c = λ held shown is.
+returns-in_default-clause-visit g c = λ held shown right is.
     subst (λ (m : Cells). Visits (g.R.Rows.seen.cells c.args.rows.now) c.args.self.now c.turn.result m c.turn.new.self) (sym c.in_ok-cell.ensures.reads.kept)
     (c.turn.ensures.turned (g.R.Rows.seen.cells c.args.rows.now)
-    (subst (λ (o : Option Cell). IsNextCell (g.R.Rows.seen.cells c.args.rows.now) (position_of c.args.self.now.after) (position_of o)) c.in_default.is (c.in_ok-cell.ensures.found held is)))
+    (subst (λ (o : Option Cell). IsNextCell (g.R.Rows.seen.cells c.args.rows.now) (position_of c.args.self.now.after) (position_of o)) c.in_default.is (c.in_ok-cell.ensures.found held is)) right)
 
 pub returns-in_default-clause-room : goal.returns-in_default-clause-room
 returns-in_default-clause-room g c = room_none g.R.Rows.seen.overfills 1 c.args.rows.now c.next.new.rows c.in_ok-cell.ensures.reads.room
 
 pub returns-in-First-clause-visit : goal.returns-in-First-clause-visit
-returns-in-First-clause-visit g c = λ held shown is.
+returns-in-First-clause-visit g c = λ held shown right is.
     let e = c.in_ok-cell.ensures.reads.kept in
     let next = subst (λ (o : Option Cell). IsNextCell (g.R.Rows.seen.cells c.args.rows.now) (position_of c.args.self.now.after) (position_of o)) c.in-Some.is (c.in_ok-cell.ensures.found held is) in
-    each_ok c.look.result (c.look.ensures.visit (c.in_ok-cell.ensures.reads.readable c.in-Some.cell.row (held c.in-Some.cell.row (row_after (position_of c.args.self.now.after) (place_at c.in-Some.cell) next.0))) c.in-First.is (subst (λ (m : Cells). IsNextCell m (position_of c.args.self.now.after) (position_of (Some c.in-Some.cell))) (sym e) next))
+    each_ok c.look.result (c.look.ensures.visit (c.in_ok-cell.ensures.reads.readable c.in-Some.cell.row (held c.in-Some.cell.row (row_after (position_of c.args.self.now.after) (place_at c.in-Some.cell) next.0))) c.in-First.is (subst (λ (m : Cells). HasProgress m c.args.self.now) (sym e) right) (subst (λ (m : Cells). IsNextCell m (position_of c.args.self.now.after) (position_of (Some c.in-Some.cell))) (sym e) next))
     (λ reply v. subst (λ (m : Cells). Visits (g.R.Rows.seen.cells c.args.rows.now) c.args.self.now reply m c.look.new.self) (sym c.look.ensures.reads.kept)
     (subst (λ (m : Cells). Visits m c.args.self.now reply (g.R.Rows.seen.cells c.next.new.rows) c.look.new.self) e v))
 
@@ -59,11 +59,12 @@ returns-in-First-clause-room g c =
     room_none g.R.Rows.seen.overfills 1 c.args.rows.now c.look.new.rows (λ row later full. c.in_ok-cell.ensures.reads.room row later (c.look.ensures.reads.room row later full))
 
 pub returns-in-Second-clause-visit : goal.returns-in-Second-clause-visit
-returns-in-Second-clause-visit g c = λ held shown is.
+returns-in-Second-clause-visit g c = λ held shown right is.
     let e = c.in_ok-cell.ensures.reads.kept in
     let next = subst (λ (o : Option Cell). IsNextCell (g.R.Rows.seen.cells c.args.rows.now) (position_of c.args.self.now.after) (position_of o)) c.in-Some.is (c.in_ok-cell.ensures.found held is) in
     subst (λ (m : Cells). IfOk c.collect.result (λ reply. Visits m c.args.self.now reply (g.R.Rows.seen.cells c.collect.new.rows) c.collect.new.self)) e
     (c.collect.ensures.visit (c.in_ok-cell.ensures.reads.readable c.in-Some.cell.row (held c.in-Some.cell.row (row_after (position_of c.args.self.now.after) (place_at c.in-Some.cell) next.0))) (subst (λ (m : Cells). AreShown m) (sym e) shown) c.in-Second.is
+    (subst (λ (m : Cells). HasProgress m c.args.self.now) (sym e) right)
     (subst (λ (m : Cells). IsNextCell m (position_of c.args.self.now.after) (position_of (Some c.in-Some.cell))) (sym e) next))
 
 pub returns-in-Second-clause-ahead : goal.returns-in-Second-clause-ahead
