@@ -7,7 +7,7 @@ use Rattle.durable.specs.Lasts.{HasNewRoot, HoldsLogged, Logs, shown_by}
 use Rattle.durable.specs.Lasts.PutsRoot.{answered, failed, unmarked}
 use Rattle.durable.specs.Devices.{most_stamp}
 use Rattle.durable.specs.declared.lasting.LastingServer.{LastingServer}
-use Rattle.durable.proofs.Logged.{holds_any, lasts_any, lasts_on, names_it, no_less, ok_through, on_any, on_err, on_ok, root_lasts, stays_stored, true_not_false}
+use Rattle.durable.proofs.Logged.{holds_any, lasts_any, lasts_on, names_it, no_less, ok_through, on_any, on_err, on_ok, root_lasts, true_not_false}
 use Rattle.durable.proofs.Rooted.{named_answer, only_storage, steps_named}
 use Rattle.durable.proofs.lasting.LastingServer.root.Goals as goal
 
@@ -34,8 +34,8 @@ returns-then-is_err-clause-settles g c =
       lasting = λ now reached shown logs st lasts.
           let before = (w.ok is now shown logs).1 now (w.shown now shown) in
           inr (elim (may before.kept.records before.kept.in_log.0) [
-            | inl same ↦ lasts_on g.S.Recording.stores g.S.Recording.logged g.S.Recording.waiting g.S.Recording.last g.L.Log.holds g.S.Recording.is_rooted c.logs_edits.ensures c.names_roots.ensures g.S.Recording.count c.log_waiting.new.self _ now (stays_stored _ _, no_less _) before same (inl refl)
-            | inr more ↦ lasts_any g.S.Recording.stores g.S.Recording.logged g.S.Recording.waiting g.S.Recording.last g.L.Log.holds g.S.Recording.is_rooted c.logs_edits.ensures c.names_roots.ensures g.S.Recording.count c.log_waiting.new.self _ now (stays_stored _ _, no_less _) before more (inl refl)
+            | inl same ↦ lasts_on g.S.Recording.stores g.S.Recording.logged g.S.Recording.waiting g.S.Recording.last g.L.Log.holds g.S.Recording.is_rooted c.logs_edits.ensures c.names_roots.ensures g.S.Recording.count c.log_waiting.new.self _ now (λ root base places is. is, no_less _) before same (inl refl)
+            | inr more ↦ lasts_any g.S.Recording.stores g.S.Recording.logged g.S.Recording.waiting g.S.Recording.last g.L.Log.holds g.S.Recording.is_rooted c.logs_edits.ensures c.names_roots.ensures g.S.Recording.count c.log_waiting.new.self _ now (λ root base places is. is, no_less _) before more (inl refl)
           ]);
     }
 
@@ -59,7 +59,7 @@ returns-then-is_err-2-clause-settles g c =
           inr (held.0, held.1, holds_any g.S.Recording.stores g.S.Recording.logged g.S.Recording.waiting g.S.Recording.last g.L.Log.holds g.S.Recording.is_rooted c.logs_edits.ensures c.names_roots.ensures g.S.Recording.count c.log_waiting.new.self new held.0 held.0 held.2 refl m.rises (omega (arith, limit, stored)) m.covered (omega (arith, low, stored)) (gains held.2.records held.2.in_log));
       lasting = λ now reached shown logs st lasts.
           let before = (w.ok is now shown logs).1 now (w.shown now shown) in
-          inr (lasts_any g.S.Recording.stores g.S.Recording.logged g.S.Recording.waiting g.S.Recording.last g.L.Log.holds g.S.Recording.is_rooted c.logs_edits.ensures c.names_roots.ensures g.S.Recording.count c.log_waiting.new.self new now (stays_stored _ _, m.rises) before (gains before.kept.records before.kept.in_log.0) before.kept.in_log.1);
+          inr (lasts_any g.S.Recording.stores g.S.Recording.logged g.S.Recording.waiting g.S.Recording.last g.L.Log.holds g.S.Recording.is_rooted c.logs_edits.ensures c.names_roots.ensures g.S.Recording.count c.log_waiting.new.self new now (λ root base places is. is, m.rises) before (gains before.kept.records before.kept.in_log.0) before.kept.in_log.1);
     }
 
 pub returns-in-Ok-clause-step : goal.returns-in-Ok-clause-step
