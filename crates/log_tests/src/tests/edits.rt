@@ -6,7 +6,7 @@ ghost use Rattle.cell_key.specs.Cells.{IsEditOf};
 
 use super::RECORDS;
 use cell_key::{CellKey, Edit, Family, MOST_STAMP, Qualifier, Refusal, Row};
-use commit_log::{are_up_to, edited_key, edits_in, names_root, push_edits, root_sum_bytes};
+use commit_log::{edited_key, edits_in, greatest_stamp, names_root, push_edits, root_sum_bytes};
 use std::alloc::{AllocError, Global};
 use std::test::Fail;
 
@@ -101,6 +101,7 @@ fn roots_of_records(rt: HostRuntime) -> Result<(), Fail> {
     ] {
         assert!(rt; names_root(records, top, sum) == is_named, "{top} {sum}");
     }
-    assert!(rt; are_up_to(&all, 9) && !are_up_to(&all, 8) && are_up_to(&edits, 7));
+    assert!(rt; greatest_stamp(0, &all) == 9 && greatest_stamp(10, &all) == 10);
+    assert!(rt; greatest_stamp(0, &edits) == 7);
     Ok(())
 }
