@@ -1,3 +1,4 @@
+pub mod Buffers
 pub mod Fields
 pub mod Framing
 pub mod Scans

@@ -1,6 +1,6 @@
 //! Reading the bodies of replies.
 
-ghost use Rattle.std.specs.Prelude.{◌≡◌, ◌≢◌, ◌∷◌, [], IfOk, IfSome, IfNone, IfErr, OnErr};
+ghost use Rattle.std.specs.Prelude.{◌≡◌, ◌≢◌, ◌∷◌, [], IfOk, IfSome, IfNone, IsOkUnless, OnErr};
 ghost use Rattle.cell_key.specs.Names.{IsRow, IsFamily};
 ghost use Rattle.cell_key.specs.Refusals.{refusal_number};
 ghost use Rattle.cell_key.specs.declared.refusals.Refusal.{Refusal as Refusals};
@@ -111,7 +111,7 @@ fn decode_scan(alloc: Global, fields: &[u8]) -> Result<Option<ScanReply>, Refusa
     ensures found { IfOk result (λ found.
         IfSome found (λ reply. IsReply (scan_reply reply) (0xB1 ∷ fields.now))) }
     ensures none { IfOk result (λ found. IfNone found (IsNoReply (0xB1 ∷ fields.now))) }
-    ensures refusal { IfErr result (λ refusal. refusal ≡ Refusal.NoMemory) }
+    ensures refusal { IsOkUnless result Refusal.NoMemory }
     ensures needed { OnErr result (NeedsMemory (0xB1 ∷ fields.now)) }
 {
     let Some((reach, count, rest)) = whole_scanned(fields) else {
@@ -198,7 +198,7 @@ fn cell_of(alloc: Global, row: &[u8], family: &[u8]) -> Result<Option<Cell>, Ref
         IfSome found (λ cell. IsRow cell.row × IsFamily cell.family)) }
     ensures none { IfOk result (λ found.
         IfNone found (¬ (IsRow row.now × IsFamily family.now))) }
-    ensures refusal { IfErr result (λ refusal. refusal ≡ Refusal.NoMemory) }
+    ensures refusal { IsOkUnless result Refusal.NoMemory }
     ensures needed { OnErr result (IsRow row.now × IsFamily family.now) }
 {
     let row = match Row::new(alloc, row) {
@@ -220,7 +220,7 @@ fn decode_collect_reply(alloc: Global, fields: &[u8]) -> Result<Option<CollectRe
     ensures found { IfOk result (λ found.
         IfSome found (λ done. IsReply (collect_reply done) (0x89 ∷ fields.now))) }
     ensures none { IfOk result (λ found. IfNone found (IsNoReply (0x89 ∷ fields.now))) }
-    ensures refusal { IfErr result (λ refusal. refusal ≡ Refusal.NoMemory) }
+    ensures refusal { IsOkUnless result Refusal.NoMemory }
     ensures needed { OnErr result (NeedsMemory (0x89 ∷ fields.now)) }
 {
     let Some((tag, rest)) = fields.split_first() else {
@@ -239,7 +239,7 @@ fn decode_blocked(alloc: Global, rest: &[u8]) -> Result<Option<CollectReply>, Re
     ensures found { IfOk result (λ found.
         IfSome found (λ done. IsReply (collect_reply done) (0x89 ∷ 0x02 ∷ rest.now))) }
     ensures none { IfOk result (λ found. IfNone found (IsNoReply (0x89 ∷ 0x02 ∷ rest.now))) }
-    ensures refusal { IfErr result (λ refusal. refusal ≡ Refusal.NoMemory) }
+    ensures refusal { IsOkUnless result Refusal.NoMemory }
     ensures needed { OnErr result (NeedsMemory (0x89 ∷ 0x02 ∷ rest.now)) }
 {
     let Some((row, family, start)) = whole_lock(rest) else {
@@ -325,7 +325,7 @@ pub fn decode_reply(alloc: Global, body: &[u8]) -> Result<Option<Reply>, Refusal
     ensures found { IfOk result (λ found.
         IfSome found (λ reply. IsReply (replied reply) body.now)) }
     ensures none { IfOk result (λ found. IfNone found (IsNoReply body.now)) }
-    ensures refusal { IfErr result (λ refusal. refusal ≡ Refusal.NoMemory) }
+    ensures refusal { IsOkUnless result Refusal.NoMemory }
     // A reply without bytes is never refused.
     ensures needed { OnErr result (NeedsMemory body.now) }
 {

@@ -1,7 +1,8 @@
 //! Writing the bodies of replies.
 
-ghost use Rattle.std.specs.Prelude.{◌≡◌, ℕ, ◌+◌, ◌≤◌, ◌++◌, length, vec_len, vec_capacity, IfErr, OnOk, OnErr, IsOk, option_map};
+ghost use Rattle.std.specs.Prelude.{◌≡◌, ℕ, ◌≤◌, ◌++◌, length, vec_capacity, OnOk, OnErr, IsOk, IsOkUnless, option_map};
 ghost use Rattle.cell_key.specs.Versions.{stamped};
+ghost use Rattle.request_codec.specs.Buffers.{HasRoomFor, AppendsBytes};
 ghost use Rattle.request_codec.specs.Replies.{replied, reply_body, ReplyBytesFit};
 ghost use Rattle.si_model.specs.Messages.{Blocked, RawFound};
 ghost use Rattle.si_model.specs.Replies.{found_reply, progress_reply, clean_start_reply, clean_reply, collect_reply};
@@ -69,10 +70,8 @@ fn progress_length(progress: Progress) -> usize
 #[tactic(auto, using(crate::proofs::Fields::lengths))]
 fn push_found(found: &Found, out: &mut Vec<u8>)
     requires fits { ReplyBytesFit (found_reply found.now) }
-    requires room { vec_len out.old
-        + length (reply_body (found_reply found.now)) ≤ vec_capacity out.old }
-    ensures items { out.new.items ≡ out.old.items ++ reply_body (found_reply found.now) }
-    ensures capacity { vec_capacity out.old ≤ vec_capacity out.new }
+    requires room { HasRoomFor out.old (length (reply_body (found_reply found.now))) }
+    ensures { AppendsBytes out.old out.new (reply_body (found_reply found.now)) }
 {
     push_byte(out, GET);
     match found {
@@ -92,11 +91,9 @@ fn push_found(found: &Found, out: &mut Vec<u8>)
 #[tactic(auto, using(crate::proofs::Fields::lengths))]
 fn push_raw(found: &Option<(Stamp, Vec<u8>)>, out: &mut Vec<u8>)
     requires fits { ReplyBytesFit (RawFound (option_map stamped found.now)) }
-    requires room { vec_len out.old
-        + length (reply_body (RawFound (option_map stamped found.now))) ≤ vec_capacity out.old }
-    ensures items { out.new.items
-        ≡ out.old.items ++ reply_body (RawFound (option_map stamped found.now)) }
-    ensures capacity { vec_capacity out.old ≤ vec_capacity out.new }
+    requires room { HasRoomFor out.old
+        (length (reply_body (RawFound (option_map stamped found.now)))) }
+    ensures { AppendsBytes out.old out.new (reply_body (RawFound (option_map stamped found.now))) }
 {
     push_byte(out, RAW);
     match found {
@@ -112,10 +109,8 @@ fn push_raw(found: &Option<(Stamp, Vec<u8>)>, out: &mut Vec<u8>)
 /// Appends the body of a step's reply.
 #[tactic(auto, using(crate::proofs::Fields::lengths))]
 fn push_progress(progress: Progress, out: &mut Vec<u8>)
-    requires { vec_len out.old
-        + length (reply_body (progress_reply progress)) ≤ vec_capacity out.old }
-    ensures items { out.new.items ≡ out.old.items ++ reply_body (progress_reply progress) }
-    ensures capacity { vec_capacity out.old ≤ vec_capacity out.new }
+    requires { HasRoomFor out.old (length (reply_body (progress_reply progress))) }
+    ensures { AppendsBytes out.old out.new (reply_body (progress_reply progress)) }
 {
     push_byte(out, STEP);
     match progress {
@@ -148,10 +143,8 @@ fn push_progress(progress: Progress, out: &mut Vec<u8>)
 /// Appends the body of the reply to a cleaner's beginning.
 #[tactic(auto, using(crate::proofs::Fields::lengths))]
 fn push_clean_start(found: CleanStart, out: &mut Vec<u8>)
-    requires { vec_len out.old
-        + length (reply_body (clean_start_reply found)) ≤ vec_capacity out.old }
-    ensures items { out.new.items ≡ out.old.items ++ reply_body (clean_start_reply found) }
-    ensures capacity { vec_capacity out.old ≤ vec_capacity out.new }
+    requires { HasRoomFor out.old (length (reply_body (clean_start_reply found))) }
+    ensures { AppendsBytes out.old out.new (reply_body (clean_start_reply found)) }
 {
     push_byte(out, CLEAN_BEGIN);
     match found {
@@ -167,9 +160,8 @@ fn push_clean_start(found: CleanStart, out: &mut Vec<u8>)
 /// Appends the body of the reply to a cleaner's step.
 #[tactic(auto, using(crate::proofs::Fields::lengths))]
 fn push_clean_reply(done: CleanReply, out: &mut Vec<u8>)
-    requires { vec_len out.old + length (reply_body (clean_reply done)) ≤ vec_capacity out.old }
-    ensures items { out.new.items ≡ out.old.items ++ reply_body (clean_reply done) }
-    ensures capacity { vec_capacity out.old ≤ vec_capacity out.new }
+    requires { HasRoomFor out.old (length (reply_body (clean_reply done))) }
+    ensures { AppendsBytes out.old out.new (reply_body (clean_reply done)) }
 {
     push_byte(out, CLEAN_STEP);
     match done {
@@ -186,10 +178,8 @@ fn push_clean_reply(done: CleanReply, out: &mut Vec<u8>)
 /// Appends the body of the reply to a collector's step.
 #[tactic(auto, using(crate::proofs::Fields::lengths))]
 fn push_collect_reply(done: &CollectReply, out: &mut Vec<u8>)
-    requires { vec_len out.old
-        + length (reply_body (collect_reply done.now)) ≤ vec_capacity out.old }
-    ensures items { out.new.items ≡ out.old.items ++ reply_body (collect_reply done.now) }
-    ensures capacity { vec_capacity out.old ≤ vec_capacity out.new }
+    requires { HasRoomFor out.old (length (reply_body (collect_reply done.now))) }
+    ensures { AppendsBytes out.old out.new (reply_body (collect_reply done.now)) }
 {
     push_byte(out, COLLECT_STEP);
     match done {
@@ -207,10 +197,8 @@ fn push_collect_reply(done: &CollectReply, out: &mut Vec<u8>)
 #[tactic(auto, using(crate::proofs::Fields::lengths))]
 pub fn push_reply(reply: &Reply, out: &mut Vec<u8>)
     requires fits { ReplyBytesFit (replied reply.now) }
-    requires room { vec_len out.old
-        + length (reply_body (replied reply.now)) ≤ vec_capacity out.old }
-    ensures items { out.new.items ≡ out.old.items ++ reply_body (replied reply.now) }
-    ensures capacity { vec_capacity out.old ≤ vec_capacity out.new }
+    requires room { HasRoomFor out.old (length (reply_body (replied reply.now))) }
+    ensures { AppendsBytes out.old out.new (reply_body (replied reply.now)) }
 {
     match reply {
         Reply::Begin(start) => {
@@ -259,10 +247,9 @@ pub fn encode_reply(reply: &Reply, out: &mut Vec<u8>) -> Result<(), Refusal>
     requires { ReplyBytesFit (replied reply.now) }
     ensures ok { OnOk result (out.new.items ≡ out.old.items ++ reply_body (replied reply.now)) }
     ensures err { OnErr result (out.new.items ≡ out.old.items) }
-    ensures refusal { IfErr result (λ refusal. refusal ≡ Refusal.NoMemory) }
+    ensures refusal { IsOkUnless result Refusal.NoMemory }
     // It succeeds if the buffer already has room.
-    ensures room { vec_len out.old + length (reply_body (replied reply.now)) ≤ vec_capacity out.old
-        → IsOk result }
+    ensures room { HasRoomFor out.old (length (reply_body (replied reply.now))) → IsOk result }
     ensures capacity { vec_capacity out.old ≤ vec_capacity out.new }
 {
     out.reserve(reply_length(reply))?;

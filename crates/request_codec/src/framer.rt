@@ -1,6 +1,6 @@
 //! Frames out of a stream that comes in pieces.
 
-ghost use Rattle.std.specs.Prelude.{◌≡◌, ◌==◌, ◌≤◌, ◌<◌, ◌+◌, ◌-◌, ◌++◌, ◌⊎◌, [], length, take, drop, min, slice_get, IfErr, IfNone, IfOk, IfSome, Some, ⊤};
+ghost use Rattle.std.specs.Prelude.{◌≡◌, ◌==◌, ◌≤◌, ◌<◌, ◌+◌, ◌-◌, ◌++◌, ◌⊎◌, [], length, take, drop, min, slice_get, IfNone, IfOk, IfSome, IsOkUnless, Some, ⊤};
 ghost use Rattle.std.specs.Borrow.{sem, follows_so};
 ghost use Rattle.std.specs.Int.{from_be_bytes, to_be_bytes, w32};
 ghost use Rattle.request_codec.specs.Framing.{IsAtFirst, IsReady, HandsOut, longest_frame};
@@ -147,7 +147,7 @@ impl Framer {
     /// `NoMemory` if an allocation failed.
     pub fn new(alloc: Global) -> Result<Framer, Refusal>
         ensures empty { IfOk result (λ framer. framer ≡ []) }
-        ensures refusal { IfErr result (λ refusal. refusal ≡ Refusal.NoMemory) }
+        ensures refusal { IsOkUnless result Refusal.NoMemory }
     {
         let ring = HeapCircularBuffer::with_capacity(alloc, LONGEST_FRAME)?;
         let body = zeros(alloc, LONGEST_BODY)?;

@@ -1,6 +1,6 @@
 //! Decoding of the fields of a scan's reply.
 
-ghost use Rattle.std.specs.Prelude.{◌≡◌, ◌≢◌, ◌<◌, ◌≤◌, ◌↔◌, ◌++◌, ◌∷◌, List, ℕ, IsTrue, IfSome, IfNone, IfOk, IfErr, OnErr, length, map};
+ghost use Rattle.std.specs.Prelude.{◌≡◌, ◌≢◌, ◌<◌, ◌≤◌, ◌↔◌, ◌++◌, ◌∷◌, List, ℕ, IsTrue, IfSome, IfNone, IfOk, IsOkUnless, OnErr, length, map};
 ghost use Rattle.std.specs.List.{AllByRecursion};
 ghost use Rattle.cell_key.specs.Names.{IsRow, IsFamily};
 ghost use Rattle.si_model.specs.Messages.{Item, Reach, ToEnd};
@@ -159,7 +159,7 @@ pub(crate) fn whole_scanned(bytes: &[u8]) -> Option<(LentReach<'_>, u32, &[u8])>
 pub(crate) fn own_reach(alloc: Global, reach: LentReach<'_>) -> Result<ScanReach, Refusal>
     requires { IsNamedReach (lent_reach reach) }
     ensures ok { IfOk result (λ own. reach_of own ≡ lent_reach reach.entry) }
-    ensures refusal { IfErr result (λ refusal. refusal ≡ Refusal.NoMemory) }
+    ensures refusal { IsOkUnless result Refusal.NoMemory }
     // The end needs no allocation.
     ensures needed { OnErr result (lent_reach reach.entry ≢ ToEnd) }
 {
@@ -187,7 +187,7 @@ fn own_found(alloc: Global, found: LentFound<'_>) -> Result<ScanFound, AllocErro
 fn own_item(alloc: Global, item: LentItem<'_>) -> Result<ScanItem, Refusal>
     requires { IsNamed (lent_item item).0 }
     ensures ok { IfOk result (λ own. item_of own ≡ lent_item item.entry) }
-    ensures refusal { IfErr result (λ refusal. refusal ≡ Refusal.NoMemory) }
+    ensures refusal { IsOkUnless result Refusal.NoMemory }
 {
     let cell = Cell::new(alloc, item.row, item.family)?;
     let found = own_found(alloc, item.found)?;
@@ -200,7 +200,7 @@ pub(crate) fn own_items(alloc: Global, bytes: &[u8], count: u32) -> Result<Vec<S
     ensures ok { IfOk result (λ own. bytes.now ≡ items_fields (map item_of own.items)) }
     ensures count { IfOk result (λ own. length own.items ≡ count) }
     ensures fit { IfOk result (λ own. AllByRecursion ItemFits (map item_of own.items)) }
-    ensures refusal { IfErr result (λ refusal. refusal ≡ Refusal.NoMemory) }
+    ensures refusal { IsOkUnless result Refusal.NoMemory }
     // An empty list needs no allocation.
     ensures needed { OnErr result (0 < count) }
 {

@@ -1,8 +1,10 @@
 //! The bodies of requests.
-ghost use Rattle.std.specs.Prelude.{◌≡◌, ◌≢◌, ◌+◌, ◌≤◌, ◌<◌, ◌⊎◌, ◌++◌, ◌∷◌, length, vec_len, vec_capacity, IfSome, IfNone, IfErr, OnOk, OnErr, IsOk};
+ghost use Rattle.std.specs.Prelude.{◌≡◌, ◌≢◌, ◌+◌, ◌≤◌, ◌<◌, ◌⊎◌, ◌++◌, ◌∷◌, length, vec_capacity, IfSome, IfNone, OnOk, OnErr, IsOk, IsOkUnless};
+ghost use Rattle.request_codec.specs.Buffers.{HasRoomFor, AppendsBytes};
 ghost use Rattle.request_codec.specs.Requests.{asked, request_body, BytesFit, IsOfClient, IsRequest, IsMalformed};
 ghost use Rattle.request_codec.specs.Fields.{number, cell_fields, FitsField};
 ghost use Rattle.si_model.specs.Messages.{CleanBegin, Set, Split, Raw};
+ghost use Rattle.si_model.specs.Reads.{cell_of};
 
 use crate::read_bodies::{
     whole_bytes, whole_cell, whole_move, whole_raw, whole_read, whole_u32, whole_u32_pair,
@@ -318,10 +320,8 @@ fn request_length(request: &Request<'_>) -> usize
 /// Appends the number of an operation and an eight-byte number: a start, a cleaner or a collector.
 #[tactic(auto, using(crate::proofs::Fields::lengths))]
 fn push_numbered(out: &mut Vec<u8>, operation: u8, n: u64)
-    requires { vec_len out.old + 9 ≤ vec_capacity out.old }
-    ensures items { out.new.items ≡ out.old.items ++ operation ∷ number 8 n }
-    ensures len { vec_len out.new ≡ vec_len out.old + 9 }
-    ensures capacity { vec_capacity out.old ≤ vec_capacity out.new }
+    requires { HasRoomFor out.old 9 }
+    ensures { AppendsBytes out.old out.new (operation ∷ number 8 n) }
 {
     push_byte(out, operation);
     push_u64(out, n);
@@ -330,10 +330,8 @@ fn push_numbered(out: &mut Vec<u8>, operation: u8, n: u64)
 /// Appends the number of an operation and the number of a tablet.
 #[tactic(auto, using(crate::proofs::Fields::lengths))]
 fn push_tablet(out: &mut Vec<u8>, operation: u8, tablet: u32)
-    requires { vec_len out.old + 5 ≤ vec_capacity out.old }
-    ensures items { out.new.items ≡ out.old.items ++ operation ∷ number 4 tablet }
-    ensures len { vec_len out.new ≡ vec_len out.old + 5 }
-    ensures capacity { vec_capacity out.old ≤ vec_capacity out.new }
+    requires { HasRoomFor out.old 5 }
+    ensures { AppendsBytes out.old out.new (operation ∷ number 4 tablet) }
 {
     push_byte(out, operation);
     push_u32(out, tablet);
@@ -344,12 +342,9 @@ fn push_tablet(out: &mut Vec<u8>, operation: u8, tablet: u32)
 fn push_of_cell(out: &mut Vec<u8>, operation: u8, start: Stamp, row: &[u8], family: &[u8])
     requires row { FitsField row.now }
     requires family { FitsField family.now }
-    requires room { vec_len out.old
-        + length row.now + length family.now + 17 ≤ vec_capacity out.old }
-    ensures items { out.new.items ≡ out.old.items
-        ++ operation ∷ (number 8 start
-        ++ cell_fields (record { row = row.now; family = family.now })) }
-    ensures capacity { vec_capacity out.old ≤ vec_capacity out.new }
+    requires room { HasRoomFor out.old (length row.now + length family.now + 17) }
+    ensures { AppendsBytes out.old out.new
+        (operation ∷ (number 8 start ++ cell_fields (cell_of row.now family.now))) }
 {
     push_numbered(out, operation, start);
     push_cell(out, row, family);
@@ -361,11 +356,10 @@ fn push_set(out: &mut Vec<u8>, start: Stamp, row: &[u8], family: &[u8], value: &
     requires row { FitsField row.now }
     requires family { FitsField family.now }
     requires value { FitsField value.now }
-    requires room { vec_len out.old
-        + length row.now + length family.now + length value.now + 21 ≤ vec_capacity out.old }
-    ensures items { out.new.items ≡ out.old.items
-        ++ request_body (Set start (record { row = row.now; family = family.now }) value.now) }
-    ensures capacity { vec_capacity out.old ≤ vec_capacity out.new }
+    requires room { HasRoomFor out.old
+        (length row.now + length family.now + length value.now + 21) }
+    ensures { AppendsBytes out.old out.new
+        (request_body (Set start (cell_of row.now family.now) value.now)) }
 {
     push_numbered(out, SET, start);
     push_cell(out, row, family);
@@ -377,11 +371,9 @@ fn push_set(out: &mut Vec<u8>, start: Stamp, row: &[u8], family: &[u8], value: &
 fn push_clean_begin(out: &mut Vec<u8>, row: &[u8], family: &[u8])
     requires row { FitsField row.now }
     requires family { FitsField family.now }
-    requires room { vec_len out.old
-        + length row.now + length family.now + 9 ≤ vec_capacity out.old }
-    ensures items { out.new.items ≡ out.old.items
-        ++ request_body (CleanBegin (record { row = row.now; family = family.now })) }
-    ensures capacity { vec_capacity out.old ≤ vec_capacity out.new }
+    requires room { HasRoomFor out.old (length row.now + length family.now + 9) }
+    ensures { AppendsBytes out.old out.new
+        (request_body (CleanBegin (cell_of row.now family.now))) }
 {
     push_byte(out, CLEAN_BEGIN);
     push_cell(out, row, family);
@@ -391,9 +383,8 @@ fn push_clean_begin(out: &mut Vec<u8>, row: &[u8], family: &[u8])
 #[tactic(auto, using(crate::proofs::Fields::lengths))]
 fn push_split(out: &mut Vec<u8>, row: &[u8])
     requires row { FitsField row.now }
-    requires room { vec_len out.old + length row.now + 5 ≤ vec_capacity out.old }
-    ensures items { out.new.items ≡ out.old.items ++ request_body (Split row.now) }
-    ensures capacity { vec_capacity out.old ≤ vec_capacity out.new }
+    requires room { HasRoomFor out.old (length row.now + 5) }
+    ensures { AppendsBytes out.old out.new (request_body (Split row.now)) }
 {
     push_byte(out, SPLIT);
     push_field(out, row);
@@ -411,11 +402,9 @@ fn push_raw(
 )
     requires row { FitsField row.now }
     requires family { FitsField family.now }
-    requires room { vec_len out.old
-        + length row.now + length family.now + 26 ≤ vec_capacity out.old }
-    ensures items { out.new.items ≡ out.old.items
-        ++ request_body (Raw (record { row = row.now; family = family.now }) qualifier lo hi) }
-    ensures capacity { vec_capacity out.old ≤ vec_capacity out.new }
+    requires room { HasRoomFor out.old (length row.now + length family.now + 26) }
+    ensures { AppendsBytes out.old out.new
+        (request_body (Raw (cell_of row.now family.now) qualifier lo hi)) }
 {
     push_byte(out, RAW);
     push_cell(out, row, family);
@@ -429,10 +418,8 @@ fn push_raw(
 fn push_client(request: &Request<'_>, out: &mut Vec<u8>)
     requires client { IsOfClient (asked request.now) }
     requires fits { BytesFit (asked request.now) }
-    requires room { vec_len out.old
-        + length (request_body (asked request.now)) ≤ vec_capacity out.old }
-    ensures items { out.new.items ≡ out.old.items ++ request_body (asked request.now) }
-    ensures capacity { vec_capacity out.old ≤ vec_capacity out.new }
+    requires room { HasRoomFor out.old (length (request_body (asked request.now))) }
+    ensures { AppendsBytes out.old out.new (request_body (asked request.now)) }
 {
     match *request {
         Request::Begin => push_byte(out, BEGIN),
@@ -468,10 +455,8 @@ fn push_client(request: &Request<'_>, out: &mut Vec<u8>)
 fn push_upkeep(request: &Request<'_>, out: &mut Vec<u8>)
     requires upkeep { ¬ (IsOfClient (asked request.now)) }
     requires fits { BytesFit (asked request.now) }
-    requires room { vec_len out.old
-        + length (request_body (asked request.now)) ≤ vec_capacity out.old }
-    ensures items { out.new.items ≡ out.old.items ++ request_body (asked request.now) }
-    ensures capacity { vec_capacity out.old ≤ vec_capacity out.new }
+    requires room { HasRoomFor out.old (length (request_body (asked request.now))) }
+    ensures { AppendsBytes out.old out.new (request_body (asked request.now)) }
 {
     match *request {
         Request::Minor { tablet } => push_tablet(out, MINOR, tablet),
@@ -502,10 +487,8 @@ fn push_upkeep(request: &Request<'_>, out: &mut Vec<u8>)
 /// Appends the body of a request.
 fn push_request(request: &Request<'_>, out: &mut Vec<u8>)
     requires fits { BytesFit (asked request.now) }
-    requires room { vec_len out.old
-        + length (request_body (asked request.now)) ≤ vec_capacity out.old }
-    ensures items { out.new.items ≡ out.old.items ++ request_body (asked request.now) }
-    ensures capacity { vec_capacity out.old ≤ vec_capacity out.new }
+    requires room { HasRoomFor out.old (length (request_body (asked request.now))) }
+    ensures { AppendsBytes out.old out.new (request_body (asked request.now)) }
 {
     match *request {
         Request::Begin
@@ -529,10 +512,9 @@ pub fn encode_request(request: &Request<'_>, out: &mut Vec<u8>) -> Result<(), Re
     requires { BytesFit (asked request.now) }
     ensures ok { OnOk result (out.new.items ≡ out.old.items ++ request_body (asked request.now)) }
     ensures err { OnErr result (out.new.items ≡ out.old.items) }
-    ensures refusal { IfErr result (λ refusal. refusal ≡ Refusal.NoMemory) }
+    ensures refusal { IsOkUnless result Refusal.NoMemory }
     // It succeeds if the buffer already has room.
-    ensures room { vec_len out.old
-        + length (request_body (asked request.now)) ≤ vec_capacity out.old → IsOk result }
+    ensures room { HasRoomFor out.old (length (request_body (asked request.now))) → IsOk result }
     ensures capacity { vec_capacity out.old ≤ vec_capacity out.new }
 {
     out.reserve(request_length(request))?;

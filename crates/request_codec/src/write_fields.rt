@@ -1,5 +1,7 @@
 //! Encoding of fields at the end of a buffer that has room.
-ghost use Rattle.std.specs.Prelude.{◌≡◌, ◌+◌, ◌≤◌, ◌<◌, ◌++◌, ◌∷◌, [], length, vec_len, vec_capacity};
+ghost use Rattle.std.specs.Prelude.{◌+◌, ◌∷◌, [], length};
+ghost use Rattle.si_model.specs.Reads.{cell_of};
+ghost use Rattle.request_codec.specs.Buffers.{HasRoomFor, AppendsBytes};
 ghost use Rattle.request_codec.specs.Fields.{number, field, cell_fields, qualifier_number, FitsField};
 
 use crate::qualifiers::number_of;
@@ -8,20 +10,16 @@ use cell_key::Qualifier;
 
 /// Appends a byte.
 pub(crate) fn push_byte(out: &mut Vec<u8>, byte: u8)
-    requires { vec_len out.old < vec_capacity out.old }
-    ensures items { out.new.items ≡ out.old.items ++ byte ∷ [] }
-    ensures len { vec_len out.new ≡ vec_len out.old + 1 }
-    ensures capacity { vec_capacity out.old ≤ vec_capacity out.new }
+    requires { HasRoomFor out.old 1 }
+    ensures { AppendsBytes out.old out.new (byte ∷ []) }
 {
     out.push(byte).unwrap();
 }
 
 /// Appends bytes.
 fn push_bytes(out: &mut Vec<u8>, bytes: &[u8])
-    requires { vec_len out.old + length bytes.now ≤ vec_capacity out.old }
-    ensures items { out.new.items ≡ out.old.items ++ bytes.now }
-    ensures len { vec_len out.new ≡ vec_len out.old + length bytes.now }
-    ensures capacity { vec_capacity out.old ≤ vec_capacity out.new }
+    requires { HasRoomFor out.old (length bytes.now) }
+    ensures { AppendsBytes out.old out.new bytes.now }
 {
     out.extend_from_slice(bytes).unwrap();
 }
@@ -29,10 +27,8 @@ fn push_bytes(out: &mut Vec<u8>, bytes: &[u8])
 /// Appends a number of one byte.
 #[tactic(auto, unfolding(crate::specs::Fields::number))]
 pub(crate) fn push_u8(out: &mut Vec<u8>, n: u8)
-    requires { vec_len out.old < vec_capacity out.old }
-    ensures items { out.new.items ≡ out.old.items ++ number 1 n }
-    ensures len { vec_len out.new ≡ vec_len out.old + 1 }
-    ensures capacity { vec_capacity out.old ≤ vec_capacity out.new }
+    requires { HasRoomFor out.old 1 }
+    ensures { AppendsBytes out.old out.new (number 1 n) }
 {
     push_byte(out, n);
 }
@@ -40,10 +36,8 @@ pub(crate) fn push_u8(out: &mut Vec<u8>, n: u8)
 /// Appends a number of two bytes.
 #[tactic(auto, unfolding(crate::specs::Fields::number))]
 pub(crate) fn push_u16(out: &mut Vec<u8>, n: u16)
-    requires { vec_len out.old + 2 ≤ vec_capacity out.old }
-    ensures items { out.new.items ≡ out.old.items ++ number 2 n }
-    ensures len { vec_len out.new ≡ vec_len out.old + 2 }
-    ensures capacity { vec_capacity out.old ≤ vec_capacity out.new }
+    requires { HasRoomFor out.old 2 }
+    ensures { AppendsBytes out.old out.new (number 2 n) }
 {
     let mut bytes = [0; 2];
     BigEndian::write_u16(&mut bytes, n);
@@ -53,10 +47,8 @@ pub(crate) fn push_u16(out: &mut Vec<u8>, n: u16)
 /// Appends a number of four bytes.
 #[tactic(auto, unfolding(crate::specs::Fields::number))]
 pub(crate) fn push_u32(out: &mut Vec<u8>, n: u32)
-    requires { vec_len out.old + 4 ≤ vec_capacity out.old }
-    ensures items { out.new.items ≡ out.old.items ++ number 4 n }
-    ensures len { vec_len out.new ≡ vec_len out.old + 4 }
-    ensures capacity { vec_capacity out.old ≤ vec_capacity out.new }
+    requires { HasRoomFor out.old 4 }
+    ensures { AppendsBytes out.old out.new (number 4 n) }
 {
     let mut bytes = [0; 4];
     BigEndian::write_u32(&mut bytes, n);
@@ -66,10 +58,8 @@ pub(crate) fn push_u32(out: &mut Vec<u8>, n: u32)
 /// Appends a number of eight bytes.
 #[tactic(auto, unfolding(crate::specs::Fields::number))]
 pub(crate) fn push_u64(out: &mut Vec<u8>, n: u64)
-    requires { vec_len out.old + 8 ≤ vec_capacity out.old }
-    ensures items { out.new.items ≡ out.old.items ++ number 8 n }
-    ensures len { vec_len out.new ≡ vec_len out.old + 8 }
-    ensures capacity { vec_capacity out.old ≤ vec_capacity out.new }
+    requires { HasRoomFor out.old 8 }
+    ensures { AppendsBytes out.old out.new (number 8 n) }
 {
     let mut bytes = [0; 8];
     BigEndian::write_u64(&mut bytes, n);
@@ -77,29 +67,23 @@ pub(crate) fn push_u64(out: &mut Vec<u8>, n: u64)
 }
 
 /// Appends a length and that many bytes.
-#[tactic(auto, unfolding(crate::specs::Fields::field))]
+#[tactic(auto, using(crate::proofs::Fields::lengths), unfolding(crate::specs::Fields::field))]
 pub(crate) fn push_field(out: &mut Vec<u8>, bytes: &[u8])
     requires fits { FitsField bytes.now }
-    requires room { vec_len out.old + length bytes.now + 4 ≤ vec_capacity out.old }
-    ensures items { out.new.items ≡ out.old.items ++ field bytes.now }
-    ensures len { vec_len out.new ≡ vec_len out.old + length bytes.now + 4 }
-    ensures capacity { vec_capacity out.old ≤ vec_capacity out.new }
+    requires room { HasRoomFor out.old (length bytes.now + 4) }
+    ensures { AppendsBytes out.old out.new (field bytes.now) }
 {
     push_u32(out, bytes.len() as u32);
     push_bytes(out, bytes);
 }
 
 /// Appends the row and the family of a cell.
-#[tactic(auto, unfolding(crate::specs::Fields::cell_fields))]
+#[tactic(auto, using(crate::proofs::Fields::lengths), unfolding(crate::specs::Fields::cell_fields))]
 pub(crate) fn push_cell(out: &mut Vec<u8>, row: &[u8], family: &[u8])
     requires row { FitsField row.now }
     requires family { FitsField family.now }
-    requires room { vec_len out.old
-        + length row.now + length family.now + 8 ≤ vec_capacity out.old }
-    ensures items { out.new.items
-        ≡ out.old.items ++ cell_fields (record { row = row.now; family = family.now }) }
-    ensures len { vec_len out.new ≡ vec_len out.old + length row.now + length family.now + 8 }
-    ensures capacity { vec_capacity out.old ≤ vec_capacity out.new }
+    requires room { HasRoomFor out.old (length row.now + length family.now + 8) }
+    ensures { AppendsBytes out.old out.new (cell_fields (cell_of row.now family.now)) }
 {
     push_field(out, row);
     push_field(out, family);
@@ -107,10 +91,8 @@ pub(crate) fn push_cell(out: &mut Vec<u8>, row: &[u8], family: &[u8])
 
 /// Appends the number of a qualifier.
 pub(crate) fn push_qualifier(out: &mut Vec<u8>, qualifier: Qualifier)
-    requires { vec_len out.old < vec_capacity out.old }
-    ensures items { out.new.items ≡ out.old.items ++ number 1 (qualifier_number qualifier) }
-    ensures len { vec_len out.new ≡ vec_len out.old + 1 }
-    ensures capacity { vec_capacity out.old ≤ vec_capacity out.new }
+    requires { HasRoomFor out.old 1 }
+    ensures { AppendsBytes out.old out.new (number 1 (qualifier_number qualifier)) }
 {
     push_u8(out, number_of(qualifier));
 }

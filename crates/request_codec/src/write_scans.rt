@@ -1,11 +1,12 @@
 //! Encoding of the fields of scans at the end of a buffer that has room.
 
-ghost use Rattle.std.specs.Prelude.{◌≡◌, ◌+◌, ◌≤◌, ◌<◌, ◌^◌, ◌++◌, ◌∷◌, [], length, map, option_map, vec_len, vec_capacity, IfSome};
+ghost use Rattle.std.specs.Prelude.{◌≡◌, ◌+◌, ◌≤◌, ◌<◌, ◌^◌, ◌∷◌, [], length, map, option_map, IfSome};
 ghost use Rattle.std.specs.List.{AllByRecursion};
 ghost use Rattle.si_model.specs.Messages.{ScanFrom};
 ghost use Rattle.si_model.specs.Reads.{cell_of};
 ghost use Rattle.si_model.specs.Replies.{range_of, item_of, found_item, reach_of, scan_reply};
 ghost use Rattle.si_model.specs.Scans.{found_length, item_length, items_length, most_items};
+ghost use Rattle.request_codec.specs.Buffers.{HasRoomFor, AppendsBytes};
 ghost use Rattle.request_codec.specs.Fields.{number, field, optional, cell_fields, FitsField, FitsCell};
 ghost use Rattle.request_codec.specs.Replies.{reply_body, ReplyBytesFit};
 ghost use Rattle.request_codec.specs.Requests.{request_body};
@@ -55,10 +56,8 @@ pub(crate) fn range_length(range: ScanRange<'_>) -> usize
 
 /// Appends whether only keys are asked for.
 fn push_flag(out: &mut Vec<u8>, flag: bool)
-    requires { vec_len out.old < vec_capacity out.old }
-    ensures items { out.new.items ≡ out.old.items ++ flag_number flag ∷ [] }
-    ensures len { vec_len out.new ≡ vec_len out.old + 1 }
-    ensures capacity { vec_capacity out.old ≤ vec_capacity out.new }
+    requires { HasRoomFor out.old 1 }
+    ensures { AppendsBytes out.old out.new (flag_number flag ∷ []) }
 {
     push_byte(out, if flag { 1 } else { 0 });
 }
@@ -67,12 +66,10 @@ fn push_flag(out: &mut Vec<u8>, flag: bool)
 #[tactic(auto, using(crate::proofs::Fields::lengths))]
 fn push_optional_cell(out: &mut Vec<u8>, cell: Option<(&[u8], &[u8])>)
     requires fits { IfSome cell (λ p. FitsCell (cell_of p.0.now p.1.now)) }
-    requires room { vec_len out.old
-        + length (optional cell_fields (option_map (λ p. cell_of p.0.now p.1.now) cell))
-        ≤ vec_capacity out.old }
-    ensures items { out.new.items ≡ out.old.items
-        ++ optional cell_fields (option_map (λ p. cell_of p.0.now p.1.now) cell.entry) }
-    ensures capacity { vec_capacity out.old ≤ vec_capacity out.new }
+    requires room { HasRoomFor out.old
+        (length (optional cell_fields (option_map (λ p. cell_of p.0.now p.1.now) cell))) }
+    ensures { AppendsBytes out.old out.new
+        (optional cell_fields (option_map (λ p. cell_of p.0.now p.1.now) cell.entry)) }
 {
     match cell {
         None => push_byte(out, LEFT_OUT),
@@ -87,11 +84,10 @@ fn push_optional_cell(out: &mut Vec<u8>, cell: Option<(&[u8], &[u8])>)
 #[tactic(auto, using(crate::proofs::Fields::lengths))]
 fn push_optional(out: &mut Vec<u8>, bytes: Option<&[u8]>)
     requires fits { IfSome bytes (λ bytes. FitsField bytes.now) }
-    requires room { vec_len out.old
-        + length (optional field (option_map (λ bytes. bytes.now) bytes)) ≤ vec_capacity out.old }
-    ensures items { out.new.items
-        ≡ out.old.items ++ optional field (option_map (λ bytes. bytes.now) bytes.entry) }
-    ensures capacity { vec_capacity out.old ≤ vec_capacity out.new }
+    requires room { HasRoomFor out.old
+        (length (optional field (option_map (λ bytes. bytes.now) bytes))) }
+    ensures { AppendsBytes out.old out.new
+        (optional field (option_map (λ bytes. bytes.now) bytes.entry)) }
 {
     match bytes {
         None => push_byte(out, LEFT_OUT),
@@ -106,10 +102,8 @@ fn push_optional(out: &mut Vec<u8>, bytes: Option<&[u8]>)
 #[tactic(auto, using(crate::proofs::Fields::lengths), unfolding(crate::specs::Scans::range_fields))]
 fn push_range(out: &mut Vec<u8>, range: ScanRange<'_>)
     requires fits { FitsRange (range_of range) }
-    requires room { vec_len out.old
-        + length (range_fields (range_of range)) ≤ vec_capacity out.old }
-    ensures items { out.new.items ≡ out.old.items ++ range_fields (range_of range.entry) }
-    ensures capacity { vec_capacity out.old ≤ vec_capacity out.new }
+    requires room { HasRoomFor out.old (length (range_fields (range_of range))) }
+    ensures { AppendsBytes out.old out.new (range_fields (range_of range.entry)) }
 {
     push_optional_cell(out, range.after);
     push_optional(out, range.end);
@@ -126,12 +120,10 @@ pub(crate) fn push_scan(
     cells: u32,
 )
     requires fits { FitsRange (range_of range) }
-    requires room { vec_len out.old
-        + length (request_body (ScanFrom start (range_of range) keys_only cells))
-        ≤ vec_capacity out.old }
-    ensures items { out.new.items ≡ out.old.items
-        ++ request_body (ScanFrom start (range_of range.entry) keys_only cells) }
-    ensures capacity { vec_capacity out.old ≤ vec_capacity out.new }
+    requires room { HasRoomFor out.old
+        (length (request_body (ScanFrom start (range_of range) keys_only cells))) }
+    ensures { AppendsBytes out.old out.new
+        (request_body (ScanFrom start (range_of range.entry) keys_only cells)) }
 {
     push_byte(out, REQUEST);
     push_u64(out, start);
@@ -192,10 +184,8 @@ pub(crate) fn scan_length(reply: &ScanReply) -> usize
 #[tactic(auto, using(crate::proofs::Fields::lengths))]
 fn push_said(out: &mut Vec<u8>, found: &ScanFound)
     requires few { found_length (found_item found.now) ≤ most_items }
-    requires room { vec_len out.old
-        + length (said_fields (found_item found.now)) ≤ vec_capacity out.old }
-    ensures items { out.new.items ≡ out.old.items ++ said_fields (found_item found.now) }
-    ensures capacity { vec_capacity out.old ≤ vec_capacity out.new }
+    requires room { HasRoomFor out.old (length (said_fields (found_item found.now))) }
+    ensures { AppendsBytes out.old out.new (said_fields (found_item found.now)) }
 {
     match found {
         ScanFound::Value(value) => {
@@ -214,10 +204,8 @@ fn push_said(out: &mut Vec<u8>, found: &ScanFound)
 #[tactic(auto, using(crate::proofs::Fields::lengths), unfolding(crate::specs::Scans::item_fields))]
 fn push_item(out: &mut Vec<u8>, item: &ScanItem)
     requires few { item_length (item_of item.now) ≤ most_items }
-    requires room { vec_len out.old
-        + length (item_fields (item_of item.now)) ≤ vec_capacity out.old }
-    ensures items { out.new.items ≡ out.old.items ++ item_fields (item_of item.now) }
-    ensures capacity { vec_capacity out.old ≤ vec_capacity out.new }
+    requires room { HasRoomFor out.old (length (item_fields (item_of item.now))) }
+    ensures { AppendsBytes out.old out.new (item_fields (item_of item.now)) }
 {
     push_cell(out, item.cell.row.as_bytes(), item.cell.family.as_bytes());
     push_said(out, &item.found);
@@ -226,10 +214,8 @@ fn push_item(out: &mut Vec<u8>, item: &ScanItem)
 /// Appends items.
 fn push_items(out: &mut Vec<u8>, items: &[ScanItem])
     requires few { items_length (map item_of items.now) ≤ most_items }
-    requires room { vec_len out.old + length (items_fields (map item_of items.now))
-        ≤ vec_capacity out.old }
-    ensures items { out.new.items ≡ out.old.items ++ items_fields (map item_of items.now) }
-    ensures capacity { vec_capacity out.old ≤ vec_capacity out.new }
+    requires room { HasRoomFor out.old (length (items_fields (map item_of items.now))) }
+    ensures { AppendsBytes out.old out.new (items_fields (map item_of items.now)) }
 {
     let mut rest = items;
     'items: while let Some((item, after)) = rest.split_first() {
@@ -241,9 +227,8 @@ fn push_items(out: &mut Vec<u8>, items: &[ScanItem])
 /// Appends how far a scan went.
 #[tactic(auto, using(crate::proofs::Fields::lengths))]
 fn push_reach(out: &mut Vec<u8>, reach: &ScanReach)
-    requires { vec_len out.old + length (reach_fields (reach_of reach.now)) ≤ vec_capacity out.old }
-    ensures items { out.new.items ≡ out.old.items ++ reach_fields (reach_of reach.now) }
-    ensures capacity { vec_capacity out.old ≤ vec_capacity out.new }
+    requires { HasRoomFor out.old (length (reach_fields (reach_of reach.now))) }
+    ensures { AppendsBytes out.old out.new (reach_fields (reach_of reach.now)) }
 {
     match reach {
         ScanReach::End => push_byte(out, REACH_END),
@@ -258,10 +243,8 @@ fn push_reach(out: &mut Vec<u8>, reach: &ScanReach)
 #[tactic(auto, using(crate::proofs::Fields::lengths))]
 pub(crate) fn push_scanned(out: &mut Vec<u8>, reply: &ScanReply)
     requires fits { ReplyBytesFit (scan_reply reply.now) }
-    requires room { vec_len out.old + length (reply_body (scan_reply reply.now))
-        ≤ vec_capacity out.old }
-    ensures items { out.new.items ≡ out.old.items ++ reply_body (scan_reply reply.now) }
-    ensures capacity { vec_capacity out.old ≤ vec_capacity out.new }
+    requires room { HasRoomFor out.old (length (reply_body (scan_reply reply.now))) }
+    ensures { AppendsBytes out.old out.new (reply_body (scan_reply reply.now)) }
 {
     push_byte(out, SCAN);
     push_reach(out, &reply.reach);

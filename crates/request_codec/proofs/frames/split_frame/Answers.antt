@@ -1,4 +1,4 @@
-use Rattle.std.proofs.Common.{◌+◌, ◌++◌, List, ℕ, inl, inr, take, ap, ◌∙◌, sym, arith}
+use Rattle.std.proofs.Common.{◌++◌, List, ℕ, inl, inr, take, ap, ◌∙◌, sym, arith}
 use Rattle.std.proofs.lemmas.List.{take-append-drop}
 use Rattle.request_codec.proofs.FirstFrames.{BeginsNoFrame-from_header, frame-from_parts}
 use Rattle.request_codec.proofs.frames.split_frame.Goals as goal
