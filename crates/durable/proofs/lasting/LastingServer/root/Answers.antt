@@ -1,4 +1,4 @@
-use Rattle.std.proofs.Common.{◌≡◌, ◌≤◌, ◌∙◌, inl, inr, refl, sym, subst, arith}
+use Rattle.std.proofs.Common.{◌≤◌, ◌∙◌, inl, inr, refl, subst, arith}
 use Rattle.metadata_table.specs.Roots.{RootView}
 use Rattle.cell_key.specs.Faults.{HasRisen}
 use Rattle.si_model.specs.Machine.{State, refuses}
