@@ -412,6 +412,7 @@ impl<S: Recording, M: MarkStore, L: Log> LastingServer<S, M, L> {
         requires { ¬ NeedsRoot request }
         ensures limits { KeepsToLimits result }
         ensures says { S.says self.old.server request.entry result self.new.server }
+        ensures log { self.new.log ≡ self.old.log }
         ensures goes_on { GoesOn (shown_by S.shows) (LastsIn S.stores S.logged L.holds)
             (Logs S.stores S.logged L.holds S.is_rooted) (asked request.entry)
             (replied result) self.old self.new }

@@ -7,10 +7,10 @@ use Rattle.durable.proofs.lasting_opening.load_mark.Goals as goal
 pub returns-then-stored-top-clause-damaged : goal.returns-then-stored-top-clause-damaged
 returns-then-stored-top-clause-damaged g c = λ is. marked_low (g.M.MarkStore.mark c.args.marks) (bytes_of c.args.records.now) c.in-Ok.mark.stored c.args.top c.in-Ok.ensures.stored (let less = c.if-stored-top.true in omega (arith, less, c.stored.ensures.stored))
 
-pub returns-then-covered-MOST_STAMP-clause-damaged : goal.returns-then-covered-MOST_STAMP-clause-damaged
-returns-then-covered-MOST_STAMP-clause-damaged g c = λ is.
+pub returns-then-covered-gt-MOST_STAMP-clause-damaged : goal.returns-then-covered-gt-MOST_STAMP-clause-damaged
+returns-then-covered-gt-MOST_STAMP-clause-damaged g c = λ is.
     let small = c.in-Ok.ensures.limit in
-    let high = c.if-covered-MOST_STAMP.true in
+    let high = c.if-covered-gt-MOST_STAMP.true in
     marked_high c.names_roots.ensures (g.M.MarkStore.mark c.args.marks) (bytes_of c.args.records.now) c.in-Ok.mark.stored c.args.top c.greatest_stamp-covered.result (omega (arith, small)) (subst (λ (n : ℕ). IsGreatest n (bytes_of c.args.records.now) c.greatest_stamp-covered.result) c.stored-2.ensures.stored c.greatest_stamp-covered.ensures) (omega (arith, high))
 
 pub returns-clause-made : goal.returns-clause-made

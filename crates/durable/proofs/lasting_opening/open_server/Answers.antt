@@ -1,6 +1,5 @@
 use Rattle.std.proofs.Common.{◌≡◌, ◌≤◌, ◌∙◌, ℕ, Option, inl, inr, refl, sym, subst, arith}
 use Rattle.std.specs.FinMap.{empty}
-use Rattle.cell_key.specs.declared.refusals.Refusal.{Refusal}
 use Rattle.si_model.specs.Machine.{IsStorageRefusal, begins_new, new_machine}
 use Rattle.rows.specs.Refusals.{IsReadRefusal}
 use Rattle.commit_log.specs.Frames.{bytes_of}

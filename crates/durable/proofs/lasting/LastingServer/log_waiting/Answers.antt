@@ -1,4 +1,4 @@
-use Rattle.std.proofs.Common.{◌≡◌, ◌≤◌, ◌∙◌, ℕ, List, [], ◌∷◌, ◌++◌, true, inl, inr, refl, sym, subst, arith}
+use Rattle.std.proofs.Common.{◌≤◌, ◌∙◌, ℕ, List, [], ◌∷◌, ◌++◌, inl, inr, refl, sym, subst, arith}
 use Rattle.commit_log.specs.Records.{spelled_record}
 use Rattle.commit_log.specs.declared.records.RecordKind.TheVariants as kind
 use Rattle.row_atomic.specs.Roots.{root_sum}

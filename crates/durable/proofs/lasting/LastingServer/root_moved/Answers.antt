@@ -1,4 +1,4 @@
-use Rattle.std.proofs.Common.{◌≡◌, ◌≤◌, ◌∙◌, inl, inr, refl, true, arith}
+use Rattle.std.proofs.Common.{◌≤◌, ◌∙◌, inl, inr, refl, true, arith}
 use Rattle.request_codec.specs.declared.replies.Reply.TheVariants as codec
 use Rattle.server_loop.specs.Commands.{checkpointed}
 use Rattle.durable.specs.Devices.{most_stamp}
