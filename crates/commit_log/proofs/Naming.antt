@@ -1,11 +1,11 @@
 -- The parts of a record's bytes, and the roots that records name.
-use Rattle.std.proofs.Common.{◌≡◌, ◌≢◌, ℕ, zero, suc, ◌+◌, ◌<◌, ◌≤◌, ◌^◌, ◌⊎◌, inl, inr, List, [], ◌∷◌, ◌++◌, get_or, length, refl, sym, ap, ◌∙◌, subst, arith, length-append, append_assoc}
+use Rattle.std.proofs.Common.{◌≡◌, ◌≢◌, ℕ, zero, suc, ◌+◌, ◌<◌, ◌≤◌, ◌^◌, ◌⊎◌, inl, inr, max, List, [], ◌∷◌, ◌++◌, get_or, length, refl, sym, ap, ◌∙◌, subst, arith, length-append, append_assoc}
 use Rattle.std.proofs.lemmas.Bool.{cases_lt}
 use Rattle.std.specs.Int.{to_be_bytes, w32}
 use Rattle.std.specs.Global.{Vec}
 use Rattle.std.specs.List.{AllByRecursion}
 use Rattle.commit_log.specs.Frames.{bytes_of}
-use Rattle.commit_log.specs.Records.{HasRecord, IsUpTo, NamesRoot, NamesRoots, any_root, kind_byte, root_record, spelled_number, spelled_record}
+use Rattle.commit_log.specs.Records.{AreUpTo, HasRecord, HasStamp, IsGreatest, IsUpTo, NamesRoot, NamesRoots, ReachesStamp, any_root, kind_byte, root_record, spelled_number, spelled_record}
 use Rattle.commit_log.specs.declared.records.RecordKind.{RecordKind}
 use Rattle.commit_log.specs.declared.records.RecordKind.TheVariants.{Edits, Root, AnyRoot}
 use Rattle.commit_log.proofs.Cuts.{same_front}
@@ -74,17 +74,18 @@ as_root one body spelled stamp top sum is at as' of = is ∙ ap (λ (s : ℕ). s
 
 -- ---- stamps
 
+-- a record has one stamp
+pub one_stamp : (one : List ℕ) (s t : ℕ) → HasStamp one s → HasStamp one t → s ≡ t
+one_stamp one s t p q = (same_record p.0 q.0 s t p.1 q.1 p.2 q.2 (sym p.3 ∙ q.3)).1.0
+
 up_to : (kind : RecordKind) (stamp mark : ℕ) (body : List ℕ) → stamp ≤ mark → IsUpTo mark (spelled_record kind stamp body)
-up_to kind stamp mark body low = λ k s b small same. elim (cases_lt stamp (2 ^ 64)) [
-  | inl also ↦ let is = (same_record kind k stamp s body b also small same).1.0 in omega (arith, is, low)
-  | inr large ↦ omega (arith, large, small, low)
+up_to kind stamp mark body low = λ s has. elim (cases_lt stamp (2 ^ 64)) [
+  | inl also ↦ let is = one_stamp (spelled_record kind stamp body) stamp s (kind, body, also, refl) has in omega (arith, is, low)
+  | inr large ↦ let small = has.2 in omega (arith, large, small, low)
 ]
 
-pub stamp_of : (one : List ℕ) (kind : RecordKind) (stamp mark : ℕ) (body : List ℕ) → stamp < 2 ^ 64 → one ≡ spelled_record kind stamp body → IsUpTo mark one → stamp ≤ mark
-stamp_of one kind stamp mark body small is up = up kind stamp body small is
-
-pub up_to_of : (one : List ℕ) (kind : RecordKind) (stamp mark : ℕ) (body : List ℕ) → one ≡ spelled_record kind stamp body → stamp ≤ mark → IsUpTo mark one
-up_to_of one kind stamp mark body is low = subst (IsUpTo mark) (sym is) (up_to kind stamp mark body low)
+pub up_to_more : (one : List ℕ) (low high : ℕ) → low ≤ high → IsUpTo low one → IsUpTo high one
+up_to_more one low high rises up = λ s has. let at = up s has in omega (arith, at, rises)
 
 pub all_last : {X : Type 0} (P : X → Type 0) (xs : List X) (x : X) → AllByRecursion P xs → P x → AllByRecursion P (xs ++ x ∷ [])
 all_last P [] x all p = (p, tt)
@@ -158,12 +159,56 @@ names_not records one top sum before last names = elim names [
   | inr any ↦ elim (in_last records one any_root any) [ inl has ↦ before (inr has) | inr e ↦ last (inr e) ]
 ]
 
+-- ---- reached stamps
+
+all_at : {X : Type 0} (P : X → Type 0) (first : List X) (x : X) (then : List X) → AllByRecursion P (first ++ x ∷ then) → P x
+all_at P [] x then all = all.0
+all_at P (y ∷ first) x then all = all_at P first x then all.1
+
+reached_more : (records : List (List ℕ)) (one : List ℕ) (top : ℕ) → ReachesStamp records top → ReachesStamp (records ++ one ∷ []) top
+reached_more records one top (other, stamp, among, has, high) = (other, stamp, has_more records (one ∷ []) other among, has, high)
+
+reached_last : (records : List (List ℕ)) (one : List ℕ) (top stamp : ℕ) → HasStamp one stamp → top ≤ stamp → ReachesStamp (records ++ one ∷ []) top
+reached_last records one top stamp has high = (one, stamp, (records, [], refl), has, high)
+
+reached_low : (records : List (List ℕ)) (low high : ℕ) → low ≤ high → ReachesStamp records high → ReachesStamp records low
+reached_low records low high rises (one, stamp, among, has, at) = (one, stamp, among, has, omega (arith, rises, at))
+
+within : (records : List (List ℕ)) (top mark : ℕ) → AreUpTo mark records → ReachesStamp records top → top ≤ mark
+within records top mark up (one, stamp, among, has, high) =
+    let at : IsUpTo mark one = all_at (IsUpTo mark) among.0 one among.1 (subst (AllByRecursion (IsUpTo mark)) among.2 up) in
+    let low = at stamp has in
+    omega (arith, high, low)
+
+higher : (records : List (List ℕ)) (low high : ℕ) → low ≤ high → AreUpTo low records → AreUpTo high records
+higher records low high rises up = all_through (IsUpTo low) (IsUpTo high) records (λ one is. up_to_more one low high rises is) up
+
+-- the greatest stamp with a further record
+pub greatest_more : (mark greatest stamp : ℕ) (records : List (List ℕ)) (one : List ℕ) → IsGreatest mark records greatest → IsUpTo stamp one → (stamp ≡ 0) ⊎ HasStamp one stamp → IsGreatest mark (records ++ one ∷ []) (max greatest stamp)
+greatest_more mark greatest stamp records one is up has = record {
+  above = let low = is.above in omega (arith, low);
+  up_to = all_last (IsUpTo (max greatest stamp)) records one (higher records greatest (max greatest stamp) (omega arith) is.up_to) (up_to_more one stamp (max greatest stamp) (omega arith) up);
+  reached = elim (cases_lt greatest stamp) [
+    | inl more ↦ elim has [
+      | inl none ↦ absurd (omega (arith, none, more))
+      | inr some ↦ inr (reached_last records one (max greatest stamp) stamp some (omega (arith, more)))
+    ]
+    | inr low ↦ elim is.reached [
+      | inl from ↦ inl (omega (arith, from, low))
+      | inr some ↦ inr (reached_more records one (max greatest stamp) (reached_low records (max greatest stamp) greatest (omega (arith, low)) some))
+    ]
+  ];
+}
+
 pub names_roots : NamesRoots
 names_roots = record {
   stays = λ records one top sum names. names_more records (one ∷ []) top sum names;
   more = λ records top sum. names_last records (root_record top sum) top sum (inl refl);
   any = λ records top sum. names_last records any_root top sum (inr refl);
   up_to = λ records kind stamp mark body all low. all_last (IsUpTo mark) records (spelled_record kind stamp body) all (up_to kind stamp mark body low);
-  higher = λ records low high up all. all_through (IsUpTo low) (IsUpTo high) records
-      (λ one is kind stamp body small same. let s = is kind stamp body small same in omega (arith, s, up)) all;
+  higher = higher;
+  kept = reached_more;
+  reached = λ records kind stamp body small. reached_last records (spelled_record kind stamp body) stamp stamp (kind, body, small, refl) (omega arith);
+  lower = reached_low;
+  within = within;
 }

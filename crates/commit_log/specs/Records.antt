@@ -1,4 +1,5 @@
--- The records of a log: each has a kind, the greatest stamp that had been answered when it was written, and a body.
+-- The records of a log: each has a kind, a stamp and a body. The stamp of a record of edits is a mark: no
+-- later stamp had been answered when it was written.
 use Rattle.std.specs.Prelude.{◌≡◌, ◌≤◌, ◌<◌, ◌^◌, ◌⊎◌, ℕ, zero, List, [], ◌∷◌, ◌++◌, drop}
 use Rattle.std.specs.List.{AllByRecursion}
 use Rattle.std.specs.Int.{to_be_bytes, w32, w64}
@@ -33,14 +34,29 @@ abbrev pub NamesRoot : List (List ℕ) → ℕ → ℕ → Type 0
 NamesRoot records top sum =
     HasRecord records (root_record top sum) ⊎ HasRecord records any_root
 
+-- a record has this stamp
+abbrev pub HasStamp : List ℕ → ℕ → Type 0
+HasStamp one stamp =
+    (kind : RecordKind) × (body : List ℕ) × (stamp < 2 ^ 64)
+    × (one ≡ spelled_record kind stamp body)
+
 -- a record's stamp is at most the mark
 abbrev pub IsUpTo : ℕ → List ℕ → Type 0
-IsUpTo mark one =
-    (kind : RecordKind) (stamp : ℕ) (body : List ℕ) → stamp < 2 ^ 64
-    → one ≡ spelled_record kind stamp body → stamp ≤ mark
+IsUpTo mark one = (stamp : ℕ) → HasStamp one stamp → stamp ≤ mark
 
 abbrev pub AreUpTo : ℕ → List (List ℕ) → Type 0
 AreUpTo mark records = AllByRecursion (IsUpTo mark) records
+
+-- a record of them has a stamp of at least this one
+abbrev pub ReachesStamp : List (List ℕ) → ℕ → Type 0
+ReachesStamp records top =
+    (one : List ℕ) × (stamp : ℕ) × HasRecord records one × HasStamp one stamp × (top ≤ stamp)
+
+-- The greatest of a mark and of the records' stamps.
+pub record IsGreatest (mark : ℕ) (records : List (List ℕ)) (greatest : ℕ) : Type 0 where
+  pub above : mark ≤ greatest
+  pub up_to : AreUpTo greatest records
+  pub reached : (greatest ≤ mark) ⊎ ReachesStamp records greatest
 
 -- the bytes of the edits that a record holds
 abbrev pub edit_bytes : List ℕ → List ℕ
@@ -60,3 +76,11 @@ pub record NamesRoots : Type 0 where
       → AreUpTo mark (records ++ spelled_record kind stamp body ∷ [])
   pub higher : (records : List (List ℕ)) (low high : ℕ) → low ≤ high → AreUpTo low records
       → AreUpTo high records
+  pub kept : (records : List (List ℕ)) (one : List ℕ) (top : ℕ)
+      → ReachesStamp records top → ReachesStamp (records ++ one ∷ []) top
+  pub reached : (records : List (List ℕ)) (kind : RecordKind) (stamp : ℕ) (body : List ℕ)
+      → stamp < 2 ^ 64 → ReachesStamp (records ++ spelled_record kind stamp body ∷ []) stamp
+  pub lower : (records : List (List ℕ)) (low high : ℕ) → low ≤ high → ReachesStamp records high
+      → ReachesStamp records low
+  pub within : (records : List (List ℕ)) (top mark : ℕ) → AreUpTo mark records
+      → ReachesStamp records top → top ≤ mark

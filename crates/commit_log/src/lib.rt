@@ -30,5 +30,5 @@ pub use logs::Log;
 pub use mem_file::MemFile;
 pub use memory::MemLog;
 pub use numbered::BEFORE_BODY;
-pub use records::{RecordKind, are_up_to, is_over_any, names_root, root_sum_bytes};
+pub use records::{RecordKind, greatest_stamp, is_over_any, names_root, root_sum_bytes};
 pub use store_log::{new_log, upgrade_log};

@@ -1,9 +1,9 @@
-//! The records of a log: their kinds, and the root that a log of records is over.
+//! The records of a log: their kinds and stamps, and the root that a log of records is over.
 
 ghost use Rattle.std.specs.Prelude.{◌≡◌, ◌≢◌, ◌⊎◌, ◌<◌, ◌^◌, ◌↔◌, ◌++◌, ℕ, List, IfNone, IfOk, IfSome, IsTrue, OnOk};
 ghost use Rattle.std.specs.Int.{to_be_bytes, w32};
 ghost use Rattle.commit_log.specs.Frames.{bytes_of};
-ghost use Rattle.commit_log.specs.Records.{AreUpTo, HasRecord, IsUpTo, NamesRoot, any_root, kind_byte, root_record, spelled_record};
+ghost use Rattle.commit_log.specs.Records.{HasRecord, HasStamp, IsGreatest, IsUpTo, NamesRoot, any_root, kind_byte, root_record, spelled_record};
 ghost use Rattle.commit_log.specs.declared.records.RecordKind.{RecordKind as Kind};
 
 use crate::numbers::{number_bytes, split_number};
@@ -13,7 +13,7 @@ use std::alloc::{AllocError, Global};
 /// The kind of a record.
 #[derive(Clone, Copy, Debug, PartialEq, Eq)]
 pub enum RecordKind {
-    /// The body is the edits that were made.
+    /// The body is the edits that were made. The stamp is a mark: no later one had been answered.
     Edits,
     /// The log is over this root, or the root is about to be put: the stamp is the root's greatest, the body its
     /// checksum.
@@ -147,27 +147,24 @@ pub fn names_root(records: &[Vec<u8>], top: Stamp, sum: u32) -> bool
     false
 }
 
-/// Whether a record's stamp is at most the mark.
-fn is_up_to(bytes: &[u8], mark: Stamp) -> bool
-    ensures { IsTrue result ↔ IsUpTo mark bytes.now }
+/// The stamp of a record; 0 of bytes that are no record.
+fn stamp_of(bytes: &[u8]) -> Stamp
+    ensures up_to { IsUpTo result bytes.now }
+    ensures has { (result ≡ 0) ⊎ HasStamp bytes.now result }
 {
     let Some((_, stamp, _)) = split_record(bytes) else {
-        return true;
+        return 0;
     };
-    if stamp > mark {
-        return false;
-    }
-    true
+    stamp
 }
 
-/// Whether each record's stamp is at most the mark.
-pub fn are_up_to(records: &[Vec<u8>], mark: Stamp) -> bool
-    ensures { IsTrue result ↔ AreUpTo mark (bytes_of records.now) }
+/// The greatest of a mark and of the records' stamps.
+pub fn greatest_stamp(mark: Stamp, records: &[Vec<u8>]) -> Stamp
+    ensures { IsGreatest mark (bytes_of records.now) result }
 {
+    let mut greatest = mark;
     for record in records {
-        if !is_up_to(record, mark) {
-            return false;
-        }
+        greatest = greatest.max(stamp_of(record));
     }
-    true
+    greatest
 }

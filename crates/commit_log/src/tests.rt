@@ -16,7 +16,7 @@ use crate::logs::Log;
 use crate::mem_file::MemFile;
 use crate::memory::MemLog;
 use crate::numbered::numbered_frame;
-use crate::records::{RecordKind, are_up_to, names_root, record_of, root_sum_bytes};
+use crate::records::{RecordKind, greatest_stamp, names_root, record_of, root_sum_bytes};
 use crate::store_log::{new_log, read_store_log, upgrade_log};
 use cell_key::{CellKey, Edit, Family, MOST_STAMP, Qualifier, Refusal, Row, Stamp};
 use std::alloc::Global;
@@ -517,7 +517,8 @@ fn roots_of_records(rt: HostRuntime) -> Result<(), Fail> {
     ] {
         assert!(rt; names_root(records, top, sum) == is_named, "{top} {sum}");
     }
-    assert!(rt; are_up_to(&all, 9) && !are_up_to(&all, 8) && are_up_to(edits, 7));
+    assert!(rt; greatest_stamp(0, &all) == 9 && greatest_stamp(10, &all) == 10);
+    assert!(rt; greatest_stamp(0, edits) == 7);
     let short = Vec::from_slice(rt.alloc(), b"\x01\0\0\0\0\0\0\0\x09\x01")?;
     let mut records = Vec::new(rt.alloc());
     records.push(short)?;

@@ -16,8 +16,9 @@ use Rattle.row_atomic.specs.Journals.{HasRoomFor, IsWithin, empty_journal}
 use Rattle.si_model.specs.Machine.{Place, State, reopened}
 use Rattle.si_model.specs.ShowsCells.{ShowsCells}
 use Rattle.durable.specs.Lasting.{Settles}
-use Rattle.durable.specs.Devices.{CoversEach, IsOver}
+use Rattle.durable.specs.Devices.{IsOver, most_stamp}
 use Rattle.durable.specs.Lasts.{Follows, HasNewRoot, HoldsLogged, LastsIn, Logs, StaysRooted, StaysStored, named, shown_by}
+use Rattle.durable.specs.StoredMarks.{CoversStamp, MarkView}
 use Rattle.durable.specs.declared.lasting.LastingServer.{LastingServer}
 
 all-join : {A : Type 0} (P : A → Type 0) (xs ys : List A) → AllByRecursion P xs → AllByRecursion P ys → AllByRecursion P (xs ++ ys)
@@ -39,8 +40,11 @@ AsManyEdits = (a b : List Edit) → AllByRecursion IsStoredEdit a → AllByRecur
 pub true_not_false : {A : Type 0} (b : Bool) → b ≡ true → b ≡ false → A
 true_not_false b is not = cc
 
-pub stays_stored : {S : Type 0} (stores : S → RootView → Cells → List Place → Type 0) (last : S → ℕ) (s : S) → StaysStored stores last s s
-stays_stored stores last s = record { kept = λ root base places is. is; later = omega arith }
+pub stays_stored : {S : Type 0} (stores : S → RootView → Cells → List Place → Type 0) (s : S) → StaysStored stores s s
+stays_stored stores s = λ root base places is. is
+
+pub no_less : (n : ℕ) → n ≤ n
+no_less n = omega arith
 
 -- a clause on `Ok` holds of a result that is no `Err`
 pub on_ok : {T E P : Type 0} (r : Result T E) (b : Bool) → b ≡ is_err r → b ≡ false → OnOk r P → P
@@ -83,75 +87,95 @@ named_so root top sum bytes same as' is =
 any_adds_none : (records : List (List ℕ)) → flat_map edit_bytes (records ++ any_root ∷ []) ≡ flat_map edit_bytes records
 any_adds_none records = flat_map-append edit_bytes records (any_root ∷ []) ∙ append-nil (flat_map edit_bytes records)
 
-module _ {S L : Type 0} (stores : S → RootView → Cells → List Place → Type 0) (logged waiting : S → List ℕ) (last : S → ℕ) (holds : L → List (List ℕ) → Type 0) (is_rooted : S → RootView → Type 0) (laws : LogsEdits) (names : NamesRoots) (count : S → ℕ) where
+-- ---- covered stamps
+
+module _ {M : Type 0} (names : NamesRoots) where
+  -- lower stamps are covered too
+  pub covers_low : (mark : MarkView M) (records : List (List ℕ)) (low high : ℕ) → low ≤ high → CoversStamp mark records high → CoversStamp mark records low
+  covers_low mark records low high rises (inl at) = inl (omega (arith, rises, at))
+  covers_low mark records low high rises (inr at) = inr (names.lower records low high rises at)
+
+  -- with a further record the same stamps are covered, and with a later mark too
+  pub covers_more : (old new : MarkView M) (records : List (List ℕ)) (one : List ℕ) (top : ℕ) → old.stored ≤ new.stored → CoversStamp old records top → CoversStamp new (records ++ one ∷ []) top
+  covers_more old new records one top rises (inl at) = inl (omega (arith, rises, at))
+  covers_more old new records one top rises (inr at) = inr (names.kept records one top at)
+
+  -- a record of edits covers its stamp
+  pub covers_last : (mark : MarkView M) (records : List (List ℕ)) (stamp top : ℕ) (body : List ℕ) → stamp ≤ most_stamp → top ≤ stamp → CoversStamp mark (records ++ spelled_record kind.Edits stamp body ∷ []) top
+  covers_last mark records stamp top body small low = covers_low mark (records ++ spelled_record kind.Edits stamp body ∷ []) top stamp low (inr (names.reached records kind.Edits stamp body (omega (arith, small))))
+
+module _ {S M L : Type 0} (stores : S → RootView → Cells → List Place → Type 0) (logged waiting : S → List ℕ) (last : S → ℕ) (holds : L → List (List ℕ) → Type 0) (is_rooted : S → RootView → Type 0) (laws : LogsEdits) (names : NamesRoots) (count : S → ℕ) where
   abbrev FollowsIn : S → RootView → State → Type 0
   FollowsIn s root st = Follows (stores s root) (logged s) (waiting s) (count s) (last s) st
 
-  abbrev Lasting : LastingServer S L → State → Type 0
-  Lasting s st = LastsIn stores logged last holds s st
+  abbrev Lasting : LastingServer S M L → State → Type 0
+  Lasting s st = LastsIn stores logged holds s st
+
+  -- the stored cells and the stored mark stay
+  abbrev Stays : LastingServer S M L → LastingServer S M L → Type 0
+  Stays old new = StaysStored stores old.server new.server × (old.marks.stored ≤ new.marks.stored)
 
   -- a state lasts if the log holds records of the same edits, over the same root
-  lasts_with : (old new : LastingServer S L) (st : State) → StaysStored stores last old.server new.server → (lasts : Lasting old st) → (records : List (List ℕ)) → holds new.log records → IsOver records lasts.kept.root → AreUpTo (last new.server) records
-      → HoldEdits records lasts.kept.edits → (new.is_stopped ≡ true) ⊎ (flat_map edit_bytes records ≡ logged new.server) → Lasting new st
-  lasts_with old new st stays lasts records in_log over up_to held bytes = record {
+  lasts_with : (old new : LastingServer S M L) (st : State) → Stays old new → (lasts : Lasting old st) → (records : List (List ℕ)) → holds new.log records → IsOver records lasts.kept.root → AreUpTo most_stamp records
+      → CoversStamp new.marks records st.top → HoldEdits records lasts.kept.edits → (new.is_stopped ≡ true) ⊎ (flat_map edit_bytes records ≡ logged new.server) → Lasting new st
+  lasts_with old new st stays lasts records in_log over up_to covers held bytes = record {
     kept = record {
       root = lasts.kept.root;
       base = lasts.kept.base;
-      kept = stays.kept lasts.kept.root lasts.kept.base st.places lasts.kept.kept;
+      kept = (stays.0 lasts.kept.root lasts.kept.base st.places lasts.kept.kept.0, let low = lasts.kept.kept.1 in let rises = stays.1 in omega (arith, low, rises));
       records = records;
       in_log = (in_log, bytes);
       over = over;
-      stamps = (last new.server, omega arith, up_to);
+      stamps = up_to;
       edits = lasts.kept.edits;
       held = held;
       stored = lasts.kept.stored;
       room = lasts.kept.room;
       shows = lasts.kept.shows;
       next = lasts.kept.next;
-      top = let low = lasts.kept.top in let later = stays.later in omega arith;
+      top = covers;
     };
   }
 
-  -- no stamp of a state that lasts is above the last one
-  pub stamps_low : (old : LastingServer S L) (next : S) (st : State) → last old.server ≤ last next → (lasts : Lasting old st) → AreUpTo (last next) lasts.kept.records
-  stamps_low old next st later lasts = let low = lasts.kept.stamps.1 in names.higher lasts.kept.records lasts.kept.stamps.0 (last next) (omega (arith, low, later)) lasts.kept.stamps.2
-
   -- a state lasts as long as the log holds its records
-  pub lasts_on : (old new : LastingServer S L) (st : State) → StaysStored stores last old.server new.server → (lasts : Lasting old st) → holds new.log lasts.kept.records
+  pub lasts_on : (old new : LastingServer S M L) (st : State) → Stays old new → (lasts : Lasting old st) → holds new.log lasts.kept.records
       → (new.is_stopped ≡ true) ⊎ (flat_map edit_bytes lasts.kept.records ≡ logged new.server) → Lasting new st
-  lasts_on old new st stays lasts in_log bytes = lasts_with old new st stays lasts lasts.kept.records in_log lasts.kept.over (stamps_low old new.server st stays.later lasts) lasts.kept.held bytes
+  lasts_on old new st stays lasts in_log bytes = lasts_with old new st stays lasts lasts.kept.records in_log lasts.kept.over lasts.kept.stamps
+      (elim lasts.kept.top [ inl at ↦ inl (let rises = stays.1 in omega (arith, rises, at)) | inr at ↦ inr at ]) lasts.kept.held bytes
 
   -- and also with a further record "any root"
-  pub lasts_any : (old new : LastingServer S L) (st : State) → StaysStored stores last old.server new.server → (lasts : Lasting old st) → holds new.log (lasts.kept.records ++ any_root ∷ [])
+  pub lasts_any : (old new : LastingServer S M L) (st : State) → Stays old new → (lasts : Lasting old st) → holds new.log (lasts.kept.records ++ any_root ∷ [])
       → (new.is_stopped ≡ true) ⊎ (flat_map edit_bytes lasts.kept.records ≡ logged new.server) → Lasting new st
   lasts_any old new st stays lasts in_log bytes = lasts_with old new st stays lasts (lasts.kept.records ++ any_root ∷ []) in_log
       (names.any lasts.kept.records lasts.kept.root.top (root_sum lasts.kept.root))
-      (names.up_to lasts.kept.records kind.AnyRoot 0 (last new.server) [] (stamps_low old new.server st stays.later lasts) (omega arith))
+      (names.up_to lasts.kept.records kind.AnyRoot 0 most_stamp [] lasts.kept.stamps (omega arith))
+      (covers_more names old.marks new.marks lasts.kept.records any_root st.top stays.1 lasts.kept.top)
       (laws.any lasts.kept.records lasts.kept.edits lasts.kept.held)
       (elim bytes [ inl stopped ↦ inl stopped | inr is ↦ inr (any_adds_none lasts.kept.records ∙ is) ])
 
-  -- a state that is shown lasts if the log holds all edits of the journal
-  pub shown_lasts : (old : S) (new : LastingServer S L) (root : RootView) (st : State) → FollowsIn old root st → StaysStored stores last old new.server → (records : List (List ℕ)) → holds new.log records → IsOver records root → AreUpTo (last new.server) records → (edits : List Edit) → HoldEdits records edits
+  -- a state that is shown lasts if the log holds all edits of the journal, and its stamps are covered
+  pub shown_lasts : (old : S) (new : LastingServer S M L) (root : RootView) (st : State) → FollowsIn old root st → StaysStored stores old new.server → root.top ≤ new.marks.stored → (records : List (List ℕ)) → holds new.log records → IsOver records root → AreUpTo most_stamp records
+      → CoversStamp new.marks records (last old) → (edits : List Edit) → HoldEdits records edits
       → AllByRecursion IsStoredEdit edits → HasRoomFor empty_journal edits → flat_map edit_bytes records ≡ logged old ++ waiting old → (new.is_stopped ≡ true) ⊎ (flat_map edit_bytes records ≡ logged new.server) → Lasting new st
-  shown_lasts old new root st f stays records in_log over up_to edits held stored room all bytes =
+  shown_lasts old new root st f stays low records in_log over up_to covers edits held stored room all bytes =
       let spelled : spelled_edits (f.first ++ f.then) ≡ logged old ++ waiting old = laws.after f.first f.then ∙ (ap (λ (x : List ℕ). x ++ spelled_edits f.then) (sym f.logged_bytes) ∙ ap (λ (x : List ℕ). logged old ++ x) (sym f.waiting_bytes)) in
       let same : spelled_edits (f.first ++ f.then) ≡ spelled_edits edits = spelled ∙ (sym all ∙ laws.whole records edits held) in
       record {
         kept = record {
           root = root;
           base = f.base;
-          kept = stays.kept root f.base st.places f.kept;
+          kept = (stays root f.base st.places f.kept, low);
           records = records;
           in_log = (in_log, bytes);
           over = over;
-          stamps = (last new.server, omega arith, up_to);
+          stamps = up_to;
           edits = edits;
           held = held;
           stored = stored;
           room = room;
           shows = subst (λ (cells : Cells). ShowsCells cells (reopened st)) (laws.one (f.first ++ f.then) edits f.stored stored same f.base) f.shows;
           next = f.next;
-          top = let low = f.top in let later = stays.later in omega arith;
+          top = covers_low names new.marks records st.top (last old) f.top covers;
         };
       }
 
@@ -182,33 +206,37 @@ module _ {S L : Type 0} (stores : S → RootView → Cells → List Place → Ty
       }
 
   -- a new root's state lasts if the log holds the root's name alone
-  pub emptied_lasts : (old : S) (new : LastingServer S L) (root : RootView) (st : State) → (put : HasNewRoot stores is_rooted last root old st) → StaysStored stores last old new.server → root.top ≤ last new.server → holds new.log (named root ∷ []) → (new.is_stopped ≡ true) ⊎ ([] ≡ logged new.server) → Lasting new st
-  emptied_lasts old new root st put stays low is bytes = record {
+  pub emptied_lasts : (old : S) (new : LastingServer S M L) (root : RootView) (st : State) → (put : HasNewRoot stores is_rooted last root old st) → StaysStored stores old new.server → root.top ≤ new.marks.stored → new.marks.stored ≤ most_stamp → last old ≤ new.marks.stored
+      → holds new.log (named root ∷ []) → (new.is_stopped ≡ true) ⊎ ([] ≡ logged new.server) → Lasting new st
+  emptied_lasts old new root st put stays low limit covered is bytes = record {
     kept = record {
       root = root;
       base = put.base;
-      kept = stays.kept root put.base st.places put.kept;
+      kept = (stays root put.base st.places put.kept, low);
       records = named root ∷ [];
       in_log = (is, bytes);
       over = names.more [] root.top (root_sum root);
-      stamps = (last new.server, omega arith, names.up_to [] kind.Root root.top (last new.server) _ tt low);
+      stamps = names.up_to [] kind.Root root.top most_stamp _ tt (omega (arith, low, limit));
       edits = [];
       held = laws.named [] [] root.top (root_sum root) laws.none;
       stored = tt;
       room = record { edits = omega arith; bytes = omega arith };
       shows = put.shows;
       next = put.next;
-      top = let top = put.top in let later = stays.later in omega arith;
+      top = inl (let top = put.top in omega (arith, top, covered));
     };
   }
 
   -- such a log agrees with a server whose journal is empty
-  pub holds_root : (new : LastingServer S L) (root : RootView) → root.top ≤ last new.server → holds new.log (named root ∷ []) → logged new.server ≡ [] → HoldsLogged stores logged last holds new root
-  holds_root new root low one none = record {
+  pub holds_root : (new : LastingServer S M L) (root : RootView) → root.top ≤ new.marks.stored → new.marks.stored ≤ most_stamp → new.marks.covered ≤ new.marks.stored → holds new.log (named root ∷ []) → logged new.server ≡ [] → HoldsLogged stores logged holds new root
+  holds_root new root low limit covered one none = record {
     records = named root ∷ [];
     in_log = one;
     over = names.more [] root.top (root_sum root);
-    stamps = names.up_to [] kind.Root root.top (last new.server) _ tt low;
+    stamps = names.up_to [] kind.Root root.top most_stamp _ tt (omega (arith, low, limit));
+    low = low;
+    limit = limit;
+    covered = inl covered;
     edits = [];
     held = laws.named [] [] root.top (root_sum root) laws.none;
     stored = tt;
@@ -217,16 +245,20 @@ module _ {S L : Type 0} (stores : S → RootView → Cells → List Place → Ty
   }
 
   -- the log still agrees with a server that counts the same edits as logged
-  pub holds_on : (mid : LastingServer S L) (next : S) (root : RootView) → last mid.server ≤ last next → HoldsLogged stores logged last holds mid root → logged next ≡ logged mid.server → HoldsLogged stores logged last holds (record mid { server = next }) root
-  holds_on mid next root later h same = record { records = h.records; in_log = h.in_log; over = h.over; stamps = names.higher h.records (last mid.server) (last next) later h.stamps; edits = h.edits; held = h.held; stored = h.stored; room = h.room; bytes = h.bytes ∙ sym same }
+  pub holds_on : (mid : LastingServer S M L) (next : S) (root : RootView) → HoldsLogged stores logged holds mid root → logged next ≡ logged mid.server → HoldsLogged stores logged holds (record mid { server = next }) root
+  holds_on mid next root h same = record { records = h.records; in_log = h.in_log; over = h.over; stamps = h.stamps; low = h.low; limit = h.limit; covered = h.covered; edits = h.edits; held = h.held; stored = h.stored; room = h.room; bytes = h.bytes ∙ sym same }
 
-  -- and also over any root, once that record was appended
-  pub holds_any : (mid new : LastingServer S L) (old root : RootView) → last mid.server ≤ last new.server → (h : HoldsLogged stores logged last holds mid old) → logged new.server ≡ logged mid.server → holds new.log (h.records ++ any_root ∷ []) → HoldsLogged stores logged last holds new root
-  holds_any mid new old root later h same in_log = record {
+  -- and also over any root that the mark covers, once that record was appended
+  pub holds_any : (mid new : LastingServer S M L) (old root : RootView) → (h : HoldsLogged stores logged holds mid old) → logged new.server ≡ logged mid.server → mid.marks.stored ≤ new.marks.stored → new.marks.stored ≤ most_stamp → new.marks.covered ≡ mid.marks.covered → root.top ≤ new.marks.stored
+      → holds new.log (h.records ++ any_root ∷ []) → HoldsLogged stores logged holds new root
+  holds_any mid new old root h same rises limit covered low in_log = record {
     records = h.records ++ any_root ∷ [];
     in_log = in_log;
     over = names.any h.records root.top (root_sum root);
-    stamps = names.up_to h.records kind.AnyRoot 0 (last new.server) [] (names.higher h.records (last mid.server) (last new.server) later h.stamps) (omega arith);
+    stamps = names.up_to h.records kind.AnyRoot 0 most_stamp [] h.stamps (omega arith);
+    low = low;
+    limit = limit;
+    covered = subst (λ (n : ℕ). CoversStamp new.marks (h.records ++ any_root ∷ []) n) (sym covered) (covers_more names mid.marks new.marks h.records any_root mid.marks.covered rises h.covered);
     edits = h.edits;
     held = laws.any h.records h.edits h.held;
     stored = h.stored;
@@ -234,32 +266,32 @@ module _ {S L : Type 0} (stores : S → RootView → Cells → List Place → Ty
     bytes = any_adds_none h.records ∙ h.bytes ∙ sym same;
   }
 
-  -- after a new root, while the log still has all edits
-  pub root_lasts : (new : LastingServer S L) (root : RootView) (now : State) → FollowsIn new.server root now → HoldsLogged stores logged last holds new root → waiting new.server ≡ [] → Lasting new now
-  root_lasts new root now f h none =
-      shown_lasts new.server new root now f (stays_stored stores last new.server) h.records h.in_log h.over h.stamps h.edits h.held h.stored h.room (none_waits h.records (logged new.server) (waiting new.server) none h.bytes) (inr h.bytes)
+  -- what is shown lasts while the log has all edits and covers the last stamp
+  pub root_lasts : (new : LastingServer S M L) (root : RootView) (now : State) → FollowsIn new.server root now → HoldsLogged stores logged holds new root → waiting new.server ≡ [] → last new.server ≤ new.marks.covered → Lasting new now
+  root_lasts new root now f h none covered =
+      shown_lasts new.server new root now f (stays_stored stores new.server) h.low h.records h.in_log h.over h.stamps (covers_low names new.marks h.records (last new.server) new.marks.covered covered h.covered) h.edits h.held h.stored h.room (none_waits h.records (logged new.server) (waiting new.server) none h.bytes) (inr h.bytes)
 
-  pub still_lasts : (mid : LastingServer S L) (next : S) (now : State) → StaysStored stores last mid.server next → logged next ≡ logged mid.server → Lasting mid now → Lasting (record mid { server = next }) now
-  still_lasts mid next now stays same lasts = lasts_on mid (record mid { server = next }) now stays lasts lasts.kept.in_log.0 (elim lasts.kept.in_log.1 [ inl stopped ↦ inl stopped | inr bytes ↦ inr (bytes ∙ sym same) ])
+  pub still_lasts : (mid : LastingServer S M L) (next : S) (now : State) → StaysStored stores mid.server next → logged next ≡ logged mid.server → Lasting mid now → Lasting (record mid { server = next }) now
+  still_lasts mid next now stays same lasts = lasts_on mid (record mid { server = next }) now (stays, no_less mid.marks.stored) lasts lasts.kept.in_log.0 (elim lasts.kept.in_log.1 [ inl stopped ↦ inl stopped | inr bytes ↦ inr (bytes ∙ sym same) ])
 
   -- a server that goes on with the same log
-  pub logs_on : (old : LastingServer S L) (next : S) → StaysRooted stores is_rooted last old.server next → logged next ≡ logged old.server → Logs stores logged last holds is_rooted old → Logs stores logged last holds is_rooted (record old { server = next })
+  pub logs_on : (old : LastingServer S M L) (next : S) → StaysRooted stores is_rooted old.server next → logged next ≡ logged old.server → Logs stores logged holds is_rooted old → Logs stores logged holds is_rooted (record old { server = next })
   logs_on old next stays same (inl stopped) = inl stopped
-  logs_on old next stays same (inr h) = inr (h.0, stays.rooted h.0 h.1, holds_on old next h.0 stays.stored.later h.2 same)
+  logs_on old next stays same (inr h) = inr (h.0, stays.rooted h.0 h.1, holds_on old next h.0 h.2 same)
 
   -- a log that holds the same, of the same server
-  pub held_still : (old : LastingServer S L) (log : L) (root : RootView) → Keeps (holds old.log) (holds log) → HoldsLogged stores logged last holds old root → HoldsLogged stores logged last holds (record old { log = log }) root
-  held_still old log root keeps h = record { records = h.records; in_log = keeps h.records h.in_log; over = h.over; stamps = h.stamps; edits = h.edits; held = h.held; stored = h.stored; room = h.room; bytes = h.bytes }
+  pub held_still : (old : LastingServer S M L) (log : L) (root : RootView) → Keeps (holds old.log) (holds log) → HoldsLogged stores logged holds old root → HoldsLogged stores logged holds (record old { log = log }) root
+  held_still old log root keeps h = record { records = h.records; in_log = keeps h.records h.in_log; over = h.over; stamps = h.stamps; low = h.low; limit = h.limit; covered = h.covered; edits = h.edits; held = h.held; stored = h.stored; room = h.room; bytes = h.bytes }
 
-  pub lasts_still : (old : LastingServer S L) (log : L) (st : State) → Keeps (holds old.log) (holds log) → Logs stores logged last holds is_rooted old → Lasting old st → Lasting (record old { log = log }) st × Logs stores logged last holds is_rooted (record old { log = log })
+  pub lasts_still : (old : LastingServer S M L) (log : L) (st : State) → Keeps (holds old.log) (holds log) → Logs stores logged holds is_rooted old → Lasting old st → Lasting (record old { log = log }) st × Logs stores logged holds is_rooted (record old { log = log })
   lasts_still old log st keeps logs lasts = (
-    lasts_on old (record old { log = log }) st (stays_stored stores last old.server) lasts (keeps lasts.kept.records lasts.kept.in_log.0) lasts.kept.in_log.1,
+    lasts_on old (record old { log = log }) st (stays_stored stores old.server, no_less old.marks.stored) lasts (keeps lasts.kept.records lasts.kept.in_log.0) lasts.kept.in_log.1,
     elim logs [ inl stopped ↦ inl stopped | inr h ↦ inr (h.0, h.1, held_still old log h.0 keeps h.2) ],
   )
 
   -- the same server with other counts, over a log that holds the same records
-  pub recounted : (old new : LastingServer S L) → new.server ≡ old.server → ((records : List (List ℕ)) → holds old.log records → holds new.log records) → new.is_stopped ≡ old.is_stopped → (shows : S → State → Type 0) → Settles (shown_by shows) Lasting (Logs stores logged last holds is_rooted) old new
-  recounted old new server log stop shows = record {
+  pub recounted : (old new : LastingServer S M L) → new.server ≡ old.server → new.marks ≡ old.marks → ((records : List (List ℕ)) → holds old.log records → holds new.log records) → new.is_stopped ≡ old.is_stopped → (shows : S → State → Type 0) → Settles (shown_by shows) Lasting (Logs stores logged holds is_rooted) old new
+  recounted old new server marks log stop shows = record {
     shown = λ st s. subst (λ (x : S). shows x st) (sym server) s;
     logged = λ now reached s logs. elim logs [
       | inl stopped ↦ inl (stop ∙ stopped)
@@ -270,7 +302,10 @@ module _ {S L : Type 0} (stores : S → RootView → Cells → List Place → Ty
           records = h.2.records;
           in_log = log h.2.records h.2.in_log;
           over = h.2.over;
-          stamps = subst (λ (x : S). AreUpTo (last x) h.2.records) (sym server) h.2.stamps;
+          stamps = h.2.stamps;
+          low = subst (λ (m : MarkView M). h.0.top ≤ m.stored) (sym marks) h.2.low;
+          limit = subst (λ (m : MarkView M). m.stored ≤ most_stamp) (sym marks) h.2.limit;
+          covered = subst (λ (m : MarkView M). CoversStamp m h.2.records m.covered) (sym marks) h.2.covered;
           edits = h.2.edits;
           held = h.2.held;
           stored = h.2.stored;
@@ -279,6 +314,6 @@ module _ {S L : Type 0} (stores : S → RootView → Cells → List Place → Ty
         },
       )
     ];
-    lasting = λ now reached s logs st lasts. inl (lasts_on old new st (subst (λ (x : S). StaysStored stores last old.server x) (sym server) (stays_stored stores last old.server)) lasts (log lasts.kept.records lasts.kept.in_log.0)
+    lasting = λ now reached s logs st lasts. inl (lasts_on old new st (subst (λ (x : S). StaysStored stores old.server x) (sym server) (stays_stored stores old.server), subst (λ (m : MarkView M). old.marks.stored ≤ m.stored) (sym marks) (no_less old.marks.stored)) lasts (log lasts.kept.records lasts.kept.in_log.0)
         (elim lasts.kept.in_log.1 [ inl stopped ↦ inl (stop ∙ stopped) | inr bytes ↦ inr (bytes ∙ ap logged (sym server)) ]));
   }

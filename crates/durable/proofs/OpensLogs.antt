@@ -1,5 +1,5 @@
 -- A server with a log that an opening makes.
-use Rattle.std.proofs.Common.{◌≡◌, ◌⊎◌, ◌+◌, ℕ, true, List, [], ◌∷◌, length, Option, None, Some, inl, inr, refl, sym, ap, ◌∙◌, subst, arith}
+use Rattle.std.proofs.Common.{◌≡◌, ◌≤◌, ◌⊎◌, ◌+◌, ℕ, true, List, [], ◌∷◌, length, Option, None, Some, inl, inr, refl, sym, ap, ◌∙◌, subst, arith}
 use Rattle.std.specs.Prelude.{IfSome, flat_map, is_some}
 use Rattle.std.specs.List.{AllByRecursion}
 use Rattle.std.specs.FinMap.{get}
@@ -17,13 +17,14 @@ use Rattle.si_model.specs.Machine.{Place, State, reopened}
 use Rattle.si_model.specs.ShowsCells.{ShowsCells}
 use Rattle.commit_log.specs.Records.{AreUpTo, edit_bytes}
 use Rattle.metadata_table.specs.Roots.{RootView}
-use Rattle.durable.specs.Devices.{Covers, CoversEach, IsOver, KeepsUnder, Lasts}
+use Rattle.durable.specs.Devices.{CoversWith, IsOver, KeepsUnder, Lasts, most_stamp}
 use Rattle.durable.specs.LastingOpening.{HasRootFile, LacksBase, OpensFrom, ServesFrom}
 use Rattle.durable.specs.Lasts.{HoldsLogged}
 use Rattle.server_loop.specs.Opening.{IsLost}
-use Rattle.server_loop.specs.Server.{Shows, cluster_of, journal_of, last_of, marks_of}
+use Rattle.server_loop.specs.Server.{Shows, cluster_of, journal_of, last_of}
 use Rattle.durable.specs.ServesLogged.{IsSettledOver}
 use Rattle.durable.specs.Stored.{IsRooted, StoresCells}
+use Rattle.durable.specs.StoredMarks.{CoversStamp, MarkView}
 use Rattle.durable.specs.declared.lasting.LastingServer.{LastingServer}
 use Rattle.server_loop.specs.declared.server.Server.{Server}
 use Rattle.durable.proofs.Logged.{AsManyEdits}
@@ -55,7 +56,7 @@ no_room_lost [] none = record { edits = omega arith; bytes = omega arith }
 no_room_lost (e ∷ edits) none = cc
 
 -- a state that lasts also lasts over a log that holds the same records
-pub lasts_on_log : (keeps : RootView → Cells → List Place → Type 0) (old new : List (List ℕ) → Type 0) (covers : ℕ → Type 0) (st : State) → ((records : List (List ℕ)) → old records → new records) → Lasts keeps old covers st → Lasts keeps new covers st
+pub lasts_on_log : (keeps : RootView → Cells → List Place → Type 0) (old new : List (List ℕ) → Type 0) (covers : List (List ℕ) → ℕ → Type 0) (st : State) → ((records : List (List ℕ)) → old records → new records) → Lasts keeps old covers st → Lasts keeps new covers st
 lasts_on_log keeps old new covers st same lasts = record {
   root = lasts.root;
   base = lasts.base;
@@ -81,31 +82,36 @@ has_root_file disk mark root base places keeps = subst HasRootFile (sym keeps.on
 
 -- of records that a log holds
 pub damage_of_log : (holds : List (List ℕ) → Type 0) (told : Option Contents) (mark : Option ℕ) (found : List (List ℕ)) → ((records : List (List ℕ)) → holds records → found ≡ records) → IfSome told (λ m. IfSome mark (DamageWith found m))
-    → IfSome told (λ m. IfSome mark (λ n. IsLost m n ⊎ ((records : List (List ℕ)) → holds records → LacksBase m records) ⊎ ((records : List (List ℕ)) → holds records → ¬ AreUpTo n records)))
+    → IfSome told (λ m. IfSome mark (λ n. IsLost m n ⊎ ((records : List (List ℕ)) → holds records → LacksBase m records) ⊎ ((records : List (List ℕ)) → holds records → ¬ AreUpTo most_stamp records)))
 damage_of_log holds None mark found same is = tt
 damage_of_log holds (Some m) None found same is = tt
 damage_of_log holds (Some m) (Some n) found same (inl lost) = inl lost
 damage_of_log holds (Some m) (Some n) found same (inr (inl lacks)) = inr (inl (λ records held. subst (LacksBase m) (same records held) lacks))
-damage_of_log holds (Some m) (Some n) found same (inr (inr later)) = inr (inr (λ records held. subst (λ (rs : List (List ℕ)). ¬ AreUpTo n rs) (same records held) later))
+damage_of_log holds (Some m) (Some n) found same (inr (inr later)) = inr (inr (λ records held. subst (λ (rs : List (List ℕ)). ¬ AreUpTo most_stamp rs) (same records held) later))
 
-module _ {F M L : Type 0} (files : Files F) (marks : MarkStore M) (log : Log L) where
-  pub opens_from : LogsEdits → (st : State) (server : Server F M) (kept : L) (opened : LastingServer (Server F M) L) → opened.server ≡ server → opened.log ≡ kept → (root : RootView) (base : Cells) (edits given : List Edit) (records : List (List ℕ)) → ServesFrom files marks root base edits st server
-      → HoldEdits records edits → AllByRecursion IsStoredEdit edits → log.holds kept records → IsOver records root → AreUpTo (last_of server) records → CoversEach (Covers (marks.mark (marks_of server))) records → HoldEdits records given → AllByRecursion IsStoredEdit given → HasRoomFor empty_journal given → st.next_tablet ≡ length st.places + 1
-      → ((there : RootView) → is_some (journal_of server) ≡ true → IsRooted files.contents server there → waiting_of (journal_of server) ≡ [] → HoldsLogged (StoresCells files.contents) (λ s. logged_of (journal_of s)) last_of log.holds opened there → IsSettledOver files log opened) → OpensFrom files marks log st opened
-  opens_from laws st server kept opened same_server same_log root base edits given records s held stored in_log over stamps covers held_given stored_given room next settle =
+module _ {F N M L : Type 0} (files : Files F) (marks : MarkStore M) (log : Log L) where
+  pub opens_from : LogsEdits → (st : State) (server : Server F N) (mark : MarkView M) (kept : L) (opened : LastingServer (Server F N) M L) → opened.server ≡ server → opened.marks ≡ mark → opened.log ≡ kept → (root : RootView) (base : Cells) (edits given : List Edit) (records : List (List ℕ)) → ServesFrom files (marks.mark mark.marks) root base edits st server
+      → root.top ≤ mark.stored → mark.stored ≤ most_stamp → last_of server ≡ mark.covered → CoversStamp mark records mark.covered → ((top : ℕ) → top ≤ mark.covered → CoversWith (marks.mark mark.marks) records top)
+      → HoldEdits records edits → AllByRecursion IsStoredEdit edits → log.holds kept records → IsOver records root → AreUpTo most_stamp records → HoldEdits records given → AllByRecursion IsStoredEdit given → HasRoomFor empty_journal given → st.next_tablet ≡ length st.places + 1
+      → ((there : RootView) → is_some (journal_of server) ≡ true → IsRooted files.contents server there → waiting_of (journal_of server) ≡ [] → last_of server ≤ mark.covered → HoldsLogged (StoresCells files.contents) (λ s. logged_of (journal_of s)) log.holds opened there → IsSettledOver files log opened) → OpensFrom files marks log st opened
+  opens_from laws st server mark kept opened same_server same_mark same_log root base edits given records s low limit last covered covers held stored in_log over stamps held_given stored_given room next settle =
       let now = s.next in
       let in_log_now : log.holds opened.log records = subst (λ (l : L). log.holds l records) (sym same_log) in_log in
-      let bytes : flat_map edit_bytes records ≡ logged_of (journal_of opened.server) = laws.whole records edits held ∙ (ap logged_of (sym s.journal) ∙ ap (λ (x : Server F M). logged_of (journal_of x)) (sym same_server)) in
+      let bytes : flat_map edit_bytes records ≡ logged_of (journal_of opened.server) = laws.whole records edits held ∙ (ap logged_of (sym s.journal) ∙ ap (λ (x : Server F N). logged_of (journal_of x)) (sym same_server)) in
+      let top = s.top in
       record {
         next = now;
         reached = s.reached;
         recovered = rw same_server s.recovered;
-        shown = subst (λ (x : Server F M). Shows files.contents x now) (sym same_server) s.shown;
-        settled = settle root (ap is_some s.journal) s.rooted (ap waiting_of s.journal) (record {
+        shown = subst (λ (x : Server F N). Shows files.contents x now) (sym same_server) s.shown;
+        settled = settle root (ap is_some s.journal) s.rooted (ap waiting_of s.journal) (omega (arith, last)) (record {
           records = records;
           in_log = in_log_now;
           over = over;
-          stamps = subst (λ (x : Server F M). AreUpTo (last_of x) records) (sym same_server) stamps;
+          stamps = stamps;
+          low = subst (λ (m : MarkView M). root.top ≤ m.stored) (sym same_mark) low;
+          limit = subst (λ (m : MarkView M). m.stored ≤ most_stamp) (sym same_mark) limit;
+          covered = subst (λ (m : MarkView M). CoversStamp m records m.covered) (sym same_mark) covered;
           edits = given;
           held = held_given;
           stored = stored_given;
@@ -115,17 +121,17 @@ module _ {F M L : Type 0} (files : Files F) (marks : MarkStore M) (log : Log L) 
         lasts = record {
           root = root;
           base = base;
-          kept = subst (λ (x : Server F M). KeepsUnder (files.contents (cluster_of x).files) (marks.mark (marks_of x)) root base now.places) (sym same_server) s.keeps;
+          kept = subst (λ (x : Server F N). KeepsUnder (files.contents (cluster_of x).files) (marks.mark opened.marks.marks) root base now.places) (sym same_server) (subst (λ (m : MarkView M). KeepsUnder (files.contents (cluster_of server).files) (marks.mark m.marks) root base now.places) (sym same_mark) s.keeps);
           records = records;
           in_log = in_log_now;
           over = over;
-          stamps = subst (λ (x : Server F M). CoversEach (Covers (marks.mark (marks_of x))) records) (sym same_server) covers;
+          stamps = stamps;
           edits = given;
           held = held_given;
           stored = stored_given;
           room = room;
           shows = same_shown laws records edits given held held_given stored stored_given base (reopened now) s.shows;
           next = s.recovered.next_tablet ∙ (next ∙ ap (λ (p : List Place). length p + 1) (sym s.recovered.places));
-          top = subst (λ (x : Server F M). Covers (marks.mark (marks_of x)) now.top) (sym same_server) s.covered;
+          top = subst (λ (m : MarkView M). CoversWith (marks.mark m.marks) records now.top) (sym same_mark) (covers now.top (omega (arith, top, last)));
         };
       }

@@ -7,52 +7,64 @@ use Rattle.request_codec.specs.Replies.{replied}
 use Rattle.request_codec.specs.declared.replies.Reply.{Reply}
 use Rattle.request_codec.specs.declared.replies.Reply.TheVariants as codec
 use Rattle.request_codec.specs.declared.requests.Request.{Request}
-use Rattle.request_codec.specs.declared.requests.Request.TheVariants.{Step, CleanStep, CollectStep, Split, Move, Sweep, Checkpoint}
+use Rattle.request_codec.specs.declared.requests.Request.TheVariants.{Begin, Step, CleanStep, CollectStep, Split, Move, Sweep, Checkpoint}
 use Rattle.server_loop.specs.Commands.{checkpointed}
 use Rattle.server_loop.specs.Runs.{StepsAs}
 use Rattle.si_model.specs.Machine.{IsStorageRefusal, Refused, Reply as MachineReply, Request as MachineRequest, State, Checkpoint as CheckpointAsked, refuses}
 use Rattle.si_model.specs.Refusing.{gives_up}
 use Rattle.durable.specs.Lasting.{GoesOn, Settles}
-use Rattle.durable.specs.Lasts.{AnswersLasting, AnswersRooted, Checkpoints, LacksRoom, MovesTablets, NeedsRoot, PutsRoot, WritesEdits}
-use Rattle.durable.specs.Lasts.PutsRoot.{answered, unnamed, failed}
+use Rattle.durable.specs.Lasts.{AnswersLasting, AnswersRooted, Checkpoints, LacksRoom, MovesTablets, NeedsRoom, NeedsRoot, PutsRoot}
+use Rattle.durable.specs.Lasts.PutsRoot.{answered, failed, unmarked, unnamed}
 
-module _ {S : Type 0} (same : S → S → Type 0) (checkpoints : S → Reply → S → Type 0) (says : S → Request → Reply → S → Type 0) (sweeps : S → Reply → S → Type 0) (stopped risen : Type 0) where
-  pub moves_rooted : (old new : S) (request : Request) (reply : Reply) → MovesTablets request → AnswersRooted same checkpoints (λ a r b. says a request r b) stopped old reply new → AnswersLasting same checkpoints says sweeps stopped risen old request reply new
+module _ {S : Type 0} (same : S → S → Type 0) (checkpoints : S → Reply → S → Type 0) (says : S → Request → Reply → S → Type 0) (sweeps : S → Reply → S → Type 0) (stopped mark_risen log_risen : Type 0) where
+  pub moves_rooted : (old new : S) (request : Request) (reply : Reply) → MovesTablets request → AnswersRooted same checkpoints (λ a r b. says a request r b) stopped mark_risen old reply new → AnswersLasting same checkpoints says sweeps stopped mark_risen log_risen old request reply new
   moves_rooted old new (Split row) reply of p = p
   moves_rooted old new (Move tablet server) reply of p = p
   moves_rooted old new request reply of p = absurd of
 
-  pub plain_lasting : (old new : S) (request : Request) (reply : Reply) → ¬ NeedsRoot request → ¬ WritesEdits request → says old request reply new → AnswersLasting same checkpoints says sweeps stopped risen old request reply new
-  plain_lasting old new (Split row) reply other reads p = absurd (other tt)
-  plain_lasting old new (Move tablet server) reply other reads p = absurd (other tt)
-  plain_lasting old new Sweep reply other reads p = absurd (other tt)
-  plain_lasting old new Checkpoint reply other reads p = absurd (other tt)
-  plain_lasting old new (Step start) reply other reads p = absurd (reads tt)
-  plain_lasting old new (CleanStep cleaner) reply other reads p = absurd (reads tt)
-  plain_lasting old new (CollectStep collector visits) reply other reads p = absurd (reads tt)
-  plain_lasting old new request reply other reads p = p
+  pub plain_lasting : (old new : S) (request : Request) (reply : Reply) → ¬ NeedsRoot request → ¬ NeedsRoom request → says old request reply new → AnswersLasting same checkpoints says sweeps stopped mark_risen log_risen old request reply new
+  plain_lasting old new (Split row) reply other plain p = absurd (other tt)
+  plain_lasting old new (Move tablet server) reply other plain p = absurd (other tt)
+  plain_lasting old new Sweep reply other plain p = absurd (other tt)
+  plain_lasting old new Checkpoint reply other plain p = absurd (other tt)
+  plain_lasting old new Begin reply other plain p = absurd (plain tt)
+  plain_lasting old new (Step start) reply other plain p = absurd (plain tt)
+  plain_lasting old new (CleanStep cleaner) reply other plain p = absurd (plain tt)
+  plain_lasting old new (CollectStep collector visits) reply other plain p = absurd (plain tt)
+  plain_lasting old new request reply other plain p = p
 
-  pub writes_lasting : (old new : S) (request : Request) (reply : Reply) → WritesEdits request → says old request reply new ⊎ LacksRoom same checkpoints risen old reply new → AnswersLasting same checkpoints says sweeps stopped risen old request reply new
-  writes_lasting old new (Step start) reply writes p = p
-  writes_lasting old new (CleanStep cleaner) reply writes p = p
-  writes_lasting old new (CollectStep collector visits) reply writes p = p
-  writes_lasting old new request reply writes p = absurd writes
+  pub room_lasting : (old new : S) (request : Request) (reply : Reply) → NeedsRoom request → says old request reply new ⊎ LacksRoom same checkpoints log_risen old reply new → AnswersLasting same checkpoints says sweeps stopped mark_risen log_risen old request reply new
+  room_lasting old new Begin reply needs p = p
+  room_lasting old new (Step start) reply needs p = p
+  room_lasting old new (CleanStep cleaner) reply needs p = p
+  room_lasting old new (CollectStep collector visits) reply needs p = p
+  room_lasting old new request reply needs p = absurd needs
 
-pub rootless : (request : Request) → WritesEdits request → ¬ NeedsRoot request
-rootless (Step start) writes root = root
-rootless (CleanStep cleaner) writes root = root
-rootless (CollectStep collector visits) writes root = root
-rootless request writes root = absurd writes
+pub rootless : (request : Request) → NeedsRoom request → ¬ NeedsRoot request
+rootless Begin needs root = root
+rootless (Step start) needs root = root
+rootless (CleanStep cleaner) needs root = root
+rootless (CollectStep collector visits) needs root = root
+rootless request needs root = absurd needs
 
-module _ {S : Type 0} (same : S → S → Type 0) (checkpoints : S → Reply → S → Type 0) (then : (a b c : S) → same a b → same b c → same a c) {stopped stopped' : Type 0} (still : stopped → stopped') where
+module _ {S : Type 0} (same : S → S → Type 0) (checkpoints : S → Reply → S → Type 0) (then : (a b c : S) → same a b → same b c → same a c) {stopped stopped' risen risen' : Type 0} (still : stopped → stopped') (rises : risen → risen') where
   both_then : (a b c : S) (reply : Reply) → Checkpoints same checkpoints a reply b → same b c → Checkpoints same checkpoints a reply c
   both_then a b c reply p s = (p.0, p.1, p.2, p.3, then p.1 b c p.4 s)
 
-  pub puts_more : (a b c : S) (reply : Reply) → PutsRoot same checkpoints stopped a reply b → same b c → PutsRoot same checkpoints stopped' a reply c
+  pub puts_more : (a b c : S) (reply : Reply) → PutsRoot same checkpoints stopped risen a reply b → same b c → PutsRoot same checkpoints stopped' risen' a reply c
   puts_more a b c reply (answered p) s = answered (both_then a b c reply p s)
   puts_more a b c reply (unnamed is p) s = unnamed is (both_then a b c _ p s)
+  puts_more a b c reply (unmarked is risen p) s = unmarked is (rises risen) (then a b c p s)
   puts_more a b c reply (failed is stops (inl p)) s = failed is (still stops) (inl (then a b c p s))
   puts_more a b c reply (failed is stops (inr p)) s = failed is (still stops) (inr (both_then a b c _ p s))
+
+-- a root whose mark's file did not fail
+module _ {S : Type 0} (same : S → S → Type 0) (checkpoints : S → Reply → S → Type 0) (stopped risen : Type 0) where
+  pub never_unmarked : (old new : S) (reply : Reply) → PutsRoot same checkpoints stopped ⊥ old reply new → PutsRoot same checkpoints stopped risen old reply new
+  never_unmarked old new reply (answered p) = answered p
+  never_unmarked old new reply (unnamed is p) = unnamed is p
+  never_unmarked old new reply (unmarked is risen p) = absurd risen
+  never_unmarked old new reply (failed is stops p) = failed is stops p
 
 -- a refusal of a log that was to be renewed
 abbrev pub IsLogRefusal : Refusal → Type 0
@@ -67,8 +79,8 @@ only_storage (Ok done) c = tt
 only_storage (Err refusal) c = stored_refusal refusal c
 
 -- a checkpoint that was made, and whose root was named or not
-module _ {S : Type 0} (same : S → S → Type 0) (checkpoints : S → Reply → S → Type 0) (stopped : Type 0) where
-  pub named_answer : (old new : S) (r : Result (Unit {0}) Refusal) → IfErr r IsLogRefusal → (IsErrOf r Device → stopped) → Checkpoints same checkpoints old codec.Checkpoint new → PutsRoot same checkpoints stopped old (checkpointed r) new
+module _ {S : Type 0} (same : S → S → Type 0) (checkpoints : S → Reply → S → Type 0) (stopped risen : Type 0) where
+  pub named_answer : (old new : S) (r : Result (Unit {0}) Refusal) → IfErr r IsLogRefusal → (IsErrOf r Device → stopped) → Checkpoints same checkpoints old codec.Checkpoint new → PutsRoot same checkpoints stopped risen old (checkpointed r) new
   named_answer old new (Ok done) c stops p = answered p
   named_answer old new (Err refusal) (inl is) stops p = failed (ap codec.Refused is) (stops (ap Err is)) (inr p)
   named_answer old new (Err refusal) (inr is) stops p = unnamed (ap codec.Refused is) p

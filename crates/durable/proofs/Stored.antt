@@ -33,7 +33,7 @@ use Rattle.server_loop.specs.Answer.{IsAnswer, IsPlainAnswer, KeepsLogged, Tends
 use Rattle.server_loop.specs.Commands.{HasOutcome, checkpointed, command_of, outcome_of}
 use Rattle.durable.specs.Lasts as lasts
 use Rattle.durable.specs.Lasts.{HasNewRoot, KeepsRecording, MovesTablets, NeedsRoot, StaysRooted, StaysStored}
-use Rattle.server_loop.specs.Runs.{StampsGoOn}
+use Rattle.server_loop.specs.Sessions.{KeepsOracle}
 use Rattle.server_loop.specs.Server.{Shows, cluster_of, floor_of, forgets, journal_of, last_of, machine_place, machine_places, next_root, top_of}
 use Rattle.durable.specs.Stored.{IsClean, IsRooted, StoresCells}
 use Rattle.server_loop.specs.Tending.{IsTended, MergesWhere}
@@ -71,7 +71,6 @@ module _ {F M : Type 0} (contents : F → Option Contents) where
         kept = record {
           has = subst (λ (r : RootView). HasRoot contents r follows.such.base (cluster_of server)) (sym same) follows.such.has;
           placed = rooted.placed ∙ shown.places;
-          low = rooted.low;
         };
         first = follows.logged;
         then = follows.waiting;
@@ -90,11 +89,11 @@ module _ {F M : Type 0} (contents : F → Option Contents) where
 
   -- ---- unchanged roots
 
-  pub stays_rooted : (old new : Server F M) → ((root : RootView) (cells : Cells) → HasRoot contents root cells (cluster_of old) → HasRoot contents root cells (cluster_of new)) → last_of old ≤ last_of new → machine_places (cluster_of new).places ≡ machine_places (cluster_of old).places
-      → StaysRooted (StoresCells contents) (IsRooted contents) last_of old new
-  stays_rooted old new stays later places = record {
-    stored = record { kept = λ root base ps s. record { has = stays root base s.has; placed = s.placed; low = let low = s.low in omega (arith, low, later) }; later = later };
-    rooted = λ root r. record { base = r.base; has = stays root r.base r.has; placed = r.placed ∙ sym places; low = let low = r.low in omega (arith, low, later) };
+  pub stays_rooted : (old new : Server F M) → ((root : RootView) (cells : Cells) → HasRoot contents root cells (cluster_of old) → HasRoot contents root cells (cluster_of new)) → machine_places (cluster_of new).places ≡ machine_places (cluster_of old).places
+      → StaysRooted (StoresCells contents) (IsRooted contents) old new
+  stays_rooted old new stays places = record {
+    stored = λ root base ps s. record { has = stays root base s.has; placed = s.placed };
+    rooted = λ root r. record { base = r.base; has = stays root r.base r.has; placed = r.placed ∙ sym places };
   }
 
   -- ---- a new root
@@ -110,9 +109,9 @@ module _ {F M : Type 0} (contents : F → Option Contents) where
       let top : st.top ≤ last_of new = let below = shown.shows.top in omega (arith, below, last) in
       let low : top_of old ≤ last_of new = let is = next_low old st shown in omega (arith, is, last) in
       subst (λ (root : RootView). HasNewRoot (StoresCells contents) (IsRooted contents) last_of root new st) (sym next) (record {
-        rooted = record { base = cells_shown contents (cluster_of old); has = keeps.has; placed = refl; low = low };
+        rooted = record { base = cells_shown contents (cluster_of old); has = keeps.has; placed = refl };
         base = cells_shown contents (cluster_of old);
-        kept = record { has = keeps.has; placed = places ∙ shown.places; low = low };
+        kept = record { has = keeps.has; placed = places ∙ shown.places };
         shows = reopens _ st shown.shows.store;
         next = shown.next;
         top = top;
@@ -136,12 +135,6 @@ module _ {F M : Type 0} (contents : F → Option Contents) where
       }
 
 -- ---- answers
-
-pub stamps_rise : (reply : machine.Reply) (old new : ℕ) → StampsGoOn reply old new → old ≤ new
-stamps_rise (machine.Begun start) old new p = let first = p.0 in let then = p.1 in omega (arith, first, then)
-stamps_rise (machine.Drawn stamp) old new p = let first = p.0 in let then = p.1 in omega (arith, first, then)
-stamps_rise machine.RestartDone old new p = p
-stamps_rise reply old new p = let is : new ≡ old = p in omega (arith, is)
 
 plain_keeps : (request : Lent) → ¬ NeedsRoot request → KeepsPlaces (asked request)
 plain_keeps (lent.Split row) other = absurd (other tt)
@@ -175,6 +168,12 @@ moved_journal (lent.Split row) old new of p = p
 moved_journal (lent.Move tablet server) old new of p = p
 moved_journal request old new of p = absurd of
 
+-- tablets move without a stamp
+moved_stamp : {F M : Type 0} (contents : F → Option Contents) (mark : M → Option ℕ) (request : Lent) (reply : CodecReply) (old new : Server F M) → MovesTablets request → KeepsOracle contents mark request reply old new → last_of new ≡ last_of old
+moved_stamp contents mark (lent.Split row) reply old new of p = ap (λ o. o.last) p
+moved_stamp contents mark (lent.Move tablet server) reply old new of p = ap (λ o. o.last) p
+moved_stamp contents mark request reply old new of p = absurd of
+
 module _ {F M : Type 0} (files : Files F) (marks : MarkStore M) (stored : RootIsStored files.contents) (stays : RootStays files.contents files.faults) where
   by_has : (made : Option Command) (request : Lent) (reply : CodecReply) (old new : ClusterState F) → made ≢ Some command.Sweep → HasOutcome files.contents files.faults made request reply old new → (root : RootView) (cells : Cells) → HasRoot files.contents root cells old → HasRoot files.contents root cells new
   by_has None request reply old new other same root cells has = (stored root cells old new same).0 has
@@ -187,24 +186,28 @@ module _ {F M : Type 0} (files : Files F) (marks : MarkStore M) (stored : RootIs
   answer_root request reply old new first other tends = by_has (command_of request) request reply (cluster_of old) (cluster_of new) other tends
 
   pub answer_leaves : (old new : Server F M) (request : Lent) (reply : CodecReply) → ¬ NeedsRoot request → IsAnswer files marks old request reply new → (now : State) → IsReached now → Shows files.contents old now
-      → StaysRooted (StoresCells files.contents) (IsRooted files.contents) last_of old new × (logged_of (journal_of new) ≡ logged_of (journal_of old))
+      → StaysRooted (StoresCells files.contents) (IsRooted files.contents) old new × (logged_of (journal_of new) ≡ logged_of (journal_of old))
   answer_leaves old new request reply other answer now reached shown =
       let plain = answer.plain in
       let (next, step, shows, whole) = plain.step.step now reached shown in
       let places : machine_places (cluster_of new).places ≡ machine_places (cluster_of old).places = shows.places ∙ ((keeps_places now (asked request) (replied reply) next step (plain_keeps request other)).0 ∙ sym shown.places) in (
-        stays_rooted files.contents old new (answer_root request reply old new (plain_not_checkpoint request other) (plain_not_sweep request other) plain.tablets) (stamps_rise (replied reply) (last_of old) (last_of new) plain.stamps.last) places,
+        stays_rooted files.contents old new (answer_root request reply old new (plain_not_checkpoint request other) (plain_not_sweep request other) plain.tablets) places,
         plain_logged request (journal_of old) (journal_of new) other plain.logged,
       )
 
   pub answer_moves : (old new : Server F M) (request : Lent) (reply : CodecReply) → MovesTablets request → IsAnswer files marks old request reply new
-      → StaysStored (StoresCells files.contents) last_of old new × KeepsRecording (λ server. is_some (journal_of server)) (λ server. logged_of (journal_of server)) (λ server. waiting_of (journal_of server)) last_of old new
+      → StaysStored (StoresCells files.contents) old new × KeepsRecording (λ server. is_some (journal_of server)) (λ server. logged_of (journal_of server)) (λ server. waiting_of (journal_of server)) last_of old new
   answer_moves old new request reply of answer =
       let plain = answer.plain in
-      let later = stamps_rise (replied reply) (last_of old) (last_of new) plain.stamps.last in
       let roots = answer_root request reply old new (moves_not_checkpoint request of) (moves_not_sweep request of) plain.tablets in
       let same = moved_journal request (journal_of old) (journal_of new) of plain.logged in (
-        record { kept = λ root base ps s. record { has = roots root base s.has; placed = s.placed; low = let low = s.low in omega (arith, low, later) }; later = later },
-        record { goes_on = ap (λ (j : Option JournalView). is_some j) same; has = ap (λ (j : Option JournalView). logged_of j) same; waits = ap (λ (j : Option JournalView). waiting_of j) same; later = later },
+        λ root base ps s. record { has = roots root base s.has; placed = s.placed },
+        record {
+          goes_on = ap (λ (j : Option JournalView). is_some j) same;
+          has = ap (λ (j : Option JournalView). logged_of j) same;
+          waits = ap (λ (j : Option JournalView). waiting_of j) same;
+          stamp = moved_stamp files.contents marks.mark request reply old new of plain.sessions.oracle;
+        },
       )
 
 -- ---- between two answers
@@ -216,15 +219,13 @@ module _ {F : Type 0} (contents : F → Option Contents) (faults : F → ℕ) (f
   merges_root true (Some most) old new made root cells has = merge root cells old new most made has
 
   pub tended_leaves : {M : Type 0} (old new : Server F M) → IsTended contents faults old new
-      → StaysRooted (StoresCells contents) (IsRooted contents) last_of old new × (logged_of (journal_of new) ≡ logged_of (journal_of old)) × ((st : State) → Shows contents old st → Shows contents new st)
-  tended_leaves old new tended =
-      let last : last_of new ≡ last_of old = ap (λ o. o.last) tended.oracle in (
-        stays_rooted contents old new
-            (λ root cells has. merges_root _ _ tended.compacted (cluster_of new) tended.merges root cells (((flushes root cells (cluster_of old) tended.compacted).0 _ tended.compacts).0 has))
-            (omega (arith, last)) (same_machine_places (cluster_of old).places (cluster_of new).places tended.keeps.spots),
-        ap (λ (j : Option JournalView). logged_of j) tended.journal,
-        tended.shown,
-      )
+      → StaysRooted (StoresCells contents) (IsRooted contents) old new × (logged_of (journal_of new) ≡ logged_of (journal_of old)) × ((st : State) → Shows contents old st → Shows contents new st)
+  tended_leaves old new tended = (
+    stays_rooted contents old new (λ root cells has. merges_root _ _ tended.compacted (cluster_of new) tended.merges root cells (((flushes root cells (cluster_of old) tended.compacted).0 _ tended.compacts).0 has))
+        (same_machine_places (cluster_of old).places (cluster_of new).places tended.keeps.spots),
+    ap (λ (j : Option JournalView). logged_of j) tended.journal,
+    tended.shown,
+  )
 
 -- ---- logged edits
 
@@ -247,11 +248,11 @@ module _ {F : Type 0} (contents : F → Option Contents) (laws : LogsEdits) wher
 
 module _ {F M : Type 0} (contents : F → Option Contents) where
   -- the same server with other rows, of the same cluster
-  same_cluster : (old : Server F M) (rows : Recorded F) → rows.cluster ≡ cluster_of old → StaysRooted (StoresCells contents) (IsRooted contents) last_of old (record old { rows = rows })
-  same_cluster old rows is = stays_rooted contents old (record old { rows = rows }) (λ root cells has. subst (λ (state : ClusterState F). HasRoot contents root cells state) (sym is) has) (omega arith) (ap (λ (state : ClusterState F). machine_places state.places) is)
+  same_cluster : (old : Server F M) (rows : Recorded F) → rows.cluster ≡ cluster_of old → StaysRooted (StoresCells contents) (IsRooted contents) old (record old { rows = rows })
+  same_cluster old rows is = stays_rooted contents old (record old { rows = rows }) (λ root cells has. subst (λ (state : ClusterState F). HasRoot contents root cells state) (sym is) has) (ap (λ (state : ClusterState F). machine_places state.places) is)
 
-  pub same_rows : (old new : Server F M) (rows : Recorded F) → new ≡ record old { rows = rows } → rows.cluster ≡ cluster_of old → StaysRooted (StoresCells contents) (IsRooted contents) last_of old new
-  same_rows old new rows is same = subst (λ (server : Server F M). StaysRooted (StoresCells contents) (IsRooted contents) last_of old server) (sym is) (same_cluster old rows same)
+  pub same_rows : (old new : Server F M) (rows : Recorded F) → new ≡ record old { rows = rows } → rows.cluster ≡ cluster_of old → StaysRooted (StoresCells contents) (IsRooted contents) old new
+  same_rows old new rows is same = subst (λ (server : Server F M). StaysRooted (StoresCells contents) (IsRooted contents) old server) (sym is) (same_cluster old rows same)
 
   -- a state shown without a journal is shown with one that follows
   pub remembers : (server : Server F M) (st : State) → Shows contents (forgets server) st → Follows contents (cluster_of server) (journal_of server) → Shows contents server st
@@ -286,13 +287,13 @@ module _ {F M : Type 0} (files : Files F) (marks : MarkStore M) (reopens : (cell
   checkpoint_done (Err refusal) plain clean = tt
 
   pub checkpoint_undone : files.replaces → (result : Result (Unit {0}) Refusal) → Checked result
-      → OnErr result (StaysRooted (StoresCells files.contents) (IsRooted files.contents) last_of old new ⊎ ((st : State) → Shows files.contents old st → NewRoot st))
+      → OnErr result (StaysRooted (StoresCells files.contents) (IsRooted files.contents) old new ⊎ ((st : State) → Shows files.contents old st → NewRoot st))
   checkpoint_undone replaces (Ok done) plain = tt
   checkpoint_undone replaces (Err refusal) plain =
       let places = same_machine_places (cluster_of old).places (cluster_of new).places spots in
       let last : last_of new ≡ last_of old = ap (λ o. o.last) plain.sessions.oracle in
       elim (plain.tablets.2 replaces refusal refl) [
-        | inl stays ↦ inl (stays_rooted files.contents old new (λ root cells. (stays root cells).0) (omega (arith, last)) places)
+        | inl stays ↦ inl (stays_rooted files.contents old new (λ root cells. (stays root cells).0) places)
         | inr rests ↦ inr (λ st shown. new_root files.contents reopens old new st rests places last (same_root_next plain) shown)
       ]
 
@@ -300,10 +301,9 @@ module _ {F M : Type 0} (files : Files F) (marks : MarkStore M) (reopens : (cell
 
 module _ {F M : Type 0} (files : Files F) (marks : MarkStore M) (one : OneRoot) (stays : RootStays files.contents files.faults) where
   pub sweep_stays : (old new : Server F M) (reply : CodecReply) → IsPlainAnswer files marks old lent.Sweep reply (forgets new) → spots_of (cluster_of new) ≡ spots_of (cluster_of old) → IsClean files.contents old
-      → StaysRooted (StoresCells files.contents) (IsRooted files.contents) last_of old new
+      → StaysRooted (StoresCells files.contents) (IsRooted files.contents) old new
   sweep_stays old new reply plain spots clean =
-      let last : last_of new ≡ last_of old = ap (λ o. o.last) plain.sessions.oracle in
-      stays_rooted files.contents old new (λ root cells has. by_sweep plain.tablets root cells has) (omega (arith, last)) (same_machine_places (cluster_of old).places (cluster_of new).places spots)
+      stays_rooted files.contents old new (λ root cells has. by_sweep plain.tablets root cells has) (same_machine_places (cluster_of old).places (cluster_of new).places spots)
     where
       by_sweep : TendsTablets files lent.Sweep reply old (forgets new) → (root : RootView) (cells : Cells) → HasRoot files.contents root cells (cluster_of old) → HasRoot files.contents root cells (cluster_of new)
       by_sweep (inl is) root cells has =

@@ -21,10 +21,10 @@ use Rattle.rows.specs.Refusals.{IsApplyRefusal, IsReadRefusal}
 use Rattle.si_model.specs.Machine.{IsReached, State, new_machine, reopened}
 use Rattle.si_model.specs.Recovered.{IsRecovered}
 use Rattle.si_model.specs.ShowsCells.{ShowsCells}
-use Rattle.durable.specs.Devices.{Covers, IsOver, KeepsUnder, LastsOn}
+use Rattle.durable.specs.Devices.{IsOver, KeepsUnder, LastsOn, most_stamp}
 use Rattle.durable.specs.Replaying.{FollowsLog, logged_journal}
 use Rattle.server_loop.specs.Opening.{IsLost}
-use Rattle.server_loop.specs.Server.{Shows, cluster_of, journal_of, last_of, machine_places, marks_of}
+use Rattle.server_loop.specs.Server.{Shows, cluster_of, journal_of, last_of, machine_places}
 use Rattle.durable.specs.ServesLogged.{IsSettledOver}
 use Rattle.durable.specs.Stored.{IsRooted}
 use Rattle.durable.specs.declared.lasting.LastingServer.{LastingServer}
@@ -60,11 +60,11 @@ pub data LacksBase (m : Contents) (records : List (List ℕ)) : Type 0 where
       → ¬ IsOver records root → LacksBase m records
 
 -- Files and a mark are whole beside a log of these records: nothing of a checkpoint is lost, the log is
--- over the root that is there, and the mark isn't below a stamp of the log.
+-- over the root that is there, and its records' stamps are stamps.
 pub record AreWhole (m : Contents) (mark : ℕ) (records : List (List ℕ)) : Type 0 where
   pub kept : ¬ IsLost m mark
   pub over : ¬ LacksBase m records
-  pub stamps : AreUpTo mark records
+  pub stamps : AreUpTo most_stamp records
 
 -- a refusal to open a store that has a root
 abbrev pub IsOpeningRefusal : Refusal → Type 0
@@ -85,30 +85,29 @@ pub record OpensNew {F : Type 0} (contents : F → Option Contents) (top : ℕ) 
   pub none : top ≡ 0
   pub no_edits : edits ≡ []
 
-module _ {F M : Type 0} (files : Files F) (marks : MarkStore M) where
+module _ {F N : Type 0} (files : Files F) (mark : Option ℕ) where
   -- A server over cells under a root, and edits. It shows a state that the machine can reach by itself from
-  -- the one that these show. The edits are logged, and its files and its mark keep the cells.
+  -- the one that these show. The edits are logged, and its files and the mark keep the cells.
   pub record ServesFrom (root : RootView) (base : Cells) (edits : List Edit) (st : State)
-      (server : Server F M) : Type 0 where
+      (server : Server F N) : Type 0 where
     pub next : State
     pub reached : IsReached next
     pub recovered : IsRecovered (last_of server) st next
     pub shown : Shows files.contents server next
     pub rooted : IsRooted files.contents server root
     pub journal : journal_of server ≡ Some (logged_journal edits)
-    pub keeps : KeepsUnder (files.contents (cluster_of server).files) (marks.mark (marks_of server))
-        root base next.places
+    pub keeps : KeepsUnder (files.contents (cluster_of server).files) mark root base next.places
     pub shows : ShowsCells (after_edits base edits) (reopened next)
-    pub covered : Covers (marks.mark (marks_of server)) next.top
+    pub top : next.top ≤ last_of server
 
-module _ {F M L : Type 0} (files : Files F) (marks : MarkStore M) (log : Log L) where
+module _ {F N M L : Type 0} (files : Files F) (marks : MarkStore M) (log : Log L) where
   -- An opened server shows a state that the machine can reach by itself from the kept one. Its answers
   -- last from then on, and its devices keep the state that it shows.
-  pub record OpensFrom (st : State) (opened : LastingServer (Server F M) L) : Type 0 where
+  pub record OpensFrom (st : State) (opened : LastingServer (Server F N) M L) : Type 0 where
     pub next : State
     pub reached : IsReached next
     pub recovered : IsRecovered (last_of opened.server) st next
     pub shown : Shows files.contents opened.server next
     pub settled : IsSettledOver files log opened
     pub lasts : LastsOn (files.contents (cluster_of opened.server).files)
-        (marks.mark (marks_of opened.server)) (log.holds opened.log) next
+        (marks.mark opened.marks.marks) (log.holds opened.log) next

@@ -16,12 +16,13 @@ use Rattle.request_codec.specs.Requests.{asked}
 use Rattle.request_codec.specs.declared.replies.Reply.{Reply}
 use Rattle.request_codec.specs.declared.replies.Reply.TheVariants as codec
 use Rattle.request_codec.specs.declared.requests.Request.{Request}
-use Rattle.request_codec.specs.declared.requests.Request.TheVariants.{Step, CleanStep, CollectStep, Split, Move, Sweep, Checkpoint}
+use Rattle.request_codec.specs.declared.requests.Request.TheVariants.{Begin, Step, CleanStep, CollectStep, Split, Move, Sweep, Checkpoint}
 use Rattle.si_model.specs.Machine.{Place, State, reopened}
 use Rattle.si_model.specs.ShowsCells.{ShowsCells}
-use Rattle.durable.specs.Devices.{IsOver, Lasts}
+use Rattle.durable.specs.Devices.{IsOver, Lasts, most_stamp}
 use Rattle.durable.specs.Due.{IsRootDue, tried_at}
 use Rattle.durable.specs.Lasting.{GoesOn, Settles}
+use Rattle.durable.specs.StoredMarks.{CoversStamp}
 use Rattle.durable.specs.declared.lasting.LastingServer.{LastingServer}
 use Rattle.server_loop.specs.declared.upkeep.RootName.{RootName}
 
@@ -38,12 +39,13 @@ NeedsRoot Sweep = ⊤
 NeedsRoot Checkpoint = ⊤
 NeedsRoot request = ⊥
 
--- requests that may write edits
-abbrev pub WritesEdits : Request → Type 0
-WritesEdits (Step start) = ⊤
-WritesEdits (CleanStep cleaner) = ⊤
-WritesEdits (CollectStep collector visits) = ⊤
-WritesEdits request = ⊥
+-- requests that need room in the log: they may write edits or draw a stamp
+abbrev pub NeedsRoom : Request → Type 0
+NeedsRoom Begin = ⊤
+NeedsRoom (Step start) = ⊤
+NeedsRoom (CleanStep cleaner) = ⊤
+NeedsRoom (CollectStep collector visits) = ⊤
+NeedsRoom request = ⊥
 
 -- ---- the journal
 
@@ -63,17 +65,16 @@ pub record Follows (stores : Cells → List Place → Type 0) (logged waiting : 
   pub next : st.next_tablet ≡ length st.places + 1
   pub top : st.top ≤ last
 
--- the stored cells stay, and the last stamp doesn't fall
-pub record StaysStored {S : Type 0} (stores : S → RootView → Cells → List Place → Type 0)
-    (last : S → ℕ) (old new : S) : Type 0 where
-  pub kept : (root : RootView) (base : Cells) (places : List Place) → stores old root base places
-      → stores new root base places
-  pub later : last old ≤ last new
+-- the stored cells stay
+abbrev pub StaysStored : {S : Type 0} → (S → RootView → Cells → List Place → Type 0) → S → S → Type 0
+StaysStored stores old new =
+    (root : RootView) (base : Cells) (places : List Place) → stores old root base places
+    → stores new root base places
 
 -- and the root still has the places of the tablets
 pub record StaysRooted {S : Type 0} (stores : S → RootView → Cells → List Place → Type 0)
-    (is_rooted : S → RootView → Type 0) (last : S → ℕ) (old new : S) : Type 0 where
-  pub stored : StaysStored stores last old new
+    (is_rooted : S → RootView → Type 0) (old new : S) : Type 0 where
+  pub stored : StaysStored stores old new
   pub rooted : (root : RootView) → is_rooted old root → is_rooted new root
 
 -- this root was put, and keeps cells which show the state after a clean restart
@@ -88,13 +89,13 @@ pub record HasNewRoot {S : Type 0} (stores : S → RootView → Cells → List P
   pub top : st.top ≤ last new
   pub low : root.top ≤ last new
 
--- the journal stays
+-- the journal and the last stamp stay
 pub record KeepsRecording {S : Type 0} (recording : S → Bool) (logged waiting : S → List ℕ)
     (last : S → ℕ) (old new : S) : Type 0 where
   pub goes_on : recording new ≡ recording old
   pub has : logged new ≡ logged old
   pub waits : waiting new ≡ waiting old
-  pub later : last old ≤ last new
+  pub stamp : last new ≡ last old
 
 -- the name of a root in the records of a log
 abbrev pub named : RootView → List ℕ
@@ -112,26 +113,34 @@ IsNameOf name root = (name.top ≡ root.top) × (name.sum ≡ root_sum root)
 
 -- ---- a server with a log
 
-module _ {S L : Type 0} (stores : S → RootView → Cells → List Place → Type 0)
-    (logged : S → List ℕ) (last : S → ℕ) (holds : L → List (List ℕ) → Type 0) where
+module _ {S M L : Type 0} (stores : S → RootView → Cells → List Place → Type 0)
+    (logged : S → List ℕ) (holds : L → List (List ℕ) → Type 0) where
+  -- Its files keep cells under a root whose greatest stamp the mark's file covers.
+  abbrev pub StoresUnder : LastingServer S M L → RootView → Cells → List Place → Type 0
+  StoresUnder server root base places =
+      stores server.server root base places × (root.top ≤ server.marks.stored)
+
   -- The log holds records. Unless it failed, they have the edits that the server counts as logged.
-  abbrev pub HoldsRecords : LastingServer S L → List (List ℕ) → Type 0
+  abbrev pub HoldsRecords : LastingServer S M L → List (List ℕ) → Type 0
   HoldsRecords server records =
       holds server.log records
       × ((server.is_stopped ≡ true)
       ⊎ (flat_map edit_bytes records ≡ logged server.server))
 
   -- Its devices keep a state, which needn't be the one that it shows.
-  pub record LastsIn (server : LastingServer S L) (st : State) : Type 0 where
-    pub kept : Lasts (stores server.server) (HoldsRecords server) (λ top. top ≤ last server.server) st
+  pub record LastsIn (server : LastingServer S M L) (st : State) : Type 0 where
+    pub kept : Lasts (StoresUnder server) (HoldsRecords server) (CoversStamp server.marks) st
 
-  -- The log is over a root and has the edits that the server counts as logged. No record has a later
-  -- stamp than the oracle's last one.
-  pub record HoldsLogged (server : LastingServer S L) (root : RootView) : Type 0 where
+  -- The log is over a root and has the edits that the server counts as logged. The mark's file covers the
+  -- root's greatest stamp, and the file or the log each stamp that counts as covered.
+  pub record HoldsLogged (server : LastingServer S M L) (root : RootView) : Type 0 where
     pub records : List (List ℕ)
     pub in_log : holds server.log records
     pub over : IsOver records root
-    pub stamps : AreUpTo (last server.server) records
+    pub stamps : AreUpTo most_stamp records
+    pub low : root.top ≤ server.marks.stored
+    pub limit : server.marks.stored ≤ most_stamp
+    pub covered : CoversStamp server.marks records server.marks.covered
     pub edits : List Edit
     pub held : HoldEdits records edits
     pub stored : AllByRecursion IsStoredEdit edits
@@ -140,13 +149,14 @@ module _ {S L : Type 0} (stores : S → RootView → Cells → List Place → Ty
 
   -- The log is so over the current root, which has the places of the tablets. Or the log failed: then no
   -- reply leaves the server any more.
-  abbrev pub Logs : (S → RootView → Type 0) → LastingServer S L → Type 0
+  abbrev pub Logs : (S → RootView → Type 0) → LastingServer S M L → Type 0
   Logs is_rooted server =
       (server.is_stopped ≡ true)
       ⊎ ((root : RootView) × is_rooted server.server root × HoldsLogged server root)
 
 -- a server with a log shows the states of the server inside
-abbrev pub shown_by : {S L : Type 0} → (S → State → Type 0) → LastingServer S L → State → Type 0
+abbrev pub shown_by : {S M L : Type 0} → (S → State → Type 0) → LastingServer S M L → State
+    → Type 0
 shown_by shows server st = shows server.server st
 
 -- ---- answers
@@ -158,22 +168,27 @@ module _ {S : Type 0} (same : S → S → Type 0) (checkpoints : S → Reply →
       (mid next : S) × same old mid × checkpoints mid reply next × same next new
 
   -- A checkpoint was answered as the files answered it. Or it was refused with NoMemory: the root was
-  -- put, and memory to name it in the log was refused. Or with Device: the log failed, before the root
-  -- was put or after that, and no reply leaves the server any more.
-  pub data PutsRoot (stopped : Type 0) (old : S) (reply : Reply) (new : S) : Type 0 where
-    answered : Checkpoints old reply new → PutsRoot stopped old reply new
+  -- put, and memory to name it in the log was refused. Or with Device: the mark's file failed, before the
+  -- root was put; or the log failed, before that or after, and no reply leaves the server any more.
+  pub data PutsRoot (stopped risen : Type 0) (old : S) (reply : Reply) (new : S) : Type 0 where
+    answered : Checkpoints old reply new → PutsRoot stopped risen old reply new
     unnamed : reply ≡ codec.Refused NoMemory → Checkpoints old codec.Checkpoint new
-        → PutsRoot stopped old reply new
+        → PutsRoot stopped risen old reply new
+    unmarked : reply ≡ codec.Refused Device → risen → same old new
+        → PutsRoot stopped risen old reply new
     failed : reply ≡ codec.Refused Device → stopped
-        → same old new ⊎ Checkpoints old codec.Checkpoint new → PutsRoot stopped old reply new
+        → same old new ⊎ Checkpoints old codec.Checkpoint new
+        → PutsRoot stopped risen old reply new
 
   -- It was refused with the refusal of the checkpoint before it. Or it was answered after that
   -- checkpoint, and another checkpoint may have followed.
-  abbrev pub AnswersRooted : (S → Reply → S → Type 0) → Type 0 → S → Reply → S → Type 0
-  AnswersRooted answers stopped old reply new =
-      ((refusal : Refusal) × (reply ≡ codec.Refused refusal) × PutsRoot stopped old reply new)
+  abbrev pub AnswersRooted : (S → Reply → S → Type 0) → (stopped risen : Type 0) → S → Reply → S
+      → Type 0
+  AnswersRooted answers stopped risen old reply new =
+      ((refusal : Refusal) × (reply ≡ codec.Refused refusal)
+      × PutsRoot stopped risen old reply new)
       ⊎ ((first next : S) × Checkpoints old codec.Checkpoint first × answers first reply next
-      × (same next new ⊎ ((second : Reply) × PutsRoot stopped next second new)))
+      × (same next new ⊎ ((second : Reply) × PutsRoot stopped risen next second new)))
 
   -- It was refused since the log got no room for more edits, and nothing was changed: a device failed, or
   -- memory was refused.
@@ -183,51 +198,59 @@ module _ {S : Type 0} (same : S → S → Type 0) (checkpoints : S → Reply →
       × (((reply ≡ codec.Refused Device) × risen) ⊎ (reply ≡ codec.Refused NoMemory))
 
   -- The answers of a server with a log are those of one without, except that checkpoints come with
-  -- splits, moves and sweeps, and that requests which may write edits are refused if the log lacks room.
+  -- splits, moves and sweeps, and that requests which need room in the log are refused if it has none.
   abbrev pub AnswersLasting : (S → Request → Reply → S → Type 0) → (S → Reply → S → Type 0)
-      → (stopped risen : Type 0) → S → Request → Reply → S → Type 0
-  AnswersLasting says sweeps stopped risen old (Split row) reply new =
-      AnswersRooted (λ a r b. says a (Split row) r b) stopped old reply new
-  AnswersLasting says sweeps stopped risen old (Move tablet server) reply new =
-      AnswersRooted (λ a r b. says a (Move tablet server) r b) stopped old reply new
-  AnswersLasting says sweeps stopped risen old Sweep reply new =
-      AnswersRooted sweeps stopped old reply new
-  AnswersLasting says sweeps stopped risen old Checkpoint reply new =
-      PutsRoot stopped old reply new
-  AnswersLasting says sweeps stopped risen old (Step start) reply new =
-      says old (Step start) reply new ⊎ LacksRoom risen old reply new
-  AnswersLasting says sweeps stopped risen old (CleanStep cleaner) reply new =
-      says old (CleanStep cleaner) reply new ⊎ LacksRoom risen old reply new
-  AnswersLasting says sweeps stopped risen old (CollectStep collector visits) reply new =
-      says old (CollectStep collector visits) reply new ⊎ LacksRoom risen old reply new
-  AnswersLasting says sweeps stopped risen old request reply new = says old request reply new
+      → (stopped mark_risen log_risen : Type 0) → S → Request → Reply → S → Type 0
+  AnswersLasting says sweeps stopped mark_risen log_risen old (Split row) reply new =
+      AnswersRooted (λ a r b. says a (Split row) r b) stopped mark_risen old reply new
+  AnswersLasting says sweeps stopped mark_risen log_risen old (Move tablet server) reply new =
+      AnswersRooted (λ a r b. says a (Move tablet server) r b) stopped mark_risen old reply new
+  AnswersLasting says sweeps stopped mark_risen log_risen old Sweep reply new =
+      AnswersRooted sweeps stopped mark_risen old reply new
+  AnswersLasting says sweeps stopped mark_risen log_risen old Checkpoint reply new =
+      PutsRoot stopped mark_risen old reply new
+  AnswersLasting says sweeps stopped mark_risen log_risen old Begin reply new =
+      says old Begin reply new ⊎ LacksRoom log_risen old reply new
+  AnswersLasting says sweeps stopped mark_risen log_risen old (Step start) reply new =
+      says old (Step start) reply new ⊎ LacksRoom log_risen old reply new
+  AnswersLasting says sweeps stopped mark_risen log_risen old (CleanStep cleaner) reply new =
+      says old (CleanStep cleaner) reply new ⊎ LacksRoom log_risen old reply new
+  AnswersLasting says sweeps stopped mark_risen log_risen old (CollectStep collector n) reply new =
+      says old (CollectStep collector n) reply new ⊎ LacksRoom log_risen old reply new
+  AnswersLasting says sweeps stopped mark_risen log_risen old request reply new =
+      says old request reply new
 
 -- An answer of a server with a log: the contract of the answer, and the devices still keep a state.
-pub record IsLastingAnswer {S L : Type 0} (shows : S → State → Type 0)
-    (lasts : LastingServer S L → State → Type 0) (logs : LastingServer S L → Type 0)
-    (faults : L → ℕ) (answers : (stopped risen : Type 0) → S → Request → Reply → S → Type 0)
-    (old : LastingServer S L) (request : Request) (reply : Reply) (new : LastingServer S L)
+pub record IsLastingAnswer {S M L : Type 0} (shows : S → State → Type 0)
+    (lasts : LastingServer S M L → State → Type 0) (logs : LastingServer S M L → Type 0)
+    (mark_faults : M → ℕ) (log_faults : L → ℕ)
+    (answers : (stopped mark_risen log_risen : Type 0) → S → Request → Reply → S → Type 0)
+    (old : LastingServer S M L) (request : Request) (reply : Reply) (new : LastingServer S M L)
     : Type 0 where
-  pub answered : answers (new.is_stopped ≡ true) (HasRisen (faults old.log) (faults new.log))
-      old.server request reply new.server
+  pub answered : answers (new.is_stopped ≡ true)
+      (HasRisen (mark_faults old.marks.marks) (mark_faults new.marks.marks))
+      (HasRisen (log_faults old.log) (log_faults new.log)) old.server request reply new.server
   pub goes_on : GoesOn (shown_by shows) lasts logs (asked request) (replied reply) old new
 
 -- a root was put, or refused, and the size from which the next try is counted was set
-pub record TriesRoot {S L : Type 0} (roots : Type 0 → S → Reply → S → Type 0) (written : ℕ)
-    (mid : S) (new : LastingServer S L) : Type 0 where
+pub record TriesRoot {S M L : Type 0} (mark_faults : M → ℕ)
+    (roots : (stopped risen : Type 0) → S → Reply → S → Type 0) (written : ℕ) (mid : S)
+    (old new : LastingServer S M L) : Type 0 where
   pub reply : Reply
-  pub answered : roots (new.is_stopped ≡ true) mid reply new.server
+  pub answered : roots (new.is_stopped ≡ true)
+      (HasRisen (mark_faults old.marks.marks) (mark_faults new.marks.marks)) mid reply new.server
   pub tried : new.tried_bytes ≡ tried_at reply written
 
 -- Upkeep between two answers: that of a server without a log, and then a checkpoint if one is due by the
 -- journal's size.
-pub record IsLastingTended {S L : Type 0} (shows : S → State → Type 0)
-    (lasts : LastingServer S L → State → Type 0) (logs : LastingServer S L → Type 0)
-    (between same : S → S → Type 0) (roots : Type 0 → S → Reply → S → Type 0) (size : S → ℕ)
-    (old new : LastingServer S L) : Type 0 where
+pub record IsLastingTended {S M L : Type 0} (shows : S → State → Type 0)
+    (lasts : LastingServer S M L → State → Type 0) (logs : LastingServer S M L → Type 0)
+    (mark_faults : M → ℕ) (between same : S → S → Type 0)
+    (roots : (stopped risen : Type 0) → S → Reply → S → Type 0) (size : S → ℕ)
+    (old new : LastingServer S M L) : Type 0 where
   pub mid : S
   pub tended : between old.server mid
-  pub rooted : (IsRootDue old (size mid) × TriesRoot roots (size mid) mid new)
+  pub rooted : (IsRootDue old (size mid) × TriesRoot mark_faults roots (size mid) mid old new)
       ⊎ ((¬ IsRootDue old (size mid)) × same mid new.server × (new.tried_bytes ≡ old.tried_bytes))
   pub root_bytes : new.root_bytes ≡ old.root_bytes
   pub settles : Settles (shown_by shows) lasts logs old new

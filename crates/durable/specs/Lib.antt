@@ -3,6 +3,7 @@ pub mod Devices
 pub mod Due
 pub mod Lasts
 pub mod Stored
+pub mod StoredMarks
 pub mod ServesLogged
 pub mod Replaying
 pub mod LastingOpening

@@ -10,7 +10,7 @@ use Rattle.si_model.specs.Machine.{State}
 use Rattle.server_loop.specs.Answer.{IsAnswer}
 use Rattle.durable.specs.Lasting.{IsSettled, ServesLasting}
 use Rattle.durable.specs.Lasts.{AnswersLasting, IsLastingAnswer, IsLastingTended, LastsIn, Logs, PutsRoot, shown_by}
-use Rattle.server_loop.specs.Server.{Shows, journal_of, last_of}
+use Rattle.server_loop.specs.Server.{Shows, journal_of}
 use Rattle.durable.specs.Stored.{AnswersCheckpoint, AnswersSweep, IsRooted, IsSame, StoresCells, journal_size}
 use Rattle.server_loop.specs.Tending.{IsTended}
 use Rattle.durable.specs.declared.lasting.LastingServer.{LastingServer}
@@ -18,37 +18,39 @@ use Rattle.server_loop.specs.declared.server.Server.{Server}
 use Rattle.server_loop.specs.declared.statuses.End.{End}
 use Rattle.server_loop.specs.declared.statuses.ServeFault.{ServeFault}
 
-module _ {F M L : Type 0} (files : Files F) (log : Log L) where
+module _ {F N M L : Type 0} (files : Files F) (log : Log L) where
   -- Its devices keep a state through a kill.
-  abbrev pub LastsOver : LastingServer (Server F M) L → State → Type 0
+  abbrev pub LastsOver : LastingServer (Server F N) M L → State → Type 0
   LastsOver =
-      LastsIn (StoresCells files.contents) (λ server. logged_of (journal_of server)) last_of
-      log.holds
+      LastsIn (StoresCells files.contents) (λ server. logged_of (journal_of server)) log.holds
 
-  abbrev pub LogsOver : LastingServer (Server F M) L → Type 0
+  abbrev pub LogsOver : LastingServer (Server F N) M L → Type 0
   LogsOver =
-      Logs (StoresCells files.contents) (λ server. logged_of (journal_of server)) last_of
-      log.holds (IsRooted files.contents)
+      Logs (StoresCells files.contents) (λ server. logged_of (journal_of server)) log.holds
+      (IsRooted files.contents)
 
   -- Its devices keep each state that it shows.
-  abbrev pub IsSettledOver : LastingServer (Server F M) L → Type 0
+  abbrev pub IsSettledOver : LastingServer (Server F N) M L → Type 0
   IsSettledOver server = IsSettled (shown_by (Shows files.contents)) LastsOver LogsOver server
 
-module _ {F M L : Type 0} (files : Files F) (marks : MarkStore M) (log : Log L) where
-  abbrev pub IsAnswerOver : LastingServer (Server F M) L → Request → Reply
-      → LastingServer (Server F M) L → Type 0
+-- The oracle of the server inside has a mark of its own, in memory.
+module _ {F N M L : Type 0} (files : Files F) (inside : MarkStore N) (marks : MarkStore M)
+    (log : Log L) where
+  abbrev pub IsAnswerOver : LastingServer (Server F N) M L → Request → Reply
+      → LastingServer (Server F N) M L → Type 0
   IsAnswerOver =
-      IsLastingAnswer (Shows files.contents) (LastsOver files log) (LogsOver files log) log.faults
-      (AnswersLasting IsSame (AnswersCheckpoint files marks) (IsAnswer files marks)
-      (AnswersSweep files marks))
+      IsLastingAnswer (Shows files.contents) (LastsOver files log) (LogsOver files log)
+      marks.faults log.faults
+      (AnswersLasting IsSame (AnswersCheckpoint files inside) (IsAnswer files inside)
+      (AnswersSweep files inside))
 
-  abbrev pub IsTendedOver : LastingServer (Server F M) L → LastingServer (Server F M) L → Type 0
+  abbrev pub IsTendedOver : LastingServer (Server F N) M L → LastingServer (Server F N) M L → Type 0
   IsTendedOver =
       IsLastingTended (Shows files.contents) (LastsOver files log) (LogsOver files log)
-      (IsTended files.contents files.faults) IsSame
-      (PutsRoot IsSame (AnswersCheckpoint files marks)) (λ server. journal_size (journal_of server))
+      marks.faults (IsTended files.contents files.faults) IsSame
+      (PutsRoot IsSame (AnswersCheckpoint files inside)) (λ server. journal_size (journal_of server))
 
-  abbrev pub ServesOver : LastingServer (Server F M) L → LastingServer (Server F M) L
+  abbrev pub ServesOver : LastingServer (Server F N) M L → LastingServer (Server F N) M L
       → Option (List ℕ) → Option (List ℕ) → Option (List ℕ) → Option (List ℕ) → ℕ
       → Result End ServeFault → Type 0
   ServesOver =

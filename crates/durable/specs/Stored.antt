@@ -1,5 +1,5 @@
 -- The cells that a server's files keep under their root.
-use Rattle.std.specs.Prelude.{◌≡◌, ◌≤◌, ◌*◌, ◌^◌, ◌-◌, ℕ, List, [], Option, max, min}
+use Rattle.std.specs.Prelude.{◌≡◌, ◌*◌, ◌^◌, ◌-◌, ℕ, List, [], Option, max, min}
 use Rattle.cell_key.specs.Cells.{Cells}
 use Rattle.file_store.specs.Store.{Contents}
 use Rattle.file_store.specs.declared.files.Files.{Ghosts as Files}
@@ -12,24 +12,21 @@ use Rattle.row_atomic.specs.Recorded.{TracksListed, bytes_written, edits_written
 use Rattle.row_atomic.specs.Roots.{HasRoot}
 use Rattle.si_model.specs.Machine.{Place}
 use Rattle.server_loop.specs.Answer.{IsPlainAnswer}
-use Rattle.server_loop.specs.Server.{cluster_of, forgets, last_of, machine_places}
+use Rattle.server_loop.specs.Server.{cluster_of, forgets, machine_places}
 use Rattle.server_loop.specs.declared.server.Server.{Server}
 
 module _ {F M : Type 0} (contents : F → Option Contents) where
-  -- The files keep these cells under a root that names these places. Its greatest stamp is at most the
-  -- oracle's last one.
+  -- The files keep these cells under a root that names these places.
   pub record StoresCells (server : Server F M) (root : RootView) (base : Cells) (places : List Place)
       : Type 0 where
     pub has : HasRoot contents root base (cluster_of server)
     pub placed : machine_places root.places ≡ places
-    pub low : root.top ≤ last_of server
 
   -- This root names the places of the server's tablets.
   pub record IsRooted (server : Server F M) (root : RootView) : Type 0 where
     pub base : Cells
     pub has : HasRoot contents root base (cluster_of server)
     pub placed : machine_places root.places ≡ machine_places (cluster_of server).places
-    pub low : root.top ≤ last_of server
 
   -- The root's cells are the shown ones, and its files all belong to tablets, so no sweep removes one.
   abbrev pub IsClean : Server F M → Type 0

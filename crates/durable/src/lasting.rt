@@ -1,8 +1,10 @@
-//! A server whose answers survive a kill: their edits are in a log before a reply is written.
+//! A server whose answers survive a kill: their edits and a mark over their stamps are in a log before a reply is
+//! written.
 
-ghost use Rattle.std.specs.Prelude.{◌≡◌, ◌⊎◌, ◌↔◌, [], true, false, IfErr, IsErrOf, IsTrue, OnErr, OnOk, ℕ, List};
+ghost use Rattle.std.specs.Prelude.{◌≡◌, ◌≤◌, ◌<◌, ◌^◌, ◌⊎◌, ◌↔◌, [], true, false, IfErr, IsErrOf, IsTrue, OnErr, OnOk, ℕ, List};
 ghost use Rattle.cell_key.specs.Cells.{Cells};
 ghost use Rattle.commit_log.specs.Edits.{LogsEdits};
+ghost use Rattle.cell_key.specs.Faults.{HasRisen};
 ghost use Rattle.commit_log.specs.Held.{Keeps, MayRenew, Renews};
 ghost use Rattle.request_codec.specs.Replies.{replied};
 ghost use Rattle.request_codec.specs.Requests.{asked};
@@ -11,7 +13,7 @@ ghost use Rattle.request_codec.specs.declared.requests.Request.{Request as Lent}
 ghost use Rattle.durable.specs.Due.{IsDueAlike, IsRootDue, tried_at};
 ghost use Rattle.durable.specs.Lasting.{GoesOn, IsSettled, Settles};
 ghost use Rattle.server_loop.specs.Commands.{checkpointed};
-ghost use Rattle.durable.specs.Lasts.{AnswersLasting, Checkpoints, HasNewRoot, HoldsLogged, IsLastingAnswer, LastsIn, Logs, MovesTablets, NamesItsRoot, NeedsRoot, PutsRoot, StaysRooted, WritesEdits, named, shown_by};
+ghost use Rattle.durable.specs.Lasts.{AnswersLasting, Checkpoints, HasNewRoot, HoldsLogged, IsLastingAnswer, LastsIn, Logs, MovesTablets, NamesItsRoot, NeedsRoom, NeedsRoot, PutsRoot, StaysRooted, named, shown_by};
 ghost use Rattle.metadata_table.specs.Roots.{RootView};
 ghost use Rattle.server_loop.specs.Runs.{KeepsToLimits, StepsAs};
 ghost use Rattle.si_model.specs.Machine.{IsReached, IsStorageRefusal, State, Checkpoint as CheckpointAsked};
@@ -19,9 +21,11 @@ ghost use Rattle.si_model.specs.Machine.{IsReached, IsStorageRefusal, State, Che
 use crate::batches::Lasting;
 use crate::lasting_opening::refused_by;
 use crate::recording::Recording;
-use cell_key::Refusal;
+use crate::stored_mark::StoredMark;
+use cell_key::{MOST_STAMP, Refusal, Stamp};
 use commit_log::laws::{as_many_edits, logs_edits, names_roots};
 use commit_log::{BEFORE_BODY, Log, LogFault, RecordKind, is_over_any, root_sum_bytes};
+use oracle::MarkStore;
 use request_codec::{Reply, Request};
 use server_loop::{Answering, ServeFault};
 use std::alloc::Global;
@@ -44,9 +48,11 @@ const VISIT_BYTES: usize = 2_070_400;
 
 /// A server with a log.
 #[derive(Drop)]
-pub struct LastingServer<S, L> {
+pub struct LastingServer<S, M: MarkStore, L> {
     pub(crate) alloc: Global,
     pub(crate) server: S,
+    /// No reply shows a stamp that isn't covered.
+    pub(crate) marks: StoredMark<M>,
     pub(crate) log: L,
     /// The log failed, or its records are no longer known. No reply is written from then on.
     pub(crate) is_stopped: bool,
@@ -69,6 +75,7 @@ fn tried_after(done: &Result<(), Refusal>, written: usize) -> usize
 /// The bytes of edits for which a request gets room: the most that it writes, or for a collector the most of one visit.
 fn most_edit_bytes(request: Request<'_>) -> usize {
     match request {
+        Request::Begin => 0,
         Request::CollectStep { .. } => VISIT_BYTES,
         _ => STEP_BYTES,
     }
@@ -100,51 +107,69 @@ fn renew_log<S: Recording, L: Log>(server: &S, log: &mut L) -> Result<(), Refusa
     }
 }
 
-impl<S: Recording, L: Log> LastingServer<S, L> {
-    /// Appends the waiting edits to the log. Tells whether the log has them; if not, the server is stopped.
+impl<S: Recording, M: MarkStore, L: Log> LastingServer<S, M, L> {
+    /// Whether the log can take the edits of a server with this last stamp: it hasn't failed, and edits are recorded.
+    fn can_log(&self, last: Stamp) -> bool
+        ensures { IsTrue result ↔ (self.now.is_stopped ≡ false)
+            × (S.recording self.now.server ≡ true) × (last < 2 ^ 63) }
+    {
+        !self.is_stopped && self.server.is_recording() && last <= MOST_STAMP
+    }
+
+    /// Whether no edits wait for the log, and this stamp is covered.
+    fn is_logged(&self, last: Stamp) -> bool
+        ensures { IsTrue result ↔ (S.waiting self.now.server ≡ [])
+            × (last ≤ self.now.marks.covered) }
+    {
+        self.server.waiting().is_empty() && last <= self.marks.covered()
+    }
+
+    /// Appends the waiting edits to the log, with a mark over the last stamp. Tells whether the log has them; if not, the
+    /// server is stopped.
     fn log_waiting(&mut self) -> bool
         ensures shown { (st : State) → S.shows self.old.server st → S.shows self.new.server st }
         ensures same { S.same self.old.server self.new.server }
-        ensures stays { StaysRooted S.stores S.is_rooted S.last self.old.server self.new.server }
+        ensures stays { StaysRooted S.stores S.is_rooted self.old.server self.new.server }
         ensures recording { result ≡ true → S.recording self.new.server ≡ true }
         ensures waiting { result ≡ true → S.waiting self.new.server ≡ [] }
+        ensures covered { result ≡ true → S.last self.new.server ≤ self.new.marks.covered }
         ensures on { result ≡ true → self.new.is_stopped ≡ false }
         ensures still { self.old.is_stopped ≡ true → self.new.is_stopped ≡ true }
         ensures ok { result ≡ true → (now : State) → S.shows self.old.server now
-            → Logs S.stores S.logged S.last L.holds S.is_rooted self.old
+            → Logs S.stores S.logged L.holds S.is_rooted self.old
             → ((root : RootView) × S.is_rooted self.new.server root
-            × HoldsLogged S.stores S.logged S.last L.holds self.new root)
+            × HoldsLogged S.stores S.logged L.holds self.new root)
             × ((st : State) → S.shows self.new.server st
-            → LastsIn S.stores S.logged S.last L.holds self.new st) }
+            → LastsIn S.stores S.logged L.holds self.new st) }
         ensures stopped { result ≡ false → self.new.is_stopped ≡ true }
         ensures err { result ≡ false → (now : State) → S.shows self.old.server now
-            → Logs S.stores S.logged S.last L.holds S.is_rooted self.old → (st : State)
-            → LastsIn S.stores S.logged S.last L.holds self.old st
-            → LastsIn S.stores S.logged S.last L.holds self.new st
-            ⊎ LastsIn S.stores S.logged S.last L.holds self.new now }
+            → Logs S.stores S.logged L.holds S.is_rooted self.old → (st : State)
+            → LastsIn S.stores S.logged L.holds self.old st
+            → LastsIn S.stores S.logged L.holds self.new st
+            ⊎ LastsIn S.stores S.logged L.holds self.new now }
+        ensures marks { self.new.marks.marks ≡ self.old.marks.marks }
         ensures due { IsDueAlike self.old self.new }
     {
         as_many_edits();
         logs_edits();
         names_roots();
         S::recording_laws();
-        if self.is_stopped {
-            return false;
-        }
-        if !self.server.is_recording() {
+        let last = self.server.last();
+        if !self.can_log(last) {
             self.is_stopped = true;
             return false;
         }
-        if self.server.waiting().is_empty() {
+        if self.is_logged(last) {
             return true;
         }
-        let stamp = self.server.last();
+        let mark = self.marks.mark_over(last);
         match self
             .log
-            .append(RecordKind::Edits, stamp, self.server.waiting())
+            .append(RecordKind::Edits, mark, self.server.waiting())
         {
             Ok(()) => {
                 self.server.settled();
+                self.marks.cover(mark);
                 true
             }
             Err(_) => {
@@ -163,7 +188,7 @@ impl<S: Recording, L: Log> LastingServer<S, L> {
         ensures shown { S.is_clean self.old.server → (st : State) → S.shows self.old.server st
             → S.shows self.new.server st }
         ensures same { S.same self.old.server self.new.server }
-        ensures stays { StaysRooted S.stores S.is_rooted S.last self.old.server self.new.server }
+        ensures stays { StaysRooted S.stores S.is_rooted self.old.server self.new.server }
         ensures clean { S.is_clean self.old.server → S.is_clean self.new.server }
         ensures recording { S.recording self.new.server ≡ S.recording self.old.server }
         ensures waiting { S.waiting self.old.server ≡ [] → S.waiting self.new.server ≡ [] }
@@ -174,10 +199,14 @@ impl<S: Recording, L: Log> LastingServer<S, L> {
             (refusal ≡ Refusal.Device) ⊎ (refusal ≡ Refusal.NoMemory)) }
         ensures kept { (st : State) → HasNewRoot S.stores S.is_rooted S.last
             (S.next_root self.old.server) self.old.server st
-            → Logs S.stores S.logged S.last L.holds S.is_rooted self.old
-            → LastsIn S.stores S.logged S.last L.holds self.old st
-            → LastsIn S.stores S.logged S.last L.holds self.new st
-            × Logs S.stores S.logged S.last L.holds S.is_rooted self.new }
+            → HoldsLogged S.stores S.logged L.holds self.old (S.next_root self.old.server)
+            → S.last self.old.server ≤ self.old.marks.stored
+            → self.old.marks.covered ≤ self.old.marks.stored
+            → LastsIn S.stores S.logged L.holds self.old st
+            → LastsIn S.stores S.logged L.holds self.new st
+            × Logs S.stores S.logged L.holds S.is_rooted self.new }
+        ensures marks { self.new.marks ≡ self.old.marks }
+        ensures last { S.last self.new.server ≡ S.last self.old.server }
         ensures due { IsDueAlike self.old self.new }
     {
         logs_edits();
@@ -197,30 +226,33 @@ impl<S: Recording, L: Log> LastingServer<S, L> {
     }
 
     /// Appends the waiting edits to the log, puts a root that keeps the state that is shown, and drops the edits that
-    /// the root has from the log. Before the root is put, a record is appended that the log is over any root.
+    /// the root has from the log. Before the root is put, a record is appended that the log is over any root, and the
+    /// greatest covered stamp is stored as the mark.
     ///
     /// # Errors
     ///
-    /// Those of a checkpoint; `NoMemory` also if the allocation for the new root's name in the log failed: the log
-    /// stays over any root. `Device` also if the log failed: the server is stopped.
+    /// Those of a checkpoint; `NoMemory` also if the allocation for the new root's name in the log failed, and `Device`
+    /// if the mark wasn't stored: the log stays over any root. `Device` also if the log failed: the server is stopped.
     fn root(&mut self) -> Result<(), Refusal>
         ensures step { StepsAs (shown_by S.shows) self.old self.new CheckpointAsked
             (replied (checkpointed result)) }
         ensures refusal { IfErr result IsStorageRefusal }
-        ensures settles { Settles (shown_by S.shows) (LastsIn S.stores S.logged S.last L.holds)
-            (Logs S.stores S.logged S.last L.holds S.is_rooted) self.old self.new }
+        ensures settles { Settles (shown_by S.shows) (LastsIn S.stores S.logged L.holds)
+            (Logs S.stores S.logged L.holds S.is_rooted) self.old self.new }
         ensures answered { PutsRoot S.same S.checkpoints (self.new.is_stopped ≡ true)
+            (HasRisen (M.faults self.old.marks.marks) (M.faults self.new.marks.marks))
             self.old.server (checkpointed result) self.new.server }
         ensures done { OnOk result (Checkpoints S.same S.checkpoints self.old.server
             CodecReply.Checkpoint self.new.server) }
         ensures named { OnOk result ((now : State) → S.shows self.old.server now
-            → Logs S.stores S.logged S.last L.holds S.is_rooted self.old
+            → Logs S.stores S.logged L.holds S.is_rooted self.old
             → NamesItsRoot (L.holds self.new.log)) }
         ensures clean { OnOk result ((now : State) → S.shows self.old.server now
             → S.is_clean self.new.server) }
+        ensures covered { OnOk result (S.last self.new.server ≤ self.new.marks.covered) }
         ensures kept { OnOk result ((now : State) → S.shows self.old.server now
-            → Logs S.stores S.logged S.last L.holds S.is_rooted self.old
-            → LastsIn S.stores S.logged S.last L.holds self.new now
+            → Logs S.stores S.logged L.holds S.is_rooted self.old
+            → LastsIn S.stores S.logged L.holds self.new now
             × (S.recording self.new.server ≡ true) × (S.waiting self.new.server ≡ [])) }
         ensures due { IsDueAlike self.old self.new }
     {
@@ -234,6 +266,9 @@ impl<S: Recording, L: Log> LastingServer<S, L> {
             self.is_stopped = true;
             return Err(Refusal::Device);
         }
+        if self.marks.store().is_err() {
+            return Err(Refusal::Device);
+        }
         match self.server.checkpoint_now() {
             Ok(()) => self.empty_log(),
             Err(refusal) => Err(refusal),
@@ -245,20 +280,25 @@ impl<S: Recording, L: Log> LastingServer<S, L> {
     fn root_moved(&mut self)
         ensures shown { (st : State) → S.shows self.old.server st → S.shows self.new.server st }
         ensures answered { (reply : CodecReply)
-            × PutsRoot S.same S.checkpoints (self.new.is_stopped ≡ true) self.old.server reply
+            × PutsRoot S.same S.checkpoints (self.new.is_stopped ≡ true) ⊥ self.old.server reply
             self.new.server }
         ensures kept { (before after : State) (root : RootView) → S.shows self.old.server after
-            → HoldsLogged S.stores S.logged S.last L.holds self.old root
+            → HoldsLogged S.stores S.logged L.holds self.old root
             → S.waiting self.old.server ≡ [] → S.recording self.old.server ≡ true
-            → LastsIn S.stores S.logged S.last L.holds self.old before
-            → (LastsIn S.stores S.logged S.last L.holds self.new before
-            ⊎ LastsIn S.stores S.logged S.last L.holds self.new after)
-            × Logs S.stores S.logged S.last L.holds S.is_rooted self.new }
+            → S.last self.old.server ≤ self.old.marks.covered
+            → LastsIn S.stores S.logged L.holds self.old before
+            → (LastsIn S.stores S.logged L.holds self.new before
+            ⊎ LastsIn S.stores S.logged L.holds self.new after)
+            × Logs S.stores S.logged L.holds S.is_rooted self.new }
     {
         logs_edits();
         names_roots();
         S::recording_laws();
         if self.log.append(RecordKind::AnyRoot, 0, &[]).is_err() {
+            self.is_stopped = true;
+            return;
+        }
+        if self.marks.store().is_err() {
             self.is_stopped = true;
             return;
         }
@@ -276,14 +316,15 @@ impl<S: Recording, L: Log> LastingServer<S, L> {
     ///
     /// Those of a checkpoint, and `Device` or `NoMemory` if the log can't be read. The log may then still be over any root.
     pub fn name_root(&mut self) -> Result<(), Refusal>
-        ensures settles { Settles (shown_by S.shows) (LastsIn S.stores S.logged S.last L.holds)
-            (Logs S.stores S.logged S.last L.holds S.is_rooted) self.old self.new }
+        ensures settles { Settles (shown_by S.shows) (LastsIn S.stores S.logged L.holds)
+            (Logs S.stores S.logged L.holds S.is_rooted) self.old self.new }
         ensures rooted { S.same self.old.server self.new.server
-            ⊎ PutsRoot S.same S.checkpoints (self.new.is_stopped ≡ true) self.old.server
-            (checkpointed result) self.new.server }
+            ⊎ PutsRoot S.same S.checkpoints (self.new.is_stopped ≡ true)
+            (HasRisen (M.faults self.old.marks.marks) (M.faults self.new.marks.marks))
+            self.old.server (checkpointed result) self.new.server }
         ensures named { OnOk result ((now : State) (root : RootView) → S.shows self.old.server now
             → S.is_rooted self.old.server root
-            → HoldsLogged S.stores S.logged S.last L.holds self.old root
+            → HoldsLogged S.stores S.logged L.holds self.old root
             → NamesItsRoot (L.holds self.new.log)) }
         ensures refusal { IfErr result IsStorageRefusal }
     {
@@ -303,8 +344,8 @@ impl<S: Recording, L: Log> LastingServer<S, L> {
     /// Puts a root, which names only files of tablets, then removes the files that belong to no tablet.
     fn sweep(&mut self) -> Reply
         ensures limits { KeepsToLimits result }
-        ensures says { IsLastingAnswer S.shows (LastsIn S.stores S.logged S.last L.holds)
-            (Logs S.stores S.logged S.last L.holds S.is_rooted) L.faults
+        ensures says { IsLastingAnswer S.shows (LastsIn S.stores S.logged L.holds)
+            (Logs S.stores S.logged L.holds S.is_rooted) M.faults L.faults
             (AnswersLasting S.same S.checkpoints S.says S.sweeps) self.old Request.Sweep result
             self.new }
     {
@@ -321,8 +362,8 @@ impl<S: Recording, L: Log> LastingServer<S, L> {
     fn rearrange(&mut self, request: Request<'_>) -> Reply
         requires { MovesTablets request }
         ensures limits { KeepsToLimits result }
-        ensures says { IsLastingAnswer S.shows (LastsIn S.stores S.logged S.last L.holds)
-            (Logs S.stores S.logged S.last L.holds S.is_rooted) L.faults
+        ensures says { IsLastingAnswer S.shows (LastsIn S.stores S.logged L.holds)
+            (Logs S.stores S.logged L.holds S.is_rooted) M.faults L.faults
             (AnswersLasting S.same S.checkpoints S.says S.sweeps) self.old request.entry result
             self.new }
     {
@@ -344,8 +385,8 @@ impl<S: Recording, L: Log> LastingServer<S, L> {
     /// Answers a checkpoint.
     fn checkpoint(&mut self) -> Reply
         ensures limits { KeepsToLimits result }
-        ensures says { IsLastingAnswer S.shows (LastsIn S.stores S.logged S.last L.holds)
-            (Logs S.stores S.logged S.last L.holds S.is_rooted) L.faults
+        ensures says { IsLastingAnswer S.shows (LastsIn S.stores S.logged L.holds)
+            (Logs S.stores S.logged L.holds S.is_rooted) M.faults L.faults
             (AnswersLasting S.same S.checkpoints S.says S.sweeps) self.old Request.Checkpoint result
             self.new }
     {
@@ -371,8 +412,8 @@ impl<S: Recording, L: Log> LastingServer<S, L> {
         requires { ¬ NeedsRoot request }
         ensures limits { KeepsToLimits result }
         ensures says { S.says self.old.server request.entry result self.new.server }
-        ensures goes_on { GoesOn (shown_by S.shows) (LastsIn S.stores S.logged S.last L.holds)
-            (Logs S.stores S.logged S.last L.holds S.is_rooted) (asked request.entry)
+        ensures goes_on { GoesOn (shown_by S.shows) (LastsIn S.stores S.logged L.holds)
+            (Logs S.stores S.logged L.holds S.is_rooted) (asked request.entry)
             (replied result) self.old self.new }
     {
         logs_edits();
@@ -381,8 +422,8 @@ impl<S: Recording, L: Log> LastingServer<S, L> {
         self.server.reply_to(request)
     }
 
-    /// The bytes for which the log must have room before a request that may write edits is answered: the edits that
-    /// wait, those of the request, and a record that the log is over any root.
+    /// The bytes for which the log must have room before a request that needs room is answered: a record of the edits
+    /// that wait and those of the request, with a mark, and a record that the log is over any root.
     fn bytes_needed(&self, request: Request<'_>) -> usize {
         let edits = self
             .server
@@ -392,12 +433,12 @@ impl<S: Recording, L: Log> LastingServer<S, L> {
         edits.min(MOST_WAITING_EDITS) + 2 * BEFORE_BODY
     }
 
-    /// Answers a request that may write edits, if the log has room for them.
-    fn answer_writing(&mut self, request: Request<'_>) -> Reply
-        requires { WritesEdits request }
+    /// Answers a request that may write edits or draw a stamp, if the log has room for what it records.
+    fn answer_with_room(&mut self, request: Request<'_>) -> Reply
+        requires { NeedsRoom request }
         ensures limits { KeepsToLimits result }
-        ensures says { IsLastingAnswer S.shows (LastsIn S.stores S.logged S.last L.holds)
-            (Logs S.stores S.logged S.last L.holds S.is_rooted) L.faults
+        ensures says { IsLastingAnswer S.shows (LastsIn S.stores S.logged L.holds)
+            (Logs S.stores S.logged L.holds S.is_rooted) M.faults L.faults
             (AnswersLasting S.same S.checkpoints S.says S.sweeps) self.old request.entry result
             self.new }
     {
@@ -412,13 +453,13 @@ impl<S: Recording, L: Log> LastingServer<S, L> {
         }
     }
 
-    /// Answers a request that needs no root and writes no edits.
+    /// Answers a request that needs no root and no room in the log.
     fn answer_plainly(&mut self, request: Request<'_>) -> Reply
         requires rootless { ¬ NeedsRoot request }
-        requires editless { ¬ WritesEdits request }
+        requires roomless { ¬ NeedsRoom request }
         ensures limits { KeepsToLimits result }
-        ensures says { IsLastingAnswer S.shows (LastsIn S.stores S.logged S.last L.holds)
-            (Logs S.stores S.logged S.last L.holds S.is_rooted) L.faults
+        ensures says { IsLastingAnswer S.shows (LastsIn S.stores S.logged L.holds)
+            (Logs S.stores S.logged L.holds S.is_rooted) M.faults L.faults
             (AnswersLasting S.same S.checkpoints S.says S.sweeps) self.old request.entry result
             self.new }
     {
@@ -426,17 +467,17 @@ impl<S: Recording, L: Log> LastingServer<S, L> {
     }
 }
 
-impl<S: Recording, L: Log> Answering for LastingServer<S, L> {
+impl<S: Recording, M: MarkStore, L: Log> Answering for LastingServer<S, M, L> {
     ghost use Rattle.durable.specs.Lasts.{AnswersLasting, IsLastingAnswer, IsLastingTended, LastsIn, Logs, PutsRoot, shown_by};
 
     ghost shows = { shown_by S.shows };
 
-    ghost says = { IsLastingAnswer S.shows (LastsIn S.stores S.logged S.last L.holds)
-        (Logs S.stores S.logged S.last L.holds S.is_rooted) L.faults
+    ghost says = { IsLastingAnswer S.shows (LastsIn S.stores S.logged L.holds)
+        (Logs S.stores S.logged L.holds S.is_rooted) M.faults L.faults
         (AnswersLasting S.same S.checkpoints S.says S.sweeps) };
 
-    ghost between = { IsLastingTended S.shows (LastsIn S.stores S.logged S.last L.holds)
-        (Logs S.stores S.logged S.last L.holds S.is_rooted) S.between S.same
+    ghost between = { IsLastingTended S.shows (LastsIn S.stores S.logged L.holds)
+        (Logs S.stores S.logged L.holds S.is_rooted) M.faults S.between S.same
         (PutsRoot S.same S.checkpoints) S.size };
 
     fn reply_to(&mut self, request: Request<'_>) -> Reply {
@@ -444,9 +485,10 @@ impl<S: Recording, L: Log> Answering for LastingServer<S, L> {
             Request::Checkpoint => self.checkpoint(),
             Request::Sweep => self.sweep(),
             Request::Split { .. } | Request::Move { .. } => self.rearrange(request),
-            Request::Step { .. } | Request::CleanStep { .. } | Request::CollectStep { .. } => {
-                self.answer_writing(request)
-            }
+            Request::Begin
+            | Request::Step { .. }
+            | Request::CleanStep { .. }
+            | Request::CollectStep { .. } => self.answer_with_room(request),
             _ => self.answer_plainly(request),
         }
     }
@@ -464,12 +506,12 @@ impl<S: Recording, L: Log> Answering for LastingServer<S, L> {
     }
 }
 
-impl<S: Recording, L: Log> Lasting for LastingServer<S, L> {
+impl<S: Recording, M: MarkStore, L: Log> Lasting for LastingServer<S, M, L> {
     ghost use Rattle.durable.specs.Lasts.{LastsIn, Logs};
 
-    ghost lasts = { LastsIn S.stores S.logged S.last L.holds };
+    ghost lasts = { LastsIn S.stores S.logged L.holds };
 
-    ghost logs = { Logs S.stores S.logged S.last L.holds S.is_rooted };
+    ghost logs = { Logs S.stores S.logged L.holds S.is_rooted };
 
     fn settle(&mut self) -> Result<(), ServeFault> {
         if self.log_waiting() {

@@ -1,6 +1,6 @@
 //! Opening a server with a log on the devices that a kill left.
 
-ghost use Rattle.std.specs.Prelude.{◌≡◌, ◌≢◌, ◌<◌, ◌≤◌, ◌⊎◌, ◌↔◌, ◌+◌, ℕ, List, IfErr, IfOk, IfSome, IsErrOf, IsSome, IsTrue, MatchResult, None, OnOk, Some, false, is_some, length, true, []};
+ghost use Rattle.std.specs.Prelude.{◌≡◌, ◌≢◌, ◌<◌, ◌≤◌, ◌⊎◌, ◌↔◌, ◌+◌, ◌^◌, ℕ, Option, List, IfErr, IfOk, IfSome, IsErrOf, IsOk, IsSome, IsTrue, MatchResult, None, OnOk, Some, false, is_some, length, true, []};
 ghost use Rattle.std.specs.FinMap.{empty, get};
 ghost use Rattle.std.specs.List.{AllByRecursion};
 ghost use Rattle.cell_key.specs.Cells.{Cells, after_edits};
@@ -9,7 +9,7 @@ ghost use Rattle.cell_key.specs.declared.edits.Edit.{Edit as CellEdit};
 ghost use Rattle.commit_log.specs.Edits.{HoldEdits, IsStoredEdit};
 ghost use Rattle.commit_log.specs.Frames.{bytes_of};
 ghost use Rattle.commit_log.specs.Held.{Keeps};
-ghost use Rattle.commit_log.specs.Records.{AreUpTo, HasRecord, any_root};
+ghost use Rattle.commit_log.specs.Records.{AreUpTo, HasRecord, IsGreatest, any_root};
 ghost use Rattle.file_store.specs.Store.{Contents};
 ghost use Rattle.metadata_table.specs.Roots.{RootView};
 ghost use Rattle.row_atomic.specs.Changes.{Holds, IsEmptied};
@@ -22,24 +22,26 @@ ghost use Rattle.row_atomic.specs.Roots.{KeepsCells, root_at, root_name};
 ghost use Rattle.si_model.specs.Machine.{IsReached, IsStorageRefusal, State, new_machine, reopened};
 ghost use Rattle.sorted_file.specs.Limits.{IsFileLimit};
 ghost use Rattle.si_model.specs.ShowsCells.{ShowsCells};
-ghost use Rattle.durable.specs.Devices.{Covers, CoversEach, IsOver, KeepsUnder, LastsOn};
+ghost use Rattle.durable.specs.Devices.{Covers, CoversWith, IsOver, KeepsUnder, LastsOn, most_stamp};
 ghost use Rattle.durable.specs.Lasting.{IsSettled};
 ghost use Rattle.durable.specs.LastingOpening.{AreWhole, HasRootFile, IsLostLog, IsOpeningRefusal, LacksBase, NamesTop, OpensFrom, OpensNew, ServesFrom, log_refusal, refused_with};
 ghost use Rattle.durable.specs.Lasts.{HoldsLogged, LastsIn, Logs, shown_by};
 ghost use Rattle.server_loop.specs.Opening.{IsLost, LacksRoot};
 ghost use Rattle.durable.specs.Replaying.{FollowsLog, ShowsRoot};
-ghost use Rattle.server_loop.specs.Server.{IsConfig, cluster_of, last_of, machine_places, marks_of, rows_of, tending_of};
+ghost use Rattle.durable.specs.StoredMarks.{IsMarkOf};
+ghost use Rattle.server_loop.specs.Server.{IsConfig, cluster_of, last_of, machine_places, rows_of, tending_of};
 
 use crate::lasting::LastingServer;
 use crate::recording::Recording;
 use crate::replaying::replay;
+use crate::stored_mark::StoredMark;
 use crate::whole_files::WholeFiles;
-use cell_key::{Edit, Refusal, Stamp};
+use cell_key::{Edit, MOST_STAMP, Refusal, Stamp};
 use commit_log::laws::{as_many_edits, logs_edits, names_roots};
-use commit_log::{Log, LogFault, are_up_to, edits_in, is_over_any, names_root};
+use commit_log::{Log, LogFault, edits_in, greatest_stamp, is_over_any, names_root};
 use file_store::Files;
 use metadata_table::one_root;
-use oracle::{MarkStore, Oracle};
+use oracle::{MarkStore, MemMark, Oracle};
 use row_atomic::{Cluster, ROOT_NAME, Recorded, keeps_following};
 use server_loop::{Config, Server};
 use si_model::{recovers, shows_reopened};
@@ -239,30 +241,77 @@ fn open_rows<F: Files>(
     }
 }
 
-/// Whether the oracle's last stamp is at least the greatest of the root, and that of each of these records.
-fn covers(last: Stamp, top: Stamp, records: &[Vec<u8>]) -> bool
-    ensures { IsTrue result ↔ (top ≤ last) × AreUpTo last (bytes_of records.now) }
+/// The mark that a store keeps beside a log of these records, over a root with this greatest stamp.
+///
+/// # Errors
+///
+/// `Damaged` if the mark is below the root's greatest stamp, or if the stamp of a record is above the greatest one;
+/// `Device` if the mark can't be read. The store is given back.
+fn load_mark<M: MarkStore>(
+    marks: M,
+    top: Stamp,
+    records: &[Vec<u8>],
+) -> Result<StoredMark<M>, (Refusal, M)>
+    ensures made { IfOk result (λ mark. IsMarkOf (M.mark marks) (bytes_of records.now) mark) }
+    ensures low { IfOk result (λ mark. top ≤ mark.stored) }
+    ensures limit { IfOk result (λ mark. mark.covered < 2 ^ 63) }
+    ensures damaged { IfErr result (λ refused. refused.0 ≡ Refusal.Damaged
+        → IfSome (M.mark marks) (λ number.
+        (number < top) ⊎ ¬ AreUpTo most_stamp (bytes_of records.now))) }
+    ensures kept { MatchResult result (λ mark. M.mark mark.marks ≡ M.mark marks)
+        (λ refused. M.mark refused.1 ≡ M.mark marks) }
+    ensures refusal { IfErr result (λ refused. (refused.0 ≡ Refusal.Damaged)
+        ⊎ (refused.0 ≡ Refusal.Device)) }
+    ensures told { MatchResult result (λ mark. M.faults mark.marks ≡ M.faults marks)
+        (λ refused. refused.0 ≢ Refusal.Device → M.faults refused.1 ≡ M.faults marks) }
+    ensures device { IfErr result (λ refused. refused.0 ≡ Refusal.Device
+        → HasRisen (M.faults marks) (M.faults refused.1)) }
 {
-    top <= last && are_up_to(records, last)
+    names_roots();
+    let mut mark = match StoredMark::load(marks) {
+        Ok(mark) => mark,
+        Err(marks) => return Err((Refusal::Device, marks)),
+    };
+    if mark.stored() < top {
+        return Err((Refusal::Damaged, mark.into_store()));
+    }
+    let covered = greatest_stamp(mark.stored(), records);
+    if covered > MOST_STAMP {
+        return Err((Refusal::Damaged, mark.into_store()));
+    }
+    mark.cover(covered);
+    Ok(mark)
+}
+
+/// An oracle whose last stamp is this one. Its mark is in memory, so no refusal comes.
+fn oracle_from(last: Stamp) -> Result<Oracle<MemMark>, Refusal>
+    requires { last < 2 ^ 63 }
+    ensures last { IfOk result (λ oracle. oracle.last ≡ last) }
+    ensures ok { IsOk result }
+{
+    let mut mark = MemMark::new();
+    mark.store(last)?;
+    match Oracle::open(mark) {
+        Ok(oracle) => Ok(oracle),
+        Err((refusal, _)) => Err(refusal),
+    }
 }
 
 /// A server over rows and an oracle. All stamps up to the oracle's last one count as answered.
-fn server_over<F: WholeFiles + Drop, M: MarkStore + Drop>(
+fn server_over<F: WholeFiles + Drop>(
     alloc: Global,
     rows: Recorded<F>,
-    oracle: Oracle<M>,
+    oracle: Oracle<MemMark>,
     config: Config,
-) -> Server<F, M>
-    ensures from { (root : RootView) (base : Cells) (edits : List CellEdit) (st : State)
-        → FollowsLog F.contents root base edits rows → IsReached st
-        → machine_places root.places ≡ st.places → Covers (M.mark oracle.marks) root.top
+) -> Server<F, MemMark>
+    ensures from { (mark : Option ℕ) (root : RootView) (base : Cells) (edits : List CellEdit)
+        (st : State) → FollowsLog F.contents root base edits rows → IsReached st
+        → machine_places root.places ≡ st.places → Covers mark root.top
         → ShowsCells (after_edits base edits) (reopened st)
-        → st.next_tablet ≡ length st.places + 1 → Covers (M.mark oracle.marks) st.top
-        → IfSome (M.mark oracle.marks) (λ mark. oracle.last ≡ mark)
-        → ServesFrom F.Files M.MarkStore root base edits st result }
+        → st.next_tablet ≡ length st.places + 1 → st.top ≤ oracle.last
+        → ServesFrom F.Files mark root base edits st result }
     ensures rows { rows_of result ≡ rows }
     ensures last { last_of result ≡ oracle.last }
-    ensures marks { marks_of result ≡ oracle.marks }
     ensures tending { tending_of result
         ≡ record { flush = config.flush; merge = None; merged_to = 0 } }
 {
@@ -272,7 +321,8 @@ fn server_over<F: WholeFiles + Drop, M: MarkStore + Drop>(
     Server::without_sessions(alloc, rows, oracle, last, last + 1, config)
 }
 
-/// A server over files, a mark store and the edits of a log.
+/// A server over files and the edits of a log, and the mark. The oracle goes on from the greatest of the mark and the
+/// records' stamps.
 fn open_server<F: WholeFiles + Drop, M: MarkStore + Drop>(
     alloc: Global,
     files: F,
@@ -280,44 +330,49 @@ fn open_server<F: WholeFiles + Drop, M: MarkStore + Drop>(
     records: &[Vec<u8>],
     edits: Vec<Edit>,
     config: Config,
-) -> Result<Server<F, M>, (Refusal, F, M)>
+) -> Result<(Server<F, MemMark>, StoredMark<M>), (Refusal, F, M)>
     requires config { IsConfig config }
     requires held { HoldEdits (bytes_of records.now) edits.items }
     requires stored { AllByRecursion IsStoredEdit edits.items }
     ensures kept { (root : RootView) (base : Cells) (st : State) → IsReached st
         → KeepsUnder (F.contents files) (M.mark marks) root base st.places
         → IsOver (bytes_of records.now) root
-        → CoversEach (Covers (M.mark marks)) (bytes_of records.now)
+        → AreUpTo most_stamp (bytes_of records.now)
         → ShowsCells (after_edits base edits.items) (reopened st)
-        → st.next_tablet ≡ length st.places + 1 → Covers (M.mark marks) st.top
-        → MatchResult result (ServesFrom F.Files M.MarkStore root base edits.items st)
+        → st.next_tablet ≡ length st.places + 1
+        → CoversWith (M.mark marks) (bytes_of records.now) st.top
+        → MatchResult result
+        (λ opened. ServesFrom F.Files (M.mark opened.1.marks) root base edits.items st opened.0
+        × (root.top ≤ opened.1.stored))
         (λ refused. (refused.0 ≢ Refusal.Damaged)
         × (refused.0 ≡ Refusal.MemtableFull → ¬ HasRoomFor empty_journal edits.items)) }
     ensures new { LacksRoot (F.contents files) → IsSome (M.mark marks)
-        → IfOk result (λ server. (edits.items ≡ []) × HasRecord (bytes_of records.now) any_root
-        × (root : RootView) × ServesFrom F.Files M.MarkStore root empty edits.items new_machine server) }
-    ensures stamps { IfOk result (λ server. AreUpTo (last_of server) (bytes_of records.now)) }
+        → IfOk result (λ opened. (edits.items ≡ []) × HasRecord (bytes_of records.now) any_root
+        × (root : RootView) × (root.top ≤ opened.1.stored)
+        × ServesFrom F.Files (M.mark opened.1.marks) root empty edits.items new_machine opened.0) }
+    ensures made { IfOk result (λ opened.
+        IsMarkOf (M.mark marks) (bytes_of records.now) opened.1
+        × (opened.1.covered ≤ most_stamp)) }
     ensures whole { IfOk result (λ _. IfSome (F.contents files) (λ m.
         IfSome (M.mark marks) (λ mark. AreWhole m mark (bytes_of records.now)))) }
     ensures damaged { IfErr result (λ refused. refused.0 ≡ Refusal.Damaged
         → IfSome (F.contents files) (λ m. IfSome (M.mark marks) (λ mark.
         IsLost m mark ⊎ LacksBase m (bytes_of records.now)
-        ⊎ ¬ AreUpTo mark (bytes_of records.now)))) }
+        ⊎ ¬ AreUpTo most_stamp (bytes_of records.now)))) }
     ensures rooted { HasRootFile (F.contents files) → MatchResult result
-        (λ server. F.contents (cluster_of server).files ≡ F.contents files)
+        (λ opened. F.contents (cluster_of opened.0).files ≡ F.contents files)
         (λ refused. F.contents refused.1 ≡ F.contents files) }
-    ensures mark { MatchResult result (λ server. M.mark (marks_of server) ≡ M.mark marks)
+    ensures mark { MatchResult result (λ opened. M.mark opened.1.marks ≡ M.mark marks)
         (λ refused. M.mark refused.2 ≡ M.mark marks) }
-    ensures last { IfOk result (λ server.
-        IfSome (M.mark marks) (λ mark. last_of server ≡ mark)) }
-    ensures options { IfOk result (λ server.
-        ((cluster_of server).file_limit ≡ config.file_limit)
-        × (tending_of server ≡ record { flush = config.flush; merge = None; merged_to = 0 })) }
+    ensures last { IfOk result (λ opened. last_of opened.0 ≡ opened.1.covered) }
+    ensures options { IfOk result (λ opened.
+        ((cluster_of opened.0).file_limit ≡ config.file_limit)
+        × (tending_of opened.0 ≡ record { flush = config.flush; merge = None; merged_to = 0 })) }
     ensures refusal { IfErr result (λ refused. IsStorageRefusal refused.0
         × (HasRootFile (F.contents files) → IsOpeningRefusal refused.0)) }
     ensures told { MatchResult result
-        (λ server. (F.faults (cluster_of server).files ≡ F.faults files)
-        × (M.faults (marks_of server) ≡ M.faults marks))
+        (λ opened. (F.faults (cluster_of opened.0).files ≡ F.faults files)
+        × (M.faults opened.1.marks ≡ M.faults marks))
         (λ refused. refused.0 ≢ Refusal.Device
         → (F.faults refused.1 ≡ F.faults files) × (M.faults refused.2 ≡ M.faults marks)) }
     ensures device { IfErr result (λ refused. refused.0 ≡ Refusal.Device
@@ -330,26 +385,28 @@ fn open_server<F: WholeFiles + Drop, M: MarkStore + Drop>(
         Ok(opened) => opened,
         Err((refusal, files)) => return Err((refusal, files, marks)),
     };
-    let oracle = match Oracle::open(marks) {
-        Ok(oracle) => oracle,
+    let mark = match load_mark(marks, top, records) {
+        Ok(mark) => mark,
         Err((refusal, marks)) => return Err((refusal, rows.into_files(), marks)),
     };
-    if !covers(oracle.last(), top, records) {
-        return Err((Refusal::Damaged, rows.into_files(), oracle.into_mark()));
+    match oracle_from(mark.covered()) {
+        Ok(oracle) => Ok((server_over(alloc, rows, oracle, config), mark)),
+        Err(refusal) => Err((refusal, rows.into_files(), mark.into_store())),
     }
-    Ok(server_over(alloc, rows, oracle, config))
 }
 
-impl<S: Recording, L: Log> LastingServer<S, L> {
+impl<S: Recording, M: MarkStore, L: Log> LastingServer<S, M, L> {
     /// A server with a log.
-    fn over(alloc: Global, server: S, log: L) -> LastingServer<S, L>
+    fn over(alloc: Global, server: S, marks: StoredMark<M>, log: L) -> LastingServer<S, M, L>
         ensures server { result.server ≡ server }
+        ensures marks { result.marks ≡ marks }
         ensures log { result.log ≡ log }
         ensures root_bytes { result.root_bytes ≡ 33554432 }
         ensures settled { (root : RootView) → S.recording server ≡ true → S.is_rooted server root
-            → S.waiting server ≡ [] → HoldsLogged S.stores S.logged S.last L.holds result root
-            → IsSettled (shown_by S.shows) (LastsIn S.stores S.logged S.last L.holds)
-            (Logs S.stores S.logged S.last L.holds S.is_rooted) result }
+            → S.waiting server ≡ [] → S.last server ≤ marks.covered
+            → HoldsLogged S.stores S.logged L.holds result root
+            → IsSettled (shown_by S.shows) (LastsIn S.stores S.logged L.holds)
+            (Logs S.stores S.logged L.holds S.is_rooted) result }
     {
         logs_edits();
         names_roots();
@@ -357,6 +414,7 @@ impl<S: Recording, L: Log> LastingServer<S, L> {
         LastingServer {
             alloc,
             server,
+            marks,
             log,
             is_stopped: false,
             root_bytes: ROOT_BYTES,
@@ -365,25 +423,29 @@ impl<S: Recording, L: Log> LastingServer<S, L> {
     }
 }
 
-impl<F: WholeFiles + Drop, M: MarkStore + Drop, L: Log + Drop> LastingServer<Server<F, M>, L> {
+impl<F: WholeFiles + Drop, M: MarkStore + Drop, L: Log + Drop> LastingServer<
+    Server<F, MemMark>,
+    M,
+    L,
+> {
     /// A server over the files, the mark store and the log that a kill left. Without a root file it is a new store, whose
     /// root is put. The edits of the log are replayed over the files. Sessions, cleaners and collectors are forgotten, and
-    /// stamps up to the mark count as answered.
+    /// stamps up to the greatest of the mark and the records' stamps count as answered.
     ///
     /// # Errors
     ///
     /// `Damaged` if the root file is out of form, if a file that it names is missing or out of form, if the mark is below
-    /// the root's greatest stamp or one of the log, if the log's records are no edits, if the log is over another root, or
-    /// if there is no root file and the log names a root or holds edits; `Device` if the files, the mark or the log can't
-    /// be read; `NoMemory`; `MemtableFull` if the log has more edits than a journal holds; of a new store the refusals of
-    /// its first checkpoint. The files, the mark store and the log are given back.
+    /// the root's greatest stamp, if the log's records are no edits or have a stamp above the greatest one, if the log is
+    /// over another root, or if there is no root file and the log names a root or holds edits; `Device` if the files, the
+    /// mark or the log can't be read; `NoMemory`; `MemtableFull` if the log has more edits than a journal holds; of a new
+    /// store the refusals of its first checkpoint. The files, the mark store and the log are given back.
     pub fn open(
         alloc: Global,
         files: F,
         marks: M,
         log: L,
         config: Config,
-    ) -> Result<LastingServer<Server<F, M>, L>, (Refusal, F, M, L)>
+    ) -> Result<LastingServer<Server<F, MemMark>, M, L>, (Refusal, F, M, L)>
         requires config { IsConfig config }
         // From a state that they keep. If it is refused, they keep it still.
         ensures kept { (st : State) → IsReached st
@@ -404,9 +466,10 @@ impl<F: WholeFiles + Drop, M: MarkStore + Drop, L: Log + Drop> LastingServer<Ser
             ⊎ IfSome (F.contents files) (λ m. IfSome (M.mark marks) (λ mark.
             IsLost m mark
             ⊎ ((records : List (List ℕ)) → L.holds log records → LacksBase m records)
-            ⊎ ((records : List (List ℕ)) → L.holds log records → ¬ AreUpTo mark records)))) }
-        ensures last { IfOk result (λ opened.
-            IfSome (M.mark marks) (λ mark. last_of opened.server ≡ mark)) }
+            ⊎ ((records : List (List ℕ)) → L.holds log records
+            → ¬ AreUpTo most_stamp records)))) }
+        ensures last { IfOk result (λ opened. (records : List (List ℕ)) → L.holds log records
+            → IfSome (M.mark marks) (λ mark. IsGreatest mark records (last_of opened.server))) }
         ensures limit { IfOk result (λ opened.
             (cluster_of opened.server).file_limit ≡ config.file_limit) }
         ensures tending { IfOk result (λ opened. tending_of opened.server
@@ -418,7 +481,7 @@ impl<F: WholeFiles + Drop, M: MarkStore + Drop, L: Log + Drop> LastingServer<Ser
         // If it is not refused with Device, the counts of faults are as before.
         ensures told { MatchResult result
             (λ opened. (F.faults (cluster_of opened.server).files ≡ F.faults files)
-            × (M.faults (marks_of opened.server) ≡ M.faults marks)
+            × (M.faults opened.marks.marks ≡ M.faults marks)
             × (L.faults opened.log ≡ L.faults log))
             (λ refused. refused.0 ≢ Refusal.Device → (F.faults refused.1 ≡ F.faults files)
             × (M.faults refused.2 ≡ M.faults marks) × (L.faults refused.3 ≡ L.faults log)) }
@@ -436,7 +499,7 @@ impl<F: WholeFiles + Drop, M: MarkStore + Drop, L: Log + Drop> LastingServer<Ser
             Err(refusal) => return Err((refusal, files, marks, log)),
         };
         match open_server(alloc, files, marks, &records, edits, config) {
-            Ok(server) => Ok(LastingServer::over(alloc, server, log)),
+            Ok((server, mark)) => Ok(LastingServer::over(alloc, server, mark, log)),
             Err((refusal, files, marks)) => Err((refusal, files, marks, log)),
         }
     }

@@ -3,7 +3,7 @@
 ghost use Rattle.std.specs.Prelude.{◌≡◌, IsSome, Some};
 ghost use Rattle.durable.specs.Devices.{LastsOn};
 ghost use Rattle.durable.specs.ServesLogged.{LastsOver, ServesOver};
-ghost use Rattle.server_loop.specs.Server.{cluster_of, marks_of, rows_of, tending_of};
+ghost use Rattle.server_loop.specs.Server.{cluster_of, rows_of, tending_of};
 ghost use Rattle.row_atomic.specs.Commands.{IsOutcome};
 ghost use Rattle.si_model.specs.Machine.{State};
 
@@ -11,13 +11,17 @@ use crate::batches::serve_batches;
 use crate::lasting::LastingServer;
 use crate::whole_files::WholeFiles;
 use commit_log::Log;
-use oracle::MarkStore;
+use oracle::{MarkStore, MemMark};
 use row_atomic::{Command, Outcome};
 use server_loop::{End, ServeFault, Server};
 use std::io::{Read, Write};
 use std::num::NonZeroUsize;
 
-impl<F: WholeFiles + Drop, M: MarkStore + Drop, L: Log + Drop> LastingServer<Server<F, M>, L> {
+impl<F: WholeFiles + Drop, M: MarkStore + Drop, L: Log + Drop> LastingServer<
+    Server<F, MemMark>,
+    M,
+    L,
+> {
     /// From now on the newest files are merged as by `Server::merge_at`.
     pub fn merge_at(&mut self, most: u32)
         ensures { self.new ≡ record self.old {
@@ -53,7 +57,8 @@ impl<F: WholeFiles + Drop, M: MarkStore + Drop, L: Log + Drop> LastingServer<Ser
     }
 
     /// Serves requests in frames as `Server::serve` does, but replies wait: the replies to one read's requests are
-    /// written once all their edits are in the log, which is forced to the disk once for all of them. That is done
+    /// written once all their edits are in the log, with a mark over their stamps, and the log is forced to the disk
+    /// once for all of them. That is done
     /// earlier if the waiting replies have reached 1,048,576 bytes. A split and a move come between two checkpoints, a
     /// sweep after one. If the log fails, no further reply is written, and `Log` is answered.
     ///
@@ -65,7 +70,7 @@ impl<F: WholeFiles + Drop, M: MarkStore + Drop, L: Log + Drop> LastingServer<Ser
         writer: &mut O,
         most_reads: u64,
     ) -> Result<End, ServeFault>
-        ensures { ServesOver F.Files M.MarkStore L.Log self.old self.new
+        ensures { ServesOver F.Files ⟦<MemMark as MarkStore>⟧ M.MarkStore L.Log self.old self.new
             (I.remaining reader.old) (I.remaining reader.new) (O.contents writer.old)
             (O.contents writer.new) most_reads result }
     {
@@ -76,14 +81,19 @@ impl<F: WholeFiles + Drop, M: MarkStore + Drop, L: Log + Drop> LastingServer<Ser
     /// devices kept.
     pub fn into_devices(self) -> (F, M, L)
         ensures files { result.0 ≡ (cluster_of self.server).files }
-        ensures marks { result.1 ≡ marks_of self.server }
+        ensures marks { result.1 ≡ self.marks.marks }
         ensures log { result.2 ≡ self.log }
         ensures lasts { (st : State) → LastsOver F.Files L.Log self st
-            → IsSome (M.mark (marks_of self.server))
+            → IsSome (M.mark self.marks.marks)
             → LastsOn (F.contents result.0) (M.mark result.1) (L.holds result.2) st }
     {
-        let LastingServer { server, log, .. } = self;
-        let (files, marks) = server.into_devices();
-        (files, marks, log)
+        let LastingServer {
+            server,
+            marks,
+            log,
+            ..
+        } = self;
+        let (files, _) = server.into_devices();
+        (files, marks.into_store(), log)
     }
 }

@@ -8,6 +8,7 @@ mod lasting_serving;
 mod recorded_server;
 mod recording;
 mod replaying;
+mod stored_mark;
 mod whole_files;
 
 pub use lasting::LastingServer;

@@ -19,8 +19,7 @@ use server_loop::{Answering, RootName};
 
 /// A server with a journal of its edits: those that the log has, and those that wait for the log.
 pub(crate) trait Recording: Answering {
-    /// Its files keep these cells under this root, whose tablets have these places. The root's greatest stamp is at
-    /// most the oracle's last one.
+    /// Its files keep these cells under this root, whose tablets have these places.
     ghost stores: { Self → RootView → Cells → List Place → Type 0 };
 
     /// Its root is this one, which names the places of its tablets.
@@ -82,7 +81,8 @@ pub(crate) trait Recording: Answering {
         ensures waiting { waiting self.new ≡ [] }
         ensures recording { recording self.new ≡ recording self.old }
         ensures shown { (st : State) → Self.shows self.old st → Self.shows self.new st }
-        ensures stays { StaysRooted stores is_rooted last self.old self.new }
+        ensures stays { StaysRooted stores is_rooted self.old self.new }
+        ensures stamp { last self.new ≡ last self.old }
         ensures same { same self.old self.new };
 
     /// The oracle's last stamp.
@@ -105,7 +105,7 @@ pub(crate) trait Recording: Answering {
         ensures done { OnOk result ((st : State) → Self.shows self.old st
             → HasNewRoot stores is_rooted last (next_root self.new) self.new st
             × is_clean self.new) }
-        ensures undone { OnErr result (StaysRooted stores is_rooted last self.old self.new
+        ensures undone { OnErr result (StaysRooted stores is_rooted self.old self.new
             ⊎ ((st : State) → Self.shows self.old st
             → HasNewRoot stores is_rooted last (next_root self.new) self.new st)) };
 
@@ -116,7 +116,8 @@ pub(crate) trait Recording: Answering {
         ensures recording { recording self.new ≡ recording self.old }
         ensures shown { is_clean self.old → (st : State) → Self.shows self.old st
             → Self.shows self.new st }
-        ensures stays { StaysRooted stores is_rooted last self.old self.new }
+        ensures stays { StaysRooted stores is_rooted self.old self.new }
+        ensures stamp { last self.new ≡ last self.old }
         ensures clean { is_clean self.old → is_clean self.new }
         ensures same { same self.old self.new };
 
@@ -129,12 +130,12 @@ pub(crate) trait Recording: Answering {
         ensures says { sweeps self.old result self.new }
         ensures keeps { KeepsRecording recording logged waiting last self.old self.new }
         ensures stays { (st : State) → Self.shows self.old st → is_clean self.old
-            → StaysRooted stores is_rooted last self.old self.new };
+            → StaysRooted stores is_rooted self.old self.new };
 
     /// The journal leads from the root's cells to the state that is shown. There is one root. Answers leave the stored
     /// cells, the root and the logged edits unchanged, except those of Checkpoint, Sweep, Split and Move. A Split or a
-    /// Move leaves the stored cells and the journal unchanged. Upkeep between answers leaves the stored cells, the
-    /// root, the logged edits and the state that is shown unchanged.
+    /// Move leaves the stored cells, the journal and the last stamp unchanged. Upkeep between answers leaves the stored
+    /// cells, the root, the logged edits and the state that is shown unchanged.
     fn recording_laws()
         ensures follows { (server : Self) (root : RootView) (st : State) → recording server ≡ true
             → is_rooted server root → Self.shows server st
@@ -145,13 +146,13 @@ pub(crate) trait Recording: Answering {
         ensures leaves { (old new : Self) (request : Lent) (reply : CodecReply)
             → ¬ NeedsRoot request → Self.says old request reply new
             → (now : State) → IsReached now → Self.shows old now
-            → StaysRooted stores is_rooted last old new × (logged new ≡ logged old) }
+            → StaysRooted stores is_rooted old new × (logged new ≡ logged old) }
         ensures moves { (old new : Self) (request : Lent) (reply : CodecReply)
             → MovesTablets request → Self.says old request reply new
-            → StaysStored stores last old new
+            → StaysStored stores old new
             × KeepsRecording recording logged waiting last old new }
         ensures tends { (old new : Self) → Self.between old new
-            → StaysRooted stores is_rooted last old new × (logged new ≡ logged old)
+            → StaysRooted stores is_rooted old new × (logged new ≡ logged old)
             × ((st : State) → Self.shows old st → Self.shows new st) };
 
     ghost same_self: { (server : Self) → same server server };

@@ -202,7 +202,7 @@ fn serve_logged<
     L: Log + Drop,
 >(
     rt: &R,
-    opened: Result<LastingServer<Server<F, M>, L>, (Refusal, F, M, L)>,
+    opened: Result<LastingServer<Server<F, MemMark>, M, L>, (Refusal, F, M, L)>,
     options: &Options<'_>,
 ) -> (u8, &'static str) {
     let mut server = match opened {

@@ -1,27 +1,26 @@
-use Rattle.std.proofs.Common.{◌≤◌, inl, inr, refl, sym, ap, arith}
+use Rattle.std.proofs.Common.{inl, inr, refl, sym, ap}
 use Rattle.std.specs.Prelude.{Err}
-use Rattle.durable.proofs.Logged.{emptied_lasts, holds_root, lasts_on, lasts_still, stays_stored}
+use Rattle.durable.proofs.Logged.{emptied_lasts, holds_root, lasts_on, lasts_still, no_less, stays_stored}
 use Rattle.durable.proofs.lasting.LastingServer.empty_log.Goals as goal
 
 pub returns-in-Ok-clause-kept : goal.returns-in-Ok-clause-kept
-returns-in-Ok-clause-kept g c = λ st put logs lasts.
+returns-in-Ok-clause-kept g c = λ st put holds last covered lasts.
     let stays = c.emptied.ensures.stays in
     let in_log = c.in-Ok.ensures.ok lasts.kept.records lasts.kept.in_log.0 in
-    let root = g.S.Recording.next_root c.args.self.now.server in
-    let low : root.top ≤ g.S.Recording.last c.emptied.new.self = (let before = put.low in let later = stays.stored.later in omega (arith, before, later)) in (
-      emptied_lasts g.S.Recording.stores g.S.Recording.logged g.S.Recording.waiting g.S.Recording.last g.L.Log.holds g.S.Recording.is_rooted c.logs_edits.ensures c.names_roots.ensures g.S.Recording.count c.args.self.now.server _ root st put stays.stored low in_log (inr (sym c.emptied.ensures.logged)),
-      inr (root, stays.rooted root put.rooted, holds_root g.S.Recording.stores g.S.Recording.logged g.S.Recording.waiting g.S.Recording.last g.L.Log.holds g.S.Recording.is_rooted c.logs_edits.ensures c.names_roots.ensures g.S.Recording.count _ root low in_log c.emptied.ensures.logged),
+    let root = g.S.Recording.next_root c.args.self.now.server in (
+      emptied_lasts g.S.Recording.stores g.S.Recording.logged g.S.Recording.waiting g.S.Recording.last g.L.Log.holds g.S.Recording.is_rooted c.logs_edits.ensures c.names_roots.ensures g.S.Recording.count c.args.self.now.server _ root st put stays.stored holds.low holds.limit last in_log (inr (sym c.emptied.ensures.logged)),
+      inr (root, stays.rooted root put.rooted, holds_root g.S.Recording.stores g.S.Recording.logged g.S.Recording.waiting g.S.Recording.last g.L.Log.holds g.S.Recording.is_rooted c.logs_edits.ensures c.names_roots.ensures g.S.Recording.count _ root holds.low holds.limit covered in_log c.emptied.ensures.logged),
     )
 
 pub returns-in-Err-NoMemory-clause-kept : goal.returns-in-Err-NoMemory-clause-kept
-returns-in-Err-NoMemory-clause-kept g c = λ st put logs lasts.
-    lasts_still g.S.Recording.stores g.S.Recording.logged g.S.Recording.waiting g.S.Recording.last g.L.Log.holds g.S.Recording.is_rooted c.logs_edits.ensures c.names_roots.ensures g.S.Recording.count c.args.self.now c.renew_log.new.log st (c.in-Err-NoMemory.ensures.unchanged (ap Err c.in-Err-NoMemory.field-0-is)) logs lasts
+returns-in-Err-NoMemory-clause-kept g c = λ st put holds last covered lasts.
+    lasts_still g.S.Recording.stores g.S.Recording.logged g.S.Recording.waiting g.S.Recording.last g.L.Log.holds g.S.Recording.is_rooted c.logs_edits.ensures c.names_roots.ensures g.S.Recording.count c.args.self.now c.renew_log.new.log st (c.in-Err-NoMemory.ensures.unchanged (ap Err c.in-Err-NoMemory.field-0-is)) (inr (g.S.Recording.next_root c.args.self.now.server, put.rooted, holds)) lasts
 
 pub returns-in-Err-clause-kept : goal.returns-in-Err-clause-kept
-returns-in-Err-clause-kept g c = λ st put logs lasts. (
+returns-in-Err-clause-kept g c = λ st put holds last covered lasts. (
   elim (c.in-Err.ensures.err lasts.kept.records lasts.kept.in_log.0) [
-    | inl same ↦ lasts_on g.S.Recording.stores g.S.Recording.logged g.S.Recording.waiting g.S.Recording.last g.L.Log.holds g.S.Recording.is_rooted c.logs_edits.ensures c.names_roots.ensures g.S.Recording.count c.args.self.now _ st (stays_stored _ _ _) lasts same (inl refl)
-    | inr one ↦ emptied_lasts g.S.Recording.stores g.S.Recording.logged g.S.Recording.waiting g.S.Recording.last g.L.Log.holds g.S.Recording.is_rooted c.logs_edits.ensures c.names_roots.ensures g.S.Recording.count c.args.self.now.server _ (g.S.Recording.next_root c.args.self.now.server) st put (stays_stored _ _ _) put.low one (inl refl)
+    | inl same ↦ lasts_on g.S.Recording.stores g.S.Recording.logged g.S.Recording.waiting g.S.Recording.last g.L.Log.holds g.S.Recording.is_rooted c.logs_edits.ensures c.names_roots.ensures g.S.Recording.count c.args.self.now _ st (stays_stored _ _, no_less _) lasts same (inl refl)
+    | inr one ↦ emptied_lasts g.S.Recording.stores g.S.Recording.logged g.S.Recording.waiting g.S.Recording.last g.L.Log.holds g.S.Recording.is_rooted c.logs_edits.ensures c.names_roots.ensures g.S.Recording.count c.args.self.now.server _ (g.S.Recording.next_root c.args.self.now.server) st put (stays_stored _ _) holds.low holds.limit last one (inl refl)
   ],
   inl refl,
 )

@@ -1,17 +1,18 @@
-use Rattle.std.proofs.Common.{◌∙◌, inl, inr, refl}
+use Rattle.std.proofs.Common.{◌≤◌, ◌∙◌, inl, inr, refl, arith}
 use Rattle.si_model.specs.Machine.{refuses}
 use Rattle.si_model.specs.Refusing.{gives_up}
 use Rattle.request_codec.specs.declared.replies.Reply.TheVariants as codec
 use Rattle.durable.proofs.Logged.{holds_on, still_lasts, true_not_false}
-use Rattle.durable.proofs.Rooted.{moves_rooted}
+use Rattle.durable.proofs.Rooted.{moves_rooted, never_unmarked}
 use Rattle.durable.proofs.lasting.LastingServer.rearrange.Goals as goal
 
 pub returns-then-not-self-clause-says : goal.returns-then-not-self-clause-says
 returns-then-not-self-clause-says g c =
     let moves = c.recording_laws.ensures.moves c.root.new.self.server c.reply_to-reply.new.self c.args.request c.reply_to-reply.result c.requires c.reply_to-reply.ensures.says in
+    let covered : g.S.Recording.last c.reply_to-reply.new.self ≤ c.root.new.self.marks.covered = (let same = moves.1.stamp in let before = c.in-Ok.ensures.covered in omega (arith, same, before)) in
     record {
-      answered = moves_rooted g.S.Recording.same g.S.Recording.checkpoints g.S.Answering.says g.S.Recording.sweeps _ _ c.args.self.now.server c.root_moved.new.self.server c.args.request c.reply_to-reply.result c.requires
-          (inr (c.root.new.self.server, c.reply_to-reply.new.self, c.in-Ok.ensures.done, c.reply_to-reply.ensures.says, inr c.root_moved.ensures.answered));
+      answered = moves_rooted g.S.Recording.same g.S.Recording.checkpoints g.S.Answering.says g.S.Recording.sweeps _ _ _ c.args.self.now.server c.root_moved.new.self.server c.args.request c.reply_to-reply.result c.requires
+          (inr (c.root.new.self.server, c.reply_to-reply.new.self, c.in-Ok.ensures.done, c.reply_to-reply.ensures.says, inr (c.root_moved.ensures.answered.0, never_unmarked g.S.Recording.same g.S.Recording.checkpoints _ _ c.reply_to-reply.new.self c.root_moved.new.self.server c.root_moved.ensures.answered.0 c.root_moved.ensures.answered.1)));
       goes_on = λ now reached shown.
           let mid = c.root.ensures.settles.shown now shown in
           let (next, step, shows, whole) = c.reply_to-reply.ensures.step now reached mid in
@@ -22,11 +23,11 @@ returns-then-not-self-clause-says g c =
             whole = whole;
             logged = λ logs. elim (c.root.ensures.settles.logged now reached shown logs) [
               | inl stopped ↦ true_not_false _ stopped c.if-not-self.true
-              | inr h ↦ let k = c.in-Ok.ensures.kept now shown logs in (c.root_moved.ensures.kept now next h.0 shows (holds_on g.S.Recording.stores g.S.Recording.logged g.S.Recording.waiting g.S.Recording.last g.L.Log.holds g.S.Recording.is_rooted c.logs_edits.ensures c.names_roots.ensures g.S.Recording.count c.root.new.self c.reply_to-reply.new.self h.0 moves.0.later h.2 moves.1.has) (moves.1.waits ∙ k.2) (moves.1.goes_on ∙ k.1) (still_lasts g.S.Recording.stores g.S.Recording.logged g.S.Recording.waiting g.S.Recording.last g.L.Log.holds g.S.Recording.is_rooted c.logs_edits.ensures c.names_roots.ensures g.S.Recording.count c.root.new.self c.reply_to-reply.new.self now moves.0 moves.1.has k.0)).1
+              | inr h ↦ let k = c.in-Ok.ensures.kept now shown logs in (c.root_moved.ensures.kept now next h.0 shows (holds_on g.S.Recording.stores g.S.Recording.logged g.S.Recording.waiting g.S.Recording.last g.L.Log.holds g.S.Recording.is_rooted c.logs_edits.ensures c.names_roots.ensures g.S.Recording.count c.root.new.self c.reply_to-reply.new.self h.0 h.2 moves.1.has) (moves.1.waits ∙ k.2) (moves.1.goes_on ∙ k.1) covered (still_lasts g.S.Recording.stores g.S.Recording.logged g.S.Recording.waiting g.S.Recording.last g.L.Log.holds g.S.Recording.is_rooted c.logs_edits.ensures c.names_roots.ensures g.S.Recording.count c.root.new.self c.reply_to-reply.new.self now moves.0 moves.1.has k.0)).1
             ];
             lasting = λ logs st lasts. inr (elim (c.root.ensures.settles.logged now reached shown logs) [
               | inl stopped ↦ true_not_false _ stopped c.if-not-self.true
-              | inr h ↦ let k = c.in-Ok.ensures.kept now shown logs in (c.root_moved.ensures.kept now next h.0 shows (holds_on g.S.Recording.stores g.S.Recording.logged g.S.Recording.waiting g.S.Recording.last g.L.Log.holds g.S.Recording.is_rooted c.logs_edits.ensures c.names_roots.ensures g.S.Recording.count c.root.new.self c.reply_to-reply.new.self h.0 moves.0.later h.2 moves.1.has) (moves.1.waits ∙ k.2) (moves.1.goes_on ∙ k.1) (still_lasts g.S.Recording.stores g.S.Recording.logged g.S.Recording.waiting g.S.Recording.last g.L.Log.holds g.S.Recording.is_rooted c.logs_edits.ensures c.names_roots.ensures g.S.Recording.count c.root.new.self c.reply_to-reply.new.self now moves.0 moves.1.has k.0)).0
+              | inr h ↦ let k = c.in-Ok.ensures.kept now shown logs in (c.root_moved.ensures.kept now next h.0 shows (holds_on g.S.Recording.stores g.S.Recording.logged g.S.Recording.waiting g.S.Recording.last g.L.Log.holds g.S.Recording.is_rooted c.logs_edits.ensures c.names_roots.ensures g.S.Recording.count c.root.new.self c.reply_to-reply.new.self h.0 h.2 moves.1.has) (moves.1.waits ∙ k.2) (moves.1.goes_on ∙ k.1) covered (still_lasts g.S.Recording.stores g.S.Recording.logged g.S.Recording.waiting g.S.Recording.last g.L.Log.holds g.S.Recording.is_rooted c.logs_edits.ensures c.names_roots.ensures g.S.Recording.count c.root.new.self c.reply_to-reply.new.self now moves.0 moves.1.has k.0)).0
             ]);
           };
     }
@@ -35,7 +36,7 @@ pub returns-else-not-self-clause-says : goal.returns-else-not-self-clause-says
 returns-else-not-self-clause-says g c =
     let moves = c.recording_laws.ensures.moves c.root.new.self.server c.reply_to-reply.new.self c.args.request c.reply_to-reply.result c.requires c.reply_to-reply.ensures.says in
     record {
-      answered = moves_rooted g.S.Recording.same g.S.Recording.checkpoints g.S.Answering.says g.S.Recording.sweeps _ _ c.args.self.now.server c.reply_to-reply.new.self c.args.request c.reply_to-reply.result c.requires
+      answered = moves_rooted g.S.Recording.same g.S.Recording.checkpoints g.S.Answering.says g.S.Recording.sweeps _ _ _ c.args.self.now.server c.reply_to-reply.new.self c.args.request c.reply_to-reply.result c.requires
           (inr (c.root.new.self.server, c.reply_to-reply.new.self, c.in-Ok.ensures.done, c.reply_to-reply.ensures.says, inl (g.met.S.Recording.same_self c.reply_to-reply.new.self)));
       goes_on = λ now reached shown.
           let mid = c.root.ensures.settles.shown now shown in
@@ -52,7 +53,7 @@ returns-else-not-self-clause-says g c =
 
 pub returns-in-Err-clause-says : goal.returns-in-Err-clause-says
 returns-in-Err-clause-says g c = record {
-  answered = moves_rooted g.S.Recording.same g.S.Recording.checkpoints g.S.Answering.says g.S.Recording.sweeps _ _ c.args.self.now.server c.root.new.self.server c.args.request (codec.Refused c.in-Err.refusal) c.requires (inl (c.in-Err.refusal, refl, c.in-Err.ensures.answered));
+  answered = moves_rooted g.S.Recording.same g.S.Recording.checkpoints g.S.Answering.says g.S.Recording.sweeps _ _ _ c.args.self.now.server c.root.new.self.server c.args.request (codec.Refused c.in-Err.refusal) c.requires (inl (c.in-Err.refusal, refl, c.in-Err.ensures.answered));
   goes_on = λ now reached shown. record {
     next = now;
     step = refuses (gives_up c.in-Err.ensures.refusal);

@@ -1,10 +1,13 @@
-use Rattle.std.proofs.Common.{◌∙◌, inl, inr, refl, sym}
+use Rattle.std.proofs.Common.{◌≡◌, ◌≤◌, ◌∙◌, inl, inr, refl, sym, subst, arith}
 use Rattle.metadata_table.specs.Roots.{RootView}
+use Rattle.cell_key.specs.Faults.{HasRisen}
 use Rattle.si_model.specs.Machine.{State, refuses}
 use Rattle.si_model.specs.Refusing.{gives_up}
-use Rattle.durable.specs.Lasts.{Logs, shown_by}
-use Rattle.durable.specs.Lasts.PutsRoot.{answered, failed}
-use Rattle.durable.proofs.Logged.{holds_any, lasts_any, lasts_on, names_it, ok_through, on_any, on_err, on_ok, root_lasts, stays_stored, true_not_false}
+use Rattle.durable.specs.Lasts.{HasNewRoot, HoldsLogged, Logs, shown_by}
+use Rattle.durable.specs.Lasts.PutsRoot.{answered, failed, unmarked}
+use Rattle.durable.specs.Devices.{most_stamp}
+use Rattle.durable.specs.declared.lasting.LastingServer.{LastingServer}
+use Rattle.durable.proofs.Logged.{holds_any, lasts_any, lasts_on, names_it, no_less, ok_through, on_any, on_err, on_ok, root_lasts, stays_stored, true_not_false}
 use Rattle.durable.proofs.Rooted.{named_answer, only_storage, steps_named}
 use Rattle.durable.proofs.lasting.LastingServer.root.Goals as goal
 
@@ -31,9 +34,32 @@ returns-then-is_err-clause-settles g c =
       lasting = λ now reached shown logs st lasts.
           let before = (w.ok is now shown logs).1 now (w.shown now shown) in
           inr (elim (may before.kept.records before.kept.in_log.0) [
-            | inl same ↦ lasts_on g.S.Recording.stores g.S.Recording.logged g.S.Recording.waiting g.S.Recording.last g.L.Log.holds g.S.Recording.is_rooted c.logs_edits.ensures c.names_roots.ensures g.S.Recording.count c.log_waiting.new.self _ now (stays_stored _ _ _) before same (inl refl)
-            | inr more ↦ lasts_any g.S.Recording.stores g.S.Recording.logged g.S.Recording.waiting g.S.Recording.last g.L.Log.holds g.S.Recording.is_rooted c.logs_edits.ensures c.names_roots.ensures g.S.Recording.count c.log_waiting.new.self _ now (stays_stored _ _ _) before more (inl refl)
+            | inl same ↦ lasts_on g.S.Recording.stores g.S.Recording.logged g.S.Recording.waiting g.S.Recording.last g.L.Log.holds g.S.Recording.is_rooted c.logs_edits.ensures c.names_roots.ensures g.S.Recording.count c.log_waiting.new.self _ now (stays_stored _ _, no_less _) before same (inl refl)
+            | inr more ↦ lasts_any g.S.Recording.stores g.S.Recording.logged g.S.Recording.waiting g.S.Recording.last g.L.Log.holds g.S.Recording.is_rooted c.logs_edits.ensures c.names_roots.ensures g.S.Recording.count c.log_waiting.new.self _ now (stays_stored _ _, no_less _) before more (inl refl)
           ]);
+    }
+
+pub returns-then-is_err-2-clause-step : goal.returns-then-is_err-2-clause-step
+returns-then-is_err-2-clause-step g c = λ before reached shown. (before, refuses (gives_up tt), c.log_waiting.ensures.shown before shown, λ e. cc)
+
+pub returns-then-is_err-2-clause-settles : goal.returns-then-is_err-2-clause-settles
+returns-then-is_err-2-clause-settles g c =
+    let is = c.if-not-log_waiting.false in
+    let w = c.log_waiting.ensures in
+    let m = c.store.ensures in
+    let gains = on_ok c.append.result c.is_err.result c.is_err.ensures.value c.if-is_err.false c.append.ensures.ok in
+    let new = record c.log_waiting.new.self { log = c.append.new.self; marks = c.store.new.self } in
+    let stored = on_err c.store.result c.is_err-2.result c.is_err-2.ensures.value c.if-is_err-2.true m.err in
+    record {
+      shown = w.shown;
+      logged = λ now reached shown logs.
+          let held = (w.ok is now shown logs).0 in
+          let low = held.2.low in
+          let limit = held.2.limit in
+          inr (held.0, held.1, holds_any g.S.Recording.stores g.S.Recording.logged g.S.Recording.waiting g.S.Recording.last g.L.Log.holds g.S.Recording.is_rooted c.logs_edits.ensures c.names_roots.ensures g.S.Recording.count c.log_waiting.new.self new held.0 held.0 held.2 refl m.rises (omega (arith, limit, stored)) m.covered (omega (arith, low, stored)) (gains held.2.records held.2.in_log));
+      lasting = λ now reached shown logs st lasts.
+          let before = (w.ok is now shown logs).1 now (w.shown now shown) in
+          inr (lasts_any g.S.Recording.stores g.S.Recording.logged g.S.Recording.waiting g.S.Recording.last g.L.Log.holds g.S.Recording.is_rooted c.logs_edits.ensures c.names_roots.ensures g.S.Recording.count c.log_waiting.new.self new now (stays_stored _ _, m.rises) before (gains before.kept.records before.kept.in_log.0) before.kept.in_log.1);
     }
 
 pub returns-in-Ok-clause-step : goal.returns-in-Ok-clause-step
@@ -49,19 +75,28 @@ returns-in-Ok-clause-settles g c =
     let is = c.if-not-log_waiting.false in
     let w = c.log_waiting.ensures in
     let p = c.checkpoint_now.ensures in
-    let mid = record c.log_waiting.new.self { log = c.append.new.self } in
-    let new = record mid { server = c.checkpoint_now.new.self } in
+    let m = c.store.ensures in
+    let new = record c.log_waiting.new.self { log = c.append.new.self; marks = c.store.new.self; server = c.checkpoint_now.new.self } in
     let gains = on_ok c.append.result c.is_err.result c.is_err.ensures.value c.if-is_err.false c.append.ensures.ok in
-    let kept = λ (now : State) (shown : g.S.Answering.shows c.args.self.now.server now) (logs : Logs g.S.Recording.stores g.S.Recording.logged g.S.Recording.last g.L.Log.holds g.S.Recording.is_rooted c.args.self.now).
+    let stored = on_ok c.store.result c.is_err-2.result c.is_err-2.ensures.value c.if-is_err-2.false m.ok in
+    let within = m.limit in
+    let limit : new.marks.stored ≤ most_stamp = omega (arith, stored, m.covered, within) in
+    let same = p.keeps.stamp in
+    let before = w.covered is in
+    let last : g.S.Recording.last c.checkpoint_now.new.self ≤ new.marks.stored = omega (arith, stored, same, before) in
+    let all : new.marks.covered ≤ new.marks.stored = omega (arith, stored, m.covered) in
+    let covered : g.S.Recording.last c.checkpoint_now.new.self ≤ new.marks.covered = omega (arith, same, before, m.covered) in
+    let kept = λ (now : State) (shown : g.S.Answering.shows c.args.self.now.server now) (logs : Logs g.S.Recording.stores g.S.Recording.logged g.L.Log.holds g.S.Recording.is_rooted c.args.self.now).
     let held = w.ok is now shown logs in
     let shows = w.shown now shown in
     let put = (c.in-Ok.ensures.done now shows).0 in
     let root = g.S.Recording.next_root c.checkpoint_now.new.self in
+    let low : root.top ≤ new.marks.stored = (let at = put.low in omega (arith, at, last)) in
     let goes = p.keeps.goes_on ∙ w.recording is in
     let none = p.keeps.waits ∙ w.waiting is in
     let follows = c.recording_laws.ensures.follows c.checkpoint_now.new.self root now goes put.rooted (p.shown now shows) in
-    let holds = holds_any g.S.Recording.stores g.S.Recording.logged g.S.Recording.waiting g.S.Recording.last g.L.Log.holds g.S.Recording.is_rooted c.logs_edits.ensures c.names_roots.ensures g.S.Recording.count c.log_waiting.new.self new held.0.0 root p.keeps.later held.0.2 p.keeps.has (gains held.0.2.records held.0.2.in_log) in
-    let kept = c.empty_log.ensures.kept now put (inr (root, put.rooted, holds)) (root_lasts g.S.Recording.stores g.S.Recording.logged g.S.Recording.waiting g.S.Recording.last g.L.Log.holds g.S.Recording.is_rooted c.logs_edits.ensures c.names_roots.ensures g.S.Recording.count new root now follows holds none) in
+    let holds = holds_any g.S.Recording.stores g.S.Recording.logged g.S.Recording.waiting g.S.Recording.last g.L.Log.holds g.S.Recording.is_rooted c.logs_edits.ensures c.names_roots.ensures g.S.Recording.count c.log_waiting.new.self new held.0.0 root held.0.2 p.keeps.has m.rises limit m.covered low (gains held.0.2.records held.0.2.in_log) in
+    let kept = c.empty_log.ensures.kept now put holds last all (root_lasts g.S.Recording.stores g.S.Recording.logged g.S.Recording.waiting g.S.Recording.last g.L.Log.holds g.S.Recording.is_rooted c.logs_edits.ensures c.names_roots.ensures g.S.Recording.count new root now follows holds none covered) in
     kept in
     record {
       shown = λ st shown. let mid = w.shown st shown in c.empty_log.ensures.shown (c.in-Ok.ensures.done st mid).1 st (p.shown st mid);
@@ -74,19 +109,35 @@ returns-in-Ok-clause-kept g c = on_any c.empty_log.result (λ now shown logs.
     let is = c.if-not-log_waiting.false in
     let w = c.log_waiting.ensures in
     let p = c.checkpoint_now.ensures in
-    let mid = record c.log_waiting.new.self { log = c.append.new.self } in
-    let new = record mid { server = c.checkpoint_now.new.self } in
+    let m = c.store.ensures in
+    let new = record c.log_waiting.new.self { log = c.append.new.self; marks = c.store.new.self; server = c.checkpoint_now.new.self } in
     let gains = on_ok c.append.result c.is_err.result c.is_err.ensures.value c.if-is_err.false c.append.ensures.ok in
+    let stored = on_ok c.store.result c.is_err-2.result c.is_err-2.ensures.value c.if-is_err-2.false m.ok in
+    let within = m.limit in
+    let limit : new.marks.stored ≤ most_stamp = omega (arith, stored, m.covered, within) in
+    let same = p.keeps.stamp in
+    let before = w.covered is in
+    let last : g.S.Recording.last c.checkpoint_now.new.self ≤ new.marks.stored = omega (arith, stored, same, before) in
+    let all : new.marks.covered ≤ new.marks.stored = omega (arith, stored, m.covered) in
+    let covered : g.S.Recording.last c.checkpoint_now.new.self ≤ new.marks.covered = omega (arith, same, before, m.covered) in
     let held = w.ok is now shown logs in
     let shows = w.shown now shown in
     let put = (c.in-Ok.ensures.done now shows).0 in
     let root = g.S.Recording.next_root c.checkpoint_now.new.self in
+    let low : root.top ≤ new.marks.stored = (let at = put.low in omega (arith, at, last)) in
     let goes = p.keeps.goes_on ∙ w.recording is in
     let none = p.keeps.waits ∙ w.waiting is in
     let follows = c.recording_laws.ensures.follows c.checkpoint_now.new.self root now goes put.rooted (p.shown now shows) in
-    let holds = holds_any g.S.Recording.stores g.S.Recording.logged g.S.Recording.waiting g.S.Recording.last g.L.Log.holds g.S.Recording.is_rooted c.logs_edits.ensures c.names_roots.ensures g.S.Recording.count c.log_waiting.new.self new held.0.0 root p.keeps.later held.0.2 p.keeps.has (gains held.0.2.records held.0.2.in_log) in
-    let kept = c.empty_log.ensures.kept now put (inr (root, put.rooted, holds)) (root_lasts g.S.Recording.stores g.S.Recording.logged g.S.Recording.waiting g.S.Recording.last g.L.Log.holds g.S.Recording.is_rooted c.logs_edits.ensures c.names_roots.ensures g.S.Recording.count new root now follows holds none) in
+    let holds = holds_any g.S.Recording.stores g.S.Recording.logged g.S.Recording.waiting g.S.Recording.last g.L.Log.holds g.S.Recording.is_rooted c.logs_edits.ensures c.names_roots.ensures g.S.Recording.count c.log_waiting.new.self new held.0.0 root held.0.2 p.keeps.has m.rises limit m.covered low (gains held.0.2.records held.0.2.in_log) in
+    let kept = c.empty_log.ensures.kept now put holds last all (root_lasts g.S.Recording.stores g.S.Recording.logged g.S.Recording.waiting g.S.Recording.last g.L.Log.holds g.S.Recording.is_rooted c.logs_edits.ensures c.names_roots.ensures g.S.Recording.count new root now follows holds none covered) in
     (kept.0, c.empty_log.ensures.recording ∙ goes, c.empty_log.ensures.waiting none))
+
+pub returns-in-Ok-clause-covered : goal.returns-in-Ok-clause-covered
+returns-in-Ok-clause-covered g c = on_any c.empty_log.result (
+    let same = c.checkpoint_now.ensures.keeps.stamp in
+    let before = c.log_waiting.ensures.covered c.if-not-log_waiting.false in
+    let after = c.empty_log.ensures.last in
+    rw c.empty_log.ensures.marks (omega (arith, same, before, after, c.store.ensures.covered)))
 
 pub returns-in-Ok-clause-clean : goal.returns-in-Ok-clause-clean
 returns-in-Ok-clause-clean g c = on_any c.empty_log.result (λ now shown. c.empty_log.ensures.clean (c.in-Ok.ensures.done now (c.log_waiting.ensures.shown now shown)).1)
@@ -95,7 +146,7 @@ pub returns-in-Ok-clause-done : goal.returns-in-Ok-clause-done
 returns-in-Ok-clause-done g c = on_any c.empty_log.result (c.log_waiting.new.self.server, c.checkpoint_now.new.self, c.log_waiting.ensures.same, c.in-Ok.ensures.says, c.empty_log.ensures.same)
 
 pub returns-in-Ok-clause-answered : goal.returns-in-Ok-clause-answered
-returns-in-Ok-clause-answered g c = named_answer g.S.Recording.same g.S.Recording.checkpoints _ c.args.self.now.server _ c.empty_log.result c.empty_log.ensures.refusal c.empty_log.ensures.stopped (c.log_waiting.new.self.server, c.checkpoint_now.new.self, c.log_waiting.ensures.same, c.in-Ok.ensures.says, c.empty_log.ensures.same)
+returns-in-Ok-clause-answered g c = named_answer g.S.Recording.same g.S.Recording.checkpoints _ _ c.args.self.now.server _ c.empty_log.result c.empty_log.ensures.refusal c.empty_log.ensures.stopped (c.log_waiting.new.self.server, c.checkpoint_now.new.self, c.log_waiting.ensures.same, c.in-Ok.ensures.says, c.empty_log.ensures.same)
 
 pub returns-in-Ok-clause-refusal : goal.returns-in-Ok-clause-refusal
 returns-in-Ok-clause-refusal g c = only_storage c.empty_log.result c.empty_log.ensures.refusal
@@ -112,6 +163,11 @@ returns-then-not-log_waiting-clause-answered g c = failed refl (c.log_waiting.en
 pub returns-then-is_err-clause-answered : goal.returns-then-is_err-clause-answered
 returns-then-is_err-clause-answered g c = failed refl refl (inl c.log_waiting.ensures.same)
 
+pub returns-then-is_err-2-clause-answered : goal.returns-then-is_err-2-clause-answered
+returns-then-is_err-2-clause-answered g c =
+    let risen = on_err c.store.result c.is_err-2.result c.is_err-2.ensures.value c.if-is_err-2.true c.store.ensures.device in
+    unmarked refl (subst (λ (m : g.row.M.Denot). HasRisen (g.M.MarkStore.faults m) (g.M.MarkStore.faults c.store.new.self.marks)) c.log_waiting.ensures.marks risen) c.log_waiting.ensures.same
+
 pub returns-in-Err-clause-answered : goal.returns-in-Err-clause-answered
 returns-in-Err-clause-answered g c = answered (c.log_waiting.new.self.server, c.checkpoint_now.new.self, c.log_waiting.ensures.same, c.in-Err.ensures.says, g.met.S.Recording.same_self c.checkpoint_now.new.self)
 
@@ -123,25 +179,35 @@ returns-in-Err-clause-settles g c =
     let is = c.if-not-log_waiting.false in
     let w = c.log_waiting.ensures in
     let p = c.checkpoint_now.ensures in
-    let mid = record c.log_waiting.new.self { log = c.append.new.self } in
-    let new = record mid { server = c.checkpoint_now.new.self } in
+    let m = c.store.ensures in
+    let new = record c.log_waiting.new.self { log = c.append.new.self; marks = c.store.new.self; server = c.checkpoint_now.new.self } in
     let gains = on_ok c.append.result c.is_err.result c.is_err.ensures.value c.if-is_err.false c.append.ensures.ok in
+    let stored = on_ok c.store.result c.is_err-2.result c.is_err-2.ensures.value c.if-is_err-2.false m.ok in
+    let within = m.limit in
+    let limit : new.marks.stored ≤ most_stamp = omega (arith, stored, m.covered, within) in
+    let same = p.keeps.stamp in
+    let before = w.covered is in
+    let last : g.S.Recording.last c.checkpoint_now.new.self ≤ new.marks.stored = omega (arith, stored, same, before) in
+    let all : new.marks.covered ≤ new.marks.stored = omega (arith, stored, m.covered) in
+    let covered : g.S.Recording.last c.checkpoint_now.new.self ≤ new.marks.covered = omega (arith, same, before, m.covered) in
+    let any = λ (now : State) (shown : g.S.Answering.shows c.args.self.now.server now) (logs : Logs g.S.Recording.stores g.S.Recording.logged g.L.Log.holds g.S.Recording.is_rooted c.args.self.now).
+    let held = w.ok is now shown logs in
+    let shows = w.shown now shown in
+    let log = λ (root : RootView) (low : root.top ≤ new.marks.stored). holds_any g.S.Recording.stores g.S.Recording.logged g.S.Recording.waiting g.S.Recording.last g.L.Log.holds g.S.Recording.is_rooted c.logs_edits.ensures c.names_roots.ensures g.S.Recording.count c.log_waiting.new.self new held.0.0 root held.0.2 p.keeps.has m.rises limit m.covered low (gains held.0.2.records held.0.2.in_log) in
+    let lasts = λ (root : RootView) (rooted : g.S.Recording.is_rooted c.checkpoint_now.new.self root) (low : root.top ≤ new.marks.stored). root_lasts g.S.Recording.stores g.S.Recording.logged g.S.Recording.waiting g.S.Recording.last g.L.Log.holds g.S.Recording.is_rooted c.logs_edits.ensures c.names_roots.ensures g.S.Recording.count new root now (c.recording_laws.ensures.follows c.checkpoint_now.new.self root now (p.keeps.goes_on ∙ w.recording is) rooted (p.shown now shows)) (log root low) (p.keeps.waits ∙ w.waiting is) covered in
+    elim c.in-Err.ensures.undone [
+      | inl stays ↦
+          let rooted = stays.rooted held.0.0 held.0.1 in
+          let low : held.0.0.top ≤ new.marks.stored = (let at = held.0.2.low in let rises = m.rises in omega (arith, at, rises)) in
+          (held.0.0, rooted, log held.0.0 low, lasts held.0.0 rooted low)
+      | inr put ↦
+          let root = g.S.Recording.next_root c.checkpoint_now.new.self in
+          let is_put = put now shows in
+          let low : root.top ≤ new.marks.stored = (let at = is_put.low in omega (arith, at, last)) in
+          (root, is_put.rooted, log root low, lasts root is_put.rooted low)
+    ] in
     record {
       shown = λ st shown. p.shown st (w.shown st shown);
-      logged = λ now reached shown logs.
-          let held = w.ok is now shown logs in
-          let any = λ (root : RootView). holds_any g.S.Recording.stores g.S.Recording.logged g.S.Recording.waiting g.S.Recording.last g.L.Log.holds g.S.Recording.is_rooted c.logs_edits.ensures c.names_roots.ensures g.S.Recording.count c.log_waiting.new.self new held.0.0 root p.keeps.later held.0.2 p.keeps.has (gains held.0.2.records held.0.2.in_log) in
-          inr (elim c.in-Err.ensures.undone [
-            | inl stays ↦ (held.0.0, stays.rooted held.0.0 held.0.1, any held.0.0)
-            | inr put ↦ (_, (put now (w.shown now shown)).rooted, any _)
-          ]);
-      lasting = λ now reached shown logs st lasts.
-          let held = w.ok is now shown logs in
-          let shows = w.shown now shown in
-          let any = λ (root : RootView). holds_any g.S.Recording.stores g.S.Recording.logged g.S.Recording.waiting g.S.Recording.last g.L.Log.holds g.S.Recording.is_rooted c.logs_edits.ensures c.names_roots.ensures g.S.Recording.count c.log_waiting.new.self new held.0.0 root p.keeps.later held.0.2 p.keeps.has (gains held.0.2.records held.0.2.in_log) in
-          let follows = λ (root : RootView) (rooted : g.S.Recording.is_rooted c.checkpoint_now.new.self root). c.recording_laws.ensures.follows c.checkpoint_now.new.self root now (p.keeps.goes_on ∙ w.recording is) rooted (p.shown now shows) in
-          inr (elim c.in-Err.ensures.undone [
-            | inl stays ↦ root_lasts g.S.Recording.stores g.S.Recording.logged g.S.Recording.waiting g.S.Recording.last g.L.Log.holds g.S.Recording.is_rooted c.logs_edits.ensures c.names_roots.ensures g.S.Recording.count new held.0.0 now (follows held.0.0 (stays.rooted held.0.0 held.0.1)) (any held.0.0) (p.keeps.waits ∙ w.waiting is)
-            | inr put ↦ root_lasts g.S.Recording.stores g.S.Recording.logged g.S.Recording.waiting g.S.Recording.last g.L.Log.holds g.S.Recording.is_rooted c.logs_edits.ensures c.names_roots.ensures g.S.Recording.count new (g.S.Recording.next_root c.checkpoint_now.new.self) now (follows _ (put now shows).rooted) (any _) (p.keeps.waits ∙ w.waiting is)
-          ]);
+      logged = λ now reached shown logs. let (root, rooted, log, lasts) = any now shown logs in inr (root, rooted, log);
+      lasting = λ now reached shown logs st lasts. inr (any now shown logs).3;
     }

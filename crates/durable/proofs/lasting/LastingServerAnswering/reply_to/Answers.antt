@@ -9,8 +9,8 @@ returns-in-Sweep-clause-step g c = rw c.in-Sweep.is (λ before reached shown. le
 pub returns-in-Split-clause-step : goal.returns-in-Split-clause-step
 returns-in-Split-clause-step g c = λ before reached shown. let on = c.rearrange.ensures.says.goes_on before reached shown in (on.next, on.step, on.shown, on.whole)
 
-pub returns-in-Step-clause-step : goal.returns-in-Step-clause-step
-returns-in-Step-clause-step g c = λ before reached shown. let on = c.answer_writing.ensures.says.goes_on before reached shown in (on.next, on.step, on.shown, on.whole)
+pub returns-in-Begin-clause-step : goal.returns-in-Begin-clause-step
+returns-in-Begin-clause-step g c = λ before reached shown. let on = c.answer_with_room.ensures.says.goes_on before reached shown in (on.next, on.step, on.shown, on.whole)
 
 pub returns-in_default : goal.returns-in_default
 returns-in_default g c = record {

@@ -24,7 +24,7 @@ returns-then-is_root_due-clause-between g c =
         shown = t.2;
         logged = λ now reached shown. logs_on g.S.Recording.stores g.S.Recording.logged g.S.Recording.waiting g.S.Recording.last g.L.Log.holds g.S.Recording.is_rooted c.logs_edits.ensures c.names_roots.ensures g.S.Recording.count c.args.self.now c.tend.new.self t.0 t.1;
         lasting = λ now reached shown logs st lasts. inl (still_lasts g.S.Recording.stores g.S.Recording.logged g.S.Recording.waiting g.S.Recording.last g.L.Log.holds g.S.Recording.is_rooted c.logs_edits.ensures c.names_roots.ensures g.S.Recording.count c.args.self.now c.tend.new.self st t.0.stored t.1 lasts);
-      }) (settles_then _ _ _ (record c.args.self.now { server = c.tend.new.self }) c.root-done.new.self _ c.root-done.ensures.settles (recounted g.S.Recording.stores g.S.Recording.logged g.S.Recording.waiting g.S.Recording.last g.L.Log.holds g.S.Recording.is_rooted c.logs_edits.ensures c.names_roots.ensures g.S.Recording.count _ _ refl (λ records held. held) refl g.S.Answering.shows));
+      }) (settles_then _ _ _ (record c.args.self.now { server = c.tend.new.self }) c.root-done.new.self _ c.root-done.ensures.settles (recounted g.S.Recording.stores g.S.Recording.logged g.S.Recording.waiting g.S.Recording.last g.L.Log.holds g.S.Recording.is_rooted c.logs_edits.ensures c.names_roots.ensures g.S.Recording.count _ _ refl refl (λ records held. held) refl g.S.Answering.shows));
     }
 
 pub returns-else-is_root_due-clause-between : goal.returns-else-is_root_due-clause-between

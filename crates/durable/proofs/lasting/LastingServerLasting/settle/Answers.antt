@@ -1,4 +1,5 @@
-use Rattle.std.proofs.Common.{◌∙◌, inl, inr}
+use Rattle.std.proofs.Common.{◌∙◌, inl, inr, subst, sym}
+use Rattle.cell_key.specs.Faults.{HasRisen}
 use Rattle.durable.proofs.Rooted.{puts_more, settles_then}
 use Rattle.durable.proofs.lasting.LastingServerLasting.settle.Goals as goal
 
@@ -14,7 +15,7 @@ returns-then-log_waiting-clause-between g c = λ first b.
           due,
           record {
             reply = put.reply;
-            answered = puts_more g.S.Recording.same g.S.Recording.checkpoints g.met.S.Recording.same_then w.still b.mid c.args.self.now.server c.log_waiting.new.self.server put.reply put.answered w.same;
+            answered = puts_more g.S.Recording.same g.S.Recording.checkpoints g.met.S.Recording.same_then w.still (λ risen. subst (λ (m : g.row.M.Denot). HasRisen (g.M.MarkStore.faults first.marks.marks) (g.M.MarkStore.faults m)) (sym w.marks) risen) b.mid c.args.self.now.server c.log_waiting.new.self.server put.reply put.answered w.same;
             tried = w.due.1 ∙ put.tried;
           },
         )
@@ -43,7 +44,7 @@ returns-else-log_waiting-clause-between g c = λ first b.
           due,
           record {
             reply = put.reply;
-            answered = puts_more g.S.Recording.same g.S.Recording.checkpoints g.met.S.Recording.same_then w.still b.mid c.args.self.now.server c.log_waiting.new.self.server put.reply put.answered w.same;
+            answered = puts_more g.S.Recording.same g.S.Recording.checkpoints g.met.S.Recording.same_then w.still (λ risen. subst (λ (m : g.row.M.Denot). HasRisen (g.M.MarkStore.faults first.marks.marks) (g.M.MarkStore.faults m)) (sym w.marks) risen) b.mid c.args.self.now.server c.log_waiting.new.self.server put.reply put.answered w.same;
             tried = w.due.1 ∙ put.tried;
           },
         )

@@ -13,7 +13,7 @@ use Rattle.durable.specs.LastingOpening.{AreWhole}
 use Rattle.durable.proofs.OpenedLogs.{covers_here}
 use Rattle.durable.proofs.OpenedRows.{never_full}
 use Rattle.durable.proofs.OpensLogs.{damage_of_log, has_root_file, lasts_on_log, no_room_lost, opens_from, same_room, same_shown}
-use Rattle.durable.proofs.lasting_opening.LastingServer+Server+F+M+L.open.Goals as goal
+use Rattle.durable.proofs.lasting_opening.LastingServer+Server+F+MemMark+M+L.open.Goals as goal
 
 pub returns-in-Err-clause-kept : goal.returns-in-Err-clause-kept
 returns-in-Err-clause-kept g c = λ st reached lasts. (

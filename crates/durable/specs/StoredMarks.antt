@@ -1,0 +1,20 @@
+-- The oracle's mark beside a log.
+use Rattle.std.specs.Prelude.{◌≡◌, ◌≤◌, ◌⊎◌, ℕ, List, Option, IfSome}
+use Rattle.commit_log.specs.Records.{IsGreatest, ReachesStamp}
+
+-- the mark's store, a number up to which it covers all stamps, and the greatest stamp that it or a record
+-- of the log covers
+pub record MarkView (M : Type 0) : Type 0 where
+  pub marks : M
+  pub stored : ℕ
+  pub covered : ℕ
+
+-- the number stored, or the stamp of one of these records, is at least the stamp
+abbrev pub CoversStamp : {M : Type 0} → MarkView M → List (List ℕ) → ℕ → Type 0
+CoversStamp mark records top = (top ≤ mark.stored) ⊎ ReachesStamp records top
+
+-- This was made of a mark, if that is known, and of a log of these records.
+pub record IsMarkOf {M : Type 0} (told : Option ℕ) (records : List (List ℕ)) (mark : MarkView M)
+    : Type 0 where
+  pub stored : IfSome told (λ number. mark.stored ≡ number)
+  pub covered : IsGreatest mark.stored records mark.covered
