@@ -7,6 +7,7 @@ from itertools import islice
 from pathlib import Path
 
 from duqishom import explained, states
+from duqishom.administration import Clients, Kill
 from duqishom.answers import Qualifier
 from duqishom.cells import Cell, range_of
 from duqishom.columns import BadForm
@@ -14,6 +15,7 @@ from duqishom.fields import MalformedReply
 from duqishom.files import file_name
 from duqishom.folders import read_root
 from duqishom.lines import HELP, Line, Misspelled, add_range, add_scan, completions, parsers_of, read_line, split_words
+from duqishom.progress import ProgressLine, add_progress
 from duqishom.refusals import Refused
 from duqishom.store import Store
 from duqishom.tellings import (
@@ -218,8 +220,21 @@ class Words:
         return states.state(self._store, self._socket)
 
     def clients(self) -> Told:
-        """Shows the number of clients."""
-        return states.clients(self._socket)
+        """Shows the clients of the gateway."""
+        self._need_gateway()
+        return states.clients(self._store.ask(Clients()))
+
+    def kill(self, client: int) -> Told:
+        """Kills a client's connection to the gateway."""
+        self._need_gateway()
+        if not self._store.ask(Kill(client)):
+            raise NotDone(f"the gateway has no other client {client}")
+        return said("killed")
+
+    def _need_gateway(self) -> None:
+        """NotDone if no gateway serves the store."""
+        if self._socket is None:
+            raise NotDone("no gateway serves this store")
 
     def clean(self, row: bytes, family: bytes) -> Told:
         """Clears the lock of a cell."""
@@ -289,9 +304,10 @@ class Words:
         self._store.checkpoint()
         return said("written")
 
-    def backup(self, path: str) -> Told:
+    def backup(self, path: str, progress: bool | None) -> Told:
         """Copies the folder."""
-        self._store.backup(path)
+        with ProgressLine("backup", progress) as line:
+            self._store.backup(path, line)
         return said(f"copied to {path}")
 
     def restart(self) -> Told:
@@ -316,7 +332,8 @@ LINES = (
     Line("explain ROW FAMILY", "all that a cell has: its value, locks, records and data", Words.explain),
     Line("locks [START [END]] [OPTIONS]", "the locks of such a range, and their sessions' ends", Words.locks, add_range),
     Line("status", "the state of the store: of its folder, or as its gateway counts", Words.status),
-    Line("clients", "how many clients the gateway has", Words.clients),
+    Line("clients", "the clients of the gateway, those with the oldest sessions first", Words.clients),
+    Line("kill CLIENT", "ends the connection of the client with this number", Words.kill),
     Line("clean ROW FAMILY", "clears the lock of a cell", Words.clean),
     Line("collect", "erases the versions that no session reads", Words.collect),
     Line("raw ROW FAMILY COLUMN LO HI", "the newest version in data, lock or write; HI may be last", Words.raw),
@@ -328,7 +345,7 @@ LINES = (
     Line("compact TABLET major", "makes one file of all that the tablet has", Words.major),
     Line("sweep", "removes the files that no tablet names", Words.sweep),
     Line("checkpoint", "writes all into files, from which a folder is opened", Words.checkpoint),
-    Line("backup PATH", "copies the folder, as of now, to an empty folder or a new one", Words.backup),
+    Line("backup PATH [OPTIONS]", "copies the folder, as of now, to an empty folder or a new one", Words.backup, add_progress),
     Line("restart", "has the oracle go on from its mark", Words.restart),
     Line("help", "these lines; LINE --help shows the options of one", Words.help),
     Line("quit", "ends the command; so does exit", Words.quit),

@@ -137,13 +137,14 @@ def service_of(options: argparse.Namespace) -> Service:
         allowed=None if options.allow_uid is None else frozenset(options.allow_uid),
         idle_session=options.idle_session,
         idle_client=options.idle_client,
+        grace=options.grace,
     )
     mode = options.mode if options.mode is not None else 0o600 if options.group is None else 0o660
     places = Places(options.socket, mode, options.group, options.admin, options.admin_mode, options.tcp)
     each = (options.sessions, options.cleaners, options.collectors)
     bounds = Bounds(options.clients, each, options.user_clients, options.user_sessions)
     checkpoint = options.checkpoint if options.dir is not None else 0
-    return Service(command, places, rules, bounds, checkpoint, options.grace, options.record, options.dir)
+    return Service(command, places, rules, bounds, checkpoint, options.record, options.dir)
 
 
 def main(words: Sequence[str]) -> int:

@@ -9,8 +9,10 @@ from collections import Counter
 from pathlib import Path
 from typing import TYPE_CHECKING
 
-from duqishom.gateway.passages import BACKUP, SCAN, STATISTICS, STATISTICS_REPLY, Kind, frame
+from duqishom.gateway.passages import BACKUP, CLIENTS, HEAD, KILL, LENGTH, SCAN, STATISTICS, STATISTICS_REPLY, Kind, frame
+from duqishom.gateway.things import CODE, CONFLICT, FIELDS, LOST, REFUSED, STEP_REPLY, TAG
 from duqishom.gateway.users import CONNECTION
+from duqishom.refusals import BY_NUMBER
 
 if TYPE_CHECKING:
     from duqishom.gateway.exchange import Exchange
@@ -37,6 +39,17 @@ NAMES = (
     "Delete",
 )
 
+# The operations by their first bytes, and the name of everything else.
+OPERATIONS = {code: name for code, name in enumerate(NAMES, start=1)}
+OPERATIONS |= {SCAN: "Scan", STATISTICS: "Statistics", BACKUP: "Backup", CLIENTS: "Clients", KILL: "Kill"}
+OTHER = "other"
+
+# How the frame of a refusal begins, the most bytes that are searched for one, and the answers to a Step by which a
+# commit comes to nothing.
+REFUSAL = LENGTH.pack(2) + bytes((REFUSED,))
+MOST_SEARCHED = 4096
+VAIN = {bytes((STEP_REPLY, CONFLICT)): "Conflict", bytes((STEP_REPLY, LOST)): "Lost"}
+
 PAGE = os.sysconf("SC_PAGE_SIZE")
 TICKS = os.sysconf("SC_CLK_TCK")
 
@@ -45,12 +58,15 @@ USER_TIME, SYSTEM_TIME = 11, 12
 
 
 class Counts:
-    """Counts since the gateway's start: requests by their first byte, bytes from and to clients, connections,
-    connections turned away because there was no place or their users may not connect, connections closed because too
-    many bytes waited, and clients and sessions ended because they were idle or another user had fewer."""
+    """Counts since the gateway's start: requests by their first byte, refusals by their number, commits that came to
+    nothing, bytes from and to clients, connections, connections turned away because there was no place or their users
+    may not connect, connections closed because too many bytes waited, clients and sessions ended because they were idle
+    or another user had fewer, and clients that the administrator has ended."""
 
     def __init__(self) -> None:
         self.requests = [0] * 256
+        self.refusals = [0] * 256
+        self.conflicts = dict.fromkeys(VAIN.values(), 0)
         self.bytes_in = 0
         self.bytes_out = 0
         self.connections = 0
@@ -58,16 +74,36 @@ class Counts:
         self.cut = 0
         self.idle_clients = self.idle_sessions = 0
         self.taken_clients = self.taken_sessions = 0
+        self.killed_clients = 0
         self.began = time.monotonic()
 
     def by_name(self) -> dict[str, int]:
         """The number of requests that clients have sent, by operation."""
-        known = {name: self.requests[code] for code, name in enumerate(NAMES, start=1)}
-        known["Scan"] = self.requests[SCAN]
-        known["Statistics"] = self.requests[STATISTICS]
-        known["Backup"] = self.requests[BACKUP]
-        known["other"] = sum(self.requests) - sum(known.values())
-        return known
+        known = {name: self.requests[code] for code, name in OPERATIONS.items()}
+        return {**known, OTHER: sum(self.requests) - sum(known.values())}
+
+    def by_refusal(self) -> dict[str, int]:
+        """The number of requests that were refused, by the refusal's name."""
+        return {refusal.__name__: self.refusals[number] for number, refusal in BY_NUMBER.items()}
+
+    def note_replies(self, frames: bytes, count: int) -> None:
+        """Counts the refusals among so many replies. Many short ones are looked at one by one only if their frames have
+        the bytes of a refusal somewhere."""
+        if count == 1:
+            if frames.startswith(REFUSAL):
+                self.refusals[frames[TAG]] += 1
+            return
+        at = 0 if len(frames) > MOST_SEARCHED or REFUSAL in frames else len(frames)
+        while at < len(frames):
+            if frames.startswith(REFUSAL, at):
+                self.refusals[frames[at + TAG]] += 1
+            at += HEAD + int(LENGTH.unpack_from(frames, at)[0])
+
+    def note_step(self, reply: bytes) -> None:
+        """Counts the reply to a Step, if its session has come to nothing by it."""
+        vain = VAIN.get(reply[CODE:FIELDS])
+        if vain is not None:
+            self.conflicts[vain] += 1
 
 
 def process(number: int) -> dict[str, float]:
@@ -103,11 +139,12 @@ def of_users(exchange: Exchange) -> dict[str, dict[str, int]]:
 
 
 def statistics(exchange: Exchange, is_trusted: bool) -> bytes:
-    """The reply to a request for statistics: its body is a byte and a JSON text. Users and processes are only in it if
-    the asker is trusted."""
+    """The reply to a request for statistics: its body is a byte and a JSON text. Users, processes
+    and copies are only in it if the asker is trusted."""
     counts, bounds, upstream = exchange.counts, exchange.bounds, exchange.upstream
+    exchange.latencies.look()
     sessions, cleaners, collectors = (len(things) for things in exchange.things.by_name)
-    told = {
+    told: dict[str, object] = {
         "seconds": round(time.monotonic() - counts.began, 3),
         "requests": counts.by_name(),
         "bytes": {"from_clients": counts.bytes_in, "to_clients": counts.bytes_out},
@@ -123,12 +160,19 @@ def statistics(exchange: Exchange, is_trusted: bool) -> bytes:
             "idle_sessions": counts.idle_sessions,
             "taken_clients": counts.taken_clients,
             "taken_sessions": counts.taken_sessions,
+            "killed_clients": counts.killed_clients,
         },
         "open": {"sessions": sessions, "cleaners": cleaners, "collectors": collectors},
+        "oldest_session_seconds": exchange.things.seconds_of_oldest_session(),
         "held": {"requests": bounds.requests, "replies": bounds.replies, "asked": len(upstream.runs)},
+        "latency_seconds": exchange.latencies.lately(),
+        "request_seconds": exchange.latencies.buckets(),
+        "refusals": counts.by_refusal(),
+        "conflicts": counts.conflicts,
         "checkpoints": exchange.keeper.count,
         "program": process(upstream.process),
         "gateway": process(os.getpid()),
-        **(of_users(exchange) if is_trusted else {}),
     }
+    if is_trusted:
+        told.update(of_users(exchange), copies=exchange.backups.reached())
     return frame(bytes((STATISTICS_REPLY,)) + json.dumps(told).encode())
