@@ -8,7 +8,7 @@ import unittest
 from pathlib import Path
 from typing import Any
 
-from duqishom.gateway.counts import REFUSAL, Counts
+from duqishom.gateway.counts import CONFLICTS, REFUSAL, REFUSALS, Counts
 from duqishom.gateway.latencies import BOUNDS, SPAN, SPANS, Latencies
 from duqishom.statistics import prometheus, statistics
 from tests.gateways import BEGIN, CHECKPOINT, Gateway, clean_step, folder_of, frame, get, raw, set_, stand_in, step, until
@@ -96,17 +96,17 @@ class Replies(unittest.TestCase):
         device, unknown = frame(b"\xff\x13"), frame(b"\xff\x01")
         for count, value in ((1, REFUSAL + b"\x13"), (3, bytes(5000) + device), (3, device), (3, b"\xff" * 9)):
             counts = Counts()
-            counts.note_replies(frame(b"\x82\1" + value), 1)
-            counts.note_replies(device, 1)
-            counts.note_replies(count * frame(b"\x82\1" + value) + 2 * device + frame(b"\x83") + unknown, count + 4)
-            told = {name: number for name, number in counts.by_refusal().items() if number}
+            counts.note(frame(b"\x82\1" + value))
+            counts.note(device)
+            counts.note_all(count * frame(b"\x82\1" + value) + 2 * device + frame(b"\x83") + unknown)
+            told = {name: number for name, number in counts.failed(REFUSALS).items() if number}
             self.assertEqual(told, {"Device": 3, "UnknownSession": 1})
 
     def test_conflicts(self) -> None:
         counts = Counts()
         for reply in (b"\x84\2\0\1", b"\x84\5", b"\x84\5", b"\x84\1\0\1\0\1", b"\xff\2", b"\xff\5", b"\x82\2", b"\x86\2"):
-            counts.note_step(frame(reply))
-        self.assertEqual(counts.conflicts, {"Conflict": 1, "Lost": 2})
+            counts.note(frame(reply))
+        self.assertEqual(counts.failed(CONFLICTS), {"Conflict": 1, "Lost": 2})
 
 
 class Gateways(unittest.TestCase):

@@ -5,8 +5,8 @@ from __future__ import annotations
 import asyncio
 import os
 import threading
-import time
 from contextlib import suppress
+from time import monotonic
 from typing import TYPE_CHECKING, cast
 
 from duqishom.connection import LONGEST_BODY
@@ -48,7 +48,7 @@ class Client(asyncio.BufferedProtocol):
         self.peer = Peer()
         self.user: User = exchange.shares.administrator
         self.number = self.asked = 0
-        self.began = self.came_at = self.since = time.monotonic()
+        self.began = self.came_at = self.since = monotonic()
         self.heard = exchange.counts.bytes_in
         self.idle_looks: int = 0
         self.things: set[Thing] = set()
@@ -91,7 +91,7 @@ class Client(asyncio.BufferedProtocol):
     def buffer_updated(self, count: int) -> None:
         if self._has_ended or not self.is_alive:
             return
-        self.came_at = time.monotonic()
+        self.came_at = monotonic()
         if not self.waiting or not self.has_whole_frame():
             self.since = self.came_at
         self.waiting += READ_BUFFER[:count]
@@ -302,7 +302,7 @@ class Client(asyncio.BufferedProtocol):
             self._back_up(os.fsdecode(body[1:]))
         else:
             reply = reply_of(self, verdict, body)
-            self.exchange.counts.note_replies(reply, 1)
+            self.exchange.counts.note(reply)
             self._reply(reply)
         asyncio.get_running_loop().call_soon(self.exchange.turns.add, self)
 
@@ -336,8 +336,10 @@ class Client(asyncio.BufferedProtocol):
             exchange.bounds.replies -= run.room
         if run.passage.is_noted:
             exchange.note(self, run, frames)
-        if run.passage.code != NO_OPERATION:
-            exchange.counts.note_replies(frames, count)
+        if count > 1:
+            exchange.counts.note_all(frames)
+        elif run.passage.code != NO_OPERATION:
+            exchange.counts.note(frames)
         if self.kept is None:
             exchange.latencies.note(run.passage.code, run.since, count)
         else:

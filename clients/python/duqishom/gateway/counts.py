@@ -6,11 +6,12 @@ import json
 import os
 import time
 from collections import Counter
+from collections.abc import Mapping
 from pathlib import Path
 from typing import TYPE_CHECKING
 
 from duqishom.gateway.passages import BACKUP, CLIENTS, HEAD, KILL, LENGTH, SCAN, STATISTICS, STATISTICS_REPLY, Kind, frame
-from duqishom.gateway.things import CODE, CONFLICT, FIELDS, LOST, REFUSED, STEP_REPLY, TAG
+from duqishom.gateway.things import CODE, CONFLICT, FIELDS, LOST, REFUSED, STEP_REPLY
 from duqishom.gateway.users import CONNECTION
 from duqishom.refusals import BY_NUMBER
 
@@ -44,11 +45,13 @@ OPERATIONS = {code: name for code, name in enumerate(NAMES, start=1)}
 OPERATIONS |= {SCAN: "Scan", STATISTICS: "Statistics", BACKUP: "Backup", CLIENTS: "Clients", KILL: "Kill"}
 OTHER = "other"
 
-# How the frame of a refusal begins, the most bytes that are searched for one, and the answers to a Step by which a
-# commit comes to nothing.
+# How the frame of a refusal begins, and the most bytes that are searched for one.
 REFUSAL = LENGTH.pack(2) + bytes((REFUSED,))
 MOST_SEARCHED = 4096
-VAIN = {bytes((STEP_REPLY, CONFLICT)): "Conflict", bytes((STEP_REPLY, LOST)): "Lost"}
+
+# The refusals, and the answers to a Step by which a commit comes to nothing, by the first two bytes of a reply.
+REFUSALS = {bytes((REFUSED, number)): refusal.__name__ for number, refusal in BY_NUMBER.items()}
+CONFLICTS = {bytes((STEP_REPLY, CONFLICT)): "Conflict", bytes((STEP_REPLY, LOST)): "Lost"}
 
 PAGE = os.sysconf("SC_PAGE_SIZE")
 TICKS = os.sysconf("SC_CLK_TCK")
@@ -58,15 +61,14 @@ USER_TIME, SYSTEM_TIME = 11, 12
 
 
 class Counts:
-    """Counts since the gateway's start: requests by their first byte, refusals by their number, commits that came to
-    nothing, bytes from and to clients, connections, connections turned away because there was no place or their users
-    may not connect, connections closed because too many bytes waited, clients and sessions ended because they were idle
-    or another user had fewer, and clients that the administrator has ended."""
+    """Counts since the gateway's start: requests by their first byte, refusals and conflicts by the first two bytes of
+    their replies, bytes from and to clients, connections, connections turned away because there was no place or their
+    users may not connect, connections closed because too many bytes waited, clients and sessions ended because they were
+    idle or another user had fewer, and clients that the administrator has killed."""
 
     def __init__(self) -> None:
         self.requests = [0] * 256
-        self.refusals = [0] * 256
-        self.conflicts = dict.fromkeys(VAIN.values(), 0)
+        self.failures = dict.fromkeys((*REFUSALS, *CONFLICTS), 0)
         self.bytes_in = 0
         self.bytes_out = 0
         self.connections = 0
@@ -82,28 +84,24 @@ class Counts:
         known = {name: self.requests[code] for code, name in OPERATIONS.items()}
         return {**known, OTHER: sum(self.requests) - sum(known.values())}
 
-    def by_refusal(self) -> dict[str, int]:
-        """The number of requests that were refused, by the refusal's name."""
-        return {refusal.__name__: self.refusals[number] for number, refusal in BY_NUMBER.items()}
+    def failed(self, names: Mapping[bytes, str]) -> dict[str, int]:
+        """The number of refusals, or of conflicts, by their names."""
+        return {name: self.failures[begins] for begins, name in names.items()}
 
-    def note_replies(self, frames: bytes, count: int) -> None:
-        """Counts the refusals among so many replies. Many short ones are looked at one by one only if their frames have
-        the bytes of a refusal somewhere."""
-        if count == 1:
-            if frames.startswith(REFUSAL):
-                self.refusals[frames[TAG]] += 1
-            return
-        at = 0 if len(frames) > MOST_SEARCHED or REFUSAL in frames else len(frames)
-        while at < len(frames):
-            if frames.startswith(REFUSAL, at):
-                self.refusals[frames[at + TAG]] += 1
-            at += HEAD + int(LENGTH.unpack_from(frames, at)[0])
+    def note(self, reply: bytes) -> None:
+        """Counts a reply, if it is a refusal or a conflict."""
+        begins = reply[CODE:FIELDS]
+        if begins in self.failures:
+            self.failures[begins] += 1
 
-    def note_step(self, reply: bytes) -> None:
-        """Counts the reply to a Step, if its session has come to nothing by it."""
-        vain = VAIN.get(reply[CODE:FIELDS])
-        if vain is not None:
-            self.conflicts[vain] += 1
+    def note_all(self, replies: bytes) -> None:
+        """Counts the refusals among replies, of which none is to a Step. Short ones are looked at one by one only if
+        there are the bytes of a refusal somewhere."""
+        at = 0 if len(replies) > MOST_SEARCHED or REFUSAL in replies else len(replies)
+        while at < len(replies):
+            end = at + HEAD + int(LENGTH.unpack_from(replies, at)[0])
+            self.note(replies[at : min(end, at + FIELDS)])
+            at = end
 
 
 def process(number: int) -> dict[str, float]:
@@ -167,8 +165,8 @@ def statistics(exchange: Exchange, is_trusted: bool) -> bytes:
         "held": {"requests": bounds.requests, "replies": bounds.replies, "asked": len(upstream.runs)},
         "latency_seconds": exchange.latencies.lately(),
         "request_seconds": exchange.latencies.buckets(),
-        "refusals": counts.by_refusal(),
-        "conflicts": counts.conflicts,
+        "refusals": counts.failed(REFUSALS),
+        "conflicts": counts.failed(CONFLICTS),
         "checkpoints": exchange.keeper.count,
         "program": process(upstream.process),
         "gateway": process(os.getpid()),

@@ -19,7 +19,7 @@ from duqishom.gateway.household import Household
 from duqishom.gateway.idle import Idle
 from duqishom.gateway.keeper import CHECKPOINT_MADE, Keeper
 from duqishom.gateway.latencies import Latencies
-from duqishom.gateway.passages import BAD_REQUEST, CHECKPOINT, MEMTABLE_FULL, STEP, STOP, SWEEP, TOO_MANY, Kind, frame, passages
+from duqishom.gateway.passages import BAD_REQUEST, CHECKPOINT, MEMTABLE_FULL, STOP, SWEEP, TOO_MANY, Kind, frame, passages
 from duqishom.gateway.shares import Shares
 from duqishom.gateway.things import Things
 from duqishom.gateway.turned_away import TurnedAway
@@ -185,8 +185,6 @@ class Exchange:
     def note(self, client: Client, run: Run, reply: bytes) -> None:
         """Records the effects of a reply, before the client gets it."""
         self.things.note(run.passage, run.name, reply, client, self.upstream.sent)
-        if run.passage.code == STEP:
-            self.counts.note_step(reply)
         self.keeper.note(client, run, reply)
         if reply == MEMTABLE_FULL and self.rules.has_admin and not client.is_admin:
             self.need_room.add(client)

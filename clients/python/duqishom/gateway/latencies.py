@@ -3,10 +3,10 @@ last minute's."""
 
 from __future__ import annotations
 
-import time
 from bisect import bisect_left
 from collections import deque
 from collections.abc import Mapping
+from time import monotonic
 
 # The upper bounds of the buckets in seconds: 1, 2 and 5 of each power of ten, from 10 us to 50 s. One more bucket has
 # all above.
@@ -70,13 +70,13 @@ class Latencies:
         """For operations with these numbers and names. Other requests are in one histogram, with the name `rest`."""
         self.by_name = {name: Histogram() for name in (*names.values(), rest)}
         self._by_code = [self.by_name[names.get(code, rest)] for code in range(256)]
-        self.now = time.monotonic()
+        self.now = monotonic()
         self._due = self.now + SPAN
 
     def look(self) -> None:
         """Looks at the clock, and begins another span if it is time."""
-        self.now = time.monotonic()
-        if self.now >= self._due:
+        self.now = now = monotonic()
+        if now >= self._due:
             self._end_spans()
 
     def _end_spans(self) -> None:

@@ -2,7 +2,7 @@
 
 from __future__ import annotations
 
-import time
+from time import monotonic
 from typing import Protocol
 
 from duqishom.gateway.passages import HEAD, NAME, PLACES, STEP, STOP, Kind, Passage
@@ -38,7 +38,7 @@ class Thing:
         self.owner = owner
         self.user = owner.user
         self.asked = asked
-        self.began = time.monotonic()
+        self.began = monotonic()
         self.cells = 0
         self.has_committed = False
         self.idle_looks = 0
@@ -53,7 +53,7 @@ class Things:
     def seconds_of_oldest_session(self) -> float:
         """The seconds since the oldest open session began, 0 if there is none."""
         oldest = next(iter(self.by_name[Kind.SESSION].values()), None)
-        return 0.0 if oldest is None else round(time.monotonic() - oldest.began, 3)
+        return 0.0 if oldest is None else round(monotonic() - oldest.began, 3)
 
     def give(self, thing: Thing, heir: Owner) -> None:
         """Passes a thing to another owner."""
