@@ -15,8 +15,9 @@ from duqishom.fields import MalformedReply
 from duqishom.files import file_name
 from duqishom.folders import read_root
 from duqishom.lines import HELP, Line, Misspelled, add_range, add_scan, completions, parsers_of, read_line, split_words
+from duqishom.operations import Answer, Operation
 from duqishom.progress import ProgressLine, add_progress
-from duqishom.refusals import Refused
+from duqishom.refusals import BadRequest, Refused
 from duqishom.store import Store
 from duqishom.tellings import (
     Form,
@@ -221,20 +222,22 @@ class Words:
 
     def clients(self) -> Told:
         """Shows the clients of the gateway."""
-        self._need_gateway()
-        return states.clients(self._store.ask(Clients()))
+        return states.clients(self._asked(Clients(), "only the administrator, root and the gateway's user are told"))
 
     def kill(self, client: int) -> Told:
         """Kills a client's connection to the gateway."""
-        self._need_gateway()
-        if not self._store.ask(Kill(client)):
+        if not self._asked(Kill(client), "clients are killed only at the administrator's socket (serve --admin)"):
             raise NotDone(f"the gateway has no other client {client}")
         return said("killed")
 
-    def _need_gateway(self) -> None:
-        """NotDone if no gateway serves the store."""
+    def _asked(self, operation: Operation[Answer], why: str) -> Answer:
+        """The gateway's answer. NotDone if no gateway serves the store, and with this reason if the gateway refuses."""
         if self._socket is None:
             raise NotDone("no gateway serves this store")
+        try:
+            return self._store.ask(operation)
+        except BadRequest:
+            raise NotDone(why) from None
 
     def clean(self, row: bytes, family: bytes) -> Told:
         """Clears the lock of a cell."""

@@ -91,6 +91,9 @@ class Lists(unittest.TestCase):
         self.assertEqual([each["client"] for each in listed(gateway.wire())], [1, 2, 3])
         self.assertEqual(len(listed(admin)), 3)
         self.assertEqual([stranger.ask(request) for request in (CLIENTS, killing(2))], 2 * [BAD_REQUEST])
+        with as_user(NOBODY):
+            status, text = said("--socket", gateway.path, "clients")
+        self.assertEqual((status, text), (1, "not done: only the administrator, root and the gateway's user are told\n"))
         self.assertEqual(admin.ask(killing(1)), KILLED)
 
     def test_what_is_no_request(self) -> None:
@@ -110,7 +113,8 @@ class Lists(unittest.TestCase):
         _, text = said("--socket", gateway.admin, "--json", "clients")
         shown = [(each["client"], each["admin"]) for each in json.loads(text)]
         self.assertEqual((shown[0], shown[-1]), ((1, False), (3, True)))
-        self.assertEqual(said("--socket", gateway.path, "kill", "1"), (1, "refused 22: BadRequest\n"))
+        status, text = said("--socket", gateway.path, "kill", "1")
+        self.assertEqual((status, text), (1, "not done: clients are killed only at the administrator's socket (serve --admin)\n"))
         for number, told in ((1, (0, "killed\n")), (1, (1, "not done: the gateway has no other client 1\n"))):
             self.assertEqual(said("--socket", gateway.admin, "kill", number), told)
         self.assertRaises(ENDED, wire.reply)

@@ -143,22 +143,26 @@ class Gateways(FolderTest):
 
             self.assertRaises(Stopped, work, note)
             self.assertEqual(seen, [Reached(0, len(ROOT), BYTES)])
+            # The request answered now came after the end of the copy's client
+            gateway.statistics()
             (self.path / FILE).write_bytes(b"file")
             self.assertTrue(until(lambda: self.copies(gateway) == {}))
             self.assertFalse((place / ROOT_FILE).exists())
             (place / FILE).unlink()
 
     def test_it_goes_on(self) -> None:
-        gateway = self.held_up()
-        told = Told()
+        gateway, told = self.held_up(), Told()
+        writing = threading.Thread(target=(self.path / FILE).write_bytes, args=(b"file",))
 
         def note(reached: Reached) -> None:
+            if not told.parts:
+                writing.start()
             told(reached)
-            threading.Thread(target=(self.path / FILE).write_bytes, args=(b"file",)).start()
 
         with Store(socket=gateway.path) as store:
             store.backup(self.path / "copy", note)
-        self.assertEqual(told.ends(), {(BYTES, len(ROOT)): 0})
+        writing.join()
+        self.assertEqual(list(told.ends()), [(BYTES, len(ROOT))])
         self.assertEqual((self.path / "copy" / FILE).read_bytes(), b"file")
 
 

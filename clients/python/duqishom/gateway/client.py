@@ -36,6 +36,9 @@ if TYPE_CHECKING:
 # The read buffer shared by all connections.
 READ_BUFFER = memoryview(bytearray(READ_SIZE))
 
+# The most runs of a client whose replies wait for a checkpoint and whose times count that wait.
+MOST_KEPT_TIMES = 256
+
 
 class Client(asyncio.BufferedProtocol):
     """One connection, with its open sessions, cleaners and collectors.
@@ -60,7 +63,7 @@ class Client(asyncio.BufferedProtocol):
         self.untaken = 0
         self.kept: list[bytes] | None = None
         self.kept_size = 0
-        self._kept_runs: list[tuple[Run, int]] = []
+        self._kept_times: list[tuple[int, float, int]] = []
         self._out: list[bytes] = []
         self._out_size = 0
         self._written = self._taken = 0
@@ -340,10 +343,10 @@ class Client(asyncio.BufferedProtocol):
             exchange.counts.note_all(frames)
         elif run.passage.code != NO_OPERATION:
             exchange.counts.note(frames)
-        if self.kept is None:
+        if self.kept is None or len(self._kept_times) == MOST_KEPT_TIMES:
             exchange.latencies.note(run.passage.code, run.since, count)
         else:
-            self._kept_runs.append((run, count))
+            self._kept_times.append((run.passage.code, run.since, count))
         self._reply(frames)
         if not self.is_alive:
             self._bequeath()
@@ -374,9 +377,9 @@ class Client(asyncio.BufferedProtocol):
     def release(self) -> None:
         """Releases the replies that were held back."""
         kept, self.kept = self.kept, None
-        for run, count in self._kept_runs:
-            self.exchange.latencies.note(run.passage.code, run.since, count)
-        self._kept_runs.clear()
+        for code, since, count in self._kept_times:
+            self.exchange.latencies.note(code, since, count)
+        self._kept_times.clear()
         self.exchange.bounds.replies -= self.kept_size
         self.kept_size = 0
         if kept and self.is_alive:
