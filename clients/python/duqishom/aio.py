@@ -14,12 +14,13 @@ from __future__ import annotations
 
 import asyncio
 import logging
-from collections.abc import AsyncIterator, Awaitable, Callable, Coroutine, Iterable, Sequence
-from contextlib import suppress
+from collections.abc import AsyncGenerator, AsyncIterator, Awaitable, Callable, Coroutine, Iterable, Sequence
+from contextlib import aclosing, suppress
 from os import PathLike, fspath
 from types import TracebackType
 from typing import Any, Concatenate, Literal, ParamSpec, TypeVar, overload
 
+from duqishom.administration import LOOK_PAUSE, Backup, Statistics, answer_in, check_copied, reached_in
 from duqishom.answers import (
     Cleaned,
     Cleaner,
@@ -36,6 +37,7 @@ from duqishom.answers import (
 from duqishom.autocommit import cell_of, is_of_session
 from duqishom.batches import Batch, answers_of, request_frame, request_frames
 from duqishom.cells import Cell, CellRange, range_of
+from duqishom.fields import MalformedReply
 from duqishom.operations import (
     MOST_CELLS,
     Begin,
@@ -77,8 +79,9 @@ from duqishom.plans import (
     patience_of,
 )
 from duqishom.program import ProgramEnded
+from duqishom.progress import Reached, Report, unreported
 from duqishom.refusals import Refused, TooManySessions, UnknownSession
-from duqishom.remote import Address, Backup, ConnectionLost, Fate, address_of, check_copied
+from duqishom.remote import Address, ConnectionLost, Fate, address_of
 from duqishom.sessions import Entry, RangeScan, Session
 from duqishom.streams import FrameStream
 
@@ -587,15 +590,21 @@ class Store:
         session.commit_stamp = fate.commit if isinstance(fate, Committed) else None
         return isinstance(fate, Committed)
 
-    async def backup(self, path: str | PathLike[str]) -> None:
+    async def backup(self, path: str | PathLike[str], progress: Report = unreported) -> None:
         """Has the gateway make a copy of the store's folder at a path, as `Store.backup` of the other twin does. A task that is
         cancelled meanwhile stops the copy."""
         asked, stream = Backup(fspath(path)), await FrameStream.open(self._address)
+        copying = asyncio.ensure_future(stream.ask(request_frame(asked), 1))
         try:
-            replies = await stream.ask(request_frame(asked), 1)
+            if progress is not unreported:
+                async with aclosing(looks(self._address, asked, copying)) as reports:
+                    async for reached in reports:
+                        progress(reached)
+            reply = await copying
         finally:
+            copying.cancel()
             stream.close()
-        check_copied(asked, replies)
+        check_copied(asked, reply)
 
     async def close(self) -> int:
         """Leaves the gateway, which ends what is open."""
@@ -613,6 +622,20 @@ class Store:
         self, kind: type[BaseException] | None, error: BaseException | None, trace: TracebackType | None
     ) -> None:
         await self.close()
+
+
+async def looks(address: Address, asked: Backup, copying: asyncio.Future[bytes]) -> AsyncGenerator[Reached, None]:
+    """How far a copy is, now and then until it is made. If the gateway doesn't tell it, this ends earlier."""
+    with suppress(OSError, ConnectionLost, Refused, MalformedReply):
+        stream = await FrameStream.open(address)
+        try:
+            while not (await asyncio.wait({copying}, timeout=LOOK_PAUSE))[0]:
+                told = answer_in(Statistics(), await stream.ask(request_frame(Statistics()), 1))
+                reached = reached_in(told, asked.place())
+                if reached is not None:
+                    yield reached
+        finally:
+            stream.close()
 
 
 class Snapshot:

@@ -4,26 +4,58 @@ from __future__ import annotations
 
 import argparse
 import sys
-from collections.abc import Sequence
+from collections.abc import Iterator, Sequence
 from pathlib import Path
 
 from duqishom.copies import NotCopied, restore
-from duqishom.files import ROOT_FILE
+from duqishom.files import ROOT_FILE, Entry, SortedFile
 from duqishom.folders import FolderDamaged, has_log, holder_of
 from duqishom.inspection import Folder, committed, note_state, status_of
+from duqishom.progress import BYTES, CELLS, ProgressLine, Report, Tally, add_progress, tallied, unreported
 
 # The limits of the check of a backup.
 NO_CHECKSUMS = "Sorted files have no checksums: a changed byte inside a value isn't noticed."
 
 
-def whole(path: Path) -> str:
-    """A one-line summary of a folder, after all of it was read. FolderDamaged, or BadForm for a lock or a record, if it
-    isn't intact."""
+# The bytes of a file that are read between two reports.
+REPORTED_BYTES = 1 << 18
+
+
+class TalliedFile(SortedFile):
+    """A sorted file whose bytes are done when its entries are read."""
+
+    def __init__(self, file: SortedFile, read: Tally) -> None:
+        super().__init__(file._data)
+        self._read = read
+
+    def entries(self) -> Iterator[Entry]:
+        at = told = 0
+        for entry in super().entries():
+            at += 5 + len(entry.text) + (0 if entry.value is None else 4 + len(entry.value))
+            if at - told >= REPORTED_BYTES:
+                self._read.add(at - told)
+                told = at
+            yield entry
+        self._read.add(self.size - told)
+
+
+def check(folder: Folder, progress: Report) -> None:
+    """Checks all files of a folder, and reports how many bytes of them are read. FolderDamaged if one isn't intact."""
+    files = folder.files
+    read = Tally(progress, sum(file.size for file in files.values()), BYTES)
+    folder.files = {name: TalliedFile(file, read) for name, file in files.items()}
+    folder.check()
+    folder.files = files
+
+
+def whole(path: Path, progress: Report = unreported) -> str:
+    """A one-line summary of a folder, after all of it was read. `progress` is told how many bytes of the files are
+    checked, and then how many cells are found. FolderDamaged, or BadForm for a lock or a record, if it isn't intact."""
     if not (path / ROOT_FILE).exists():
         raise FolderDamaged(path / ROOT_FILE, "there is no root")
     folder = Folder(path)
-    folder.check()
-    count = sum(1 for _ in committed(folder))
+    check(folder, progress)
+    count = sum(1 for _ in tallied(committed(folder), Tally(progress, None, CELLS)))
     size = sum(file.size for file in folder.files.values())
     sizes = f"{count:,} cells, {len(folder.root.tablets)} tablets, {len(folder.files)} files, {size:,} bytes"
     logged = f", {len(folder.log):,} keys in the log" if has_log(str(path)) else ""
@@ -38,14 +70,17 @@ def verify_main(words: Sequence[str]) -> int:
         f" wrong byte. It writes nothing. {NO_CHECKSUMS}",
     )
     parser.add_argument("folder", metavar="FOLDER")
-    folder = parser.parse_args(words).folder
+    add_progress(parser)
+    options = parser.parse_args(words)
 
     def verify() -> int:
-        note_state("verify", folder)
-        print(whole(Path(folder)))
+        note_state("verify", options.folder)
+        with ProgressLine("verify", options.progress) as line:
+            told = whole(Path(options.folder), line)
+        print(told)
         return 0
 
-    return status_of("verify", folder, verify)
+    return status_of("verify", options.folder, verify)
 
 
 def restore_main(words: Sequence[str]) -> int:
@@ -57,6 +92,7 @@ def restore_main(words: Sequence[str]) -> int:
     )
     parser.add_argument("backup", metavar="BACKUP", help="a backup, or the folder of a store that no program has")
     parser.add_argument("folder", metavar="FOLDER", help="an empty folder, or one that is made")
+    add_progress(parser)
     options = parser.parse_args(words)
 
     def copy() -> int:
@@ -64,9 +100,12 @@ def restore_main(words: Sequence[str]) -> int:
         if holder is not None:
             print(f"restore: {options.backup} is in use by {holder}", file=sys.stderr)
             return 2
-        print(whole(Path(options.backup)))
         try:
-            restore(options.backup, options.folder)
+            with ProgressLine("restore", options.progress) as line:
+                told = whole(Path(options.backup), line)
+            print(told)
+            with ProgressLine("restore", options.progress) as line:
+                restore(options.backup, options.folder, line)
         except NotCopied as why:
             print(f"restore: {why}", file=sys.stderr)
             return 2

@@ -98,6 +98,15 @@ class Frames:
         """
         deadline = None if timeout is None else time.monotonic() + timeout
         self._trip = trip = Trip(requests, count, self._unwaited(deadline))
+        return self._replies(trip, deadline)
+
+    def wait(self, timeout: float) -> bytes:
+        """The frames of the replies to the last trip, which has timed out. StreamEnded and RequestTimedOut as before."""
+        assert self._trip is not None
+        return self._replies(self._trip, time.monotonic() + timeout)
+
+    def _replies(self, trip: Trip, deadline: float | None) -> bytes:
+        """Completes a trip, and returns the frames of its own replies."""
         replies = self._finish(trip, deadline)
         return replies[frames_end(replies, 0, trip.passed)[0] :] if trip.passed else replies
 

@@ -3,13 +3,14 @@
 from __future__ import annotations
 
 import os
-from collections.abc import Callable, Mapping
+from collections.abc import Mapping
 from io import BytesIO
 from pathlib import Path
 from typing import BinaryIO
 
 from duqishom.files import LOG_FILE, MARK_FILE, ROOT_FILE, SIGN_FILE, file_name, renewed_log, sign_of, spelled_mark
 from duqishom.folders import read_log, read_mark, root_in
+from duqishom.progress import BYTES, Report, Tally, unreported
 
 # The size of a piece that is copied at once, in bytes.
 PIECE = 1 << 20
@@ -19,17 +20,13 @@ class NotCopied(ValueError):
     """A store wasn't copied: the text says why. A partial copy has no root, so it isn't a store."""
 
 
-def nothing() -> None:
-    """Does nothing: the copying continues."""
-
-
-def copy_checkpoint(source: str, target: str, go_on: Callable[[], None] = nothing) -> None:
+def copy_checkpoint(source: str, target: str, progress: Report = unreported) -> None:
     """Copies the last checkpoint of a folder into another one, which is empty or is created. If it has a log, the copy
     gets its sign, a log without edits over the root, and a mark that no stamp of the log is above. The program may put
     another root meanwhile, but must not remove a file.
 
-    `go_on` is called before each piece, and may raise an exception to end the copying. NotCopied if the other folder
-    has files.
+    `progress` is told after each piece how many bytes are copied, and may raise an exception to end the copying.
+    NotCopied if the other folder has files.
     """
     place, copy = Path(source), empty_folder(target)
     data = (place / ROOT_FILE).read_bytes()
@@ -42,16 +39,16 @@ def copy_checkpoint(source: str, target: str, go_on: Callable[[], None] = nothin
     mark = max(read_mark(place), 0 if log is None else log.mark())
     if mark > 0:
         beside[MARK_FILE] = spelled_mark(mark)
-    copy_store(place, copy, data, beside, go_on)
+    copy_store(place, copy, data, beside, progress)
 
 
-def restore(backup: str, target: str) -> None:
+def restore(backup: str, target: str, progress: Report = unreported) -> None:
     """Copies the store of a folder that no program has open, with its log and all edits, into a folder that is empty or
-    is created. NotCopied if that has files."""
+    is created. `progress` is told how many bytes are copied. NotCopied if the other folder has files."""
     place, copy = Path(backup), empty_folder(target)
     kept = (SIGN_FILE, LOG_FILE, MARK_FILE)
     beside = {name: (place / name).read_bytes() for name in kept if (place / name).exists()}
-    copy_store(place, copy, (place / ROOT_FILE).read_bytes(), beside, nothing)
+    copy_store(place, copy, (place / ROOT_FILE).read_bytes(), beside, progress)
 
 
 def empty_folder(target: str) -> Path:
@@ -65,27 +62,33 @@ def empty_folder(target: str) -> Path:
     return copy
 
 
-def copy_store(place: Path, copy: Path, data: bytes, beside: Mapping[str, bytes], go_on: Callable[[], None]) -> None:
+def copy_store(place: Path, copy: Path, data: bytes, beside: Mapping[str, bytes], progress: Report) -> None:
     """Copies the files that a root of these bytes names, and writes the files in `beside`. The root is written last, so
     an incomplete copy has no root."""
     root = root_in(place, data)
-    for name, said in beside.items():
-        write_synced(copy / name, BytesIO(said), go_on)
     named = {file_name(reference.name) for tablet in root.tablets for reference in tablet.files}
-    for name in sorted(named):
+    names = sorted(named)
+    size = sum((place / name).stat().st_size for name in names) + sum(map(len, (*beside.values(), data)))
+    copied = Tally(progress, size, BYTES)
+    for name, said in beside.items():
+        write_synced(copy / name, BytesIO(said), copied)
+    for name in names:
         with (place / name).open("rb") as file:
-            write_synced(copy / name, file, go_on)
-    go_on()
+            write_synced(copy / name, file, copied)
+    # Behind the root nothing may end the copying, so it is counted before it is written
+    copied.add(len(data))
     write_synced(copy / ROOT_FILE, BytesIO(data))
 
 
-def write_synced(path: Path, source: BinaryIO, go_on: Callable[[], None] = nothing) -> None:
-    """Writes a new file, and syncs it and its name to disk. OSError, which names the file, if that fails."""
+def write_synced(path: Path, source: BinaryIO, copied: Tally | None = None) -> None:
+    """Writes a new file and counts its bytes, and syncs it and its name to disk. OSError, which names the file, if that
+    fails."""
     try:
         with open(path, "xb", opener=open_private) as file:
             while piece := source.read(PIECE):
-                go_on()
                 file.write(piece)
+                if copied is not None:
+                    copied.add(len(piece))
             file.flush()
             os.fsync(file.fileno())
         sync_folder(path.parent)

@@ -10,6 +10,7 @@ from __future__ import annotations
 
 import argparse
 import json
+import os
 import sys
 from collections.abc import Callable, Iterable, Iterator, Sequence
 from contextlib import ExitStack
@@ -20,6 +21,7 @@ from typing import BinaryIO
 from duqishom.fields import MalformedReply
 from duqishom.inspection import Folder, committed, drop_output, note_state, status_of
 from duqishom.program import ProgramEnded
+from duqishom.progress import CELLS, ProgressLine, Report, Tally, add_progress, tallied, unreported
 from duqishom.refusals import BadColumn, BadRow, BadValue, Refused
 from duqishom.store import Store
 from duqishom.texts import bytes_of, text_of
@@ -32,31 +34,9 @@ NAMES = ("row", "family", "value")
 DUMP_PATIENCE = Patience(tries=100)
 LOAD_WORDS = ("--merge", "8")
 
-# The number of cells dumped between two reports of progress.
-REPORTED = 1000
-
 
 class BadLine(Exception):
     """A line isn't a cell's."""
-
-
-class Progress:
-    """The number of cells done, shown on the standard error if that is a terminal."""
-
-    def __init__(self, is_shown: bool = True) -> None:
-        self.cells = 0
-        self._is_shown = is_shown and sys.stderr.isatty()
-
-    def add(self, cells: int) -> None:
-        """Adds cells that are done."""
-        self.cells += cells
-        if self._is_shown:
-            print(f"\r{self.cells:,} cells", end="", file=sys.stderr, flush=True)
-
-    def end(self) -> None:
-        """Ends the line."""
-        if self._is_shown:
-            print(file=sys.stderr)
 
 
 def line_of(cell: Entry) -> bytes:
@@ -80,19 +60,16 @@ def cell_of(line: bytes) -> Entry:
     return row, family, value
 
 
-def dump(cells: Iterable[Entry], out: BinaryIO, progress: Progress) -> None:
-    """Writes cells as lines."""
-    left = iter(cells)
-    while batch := list(islice(left, REPORTED)):
-        out.writelines(map(line_of, batch))
-        progress.add(len(batch))
+def dump(cells: Iterable[Entry], out: BinaryIO, progress: Report = unreported) -> None:
+    """Writes cells as lines. `progress` is told how many are written."""
+    out.writelines(map(line_of, tallied(cells, Tally(progress, None, CELLS))))
     out.flush()
 
 
-def load(store: Store, lines: Iterable[bytes], progress: Progress) -> None:
-    """Sets the cells of lines, in transactions of as many cells as possible. BadLine, with the line's number, at a
-    malformed line."""
-    numbered = enumerate(lines, start=1)
+def load(store: Store, lines: Iterable[bytes], progress: Report = unreported, total: int | None = None) -> None:
+    """Sets the cells of lines, in transactions of as many cells as possible. `progress` is told how many are set, of so
+    many in all. BadLine, with the line's number, at a malformed line."""
+    numbered, loaded = enumerate(lines, start=1), Tally(progress, total, CELLS)
     while batch := list(islice(numbered, MOST_WRITES)):
         cells = list(cells_of(batch))
 
@@ -104,7 +81,7 @@ def load(store: Store, lines: Iterable[bytes], progress: Progress) -> None:
             store.run(write)
         except (BadRow, BadColumn, BadValue) as refusal:
             raise BadLine(f"lines {batch[0][0]} to {batch[-1][0]}: {refusal}") from None
-        progress.add(len(cells))
+        loaded.add(len(cells))
 
 
 def cells_of(batch: Iterable[tuple[int, bytes]]) -> Iterator[Entry]:
@@ -116,6 +93,14 @@ def cells_of(batch: Iterable[tuple[int, bytes]]) -> Iterator[Entry]:
             raise BadLine(f"line {number}: {bad}") from None
 
 
+def lines_in(path: str | None) -> int | None:
+    """The number of lines of a file, or None if that can't be known before they are read."""
+    if path is None or not os.path.isfile(path):
+        return None
+    with open(path, "rb") as file:
+        return sum(1 for _ in file)
+
+
 def parser_of(command: str, description: str, file: str) -> argparse.ArgumentParser:
     """The parser of a command that has a store and a file."""
     parser = argparse.ArgumentParser(prog=f"duqishom {command}", description=description)
@@ -123,6 +108,7 @@ def parser_of(command: str, description: str, file: str) -> argparse.ArgumentPar
     place.add_argument("--dir", metavar="FOLDER", help="the folder of the store")
     place.add_argument("--socket", metavar="PATH", help="the socket of the gateway that serves the store")
     parser.add_argument("file", metavar="FILE", nargs="?", help=file)
+    add_progress(parser)
     return parser
 
 
@@ -151,11 +137,11 @@ def dump_main(words: Sequence[str]) -> int:
     ).parse_args(words)
 
     def write(cells: Iterable[Entry]) -> None:
-        progress = Progress(options.file is not None)
+        # At one terminal this line and those of the dump would mix
+        is_shown = False if options.progress is None and options.file is None and sys.stdout.isatty() else options.progress
         with ExitStack() as stack:
             out = sys.stdout.buffer if options.file is None else stack.enter_context(open(options.file, "xb"))
-            stack.callback(progress.end)
-            dump(cells, out, progress)
+            dump(cells, out, stack.enter_context(ProgressLine("dump", is_shown)))
 
     def read_folder() -> int:
         note_state("dump", options.dir)
@@ -179,17 +165,16 @@ def load_main(words: Sequence[str]) -> int:
         " anew.",
         "the lines: the standard input where none is named",
     ).parse_args(words)
-    progress = Progress()
+    line = ProgressLine("load", options.progress)
 
     def read() -> None:
         with ExitStack() as stack:
             lines = sys.stdin.buffer if options.file is None else stack.enter_context(open(options.file, "rb"))
             tuned = () if options.dir is None else LOAD_WORDS
             store = stack.enter_context(Store(folder=options.dir, socket=options.socket, words=tuned))
-            stack.callback(progress.end)
-            load(store, lines, progress)
+            load(store, lines, stack.enter_context(line), lines_in(options.file) if line.is_shown else None)
 
     try:
         return status("load", read)
     finally:
-        print(f"{progress.cells:,} cells are set")
+        print(f"{line.reached.done:,} cells are set")

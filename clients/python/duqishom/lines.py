@@ -72,6 +72,7 @@ READERS: dict[str, Callable[[str], object]] = {
     "TABLET": number_of,
     "SERVER": number_of,
     "COUNT": number_of,
+    "CLIENT": number_of,
     "PATH": str,
 }
 

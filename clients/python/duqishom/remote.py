@@ -1,23 +1,17 @@
-"""A gateway's store: the way to it, and the copy of its folder."""
+"""The way to a gateway."""
 
 from __future__ import annotations
 
-import os
 import re
 import socket
+from collections.abc import Callable
 from contextlib import suppress
-from dataclasses import dataclass
-from typing import ClassVar
 
-from duqishom.batches import answers_of, request_frame
-from duqishom.connection import Frames, StreamEnded
-from duqishom.copies import NotCopied
-from duqishom.fields import FieldReader
+from duqishom.connection import Frames, RequestTimedOut, StreamEnded
 from duqishom.plans import MOST_TABLETS, Fate
 from duqishom.program import ProgramEnded
-from duqishom.refusals import Refused
 
-__all__ = ["MOST_TABLETS", "Address", "Backup", "ConnectionLost", "Fate", "Gateway", "address_of", "back_up", "check_copied"]
+__all__ = ["MOST_TABLETS", "Address", "ConnectionLost", "Fate", "Gateway", "address_of"]
 
 # The path of a Unix socket, or a host and its port.
 Address = str | tuple[str, int]
@@ -87,9 +81,27 @@ class Gateway:
         try:
             return self._frames.ask(requests, count, timeout)
         except StreamEnded:
-            self.is_lost = True
-            self.close()
-            raise ConnectionLost() from None
+            raise self._lost() from None
+
+    def ask_for_long(self, request: bytes, pause: float, meanwhile: Callable[[], None]) -> bytes:
+        """Sends the frame of a request, and gives that of its reply. Until it is there, `meanwhile` is called again and
+        again, with a pause of so many seconds before each time. ConnectionLost if the connection ends instead."""
+        with suppress(RequestTimedOut):
+            return self.ask(request, 1, pause)
+        while True:
+            meanwhile()
+            try:
+                return self._frames.wait(pause)
+            except RequestTimedOut:
+                pass
+            except StreamEnded:
+                raise self._lost() from None
+
+    def _lost(self) -> ConnectionLost:
+        """Closes the connection, which is lost."""
+        self.is_lost = True
+        self.close()
+        return ConnectionLost()
 
     def tell(self, request: bytes, timeout: float | None = None) -> None:
         """Sends the frame of a request, and doesn't wait for its reply."""
@@ -106,38 +118,3 @@ class Gateway:
         self._is_closed = True
         self._frames.close()
         return 0
-
-
-@dataclass(frozen=True)
-class Backup:
-    """Has a gateway copy the folder of its store to a path. The answer is the reason why it failed, empty if it
-    didn't."""
-
-    path: str
-    code: ClassVar[int] = 0x71
-
-    def fields(self) -> bytes:
-        return os.fsencode(os.path.abspath(self.path))
-
-    def read(self, fields: FieldReader) -> str:
-        return fields.rest().decode(errors="replace")
-
-
-def back_up(address: Address, path: str) -> None:
-    """Has the gateway at an address copy its store's folder to a path, over a connection of its own: so others go on meanwhile, and
-    the copy is stopped where this is interrupted. OSError where nobody serves there."""
-    asked, gateway = Backup(path), Gateway(address)
-    try:
-        replies = gateway.ask(request_frame(asked), 1)
-    finally:
-        gateway.close()
-    check_copied(asked, replies)
-
-
-def check_copied(asked: Backup, replies: bytes) -> None:
-    """Checks the frame of the reply to a Backup. NotCopied, or a Refused, if no copy was made."""
-    [answer] = answers_of([asked], replies)
-    if isinstance(answer, Refused):
-        raise answer
-    if answer:
-        raise NotCopied(answer)

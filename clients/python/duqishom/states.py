@@ -7,8 +7,11 @@ import shutil
 import time
 from collections.abc import Iterator, Mapping
 from contextlib import suppress
+from dataclasses import asdict
 from pathlib import Path
 
+from duqishom.administration import Client, Listing
+from duqishom.figures import duration
 from duqishom.files import LOG_FILE, ROOT_FILE, file_name
 from duqishom.folders import read_root
 from duqishom.statistics import lines, statistics
@@ -16,16 +19,11 @@ from duqishom.store import Store
 from duqishom.tellings import Told
 from duqishom.version import VERSION
 
-# A gateway's counts of its clients, in words.
-CLIENTS = {
-    "now": "connected, twice by this command",
-    "ever": "connected since the gateway's start",
-    "turned_away": "turned away, for there was no place",
-    "closed_for_memory": "closed, for too much of theirs waited",
-}
+# The columns of the clients.
+COLUMNS = ("client", "process", "user", "age", "sessions", "oldest", "requests", "bytes held")
 
-# The line of an operation that no client has asked for.
-UNASKED = re.compile("requests .*: 0")
+# The line of a request, a refusal or a conflict that there hasn't been.
+NEVER = re.compile("(?:requests|refusals|conflicts) .*: 0")
 
 
 def size_of(file: Path) -> int:
@@ -58,17 +56,31 @@ def state(store: Store, socket: str | None) -> Told:
     if socket is not None:
         counted = statistics(socket)
         told: Mapping[str, object] = figures | counted
-        asked = (line for line in lines(counted) if not UNASKED.fullmatch(line))
-        return Told("\n".join([f"version: {VERSION}", *asked]), told)
+        happened = (line for line in lines(counted) if not NEVER.fullmatch(line))
+        return Told("\n".join([f"version: {VERSION}", *happened]), told)
     figures.update([("tablets", len(store.tablets()))] if store.folder is None else folder_state(Path(store.folder)))
     text = (f"{name}: {figure:,}" if isinstance(figure, int) else f"{name}: {figure}" for name, figure in figures.items())
     return Told("\n".join(text), figures)
 
 
-def clients(socket: str | None) -> Told:
-    """The number of a gateway's clients. A store without a gateway has only this command."""
-    if socket is None:
-        return Told("1 connected: this command", {"now": 1})
-    counted = statistics(socket)["clients"]
-    assert isinstance(counted, Mapping)
-    return Told("\n".join(f"{counted[name]:,} {words}" for name, words in CLIENTS.items()), counted)
+def clients(listing: Listing) -> Told:
+    """The clients of a gateway, as a table."""
+    rows = [COLUMNS, *map(row_of, listing.clients)]
+    widths = [max(map(len, column)) for column in zip(*rows)]
+    shown = ["  ".join(part.rjust(width) for part, width in zip(row, widths)) for row in rows]
+    more = [f"and {listing.more:,} more"] if listing.more else []
+    return Told("\n".join([*shown, *more]), [asdict(client) for client in listing.clients])
+
+
+def row_of(client: Client) -> tuple[str, ...]:
+    """A client as a row of the table."""
+    return (
+        str(client.client),
+        "-" if client.process is None else str(client.process),
+        "administrator" if client.admin else "tcp" if client.user is None else str(client.user),
+        duration(client.seconds),
+        str(client.sessions),
+        "-" if client.oldest_session_seconds is None else duration(client.oldest_session_seconds),
+        f"{client.requests:,}",
+        f"{client.requests_held + client.replies_held:,}",
+    )

@@ -6,22 +6,16 @@
 from __future__ import annotations
 
 import argparse
-import json
 import sys
 from collections.abc import Iterator, Mapping, Sequence
 from dataclasses import dataclass
 
+from duqishom.administration import Counted, Statistics, asked_at
 from duqishom.fields import MalformedReply
-from duqishom.frames import framed
-from duqishom.operations import REFUSED
 from duqishom.program import ProgramEnded
-from duqishom.refusals import BY_NUMBER, Refused
-from duqishom.remote import Gateway
+from duqishom.refusals import Refused
+from duqishom.remote import Address
 
-REQUEST, REPLY = b"\x70", 0xF0
-
-Number = int | float
-Counted = Number | Mapping[str, Number]
 
 @dataclass(frozen=True)
 class Metric:
@@ -44,10 +38,13 @@ METRICS = (
     Metric("clients_turned_away_total", True, "clients for whom was no place", ("clients", "turned_away")),
     Metric("clients_not_allowed_total", True, "clients whose users may not connect", ("clients", "not_allowed")),
     Metric("clients_closed_total", True, "clients that were closed for memory", ("clients", "closed_for_memory")),
-    Metric("ended_total", True, "idle clients and sessions, and ones taken for another user", ("ended",), "reason"),
+    Metric("ended_total", True, "clients and sessions that were ended, by reason", ("ended",), "reason"),
     Metric("user_clients", False, "clients of each user, if the asker may know", ("user_clients",), "user"),
     Metric("user_sessions", False, "sessions of each user, if the asker may know", ("user_sessions",), "user"),
     Metric("open", False, "what is open in the program", ("open",), "kind"),
+    Metric("oldest_session_seconds", False, "seconds since the oldest open session began", ("oldest_session_seconds",)),
+    Metric("refusals_total", True, "requests that were refused, by refusal", ("refusals",), "refusal"),
+    Metric("conflicts_total", True, "commits that came to nothing, by the answer to their Step", ("conflicts",), "answer"),
     Metric("held", False, "bytes of requests and of replies that wait, and runs that the program has", ("held",), "what"),
     Metric("checkpoints_total", True, "checkpoints that were made", ("checkpoints",)),
     Metric("program_memory_bytes", False, "memory of the program", ("program", "memory")),
@@ -56,43 +53,55 @@ METRICS = (
     Metric("gateway_processor_seconds_total", True, "time of the gateway", ("gateway", "processor_seconds")),
 )
 
-
-def statistics(path: str) -> dict[str, Counted]:
-    """The counts of the gateway at a socket. OSError if none serves there, ConnectionLost if it ends, and
-    TooManySessions if it has no place."""
-    gateway = Gateway(path)
-    try:
-        reply = gateway.ask(framed(REQUEST), 1)[4:]
-    finally:
-        gateway.close()
-    if len(reply) == 2 and reply[0] == REFUSED and reply[1] in BY_NUMBER:
-        raise BY_NUMBER[reply[1]]()
-    if reply[:1] != bytes((REPLY,)):
-        raise MalformedReply(f"these are no statistics: {reply.hex(' ')}")
-    told: dict[str, Counted] = json.loads(reply[1:])
-    return told
+# The histogram of Prometheus: its name, its help text, and its path in the statistics.
+HISTOGRAM = Metric("request_seconds", True, "seconds until clients' requests were answered", ("request_seconds",), "operation")
 
 
-def lines(told: Mapping[str, Counted]) -> Iterator[str]:
-    """A line for each number: its name and its value."""
+def statistics(address: Address) -> dict[str, Counted]:
+    """The counts of the gateway at an address, as `asked_at` says."""
+    return asked_at(address, Statistics())
+
+
+def lines(told: Mapping[str, Counted], names: str = "") -> Iterator[str]:
+    """A line for each number: its names and its value. The histogram is only for Prometheus."""
     for name, counted in told.items():
-        if isinstance(counted, Mapping):
-            yield from (f"{name} {part}: {number}" for part, number in counted.items())
-        else:
-            yield f"{name}: {counted}"
+        if not isinstance(counted, Mapping):
+            yield f"{names}{name}: {counted}"
+        elif name != HISTOGRAM.name:
+            yield from lines(counted, f"{names}{name} ")
 
 
 def prometheus(told: Mapping[str, Counted]) -> Iterator[str]:
     """The lines of the text format of Prometheus."""
     for metric in METRICS:
-        name = f"duqishom_{metric.name}"
-        yield f"# HELP {name} {metric.what}"
-        yield f"# TYPE {name} {'counter' if metric.grows else 'gauge'}"
+        yield from head_of(metric, "counter" if metric.grows else "gauge")
         counted = found(told, metric.path)
         if isinstance(counted, Mapping):
-            yield from (f'{name}{{{metric.label}="{part}"}} {number}' for part, number in counted.items())
+            yield from (f'duqishom_{metric.name}{{{metric.label}="{part}"}} {number}' for part, number in counted.items())
         else:
-            yield f"{name} {counted}"
+            yield f"duqishom_{metric.name} {counted}"
+    yield from head_of(HISTOGRAM, "histogram")
+    counted = found(told, HISTOGRAM.path)
+    if isinstance(counted, Mapping):
+        for operation, buckets in counted.items():
+            if isinstance(buckets, Mapping):
+                yield from histogram(operation, buckets)
+
+
+def head_of(metric: Metric, kind: str) -> Iterator[str]:
+    """The lines before the values of a metric."""
+    yield f"# HELP duqishom_{metric.name} {metric.what}"
+    yield f"# TYPE duqishom_{metric.name} {kind}"
+
+
+def histogram(operation: str, buckets: Mapping[str, Counted]) -> Iterator[str]:
+    """The lines of one operation's histogram: how many requests took no longer than each bound, and then the sum of
+    their times and their number."""
+    name, label = f"duqishom_{HISTOGRAM.name}", f'{HISTOGRAM.label}="{operation}"'
+    bounds = {bound: count for bound, count in buckets.items() if bound != "sum"}
+    yield from (f'{name}_bucket{{{label},le="{bound}"}} {count}' for bound, count in bounds.items())
+    yield f"{name}_sum{{{label}}} {buckets['sum']}"
+    yield f"{name}_count{{{label}}} {bounds['+Inf']}"
 
 
 def found(told: Mapping[str, Counted], path: Sequence[str]) -> Counted:

@@ -15,6 +15,7 @@ from os import PathLike, fspath
 from types import TracebackType
 from typing import Any, TypeVar
 
+from duqishom.administration import back_up
 from duqishom.answers import (
     Cleaned,
     Cleaner,
@@ -66,9 +67,10 @@ from duqishom.plans import (
     patience_of,
 )
 from duqishom.program import ProgramEnded
+from duqishom.progress import Report, unreported
 from duqishom.recording import Recording
 from duqishom.refusals import Refused
-from duqishom.remote import Address, ConnectionLost, Fate, Gateway, back_up
+from duqishom.remote import Address, ConnectionLost, Fate, Gateway
 from duqishom.sessions import Session
 from duqishom.tablets import NEW_STORE, Tablet, TabletMap, tablets_of
 from duqishom.transactions import Snapshot, Transaction
@@ -439,19 +441,23 @@ class Store(AutoCommit):
         session.commit_stamp = fate.commit if isinstance(fate, Committed) else None
         return isinstance(fate, Committed)
 
-    def backup(self, path: str | PathLike[str]) -> None:
+    def backup(self, path: str | PathLike[str], progress: Report = unreported) -> None:
         """Makes a copy of the store's folder at a path, which must be an empty folder or not exist: the state of a
         checkpoint made now. Other threads wait meanwhile. If a gateway serves the store, the gateway makes the copy,
         and only a Sweep waits for it. NotCopied if the store is in memory, the path has files, or the gateway can't
-        copy; OSError if this process can't."""
+        copy; OSError if this process can't.
+
+        `progress` is told now and then how many bytes are copied, and of how many: a `Reached` of `duqishom.progress`.
+        What it raises ends the copy.
+        """
         if self._socket is not None:
-            back_up(self._socket, fspath(path))
+            back_up(self._socket, fspath(path), progress)
             return
         if self.folder is None:
             raise NotCopied("a store in memory has no folder to copy")
         with self.alone():
             self.checkpoint()
-            copy_checkpoint(self.folder, fspath(path))
+            copy_checkpoint(self.folder, fspath(path), progress)
 
     def kill(self) -> None:
         """Kills the program at once, whatever it is doing. A folder with a log then has everything that was answered,

@@ -5,8 +5,9 @@ from __future__ import annotations
 from collections.abc import Iterator, Sequence
 from itertools import groupby
 
+from duqishom.figures import counted, size, speed
 from duqishom.web_folder import MANY_FILES, TabletState, row_of
-from duqishom.web_markup import Markup, counted, size, speed, tag
+from duqishom.web_markup import Markup, tag
 
 # The width of a letter, and the distance of a label's lines.
 LETTER, LINE = 7, 17
@@ -39,7 +40,7 @@ def paths(points: Points, width: int, height: int) -> Iterator[Markup]:
 
 def small_line(points: Points) -> Markup:
     """A line without a scale."""
-    return svg(160, 18, *paths(points, 160, 18), class_="line")
+    return svg(100, 18, *paths(points, 100, 18), class_="line")
 
 
 def large_line(points: Points, span: str) -> Markup:

@@ -7,9 +7,9 @@ from contextlib import suppress
 from dataclasses import dataclass
 from pathlib import Path
 
+from duqishom.figures import counted, duration, size
 from duqishom.files import MOST_FILES
 from duqishom.web_folder import MANY_FILES, FolderState
-from duqishom.web_markup import counted, duration, size
 from duqishom.web_samples import SPAN, Sample, Samples, View, grown, measure, oldest_session
 
 OK, WARNING, DOWN = "ok", "warning", "down"
@@ -21,6 +21,9 @@ LONG_LOCK = 60.0
 # The most open sessions of a store, and the count from which on few are left.
 MOST_SESSIONS = 1024
 MANY_SESSIONS = MOST_SESSIONS * 3 // 4
+
+# The refusals that an operator does something about.
+MENDED = ("TooManyFiles", "FileTooLarge", "Exhausted", "Device", "NoMemory", "Damaged")
 
 # The bytes at which a checkpoint empties a log if no option says so, and the bytes of a log that are near to its bound.
 LOG_BYTES = 33_554_432
@@ -43,7 +46,9 @@ def health(view: View, folder: FolderState | None) -> Health:
     last = view.last()
     if view.failure is not None or last is None:
         return Health(DOWN, (view.failure or "the gateway hasn't answered yet",))
-    reasons = (*of_clients(view.samples), *of_sessions(view.samples, last), *(of_folder(folder, last) if folder else ()))
+    samples = view.samples
+    found = (*of_clients(samples), *of_sessions(samples, last), *of_refusals(samples))
+    reasons = (*found, *(of_folder(folder, last) if folder else ()))
     return Health(WARNING if reasons else OK, reasons)
 
 
@@ -55,6 +60,14 @@ def of_clients(samples: Samples) -> Iterator[str]:
     closed = int(grown(samples, measure("clients", "closed_for_memory")))
     if closed:
         yield f"{counted(closed, 'client')} closed for memory in the last {duration(SPAN)}"
+
+
+def of_refusals(samples: Samples) -> Iterator[str]:
+    """The reasons that lie with the program: requests that it refused for something that an operator mends."""
+    for name in MENDED:
+        count = int(grown(samples, measure("refusals", name)))
+        if count:
+            yield f"{counted(count, 'request')} refused {name} in the last {duration(SPAN)}"
 
 
 def of_sessions(samples: Samples, last: Sample) -> Iterator[str]:

@@ -7,12 +7,13 @@ from collections import Counter
 from collections.abc import Iterator
 from itertools import islice
 
+from duqishom.figures import counted, duration, moment, size, speed
 from duqishom.version import VERSION
 from duqishom.web_charts import are_labelled, large_line, range_of, small_line, tablet_bar
 from duqishom.web_folder import FolderState
 from duqishom.web_health import MOST_SESSIONS, Health, log_bytes
-from duqishom.web_markup import Markup, counted, duration, size, speed, table, tag
-from duqishom.web_samples import INTERVAL, SPAN, Sample, View, measure, oldest_session, points, recent_rate
+from duqishom.web_markup import Markup, table, tag
+from duqishom.web_samples import INTERVAL, SPAN, Measure, Sample, View, measure, oldest_session, points, recent_rate
 from duqishom.web_style import whole
 
 # The rows that a table of tablets or of locks has at most.
@@ -27,6 +28,9 @@ FILES = (
     ("bytes of files that no tablet has", "files of no tablet"),
     ("bytes free on the disk", "free on the disk"),
 )
+
+# The times of an operation's requests, with their names on the page.
+TIMES = {"p50": "half within", "p99": "99% within", "greatest": "longest"}
 
 # The operations that the page itself asks for, and that aren't part of the sum.
 OWN = ("Statistics", "other")
@@ -65,11 +69,18 @@ def operations(sample: Sample) -> float:
     return sum(count for name, count in sample.group("requests").items() if name not in OWN)
 
 
+def total(name: str) -> Measure:
+    """The function from a sample to the sum of its counts under a name."""
+    return lambda sample: sum(sample.group(name).values())
+
+
 def figures(view: View, last: Sample) -> Markup:
     """The figures that are looked at first."""
     shown = (
         (speed(recent_rate(view.samples, operations)), "requests a second"),
-        (f"{last.answer * 1000:.1f} ms", "until the program answers"),
+        (moment(last.answer), "until the program answers"),
+        (speed(recent_rate(view.samples, total("conflicts"))), "conflicts a second"),
+        (speed(recent_rate(view.samples, total("refusals"))), "refusals a second"),
         (f"{last.number('clients', 'now'):,}", "clients"),
         (f"{last.number('open', 'sessions'):,}", f"open sessions of {MOST_SESSIONS:,}"),
         (size(last.number("program", "memory")), "memory of the program"),
@@ -110,6 +121,8 @@ def beside(view: View, last: Sample | None, folder: FolderState | None) -> Itera
     if folder is not None:
         yield section("Folder", pairs(folder_rows(folder, last)))
     if last is not None:
+        if rows := list(failures(last)):
+            yield section("Refusals and conflicts", pairs(iter(rows)))
         yield section("Processes", processes(view, last), class_="wide")
         if last.group("process_clients"):
             yield section("Clients by process", *by_process(last), class_="wide")
@@ -129,8 +142,11 @@ def requests(view: View, last: Sample) -> Iterator[Markup]:
     for name, count in last.group("requests").items():
         if count:
             of = measure("requests", name)
-            rows.append((name, speed(recent_rate(view.samples, of)), f"{count:,}", small_line(points(view, of))))
-    yield table(("operation", "a second", "in all", ""), rows, class_="numbers")
+            times = last.group("latency_seconds", name)
+            shown = (moment(times[part]) if times else "–" for part in TIMES)
+            rows.append((name, speed(recent_rate(view.samples, of)), f"{count:,}", *shown, small_line(points(view, of))))
+    yield table(("operation", "a second", "in all", *TIMES.values(), ""), rows, class_="numbers times")
+    yield tag("p", "The times are the last minute's, from a request to its reply.", class_="note")
     yield tag("p", f"This page asks for one of Statistics and one of other every {INTERVAL:g} s.", class_="note")
 
 
@@ -147,6 +163,12 @@ def clients(view: View, last: Sample) -> Iterator[tuple[object, object]]:
         yield "open for long", f"{oldest[0]:,} for {duration(oldest[1])}"
     yield "cleaners, collectors", f"{last.number('open', 'cleaners'):,}, {last.number('open', 'collectors'):,}"
     yield "bytes that wait", size(last.number("held", "requests") + last.number("held", "replies"))
+
+
+def failures(last: Sample) -> Iterator[tuple[object, object]]:
+    """The refusals and conflicts that there have been, by their kinds."""
+    for name in ("conflicts", "refusals"):
+        yield from ((part, f"{count:,}") for part, count in last.group(name).items() if count)
 
 
 def spoken(name: str) -> str:

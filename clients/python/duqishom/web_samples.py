@@ -2,7 +2,6 @@
 
 from __future__ import annotations
 
-import json
 import threading
 import time
 from collections import deque
@@ -10,17 +9,16 @@ from collections.abc import Callable, Mapping, Sequence
 from contextlib import suppress
 from dataclasses import dataclass, field
 from itertools import dropwhile, pairwise
-from typing import ClassVar
 
+from duqishom.administration import Counted, Number, Statistics
 from duqishom.connection import RequestTimedOut
-from duqishom.fields import FieldReader
+from duqishom.figures import duration
 from duqishom.frames import LENGTH, framed
 from duqishom.operations import answer_or_refusal, request_body
 from duqishom.program import ProgramEnded
 from duqishom.refusals import Refused
 from duqishom.remote import Gateway
-from duqishom.statistics import Counted, Number, prometheus
-from duqishom.web_markup import duration
+from duqishom.statistics import prometheus
 
 # The seconds between two samples, the most samples that are kept, and the seconds after which they aren't.
 INTERVAL = 2.0
@@ -35,20 +33,6 @@ RECENT = 5
 
 # An empty body is refused by the program, and changes nothing.
 NO_REQUEST = b""
-
-
-@dataclass(frozen=True)
-class Statistics:
-    """Asks a gateway for its counts."""
-
-    code: ClassVar[int] = 0x70
-
-    def fields(self) -> bytes:
-        return b""
-
-    def read(self, fields: FieldReader) -> dict[str, Counted]:
-        told: dict[str, Counted] = json.loads(fields.rest())
-        return told
 
 
 @dataclass(frozen=True)
@@ -71,14 +55,20 @@ class Sample:
         number = self.told.get(name, 0)
         return 0 if isinstance(number, Mapping) else number
 
-    def group(self, name: str) -> Mapping[str, Number]:
-        """The numbers under a name, none if the gateway doesn't count them."""
-        counted = self.told.get(name)
-        return counted if isinstance(counted, Mapping) else {}
+    def group(self, *names: str) -> dict[str, Number]:
+        """The numbers under names, none if the gateway doesn't count them."""
+        counted: Counted = self.told
+        for name in names:
+            counted = counted.get(name, {}) if isinstance(counted, Mapping) else {}
+        if not isinstance(counted, Mapping):
+            return {}
+        return {part: number for part, number in counted.items() if not isinstance(number, Mapping)}
 
     def number(self, name: str, part: str) -> Number:
-        """One of these numbers, 0 if the gateway doesn't count it."""
-        return self.group(name).get(part, 0)
+        """One of the numbers under a name, 0 if the gateway doesn't count it."""
+        counted = self.told.get(name)
+        number = counted.get(part, 0) if isinstance(counted, Mapping) else 0
+        return 0 if isinstance(number, Mapping) else number
 
 
 # A function from a sample to one of its numbers.

@@ -7,6 +7,7 @@ from itertools import islice
 from pathlib import Path
 
 from duqishom import explained, states
+from duqishom.administration import Clients, Kill
 from duqishom.answers import Qualifier
 from duqishom.cells import Cell, range_of
 from duqishom.columns import BadForm
@@ -14,7 +15,9 @@ from duqishom.fields import MalformedReply
 from duqishom.files import file_name
 from duqishom.folders import read_root
 from duqishom.lines import HELP, Line, Misspelled, add_range, add_scan, completions, parsers_of, read_line, split_words
-from duqishom.refusals import Refused
+from duqishom.operations import Answer, Operation
+from duqishom.progress import ProgressLine, add_progress
+from duqishom.refusals import BadRequest, Refused
 from duqishom.store import Store
 from duqishom.tellings import (
     Form,
@@ -218,8 +221,23 @@ class Words:
         return states.state(self._store, self._socket)
 
     def clients(self) -> Told:
-        """Shows the number of clients."""
-        return states.clients(self._socket)
+        """Shows the clients of the gateway."""
+        return states.clients(self._asked(Clients(), "only the administrator, root and the gateway's user are told"))
+
+    def kill(self, client: int) -> Told:
+        """Kills a client's connection to the gateway."""
+        if not self._asked(Kill(client), "clients are killed only at the administrator's socket (serve --admin)"):
+            raise NotDone(f"the gateway has no other client {client}")
+        return said("killed")
+
+    def _asked(self, operation: Operation[Answer], why: str) -> Answer:
+        """The gateway's answer. NotDone if no gateway serves the store, and with this reason if the gateway refuses."""
+        if self._socket is None:
+            raise NotDone("no gateway serves this store")
+        try:
+            return self._store.ask(operation)
+        except BadRequest:
+            raise NotDone(why) from None
 
     def clean(self, row: bytes, family: bytes) -> Told:
         """Clears the lock of a cell."""
@@ -289,9 +307,10 @@ class Words:
         self._store.checkpoint()
         return said("written")
 
-    def backup(self, path: str) -> Told:
+    def backup(self, path: str, progress: bool | None) -> Told:
         """Copies the folder."""
-        self._store.backup(path)
+        with ProgressLine("backup", progress) as line:
+            self._store.backup(path, line)
         return said(f"copied to {path}")
 
     def restart(self) -> Told:
@@ -316,7 +335,8 @@ LINES = (
     Line("explain ROW FAMILY", "all that a cell has: its value, locks, records and data", Words.explain),
     Line("locks [START [END]] [OPTIONS]", "the locks of such a range, and their sessions' ends", Words.locks, add_range),
     Line("status", "the state of the store: of its folder, or as its gateway counts", Words.status),
-    Line("clients", "how many clients the gateway has", Words.clients),
+    Line("clients", "the clients of the gateway, those with the oldest sessions first", Words.clients),
+    Line("kill CLIENT", "ends the connection of the client with this number", Words.kill),
     Line("clean ROW FAMILY", "clears the lock of a cell", Words.clean),
     Line("collect", "erases the versions that no session reads", Words.collect),
     Line("raw ROW FAMILY COLUMN LO HI", "the newest version in data, lock or write; HI may be last", Words.raw),
@@ -328,7 +348,7 @@ LINES = (
     Line("compact TABLET major", "makes one file of all that the tablet has", Words.major),
     Line("sweep", "removes the files that no tablet names", Words.sweep),
     Line("checkpoint", "writes all into files, from which a folder is opened", Words.checkpoint),
-    Line("backup PATH", "copies the folder, as of now, to an empty folder or a new one", Words.backup),
+    Line("backup PATH [OPTIONS]", "copies the folder, as of now, to an empty folder or a new one", Words.backup, add_progress),
     Line("restart", "has the oracle go on from its mark", Words.restart),
     Line("help", "these lines; LINE --help shows the options of one", Words.help),
     Line("quit", "ends the command; so does exit", Words.quit),

@@ -39,6 +39,9 @@ EVIL = b"<script>alert('1')</script>&\""
 NAMES = r"duqishom_(?:\w+_seconds(?:_total)?|bytes_total|held|(?:user_)?clients(?:_total)?|\w+_memory_bytes)"
 MOVING = re.compile(rf"(?m)^({NAMES}(?:{{.*}})?|.*\"(?:Statistics|other)\"}}) .*$")
 
+# The times of requests that are only there once the page has asked.
+LATE = re.compile(r"(?m)^duqishom_request_seconds_.*\"other\".*\n")
+
 # The elements that have no end.
 VOID = {"meta"}
 
@@ -115,6 +118,15 @@ def lock(wire: Wire, row: bytes) -> None:
     assert [wire.reply()[0] for _ in range(2)] == [0x83, 0x84]
 
 
+def fail(wire: Wire) -> None:
+    """Has a request refused, and a session end in a conflict."""
+    late, start = wire.begin(), wire.begin()
+    wire.send(set_(late, b"", b"v") + set_(late, b"row 0", b"v"))
+    assert [wire.reply()[0] for _ in range(2)] == [0xFF, 0x83]
+    wire.send(set_(start, b"row 0", b"v") + 3 * step(start) + step(late))
+    assert [wire.reply()[:2] for _ in range(5)][-1] == b"\x84\2"
+
+
 class Pages(unittest.TestCase):
     """The pages of a gateway."""
 
@@ -126,6 +138,7 @@ class Pages(unittest.TestCase):
             self.assertEqual(wire.commit(b"row %d" % number, b"v")[:2], b"\x84\x04")
         self.assertEqual(wire.ask(frame(b"\x0d" + counted(b"row 1")))[0], 0x8D)
         self.assertEqual(wire.ask(CHECKPOINT), b"\x92")
+        fail(wire)
         web = Web(self, ["--socket", gateway.path, "--dir", folder])
         self.assertTrue(until(lambda: "polyline" in web.parsed().tags and "tablet 2" in web.parsed().texts))
         status, text, headers = web.ask("/")
@@ -136,7 +149,11 @@ class Pages(unittest.TestCase):
         for fact in (gateway.path, f"version {VERSION}", "up to the last row", r"up to row\x201", "1,000"):
             self.assertIn(fact, shown.texts)
         at = shown.texts.index("Step")
-        self.assertEqual(shown.texts[at : at + 3], ["Step", "0", "9"])
+        self.assertEqual(shown.texts[at : at + 3], ["Step", "0", "13"])
+        for time in shown.texts[at + 3 : at + 6]:
+            self.assertRegex(time, r"^[\d.]+ m?s$")
+        at = shown.texts.index("Conflict")
+        self.assertEqual(shown.texts[at : at + 4], ["Conflict", "1", "BadRow", "1"])
         at = shown.texts.index("on request")
         self.assertEqual(shown.texts[at + 1], "1 checkpoint")
         self.assertIn(f"program {gateway.program()}", shown.texts)
@@ -149,7 +166,8 @@ class Pages(unittest.TestCase):
         command = [sys.executable, "-m", "duqishom", "stats", "--prometheus", "--socket", gateway.path]
         said = subprocess.check_output(command, cwd=PACKAGE, text=True)
         status, text = web.get("/metrics")
-        self.assertEqual(MOVING.sub(r"\1", text), MOVING.sub(r"\1", said))
+        first, other = (MOVING.sub(r"\1", LATE.sub("", each)) for each in (text, said))
+        self.assertEqual(first, other)
         self.assertIn('duqishom_requests_total{operation="Step"} 3\n', text)
         self.assertIn('duqishom_requests_total{operation="Statistics"}', text)
 
@@ -315,8 +333,8 @@ class Judgements(unittest.TestCase):
         one, two = (0.5, 1.0), (1.0, 2.0)
         lines: tuple[tuple[Points, list[str]], ...] = (
             ((), []),
-            ((one,), ["80.0,1.0 80.0,1.0"]),
-            ((None, one, None, None, one, two, None), ["80.0,9.0 80.0,9.0", "80.0,9.0 160.0,1.0"]),
+            ((one,), ["50.0,1.0 50.0,1.0"]),
+            ((None, one, None, None, one, two, None), ["50.0,9.0 50.0,9.0", "50.0,9.0 100.0,1.0"]),
         )
         for given, found in lines:
             self.assertEqual(re.findall('points="(.*?)"', small_line(given)), found)
@@ -338,13 +356,15 @@ class Judgements(unittest.TestCase):
         self.assertTrue({"idle clients", "9"} <= set(shown) and "idle sessions" not in shown)
 
     def test_health(self) -> None:
-        calm: Groups = {"clients": {"turned_away": 1, "closed_for_memory": 0}, **begins(5, 0)}
+        calm: Groups = {"clients": {"turned_away": 1, "closed_for_memory": 0}, "refusals": {"Device": 3}, **begins(5, 0)}
         tablet, name, disk = TabletState(7, None, 48, 1), LockState("a c", 3, 61.0), 33_554_433
         gateways: tuple[tuple[Groups, str], ...] = (
             ({}, ""),
             ({"clients": {"turned_away": 3}}, "2 clients turned away in the last 10 min, for there was no place"),
             ({"clients": {"turned_away": 1, "closed_for_memory": 1}}, "1 client closed for memory in the last 10 min"),
             (begins(2000, 768), "768 of 1,024 sessions are open"),
+            ({"refusals": {"Device": 3, "BadRow": 5}}, ""),
+            ({"refusals": {"Device": 5}}, "2 requests refused Device in the last 10 min"),
         )
         for change, reason in gateways:
             with self.subTest(reason):

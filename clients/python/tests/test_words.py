@@ -142,7 +142,7 @@ class Words(unittest.TestCase):
 
     def test_help(self) -> None:
         status, lines = answers("help\nquit\nfoo\n")
-        self.assertEqual((status, len(lines)), (0, 31))
+        self.assertEqual((status, len(lines)), (0, 32))
 
     def test_deletions(self) -> None:
         table = [
@@ -216,14 +216,15 @@ class Words(unittest.TestCase):
             self.assertEqual((status, lines[1:3]), (0, ["tablets: 1", "files: 1"]))
 
     def test_gateway(self) -> None:
-        """Another client holds a cell. Its lock is shown, and the client is counted."""
+        """Another client holds a cell. Its lock is shown, and the client is first of all."""
         gateway = Gateway(self)
         wire = gateway.wire()
         wire.ask(set_(start := wire.begin(), b"Bob", b"3"))
         wire.ask(step(start))
         status, lines = answers("locks\nclients\nstatus\ntablets", "--socket", gateway.path)
         held = "Bob c: session 1 sets it; its first cell is Bob c; it hasn't committed"
-        self.assertEqual((status, lines[:2]), (1, [held, "3 connected, twice by this command"]))
+        self.assertEqual((status, lines[0], lines[1].split()[0]), (1, held, "client"))
+        self.assertRegex(lines[2], rf"^ +1 +{os.getpid()} +{os.geteuid()} +\d+ s +1 +\d+ s +3 +0$")
         self.assertLessEqual({f"version: {VERSION}", "requests Step: 1", "open sessions: 1"}, set(lines))
         self.assertNotIn("requests Major: 0", lines)
         self.assertEqual(lines[-1], "not done: other clients may have split the tablets of a gateway's store")

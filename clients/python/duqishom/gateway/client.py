@@ -5,18 +5,21 @@ from __future__ import annotations
 import asyncio
 import os
 import threading
+from contextlib import suppress
+from time import monotonic
 from typing import TYPE_CHECKING, cast
 
 from duqishom.connection import LONGEST_BODY
 from duqishom.gateway.bounds import READ_AHEAD, READ_SIZE, REPLIES_OF_ALL, REPLIES_OF_CLIENT
-from duqishom.gateway.counts import statistics
 from duqishom.gateway.passages import (
     BACKUP,
     BACKUP_REPLY,
     HEAD,
     LENGTH,
     NAME_END,
+    NO_OPERATION,
     READ_ROOM,
+    STATISTICS,
     TOO_LARGE,
     TURN_WEIGHT,
     Passage,
@@ -25,13 +28,16 @@ from duqishom.gateway.passages import (
 from duqishom.gateway.things import Thing
 from duqishom.gateway.upstream import Run
 from duqishom.gateway.users import Peer, User, peer_of
-from duqishom.gateway.verdicts import BACK_UP, LATER, STATISTICS_FRAME, verdict_on
+from duqishom.gateway.verdicts import BACK_UP, LATER, administered, reply_of, verdict_on
 
 if TYPE_CHECKING:
     from duqishom.gateway.exchange import Exchange
 
 # The read buffer shared by all connections.
 READ_BUFFER = memoryview(bytearray(READ_SIZE))
+
+# The most runs of a client whose replies wait for a checkpoint and whose times count that wait.
+MOST_KEPT_TIMES = 256
 
 
 class Client(asyncio.BufferedProtocol):
@@ -44,6 +50,8 @@ class Client(asyncio.BufferedProtocol):
         self.exchange, self.is_admin = exchange, is_admin
         self.peer = Peer()
         self.user: User = exchange.shares.administrator
+        self.number = self.asked = 0
+        self.began = self.came_at = self.since = monotonic()
         self.heard = exchange.counts.bytes_in
         self.idle_looks: int = 0
         self.things: set[Thing] = set()
@@ -55,11 +63,13 @@ class Client(asyncio.BufferedProtocol):
         self.untaken = 0
         self.kept: list[bytes] | None = None
         self.kept_size = 0
+        self._kept_times: list[tuple[int, float, int]] = []
         self._out: list[bytes] = []
         self._out_size = 0
         self._written = self._taken = 0
         self.is_alive = True
         self._copying: threading.Event | None = None
+        self._copying_since = 0.0
         self._has_ended = False
         self._is_reading = True
 
@@ -84,12 +94,24 @@ class Client(asyncio.BufferedProtocol):
     def buffer_updated(self, count: int) -> None:
         if self._has_ended or not self.is_alive:
             return
+        self.came_at = monotonic()
+        if not self.waiting or not self.has_whole_frame():
+            self.since = self.came_at
         self.waiting += READ_BUFFER[:count]
         self.exchange.came(self, count)
-        if self.waiting.startswith(STATISTICS_FRAME) and self.in_flight == 0 and self._room() > 0:
-            self._answer(statistics(self.exchange, self.is_trusted))
+        if self.in_flight == 0 and len(self.waiting) > HEAD and self.waiting[HEAD] >= STATISTICS:
+            self._answer_at_once()
         if len(self.waiting) >= READ_AHEAD:
             self._choose_reading()
+
+    def _answer_at_once(self) -> None:
+        """Answers the first waiting request without a turn, so also while the program is busy, if it is one about the
+        gateway itself."""
+        end = self._frame_end(0)
+        if end is not None and self._room() > 0:
+            verdict = administered(self, self.exchange.table[self.waiting[HEAD]], end - HEAD)
+            if verdict is not None:
+                self._answer(verdict)
 
     def eof_received(self) -> bool:
         self._has_ended = True
@@ -98,12 +120,28 @@ class Client(asyncio.BufferedProtocol):
         return True
 
     def connection_lost(self, error: Exception | None) -> None:
+        self._leave()
+        self._measure(0)
+        self.exchange.leaving.discard(self)
+        self._bequeath()
+
+    def _leave(self) -> None:
+        """Takes no more part: from here on the client asks for nothing and gets nothing."""
         self._stop_copying()
         if self.is_alive:
             self.is_alive = False
             self._forget(len(self.waiting))
-            self._measure(0)
             self.exchange.lost(self)
+
+    def kill(self) -> None:
+        """Gives the client no more than the replies that are written to it already, and closes the connection when it
+        has had the seconds of grace to take them."""
+        self._leave()
+        self.exchange.leaving.add(self)
+        self.stop_reading()
+        with suppress(OSError):
+            self.transport.write_eof()
+        asyncio.get_running_loop().call_later(self.exchange.rules.grace, self.transport.abort)
         self._bequeath()
 
     def cut(self) -> None:
@@ -202,10 +240,10 @@ class Client(asyncio.BufferedProtocol):
                 runs.append(run)
                 weight += run.weight
             else:
-                if plain is None:
-                    plain = Run(self, passage, b"", 0, 0, 0)
+                if plain is None or plain.passage is not passage:
+                    plain = Run(self, passage, b"", 0, 0, 0, self.since)
                     runs.append(plain)
-                plain.add(passage)
+                plain.add()
                 weight += passage.weight
             counts[passage.code] += 1
             room -= passage.room
@@ -218,16 +256,18 @@ class Client(asyncio.BufferedProtocol):
             self.exchange.things.note_begin(passage.opens, self)
         name = bytes(self.waiting[at + HEAD + 1 : at + HEAD + NAME_END])
         weight = passage.weight_of(self.body(at, end)) if passage.weight_each else passage.weight
-        return Run(self, passage, name, 1, weight, passage.room)
+        return Run(self, passage, name, 1, weight, passage.room, self.since)
 
     def _send(self, at: int, runs: list[Run]) -> None:
         """Sends the gathered requests."""
-        room = sum(run.room for run in runs)
-        self.in_flight += sum(run.left for run in runs)
+        room, count = sum(run.room for run in runs), sum(run.left for run in runs)
+        self.asked += count
+        self.in_flight += count
         self.room += room
         self.exchange.bounds.replies += room
         self.exchange.send(bytes(self.waiting[:at]), runs)
         self._forget(at)
+        self.since = self.came_at
 
     def _settle(self) -> None:
         """Continues or stops reading, or ends the connection, after the waiting bytes have changed."""
@@ -258,17 +298,22 @@ class Client(asyncio.BufferedProtocol):
             end = len(self.waiting)
         else:
             self.exchange.counts.requests[self.waiting[HEAD]] += 1
-        if verdict is BACK_UP:
-            self._back_up(os.fsdecode(self.body(0, end)[1:]))
-        else:
-            self._reply(verdict)
+        body = self.body(0, end)
         self._forget(end)
+        self.asked += 1
+        if verdict is BACK_UP:
+            self._back_up(os.fsdecode(body[1:]))
+        else:
+            reply = reply_of(self, verdict, body)
+            self.exchange.counts.note(reply)
+            self._reply(reply)
         asyncio.get_running_loop().call_soon(self.exchange.turns.add, self)
 
     def _back_up(self, path: str) -> None:
         """Begins a copy. After it this client gets its answer and continues. The copy is stopped if the client's
         requests end, since then nobody may be waiting for it."""
         self.in_flight += 1
+        self._copying_since = self.since
         self._copying = self.exchange.backups.begin(path, self._copied)
         if self._has_ended:
             self._stop_copying()
@@ -281,7 +326,8 @@ class Client(asyncio.BufferedProtocol):
         """Answers with the result of a copy."""
         self._copying = None
         reply = frame(bytes((BACKUP_REPLY,)) + why.encode(errors="replace"))
-        self.receive(Run(self, self.exchange.table[BACKUP], b"", 0, 0, 0), reply, 1)
+        self.exchange.latencies.look()
+        self.receive(Run(self, self.exchange.table[BACKUP], b"", 0, 0, 0, self._copying_since), reply, 1)
 
     # Data to the client.
 
@@ -293,6 +339,14 @@ class Client(asyncio.BufferedProtocol):
             exchange.bounds.replies -= run.room
         if run.passage.is_noted:
             exchange.note(self, run, frames)
+        if count > 1:
+            exchange.counts.note_all(frames)
+        elif run.passage.code != NO_OPERATION:
+            exchange.counts.note(frames)
+        if self.kept is None or len(self._kept_times) == MOST_KEPT_TIMES:
+            exchange.latencies.note(run.passage.code, run.since, count)
+        else:
+            self._kept_times.append((run.passage.code, run.since, count))
         self._reply(frames)
         if not self.is_alive:
             self._bequeath()
@@ -323,6 +377,9 @@ class Client(asyncio.BufferedProtocol):
     def release(self) -> None:
         """Releases the replies that were held back."""
         kept, self.kept = self.kept, None
+        for code, since, count in self._kept_times:
+            self.exchange.latencies.note(code, since, count)
+        self._kept_times.clear()
         self.exchange.bounds.replies -= self.kept_size
         self.kept_size = 0
         if kept and self.is_alive:
@@ -341,6 +398,10 @@ class Client(asyncio.BufferedProtocol):
             self.transport.write(frames)
             self._measure(self.transport.get_write_buffer_size())
             self._end_where_done()
+
+    def replies_held(self) -> int:
+        """The bytes of replies that wait for the client, or for a checkpoint."""
+        return self.transport.get_write_buffer_size() + self._out_size + self.kept_size
 
     def _measure(self, untaken: int) -> None:
         """Updates the number of reply bytes that the client hasn't taken."""

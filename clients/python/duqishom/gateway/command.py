@@ -116,7 +116,7 @@ def parser() -> argparse.ArgumentParser:
     )
     words.add_argument("--collectors", metavar="N", type=int, default=4, help="open collectors of a connection (4)")
     words.add_argument("--record", metavar="FOLDER", help="keep all frames there for tablet_audit")
-    words.add_argument("--grace", metavar="SECONDS", type=float, default=5, help="time for last replies at the end (5)")
+    words.add_argument("--grace", metavar="SECONDS", type=float, default=5, help="time for last replies, at the end or of a killed client (5)")
     return words
 
 
@@ -137,13 +137,14 @@ def service_of(options: argparse.Namespace) -> Service:
         allowed=None if options.allow_uid is None else frozenset(options.allow_uid),
         idle_session=options.idle_session,
         idle_client=options.idle_client,
+        grace=options.grace,
     )
     mode = options.mode if options.mode is not None else 0o600 if options.group is None else 0o660
     places = Places(options.socket, mode, options.group, options.admin, options.admin_mode, options.tcp)
     each = (options.sessions, options.cleaners, options.collectors)
     bounds = Bounds(options.clients, each, options.user_clients, options.user_sessions)
     checkpoint = options.checkpoint if options.dir is not None else 0
-    return Service(command, places, rules, bounds, checkpoint, options.grace, options.record, options.dir)
+    return Service(command, places, rules, bounds, checkpoint, options.record, options.dir)
 
 
 def main(words: Sequence[str]) -> int:

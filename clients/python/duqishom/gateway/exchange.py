@@ -12,12 +12,13 @@ from typing import Any
 from duqishom.gateway.backups import Backups
 from duqishom.gateway.bounds import REQUESTS_OF_ALL, Bounds
 from duqishom.gateway.client import Client
-from duqishom.gateway.counts import Counts
-from duqishom.gateway.failure import FAILED, GatewayFailed, begin, is_own
+from duqishom.gateway.counts import OPERATIONS, OTHER, Counts
+from duqishom.gateway.failure import FAILED, GatewayFailed, begin, is_own, tell
 from duqishom.gateway.heirs import Heirs
 from duqishom.gateway.household import Household
 from duqishom.gateway.idle import Idle
 from duqishom.gateway.keeper import CHECKPOINT_MADE, Keeper
+from duqishom.gateway.latencies import Latencies
 from duqishom.gateway.passages import BAD_REQUEST, CHECKPOINT, MEMTABLE_FULL, STOP, SWEEP, TOO_MANY, Kind, frame, passages
 from duqishom.gateway.shares import Shares
 from duqishom.gateway.things import Things
@@ -35,8 +36,9 @@ SWEEP_FRAME = frame(bytes((SWEEP,)))
 class Rules:
     """How clients are served: whether the store is in a folder and whether that has a log, whether replies wait for
     checkpoints, whether a dead client's sessions, cleaners and collectors are left open, whether clients may use each
-    other's, whether the administrator has a socket, the users that may connect (all where it is None), and the seconds
-    after which idle sessions and idle clients are ended (0 for never)."""
+    other's, whether the administrator has a socket, the users that may connect (all where it is None), the seconds
+    after which idle sessions and idle clients are ended (0 for never), and the seconds that a client may take for its
+    last replies."""
 
     has_folder: bool = False
     has_log: bool = False
@@ -47,6 +49,7 @@ class Rules:
     allowed: frozenset[int] | None = None
     idle_session: float = 0
     idle_client: float = 0
+    grace: float = 5
 
     def allow(self, peer: Peer) -> bool:
         """Whether a peer may connect. The gateway's own user and root always may."""
@@ -66,14 +69,16 @@ class Exchange:
     ) -> None:
         self.rules, self.bounds = rules, bounds
         self.clients: set[Client] = set()
+        self.leaving: set[Client] = set()
         self.turned_away: dict[TurnedAway, None] = {}
         self.outs: list[Client] = []
         self.counts = Counts()
+        self.latencies = Latencies(OPERATIONS, OTHER)
         self.things = Things()
         self.table = passages(notes_reads=rules.is_durable)
         self.is_closing = False
         self._recording = recording
-        self.upstream = Upstream(self._taken, self._program_ended, self._eased, recording)
+        self.upstream = Upstream(self.latencies.look, self._taken, self._program_ended, self._eased, recording)
         self.turns = Turns(self.upstream, self._flush)
         self.shares = Shares(bounds, rules.has_admin, self._take)
         self.household = Household(self.upstream, self.turns, self.things, self.table, self.shares.administrator, rules.has_log)
@@ -114,6 +119,7 @@ class Exchange:
             self.clients.add(client)
             client.user.add(CONNECTION, 1)
             self.counts.connections += 1
+            client.number = self.counts.connections
             return True
         return False
 
@@ -135,6 +141,16 @@ class Exchange:
             self.things.close(session)
             self.household.send_next(bytes((STOP,)) + session.name)
         return session is not None
+
+    def kill(self, number: int, administrator: Client) -> bool:
+        """Ends the connection of the client with this number, if it isn't the administrator's that asks. Returns
+        whether there is one."""
+        client = next((each for each in self.clients if each.number == number and each is not administrator), None)
+        if client is not None:
+            self.counts.killed_clients += 1
+            tell(f"process {administrator.peer.process} has killed client {number}")
+            client.kill()
+        return client is not None
 
     def came(self, client: Client, count: int) -> None:
         """Counts bytes that came from a client. If all clients together have too many waiting, the client with the most
@@ -250,7 +266,7 @@ class Exchange:
         byte. Returns the reason why the exchange has ended, which may be an earlier one."""
         self.upstream.abandon()
         self.outs.clear()
-        for client in self.clients:
+        for client in (*self.clients, *self.leaving):
             client.transport.abort()
         self._end(GatewayFailed(error))
         return self.gone.result()
@@ -297,7 +313,7 @@ class Exchange:
         """Waits at most `grace` seconds until all clients have taken their replies."""
         loop = asyncio.get_running_loop()
         end = loop.time() + grace
-        while self.clients and loop.time() < end:
+        while (self.clients or any(client.replies_held() for client in self.leaving)) and loop.time() < end:
             await asyncio.sleep(0.01)
         for client in list(self.clients):
             client.cut()

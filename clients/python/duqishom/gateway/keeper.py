@@ -10,7 +10,7 @@ from typing import TYPE_CHECKING
 from duqishom.gateway.failure import begin, tell
 from duqishom.gateway.household import Household, body_of
 from duqishom.gateway.passages import CHECKPOINT, GET, RAW, SCAN, SWEEP, TOO_MANY_FILES, frame
-from duqishom.gateway.things import CODE, COMMITTED, CONFLICT, FIELDS, FINISHED, TAG
+from duqishom.gateway.things import CODE, COMMITTED, CONFLICT, FIELDS, FINISHED, STEP_REPLY, TAG
 from duqishom.gateway.upstream import Run
 from duqishom.program import ProgramEnded
 
@@ -18,7 +18,7 @@ if TYPE_CHECKING:
     from duqishom.gateway.client import Client
 
 CHECKPOINT_MADE = frame(b"\x92")
-STEP_REPLY, CLEANER_REPLIES = 0x84, (0x86, 0x87)
+CLEANER_REPLIES = 0x86, 0x87
 
 # The seconds before a refused checkpoint is repeated.
 PAUSE = 1.0

@@ -49,12 +49,15 @@ BEGIN, GET, SET, STEP, STOP, CLEAN_BEGIN, CLEAN_STEP, COLLECT_BEGIN, COLLECT_STE
 MINOR, MERGE, MAJOR, SPLIT, MOVE, SWEEP, ORACLE_RESTART, RAW, CHECKPOINT, DELETE = range(10, 20)
 SCAN = 0x31
 
+# The byte of an empty body, by which clients find out whether the program answers. That it is refused says nothing.
+NO_OPERATION = 0x00
+
 # The operations whose answers show commits, in sessions and outside them.
 READS = (GET, RAW, SCAN)
 
-# The two requests that the gateway answers itself. The program refuses them as no requests.
-STATISTICS, BACKUP = 0x70, 0x71
-STATISTICS_REPLY, BACKUP_REPLY = STATISTICS | 0x80, BACKUP | 0x80
+# The requests that the gateway answers itself. The program refuses them as no requests.
+STATISTICS, BACKUP, CLIENTS, KILL = range(0x70, 0x74)
+STATISTICS_REPLY, BACKUP_REPLY, CLIENTS_REPLY, KILL_REPLY = (code | 0x80 for code in (STATISTICS, BACKUP, CLIENTS, KILL))
 
 
 class Kind(IntEnum):
@@ -171,5 +174,6 @@ def passages(notes_reads: bool) -> tuple[Passage, ...]:
         is_noted = passage.is_noted or (notes_reads and passage.code in READS)
         is_judged = passage.names is not None or passage.opens is not None or passage.is_for_admin
         table[passage.code] = replace(passage, is_noted=is_noted, is_judged=is_judged)
-    table[STATISTICS] = replace(table[STATISTICS], is_judged=True)
+    for code in (STATISTICS, CLIENTS, KILL):
+        table[code] = replace(table[code], is_judged=True)
     return tuple(table)

@@ -45,15 +45,13 @@ class Places:
 @dataclass(frozen=True)
 class Service:
     """A gateway's configuration: the program's command, where it listens, how it serves, the seconds between two
-    checkpoints (0 for none), the seconds that a client may take for its last replies, the folder of a recording, and
-    the store's folder."""
+    checkpoints (0 for none), the folder of a recording, and the store's folder."""
 
     command: Sequence[str]
     places: Places
     rules: Rules
     bounds: Bounds
     checkpoint: float = 0
-    grace: float = 5
     record: str | None = None
     folder: str | None = None
 
@@ -132,7 +130,7 @@ class Service:
         or the gateway's own if it has failed."""
         if ended is None:
             try:
-                is_kept = await exchange.shut(self.grace)
+                is_kept = await exchange.shut(self.rules.grace)
                 ended = await exchange.gone
                 if ended.status == 0:
                     return int(not is_kept)
@@ -141,8 +139,8 @@ class Service:
             except Exception as error:
                 ended = exchange.fail(error)
         tell(str(ended))
-        await exchange.leave(self.grace)
-        await exchange.upstream.settle(self.grace)
+        await exchange.leave(self.rules.grace)
+        await exchange.upstream.settle(self.rules.grace)
         return ended.status if ended.status >= 0 else BY_SIGNAL - ended.status
 
 

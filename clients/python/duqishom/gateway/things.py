@@ -2,6 +2,7 @@
 
 from __future__ import annotations
 
+from time import monotonic
 from typing import Protocol
 
 from duqishom.gateway.passages import HEAD, NAME, PLACES, STEP, STOP, Kind, Passage
@@ -9,7 +10,7 @@ from duqishom.gateway.users import User
 
 # The offsets in a reply's frame of the body's first byte, of its tag or refusal, and of the fields after that.
 CODE, TAG, FIELDS = HEAD, HEAD + 1, HEAD + 2
-REFUSED = 0xFF
+REFUSED, STEP_REPLY = 0xFF, 0x84
 HELD, CONFLICT, COMMITTED, LOST, FINISHED = 1, 2, 4, 5, 6
 DECIDED, COLLECTED = 1, 3
 OPENED_CLEANER = 1
@@ -26,10 +27,10 @@ class Owner(Protocol):
 
 class Thing:
     """An open session, cleaner or collector. Its user stays the same if its owner changes. `asked` is how many requests
-    the program had got before the last one that names it. Of a session: how many cells it writes, once one is held,
-    whether it has committed, and in how many looks in a row it was idle."""
+    the program had got before the last one that names it, and `began` when it was opened. Of a session: how many cells
+    it writes, once one is held, whether it has committed, and in how many looks in a row it was idle."""
 
-    __slots__ = ("kind", "name", "owner", "user", "asked", "cells", "has_committed", "idle_looks")
+    __slots__ = ("kind", "name", "owner", "user", "asked", "began", "cells", "has_committed", "idle_looks")
 
     def __init__(self, kind: Kind, name: bytes, owner: Owner, asked: int) -> None:
         self.kind = kind
@@ -37,6 +38,7 @@ class Thing:
         self.owner = owner
         self.user = owner.user
         self.asked = asked
+        self.began = monotonic()
         self.cells = 0
         self.has_committed = False
         self.idle_looks = 0
@@ -47,6 +49,11 @@ class Things:
 
     def __init__(self) -> None:
         self.by_name: tuple[dict[bytes, Thing], ...] = ({}, {}, {})
+
+    def seconds_of_oldest_session(self) -> float:
+        """The seconds since the oldest open session began, 0 if there is none."""
+        oldest = next(iter(self.by_name[Kind.SESSION].values()), None)
+        return 0.0 if oldest is None else round(monotonic() - oldest.began, 3)
 
     def give(self, thing: Thing, heir: Owner) -> None:
         """Passes a thing to another owner."""

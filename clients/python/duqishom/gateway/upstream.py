@@ -33,37 +33,41 @@ class Asker(Protocol):
 
 
 class Run:
-    """Consecutive requests of one asker, whose replies go back in one piece: the number of requests without a reply
-    yet, their total weight, and the maximum total length of their replies. A request whose reply is looked at is a run
-    of its own, with the name in it."""
+    """Consecutive requests of one asker for one operation, whose replies go back in one piece: the number of requests
+    without a reply yet, their total weight, the maximum total length of their replies, and when they came, if they are
+    a client's. A request whose reply is looked at is a run of its own, with the name in it."""
 
-    __slots__ = ("asker", "passage", "name", "left", "weight", "room")
+    __slots__ = ("asker", "passage", "name", "left", "weight", "room", "since")
 
-    def __init__(self, asker: Asker, passage: Passage, name: bytes, left: int, weight: int, room: int) -> None:
+    def __init__(
+        self, asker: Asker, passage: Passage, name: bytes, left: int, weight: int, room: int, since: float = 0.0
+    ) -> None:
         self.asker = asker
         self.passage = passage
         self.name = name
         self.left = left
         self.weight = weight
         self.room = room
+        self.since = since
 
-    def add(self, passage: Passage) -> None:
+    def add(self) -> None:
         """Adds one more request."""
         self.left += 1
-        self.weight += passage.weight
-        self.room += passage.room
+        self.weight += self.passage.weight
+        self.room += self.passage.room
 
 
 class Upstream(asyncio.SubprocessProtocol):
     """A running program. Its standard error is the gateway's, and a Ctrl-C at the terminal isn't for it.
 
-    `taken` is called when all replies of one read have gone to their askers, `ended` with the status when the program
-    has ended, and `eased` when the program takes frames again. `sent` and `answered` count requests. The frames in both
-    directions are recorded if that is asked for: OSError if they can't be.
+    `arrived` is called when replies of one read have come, `taken` when all of them have gone to their askers, `ended`
+    with the status when the program has ended, and `eased` when the program takes frames again. `sent` and `answered`
+    count requests. The frames in both directions are recorded if that is asked for: OSError if they can't be.
     """
 
     def __init__(
         self,
+        arrived: Callable[[], None],
         taken: Callable[[], None],
         ended: Callable[[int], None],
         eased: Callable[[], None],
@@ -76,7 +80,7 @@ class Upstream(asyncio.SubprocessProtocol):
         self.status: int | None = None
         self._has_ended = asyncio.Event()
         self._is_abandoned = False
-        self._taken, self._ended, self._eased = taken, ended, eased
+        self._arrived, self._taken, self._ended, self._eased = arrived, taken, ended, eased
         self._recording = recording
         self._gathered: list[bytes] = []
         self._came = b""
@@ -109,6 +113,7 @@ class Upstream(asyncio.SubprocessProtocol):
     def pipe_data_received(self, descriptor: int, data: bytes) -> None:
         if self._is_abandoned:
             return
+        self._arrived()
         if self._recording is not None:
             self._recording.note_replies(data)
         came = self._came + data if self._came else data

@@ -5,10 +5,14 @@ from __future__ import annotations
 from typing import TYPE_CHECKING
 
 from duqishom.gateway.counts import statistics
+from duqishom.gateway.listing import clients
 from duqishom.gateway.passages import (
     BACKUP,
     BAD_REQUEST,
+    CLIENTS,
     HEAD,
+    KILL,
+    KILL_REPLY,
     NAME,
     NAME_END,
     STATISTICS,
@@ -23,12 +27,9 @@ from duqishom.gateway.passages import (
 if TYPE_CHECKING:
     from duqishom.gateway.client import Client
 
-# It doesn't wait for a turn if its client has no requests before it, so it is also answered while the program is busy.
-STATISTICS_FRAME = frame(bytes((STATISTICS,)))
-
-# Placeholders for the answers to a request that must wait, and to a request for a copy, which is answered after the
-# copy.
-LATER, BACK_UP = b"", b"copy"
+# Placeholders for the answer to a request that must wait, for that to a request for a copy, which comes after the copy,
+# and for those that are made when all requests before have their replies.
+LATER, BACK_UP, TELL_STATISTICS, TELL_CLIENTS, KILL_CLIENT = b"", b"copy", b"statistics", b"clients", b"kill"
 
 
 def verdict_on(client: Client, passage: Passage, at: int, end: int) -> bytes | None:
@@ -49,10 +50,31 @@ def verdict_on(client: Client, passage: Passage, at: int, end: int) -> bytes | N
     if passage.code == BACKUP and not client.is_trusted:
         return BAD_REQUEST
     if passage.code == BACKUP:
-        return BACK_UP if end - at > len(STATISTICS_FRAME) else None
-    if passage.code == STATISTICS and end - at == len(STATISTICS_FRAME):
-        return statistics(exchange, client.is_trusted)
+        return BACK_UP if end - at > HEAD + 1 else None
+    return administered(client, passage, end - at - HEAD)
+
+
+def administered(client: Client, passage: Passage, length: int) -> bytes | None:
+    """The answer to a request with this length that is about the gateway itself, or None if it is none. It doesn't wait
+    for a turn if its client has no requests before it."""
+    if passage.code == STATISTICS and length == 1:
+        return TELL_STATISTICS
+    if passage.code == CLIENTS and length == 1:
+        return TELL_CLIENTS if client.is_trusted else BAD_REQUEST
+    if passage.code == KILL and length == NAME_END:
+        return KILL_CLIENT if client.is_admin else BAD_REQUEST
     return None
+
+
+def reply_of(client: Client, verdict: bytes, body: bytes) -> bytes:
+    """The reply to a request, by its verdict and its body, after what it asks for is done."""
+    if verdict is TELL_STATISTICS:
+        return statistics(client.exchange, client.is_trusted)
+    if verdict is TELL_CLIENTS:
+        return clients(client.exchange)
+    if verdict is KILL_CLIENT:
+        return frame(bytes((KILL_REPLY, client.exchange.kill(int.from_bytes(body[1:], "big"), client))))
+    return verdict
 
 
 def has(client: Client, kind: Kind, at: int) -> bool:
