@@ -66,7 +66,8 @@ pub record Follows (stores : Cells → List Place → Type 0) (logged waiting : 
   pub top : st.top ≤ last
 
 -- the stored cells stay
-abbrev pub StaysStored : {S : Type 0} → (S → RootView → Cells → List Place → Type 0) → S → S → Type 0
+abbrev pub StaysStored : {S : Type 0} → (S → RootView → Cells → List Place → Type 0) → S → S
+    → Type 0
 StaysStored stores old new =
     (root : RootView) (base : Cells) (places : List Place) → stores old root base places
     → stores new root base places
