@@ -66,7 +66,8 @@ pub record Follows (stores : Cells → List Place → Type 0) (logged waiting : 
   pub top : st.top ≤ last
 
 -- the stored cells stay
-abbrev pub StaysStored : {S : Type 0} → (S → RootView → Cells → List Place → Type 0) → S → S → Type 0
+abbrev pub StaysStored : {S : Type 0} → (S → RootView → Cells → List Place → Type 0) → S → S
+    → Type 0
 StaysStored stores old new =
     (root : RootView) (base : Cells) (places : List Place) → stores old root base places
     → stores new root base places
@@ -132,7 +133,7 @@ module _ {S M L : Type 0} (stores : S → RootView → Cells → List Place → 
     pub kept : Lasts (StoresUnder server) (HoldsRecords server) (CoversStamp server.marks) st
 
   -- The log is over a root and has the edits that the server counts as logged. The mark's file covers the
-  -- root's greatest stamp, and the file or the log each stamp that counts as covered.
+  -- root's greatest stamp, and the file or the log the stamps that count as covered.
   pub record HoldsLogged (server : LastingServer S M L) (root : RootView) : Type 0 where
     pub records : List (List ℕ)
     pub in_log : holds server.log records

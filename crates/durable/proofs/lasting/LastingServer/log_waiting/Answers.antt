@@ -31,7 +31,7 @@ returns-in-Err-clause-err g c = λ _ now shown logs st lasts.
     let can = c.can_log.ensures.0 c.if-not-can_log.false in
     let mark = c.mark_over-mark.result in
     let limit : mark ≤ most_stamp = (let small = c.mark_over-mark.ensures.limit in omega (arith, small)) in
-    let over_last : g.S.Recording.last c.args.self.now.server ≤ mark = (let at = c.mark_over-mark.ensures.last in omega (arith, at, c.last-last.ensures)) in
+    let over_last : g.S.Recording.last c.args.self.now.server ≤ mark = (let at = c.mark_over-mark.ensures.mark.over in omega (arith, at, c.last-last.ensures)) in
     elim logs [
       | inl stopped ↦ true_not_false _ stopped can.0
       | inr logged ↦ elim lasts.kept.in_log.1 [
@@ -57,7 +57,7 @@ returns-in-Ok-clause-ok g c = λ _ now shown logs.
     let can = c.can_log.ensures.0 c.if-not-can_log.false in
     let mark = c.mark_over-mark.result in
     let limit : mark ≤ most_stamp = (let small = c.mark_over-mark.ensures.limit in omega (arith, small)) in
-    let over_last : g.S.Recording.last c.args.self.now.server ≤ mark = (let at = c.mark_over-mark.ensures.last in omega (arith, at, c.last-last.ensures)) in
+    let over_last : g.S.Recording.last c.args.self.now.server ≤ mark = (let at = c.mark_over-mark.ensures.mark.over in omega (arith, at, c.last-last.ensures)) in
     elim logs [
       | inl stopped ↦ true_not_false _ stopped can.0
       | inr logged ↦
@@ -69,7 +69,7 @@ returns-in-Ok-clause-ok g c = λ _ now shown logs.
           let stamps = c.names_roots.ensures.up_to held.records kind.Edits mark most_stamp (g.S.Recording.waiting c.args.self.now.server) held.stamps limit in
           let bytes = gains.all ∙ sym c.settled.ensures.logged in
           let rooted = c.settled.ensures.stays.rooted logged.0 logged.1 in
-          let higher = c.mark_over-mark.ensures.covered in (
+          let higher = c.mark_over-mark.ensures.mark.later in (
             (
               logged.0,
               rooted,
