@@ -1,5 +1,5 @@
 -- The edits in a log lead to the state that is shown.
-use Rattle.std.proofs.Common.{◌≡◌, ◌≤◌, ◌⊎◌, ℕ, Bool, true, false, List, [], ◌∷◌, ◌++◌, ◌+◌, length, length-append, inl, inr, refl, sym, ap, ◌∙◌, subst, arith, append-nil}
+use Rattle.std.proofs.Common.{◌≡◌, ◌≤◌, ◌⊎◌, ℕ, Bool, true, false, List, [], ◌∷◌, ◌++◌, ◌+◌, length, length-append, inl, inr, sym, ap, ◌∙◌, subst, arith, append-nil}
 use Rattle.std.specs.List.{AllByRecursion, flat_map}
 use Rattle.std.specs.Prelude.{Result, Ok, Err, OnErr, OnOk, is_err}
 use Rattle.std.specs.Int.{to_be_bytes, w32}
@@ -39,9 +39,6 @@ AsManyEdits = (a b : List Edit) → AllByRecursion IsStoredEdit a → AllByRecur
 
 pub true_not_false : {A : Type 0} (b : Bool) → b ≡ true → b ≡ false → A
 true_not_false b is not = cc
-
-pub stays_stored : {S : Type 0} (stores : S → RootView → Cells → List Place → Type 0) (s : S) → StaysStored stores s s
-stays_stored stores s = λ root base places is. is
 
 pub no_less : (n : ℕ) → n ≤ n
 no_less n = omega arith
@@ -104,10 +101,34 @@ module _ {M : Type 0} (names : NamesRoots) where
   pub covers_last : (mark : MarkView M) (records : List (List ℕ)) (stamp top : ℕ) (body : List ℕ) → stamp ≤ most_stamp → top ≤ stamp → CoversStamp mark (records ++ spelled_record kind.Edits stamp body ∷ []) top
   covers_last mark records stamp top body small low = covers_low mark (records ++ spelled_record kind.Edits stamp body ∷ []) top stamp low (inr (names.reached records kind.Edits stamp body (omega (arith, small))))
 
-module _ {S M L : Type 0} (stores : S → RootView → Cells → List Place → Type 0) (logged waiting : S → List ℕ) (last : S → ℕ) (holds : L → List (List ℕ) → Type 0) (is_rooted : S → RootView → Type 0) (laws : LogsEdits) (names : NamesRoots) (count : S → ℕ) where
-  abbrev FollowsIn : S → RootView → State → Type 0
-  FollowsIn s root st = Follows (stores s root) (logged s) (waiting s) (count s) (last s) st
+module _ {S L : Type 0} (stores : S → RootView → Cells → List Place → Type 0) (logged waiting : S → List ℕ) (last : S → ℕ) (holds : L → List (List ℕ) → Type 0) (is_rooted : S → RootView → Type 0) (laws : LogsEdits) (names : NamesRoots) (count : S → ℕ) where
+  -- the records after the waiting edits were appended
+  pub record Gained (old : S) (stamp : ℕ) (records : List (List ℕ)) : Type 0 where
+    pub edits : List Edit
+    pub held : HoldEdits (records ++ spelled_record kind.Edits stamp (waiting old) ∷ []) edits
+    pub stored : AllByRecursion IsStoredEdit edits
+    pub room : HasRoomFor empty_journal edits
+    pub all : flat_map edit_bytes (records ++ spelled_record kind.Edits stamp (waiting old) ∷ []) ≡ logged old ++ waiting old
 
+  pub gained : AsManyEdits → (old : S) (stamp : ℕ) (root : RootView) (st : State) → IsWithin (record { logged = logged old; waiting = waiting old; count = count old }) → Follows (stores old root) (logged old) (waiting old) (count old) (last old) st → (records : List (List ℕ)) (edits : List Edit) → HoldEdits records edits → AllByRecursion IsStoredEdit edits → flat_map edit_bytes records ≡ logged old → Gained old stamp records
+  gained as_many old stamp root st within f records edits held stored bytes =
+      let spelled : spelled_edits edits ≡ logged old = sym (laws.whole records edits held) ∙ bytes in
+      let few : length edits ≡ length f.first = as_many edits f.first stored (all-front IsStoredEdit f.first f.then f.stored) (spelled ∙ f.logged_bytes) in
+      let both = length-append edits f.then in
+      let those = f.counted ∙ length-append f.first f.then in
+      let most = within.edits in
+      let size : length (spelled_edits (edits ++ f.then)) ≡ length (logged old) + length (waiting old) = ap length (laws.after edits f.then) ∙ length-append (spelled_edits edits) (spelled_edits f.then) ∙ (ap (λ (x : List ℕ). length x + length (spelled_edits f.then)) spelled ∙ ap (λ (x : List ℕ). length (logged old) + length x) (sym f.waiting_bytes)) in
+      let small = within.bytes in
+      let more : HoldEdits (records ++ spelled_record kind.Edits stamp (waiting old) ∷ []) (edits ++ f.then) = subst (λ (w : List ℕ). HoldEdits (records ++ spelled_record kind.Edits stamp w ∷ []) (edits ++ f.then)) (sym f.waiting_bytes) (laws.more records edits f.then stamp held) in
+      record {
+        edits = edits ++ f.then;
+        held = more;
+        stored = all-join IsStoredEdit edits f.then stored (all-later IsStoredEdit f.first f.then f.stored);
+        room = record { edits = omega (arith, few, both, those, most); bytes = omega (arith, size, small) };
+        all = laws.whole _ _ more ∙ (laws.after edits f.then ∙ (ap (λ (x : List ℕ). x ++ spelled_edits f.then) (sym (laws.whole records edits held) ∙ bytes) ∙ ap (λ (x : List ℕ). logged old ++ x) (sym f.waiting_bytes)));
+      }
+
+module _ {S M L : Type 0} (stores : S → RootView → Cells → List Place → Type 0) (logged waiting : S → List ℕ) (last : S → ℕ) (holds : L → List (List ℕ) → Type 0) (is_rooted : S → RootView → Type 0) (laws : LogsEdits) (names : NamesRoots) (count : S → ℕ) where
   abbrev Lasting : LastingServer S M L → State → Type 0
   Lasting s st = LastsIn stores logged holds s st
 
@@ -154,7 +175,7 @@ module _ {S M L : Type 0} (stores : S → RootView → Cells → List Place → 
       (elim bytes [ inl stopped ↦ inl stopped | inr is ↦ inr (any_adds_none lasts.kept.records ∙ is) ])
 
   -- a state that is shown lasts if the log holds all edits of the journal, and its stamps are covered
-  pub shown_lasts : (old : S) (new : LastingServer S M L) (root : RootView) (st : State) → FollowsIn old root st → StaysStored stores old new.server → root.top ≤ new.marks.stored → (records : List (List ℕ)) → holds new.log records → IsOver records root → AreUpTo most_stamp records
+  pub shown_lasts : (old : S) (new : LastingServer S M L) (root : RootView) (st : State) → Follows (stores old root) (logged old) (waiting old) (count old) (last old) st → StaysStored stores old new.server → root.top ≤ new.marks.stored → (records : List (List ℕ)) → holds new.log records → IsOver records root → AreUpTo most_stamp records
       → CoversStamp new.marks records (last old) → (edits : List Edit) → HoldEdits records edits
       → AllByRecursion IsStoredEdit edits → HasRoomFor empty_journal edits → flat_map edit_bytes records ≡ logged old ++ waiting old → (new.is_stopped ≡ true) ⊎ (flat_map edit_bytes records ≡ logged new.server) → Lasting new st
   shown_lasts old new root st f stays low records in_log over up_to covers edits held stored room all bytes =
@@ -177,32 +198,6 @@ module _ {S M L : Type 0} (stores : S → RootView → Cells → List Place → 
           next = f.next;
           top = covers_low names new.marks records st.top (last old) f.top covers;
         };
-      }
-
-  -- the records after the waiting edits were appended
-  pub record Gained (old : S) (stamp : ℕ) (records : List (List ℕ)) : Type 0 where
-    pub edits : List Edit
-    pub held : HoldEdits (records ++ spelled_record kind.Edits stamp (waiting old) ∷ []) edits
-    pub stored : AllByRecursion IsStoredEdit edits
-    pub room : HasRoomFor empty_journal edits
-    pub all : flat_map edit_bytes (records ++ spelled_record kind.Edits stamp (waiting old) ∷ []) ≡ logged old ++ waiting old
-
-  pub gained : AsManyEdits → (old : S) (stamp : ℕ) (root : RootView) (st : State) → IsWithin (record { logged = logged old; waiting = waiting old; count = count old }) → FollowsIn old root st → (records : List (List ℕ)) (edits : List Edit) → HoldEdits records edits → AllByRecursion IsStoredEdit edits → flat_map edit_bytes records ≡ logged old → Gained old stamp records
-  gained as_many old stamp root st within f records edits held stored bytes =
-      let spelled : spelled_edits edits ≡ logged old = sym (laws.whole records edits held) ∙ bytes in
-      let few : length edits ≡ length f.first = as_many edits f.first stored (all-front IsStoredEdit f.first f.then f.stored) (spelled ∙ f.logged_bytes) in
-      let both = length-append edits f.then in
-      let those = f.counted ∙ length-append f.first f.then in
-      let most = within.edits in
-      let size : length (spelled_edits (edits ++ f.then)) ≡ length (logged old) + length (waiting old) = ap length (laws.after edits f.then) ∙ length-append (spelled_edits edits) (spelled_edits f.then) ∙ (ap (λ (x : List ℕ). length x + length (spelled_edits f.then)) spelled ∙ ap (λ (x : List ℕ). length (logged old) + length x) (sym f.waiting_bytes)) in
-      let small = within.bytes in
-      let more : HoldEdits (records ++ spelled_record kind.Edits stamp (waiting old) ∷ []) (edits ++ f.then) = subst (λ (w : List ℕ). HoldEdits (records ++ spelled_record kind.Edits stamp w ∷ []) (edits ++ f.then)) (sym f.waiting_bytes) (laws.more records edits f.then stamp held) in
-      record {
-        edits = edits ++ f.then;
-        held = more;
-        stored = all-join IsStoredEdit edits f.then stored (all-later IsStoredEdit f.first f.then f.stored);
-        room = record { edits = omega (arith, few, both, those, most); bytes = omega (arith, size, small) };
-        all = laws.whole _ _ more ∙ (laws.after edits f.then ∙ (ap (λ (x : List ℕ). x ++ spelled_edits f.then) (sym (laws.whole records edits held) ∙ bytes) ∙ ap (λ (x : List ℕ). logged old ++ x) (sym f.waiting_bytes)));
       }
 
   -- a new root's state lasts if the log holds the root's name alone
@@ -267,9 +262,9 @@ module _ {S M L : Type 0} (stores : S → RootView → Cells → List Place → 
   }
 
   -- what is shown lasts while the log has all edits and covers the last stamp
-  pub root_lasts : (new : LastingServer S M L) (root : RootView) (now : State) → FollowsIn new.server root now → HoldsLogged stores logged holds new root → waiting new.server ≡ [] → last new.server ≤ new.marks.covered → Lasting new now
+  pub root_lasts : (new : LastingServer S M L) (root : RootView) (now : State) → Follows (stores new.server root) (logged new.server) (waiting new.server) (count new.server) (last new.server) now → HoldsLogged stores logged holds new root → waiting new.server ≡ [] → last new.server ≤ new.marks.covered → Lasting new now
   root_lasts new root now f h none covered =
-      shown_lasts new.server new root now f (stays_stored stores new.server) h.low h.records h.in_log h.over h.stamps (covers_low names new.marks h.records (last new.server) new.marks.covered covered h.covered) h.edits h.held h.stored h.room (none_waits h.records (logged new.server) (waiting new.server) none h.bytes) (inr h.bytes)
+      shown_lasts new.server new root now f (λ other base places is. is) h.low h.records h.in_log h.over h.stamps (covers_low names new.marks h.records (last new.server) new.marks.covered covered h.covered) h.edits h.held h.stored h.room (none_waits h.records (logged new.server) (waiting new.server) none h.bytes) (inr h.bytes)
 
   pub still_lasts : (mid : LastingServer S M L) (next : S) (now : State) → StaysStored stores mid.server next → logged next ≡ logged mid.server → Lasting mid now → Lasting (record mid { server = next }) now
   still_lasts mid next now stays same lasts = lasts_on mid (record mid { server = next }) now (stays, no_less mid.marks.stored) lasts lasts.kept.in_log.0 (elim lasts.kept.in_log.1 [ inl stopped ↦ inl stopped | inr bytes ↦ inr (bytes ∙ sym same) ])
@@ -285,7 +280,7 @@ module _ {S M L : Type 0} (stores : S → RootView → Cells → List Place → 
 
   pub lasts_still : (old : LastingServer S M L) (log : L) (st : State) → Keeps (holds old.log) (holds log) → Logs stores logged holds is_rooted old → Lasting old st → Lasting (record old { log = log }) st × Logs stores logged holds is_rooted (record old { log = log })
   lasts_still old log st keeps logs lasts = (
-    lasts_on old (record old { log = log }) st (stays_stored stores old.server, no_less old.marks.stored) lasts (keeps lasts.kept.records lasts.kept.in_log.0) lasts.kept.in_log.1,
+    lasts_on old (record old { log = log }) st (λ root base places is. is, no_less old.marks.stored) lasts (keeps lasts.kept.records lasts.kept.in_log.0) lasts.kept.in_log.1,
     elim logs [ inl stopped ↦ inl stopped | inr h ↦ inr (h.0, h.1, held_still old log h.0 keeps h.2) ],
   )
 
@@ -314,6 +309,6 @@ module _ {S M L : Type 0} (stores : S → RootView → Cells → List Place → 
         },
       )
     ];
-    lasting = λ now reached s logs st lasts. inl (lasts_on old new st (subst (λ (x : S). StaysStored stores old.server x) (sym server) (stays_stored stores old.server), subst (λ (m : MarkView M). old.marks.stored ≤ m.stored) (sym marks) (no_less old.marks.stored)) lasts (log lasts.kept.records lasts.kept.in_log.0)
+    lasting = λ now reached s logs st lasts. inl (lasts_on old new st (subst (λ (x : S). StaysStored stores old.server x) (sym server) (λ root base places is. is), subst (λ (m : MarkView M). old.marks.stored ≤ m.stored) (sym marks) (no_less old.marks.stored)) lasts (log lasts.kept.records lasts.kept.in_log.0)
         (elim lasts.kept.in_log.1 [ inl stopped ↦ inl (stop ∙ stopped) | inr bytes ↦ inr (bytes ∙ ap logged (sym server)) ]));
   }

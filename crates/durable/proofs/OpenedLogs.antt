@@ -9,7 +9,7 @@ use Rattle.row_atomic.specs.Open.{IsDamaged}
 use Rattle.row_atomic.specs.Roots.{root_name}
 use Rattle.si_model.specs.Machine.{new_machine, reopened}
 use Rattle.si_model.specs.ShowsCells.{ShowsCells}
-use Rattle.commit_log.specs.Records.{AreUpTo, NamesRoots}
+use Rattle.commit_log.specs.Records.{AreUpTo, IsGreatest, NamesRoots}
 use Rattle.durable.specs.Devices.{Covers, CoversWith, most_stamp}
 use Rattle.durable.specs.LastingOpening.{AreWhole, LacksBase, NamesTop}
 use Rattle.durable.specs.StoredMarks.{IsMarkOf, MarkView}
@@ -55,6 +55,24 @@ whole_here one (Some m) (Some n) records top stored whole named is low stamps = 
 
 -- ---- the mark beside a log
 
+-- a mark below the root's greatest stamp
+pub marked_low : (told : Option ℕ) (records : List (List ℕ)) (stored top : ℕ) → IfSome told (λ n. stored ≡ n) → stored < top → IfSome told (λ n. (n < top) ⊎ ¬ AreUpTo most_stamp records)
+marked_low None records stored top is less = tt
+marked_low (Some n) records stored top is less = inl (omega (arith, is, less))
+
+-- a record whose stamp is above the greatest one
+pub marked_high : NamesRoots → (told : Option ℕ) (records : List (List ℕ)) (stored top greatest : ℕ) → stored ≤ most_stamp → IsGreatest stored records greatest → most_stamp < greatest → IfSome told (λ n. (n < top) ⊎ ¬ AreUpTo most_stamp records)
+marked_high names None records stored top greatest small is high = tt
+marked_high names (Some n) records stored top greatest small is high = inr (λ up. elim is.reached [
+  | inl low ↦ absurd (omega (arith, low, small, high))
+  | inr at ↦ let low = names.within records greatest most_stamp up at in absurd (omega (arith, low, high))
+])
+
+-- no such damage where a root with its log lasts
+pub never_marked : (told : Option ℕ) (records : List (List ℕ)) (top named : ℕ) → Covers told top → named ≡ top → AreUpTo most_stamp records → IfSome told (λ n. (n < named) ⊎ ¬ AreUpTo most_stamp records) → ⊥
+never_marked None records top named covers same up why = absurd covers
+never_marked (Some n) records top named covers same up why = elim why [ inl less ↦ absurd (omega (arith, covers, same, less)) | inr high ↦ high up ]
+
 module _ {M : Type 0} (names : NamesRoots) (told : Option ℕ) (records : List (List ℕ)) (mark : MarkView M) (made : IsMarkOf told records mark) where
   -- the records' stamps are stamps, if the greatest of them is one
   pub marked_stamps : mark.covered ≤ most_stamp → AreUpTo most_stamp records
@@ -78,6 +96,16 @@ module _ {M : Type 0} (names : NamesRoots) (told : Option ℕ) (records : List (
       by : (o : Option ℕ) → IsSome o → IfSome o (λ n. mark.stored ≡ n) → top ≤ mark.stored → Covers o top
       by None known is at = cc
       by (Some n) known is at = omega (arith, is, at)
+
+-- it is the greatest of the mark and of the records' stamps
+pub greatest_told : {M : Type 0} (told : Option ℕ) (records : List (List ℕ)) (mark : MarkView M) → IsMarkOf told records mark → IfSome told (λ n. IsGreatest n records mark.covered)
+greatest_told None records mark made = tt
+greatest_told (Some n) records mark made = subst (λ (k : ℕ). IsGreatest k records mark.covered) made.stored made.covered
+
+-- a mark that covers a stamp is known
+pub known_under : (told : Option ℕ) (top : ℕ) → Covers told top → IsSome told
+known_under None top covers = absurd covers
+known_under (Some n) top covers = refl
 
 pub covers_none : (old new : Option ℕ) → new ≡ old → IsSome old → Covers new 0
 covers_none old new same known = subst (λ (o : Option ℕ). Covers o 0) (sym same) (by old known)

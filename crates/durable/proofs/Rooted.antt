@@ -1,5 +1,5 @@
 -- What checkpoints and answers leave over a kill, one after the other.
-use Rattle.std.proofs.Common.{◌≡◌, ◌⊎◌, inl, inr, sym, subst, ap}
+use Rattle.std.proofs.Common.{◌≡◌, ◌⊎◌, ℕ, inl, inr, sym, subst, ap}
 use Rattle.std.specs.Prelude.{Result, Ok, Err, IfErr, IsErrOf}
 use Rattle.cell_key.specs.declared.refusals.Refusal.{Refusal}
 use Rattle.cell_key.specs.declared.refusals.Refusal.TheVariants.{Damaged, Device, NoMemory}
@@ -13,16 +13,16 @@ use Rattle.server_loop.specs.Runs.{StepsAs}
 use Rattle.si_model.specs.Machine.{IsStorageRefusal, Refused, Reply as MachineReply, Request as MachineRequest, State, Checkpoint as CheckpointAsked, refuses}
 use Rattle.si_model.specs.Refusing.{gives_up}
 use Rattle.durable.specs.Lasting.{GoesOn, Settles}
-use Rattle.durable.specs.Lasts.{AnswersLasting, AnswersRooted, Checkpoints, LacksRoom, MovesTablets, NeedsRoom, NeedsRoot, PutsRoot}
+use Rattle.durable.specs.Lasts.{AnswersInRoom, AnswersLasting, AnswersRooted, Checkpoints, MovesTablets, NeedsRoom, NeedsRoot, PutsRoot}
 use Rattle.durable.specs.Lasts.PutsRoot.{answered, failed, unmarked, unnamed}
 
-module _ {S : Type 0} (same : S → S → Type 0) (checkpoints : S → Reply → S → Type 0) (says : S → Request → Reply → S → Type 0) (sweeps : S → Reply → S → Type 0) (stopped mark_risen log_risen : Type 0) where
-  pub moves_rooted : (old new : S) (request : Request) (reply : Reply) → MovesTablets request → AnswersRooted same checkpoints (λ a r b. says a request r b) stopped mark_risen old reply new → AnswersLasting same checkpoints says sweeps stopped mark_risen log_risen old request reply new
+module _ {S : Type 0} (same : S → S → Type 0) (checkpoints : S → Reply → S → Type 0) (says : S → Request → Reply → S → Type 0) (sweeps : S → Reply → S → Type 0) (stopped risen : Type 0) (before now : ℕ) where
+  pub moves_rooted : (old new : S) (request : Request) (reply : Reply) → MovesTablets request → AnswersRooted same checkpoints (λ a r b. says a request r b) stopped risen old reply new → AnswersLasting same checkpoints says sweeps stopped risen before now old request reply new
   moves_rooted old new (Split row) reply of p = p
   moves_rooted old new (Move tablet server) reply of p = p
   moves_rooted old new request reply of p = absurd of
 
-  pub plain_lasting : (old new : S) (request : Request) (reply : Reply) → ¬ NeedsRoot request → ¬ NeedsRoom request → says old request reply new → AnswersLasting same checkpoints says sweeps stopped mark_risen log_risen old request reply new
+  pub plain_lasting : (old new : S) (request : Request) (reply : Reply) → ¬ NeedsRoot request → ¬ NeedsRoom request → says old request reply new → AnswersLasting same checkpoints says sweeps stopped risen before now old request reply new
   plain_lasting old new (Split row) reply other plain p = absurd (other tt)
   plain_lasting old new (Move tablet server) reply other plain p = absurd (other tt)
   plain_lasting old new Sweep reply other plain p = absurd (other tt)
@@ -33,7 +33,7 @@ module _ {S : Type 0} (same : S → S → Type 0) (checkpoints : S → Reply →
   plain_lasting old new (CollectStep collector visits) reply other plain p = absurd (plain tt)
   plain_lasting old new request reply other plain p = p
 
-  pub room_lasting : (old new : S) (request : Request) (reply : Reply) → NeedsRoom request → says old request reply new ⊎ LacksRoom same checkpoints log_risen old reply new → AnswersLasting same checkpoints says sweeps stopped mark_risen log_risen old request reply new
+  pub room_lasting : (old new : S) (request : Request) (reply : Reply) → NeedsRoom request → AnswersInRoom same checkpoints (says old request reply new) before now old reply new → AnswersLasting same checkpoints says sweeps stopped risen before now old request reply new
   room_lasting old new Begin reply needs p = p
   room_lasting old new (Step start) reply needs p = p
   room_lasting old new (CleanStep cleaner) reply needs p = p

@@ -1,5 +1,5 @@
 -- The state that a server with a log keeps over a kill.
-use Rattle.std.specs.Prelude.{◌≡◌, ◌≤◌, ◌+◌, ◌⊎◌, ℕ, List, [], ◌∷◌, ◌++◌, length, Bool, true, flat_map, ⊤}
+use Rattle.std.specs.Prelude.{◌≡◌, ◌≤◌, ◌+◌, ◌⊎◌, ℕ, List, ◌++◌, length, Bool, true, flat_map, ⊤}
 use Rattle.std.specs.List.{AllByRecursion}
 use Rattle.cell_key.specs.Cells.{Cells, after_edits}
 use Rattle.cell_key.specs.declared.edits.Edit.{Edit}
@@ -66,7 +66,8 @@ pub record Follows (stores : Cells → List Place → Type 0) (logged waiting : 
   pub top : st.top ≤ last
 
 -- the stored cells stay
-abbrev pub StaysStored : {S : Type 0} → (S → RootView → Cells → List Place → Type 0) → S → S → Type 0
+abbrev pub StaysStored : {S : Type 0} → (S → RootView → Cells → List Place → Type 0) → S → S
+    → Type 0
 StaysStored stores old new =
     (root : RootView) (base : Cells) (places : List Place) → stores old root base places
     → stores new root base places
@@ -190,46 +191,51 @@ module _ {S : Type 0} (same : S → S → Type 0) (checkpoints : S → Reply →
       ⊎ ((first next : S) × Checkpoints old codec.Checkpoint first × answers first reply next
       × (same next new ⊎ ((second : Reply) × PutsRoot stopped risen next second new)))
 
-  -- It was refused since the log got no room for more edits, and nothing was changed: a device failed, or
-  -- memory was refused.
+  -- It was refused since the log got no room, and nothing was changed: a device failed, or memory was
+  -- refused.
   abbrev pub LacksRoom : Type 0 → S → Reply → S → Type 0
   LacksRoom risen old reply new =
       (new ≡ old)
       × (((reply ≡ codec.Refused Device) × risen) ⊎ (reply ≡ codec.Refused NoMemory))
 
+  -- It was answered so, and no device of the log failed; or refused since the log got no room.
+  abbrev pub AnswersInRoom : Type 0 → (before now : ℕ) → S → Reply → S → Type 0
+  AnswersInRoom is_said before now old reply new =
+      (is_said × (now ≡ before)) ⊎ LacksRoom (HasRisen before now) old reply new
+
   -- The answers of a server with a log are those of one without, except that checkpoints come with
   -- splits, moves and sweeps, and that requests which need room in the log are refused if it has none.
   abbrev pub AnswersLasting : (S → Request → Reply → S → Type 0) → (S → Reply → S → Type 0)
-      → (stopped mark_risen log_risen : Type 0) → S → Request → Reply → S → Type 0
-  AnswersLasting says sweeps stopped mark_risen log_risen old (Split row) reply new =
-      AnswersRooted (λ a r b. says a (Split row) r b) stopped mark_risen old reply new
-  AnswersLasting says sweeps stopped mark_risen log_risen old (Move tablet server) reply new =
-      AnswersRooted (λ a r b. says a (Move tablet server) r b) stopped mark_risen old reply new
-  AnswersLasting says sweeps stopped mark_risen log_risen old Sweep reply new =
-      AnswersRooted sweeps stopped mark_risen old reply new
-  AnswersLasting says sweeps stopped mark_risen log_risen old Checkpoint reply new =
-      PutsRoot stopped mark_risen old reply new
-  AnswersLasting says sweeps stopped mark_risen log_risen old Begin reply new =
-      says old Begin reply new ⊎ LacksRoom log_risen old reply new
-  AnswersLasting says sweeps stopped mark_risen log_risen old (Step start) reply new =
-      says old (Step start) reply new ⊎ LacksRoom log_risen old reply new
-  AnswersLasting says sweeps stopped mark_risen log_risen old (CleanStep cleaner) reply new =
-      says old (CleanStep cleaner) reply new ⊎ LacksRoom log_risen old reply new
-  AnswersLasting says sweeps stopped mark_risen log_risen old (CollectStep collector n) reply new =
-      says old (CollectStep collector n) reply new ⊎ LacksRoom log_risen old reply new
-  AnswersLasting says sweeps stopped mark_risen log_risen old request reply new =
+      → (stopped risen : Type 0) → (before now : ℕ) → S → Request → Reply → S → Type 0
+  AnswersLasting says sweeps stopped risen before now old (Split row) reply new =
+      AnswersRooted (λ a r b. says a (Split row) r b) stopped risen old reply new
+  AnswersLasting says sweeps stopped risen before now old (Move tablet server) reply new =
+      AnswersRooted (λ a r b. says a (Move tablet server) r b) stopped risen old reply new
+  AnswersLasting says sweeps stopped risen before now old Sweep reply new =
+      AnswersRooted sweeps stopped risen old reply new
+  AnswersLasting says sweeps stopped risen before now old Checkpoint reply new =
+      PutsRoot stopped risen old reply new
+  AnswersLasting says sweeps stopped risen before now old Begin reply new =
+      AnswersInRoom (says old Begin reply new) before now old reply new
+  AnswersLasting says sweeps stopped risen before now old (Step start) reply new =
+      AnswersInRoom (says old (Step start) reply new) before now old reply new
+  AnswersLasting says sweeps stopped risen before now old (CleanStep cleaner) reply new =
+      AnswersInRoom (says old (CleanStep cleaner) reply new) before now old reply new
+  AnswersLasting says sweeps stopped risen before now old (CollectStep collector n) reply new =
+      AnswersInRoom (says old (CollectStep collector n) reply new) before now old reply new
+  AnswersLasting says sweeps stopped risen before now old request reply new =
       says old request reply new
 
 -- An answer of a server with a log: the contract of the answer, and the devices still keep a state.
 pub record IsLastingAnswer {S M L : Type 0} (shows : S → State → Type 0)
     (lasts : LastingServer S M L → State → Type 0) (logs : LastingServer S M L → Type 0)
     (mark_faults : M → ℕ) (log_faults : L → ℕ)
-    (answers : (stopped mark_risen log_risen : Type 0) → S → Request → Reply → S → Type 0)
+    (answers : (stopped risen : Type 0) → (before now : ℕ) → S → Request → Reply → S → Type 0)
     (old : LastingServer S M L) (request : Request) (reply : Reply) (new : LastingServer S M L)
     : Type 0 where
   pub answered : answers (new.is_stopped ≡ true)
       (HasRisen (mark_faults old.marks.marks) (mark_faults new.marks.marks))
-      (HasRisen (log_faults old.log) (log_faults new.log)) old.server request reply new.server
+      (log_faults old.log) (log_faults new.log) old.server request reply new.server
   pub goes_on : GoesOn (shown_by shows) lasts logs (asked request) (replied reply) old new
 
 -- a root was put, or refused, and the size from which the next try is counted was set

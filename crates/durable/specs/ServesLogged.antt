@@ -48,7 +48,8 @@ module _ {F N M L : Type 0} (files : Files F) (inside : MarkStore N) (marks : Ma
   IsTendedOver =
       IsLastingTended (Shows files.contents) (LastsOver files log) (LogsOver files log)
       marks.faults (IsTended files.contents files.faults) IsSame
-      (PutsRoot IsSame (AnswersCheckpoint files inside)) (λ server. journal_size (journal_of server))
+      (PutsRoot IsSame (AnswersCheckpoint files inside))
+      (λ server. journal_size (journal_of server))
 
   abbrev pub ServesOver : LastingServer (Server F N) M L → LastingServer (Server F N) M L
       → Option (List ℕ) → Option (List ℕ) → Option (List ℕ) → Option (List ℕ) → ℕ

@@ -124,8 +124,8 @@ impl<S: Recording, M: MarkStore, L: Log> LastingServer<S, M, L> {
         self.server.waiting().is_empty() && last <= self.marks.covered()
     }
 
-    /// Appends the waiting edits to the log, with a mark over the last stamp. Tells whether the log has them; if not, the
-    /// server is stopped.
+    /// Appends the waiting edits to the log, with a mark over the last stamp. Tells whether the log has them; if not,
+    /// the server is stopped.
     fn log_waiting(&mut self) -> bool
         ensures shown { (st : State) → S.shows self.old.server st → S.shows self.new.server st }
         ensures same { S.same self.old.server self.new.server }
@@ -412,6 +412,7 @@ impl<S: Recording, M: MarkStore, L: Log> LastingServer<S, M, L> {
         requires { ¬ NeedsRoot request }
         ensures limits { KeepsToLimits result }
         ensures says { S.says self.old.server request.entry result self.new.server }
+        ensures log { self.new.log ≡ self.old.log }
         ensures goes_on { GoesOn (shown_by S.shows) (LastsIn S.stores S.logged L.holds)
             (Logs S.stores S.logged L.holds S.is_rooted) (asked request.entry)
             (replied result) self.old self.new }

@@ -57,10 +57,9 @@ impl<F: WholeFiles + Drop, M: MarkStore + Drop, L: Log + Drop> LastingServer<
     }
 
     /// Serves requests in frames as `Server::serve` does, but replies wait: the replies to one read's requests are
-    /// written once all their edits are in the log, with a mark over their stamps, and the log is forced to the disk
-    /// once for all of them. That is done
-    /// earlier if the waiting replies have reached 1,048,576 bytes. A split and a move come between two checkpoints, a
-    /// sweep after one. If the log fails, no further reply is written, and `Log` is answered.
+    /// written once all their edits, and a mark over their stamps, are in the log, which is forced to the disk once for
+    /// all of them. That is done earlier if the waiting replies have reached 1,048,576 bytes. A split and a move come
+    /// between two checkpoints, a sweep after one. If the log fails, no further reply is written, and `Log` is answered.
     ///
     /// Whatever the result, if the server was settled, the devices keep the machine's state after a prefix of the
     /// requests taken. The prefix contains each request of whose reply a byte was written.

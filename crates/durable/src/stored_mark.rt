@@ -4,12 +4,13 @@
 ghost use Rattle.std.specs.Prelude.{◌≡◌, ◌≤◌, ◌<◌, ◌^◌, max, IfErr, IfOk, IfSome, OnErr, OnOk};
 ghost use Rattle.cell_key.specs.Faults.{HasRisen};
 ghost use Rattle.oracle.specs.Marks.{IsWithinMark, MayHold};
+ghost use Rattle.durable.specs.StoredMarks.{IsMarkOver};
 
 use cell_key::{MOST_STAMP, Stamp};
 use oracle::{MarkFault, MarkStore};
 use std::marker::Model;
 
-/// How many stamps a mark after the covered ones covers at least, as a range of the oracle.
+/// How many stamps a range has, as one of the oracle.
 const RANGE: Stamp = 1000;
 
 /// A store of the oracle's mark, and how far its number and the log's records cover the stamps that are answered.
@@ -73,12 +74,11 @@ impl<M: MarkStore> StoredMark<M> {
         self.stored
     }
 
-    /// The stamp of a record that covers this stamp and all that are covered. It is the end of a range of the oracle:
-    /// it comes a number of thousands after the covered stamps, but not after the greatest stamp.
+    /// The mark of a record after which this stamp is covered too. It ends a range of the oracle, since the oracle's
+    /// ranges begin at the mark that was opened.
     pub(crate) fn mark_over(&self, last: Stamp) -> Stamp
         requires { last < 2 ^ 63 }
-        ensures last { last ≤ result }
-        ensures covered { self.now.covered ≤ result }
+        ensures mark { IsMarkOver self.now.covered last result }
         ensures limit { result < 2 ^ 63 }
     {
         if last <= self.covered {

@@ -18,4 +18,4 @@ loop-record-preserved c =
     let is : c.record-item.result.items ≡ c.deref.result.now = search rules in
     let more = greatest_more c.args.mark c.loop-record.greatest c.stamp_of.result (bytes_of (take index c.args.records.now)) c.deref.result.now c.loop-record.invariant c.stamp_of.ensures.up_to c.stamp_of.ensures.has in
     let all : bytes_of (take index c.args.records.now) ++ c.deref.result.now ∷ [] ≡ bytes_of (take (index + 1) c.args.records.now) = sym (first ∙ ap (λ (b : List ℕ). bytes_of (take index c.args.records.now) ++ b ∷ []) is) in
-    subst (λ (n : ℕ). IsGreatest c.args.mark (bytes_of (take (index + 1) c.args.records.now)) n) (sym c.max.ensures) (subst (λ (rs : List (List ℕ)). IsGreatest c.args.mark rs (max c.loop-record.greatest c.stamp_of.result)) all more)
+    subst (λ (n : ℕ). IsGreatest c.args.mark (bytes_of (take (index + 1) c.args.records.now)) n) (sym c.max-greatest.ensures) (subst (λ (rs : List (List ℕ)). IsGreatest c.args.mark rs (max c.loop-record.greatest c.stamp_of.result)) all more)

@@ -1,6 +1,6 @@
-use Rattle.std.proofs.Common.{◌≡◌, ◌∙◌, List, ℕ, inl, inr, rules, ap, sym}
+use Rattle.std.proofs.Common.{◌∙◌, inl, inr, rules, ap, sym}
 use Rattle.std.proofs.lemmas.Bool.Decides.{Decides-eqb}
-use Rattle.commit_log.specs.Records.{any_root, spelled_record}
+use Rattle.commit_log.specs.Records.{spelled_record}
 use Rattle.commit_log.specs.declared.records.RecordKind.{RecordKind}
 use Rattle.commit_log.proofs.Naming.{is_any, not_over, over_any}
 use Rattle.commit_log.proofs.records.is_any_root.Goals as goal

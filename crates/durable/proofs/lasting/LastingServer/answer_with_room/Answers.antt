@@ -1,4 +1,4 @@
-use Rattle.std.proofs.Common.{inl, inr, refl, ap}
+use Rattle.std.proofs.Common.{◌∙◌, inl, inr, refl, ap}
 use Rattle.std.specs.Prelude.{Err}
 use Rattle.request_codec.specs.declared.replies.Reply.TheVariants as codec
 use Rattle.cell_key.specs.declared.refusals.Refusal.TheVariants.{Device, NoMemory}
@@ -14,7 +14,7 @@ returns-in-Ok-clause-says g c =
     let mid = record c.args.self.now { log = c.reserve.new.self } in
     let settles = recounted g.S.Recording.stores g.S.Recording.logged g.S.Recording.waiting g.S.Recording.last g.L.Log.holds g.S.Recording.is_rooted c.logs_edits.ensures c.names_roots.ensures g.S.Recording.count c.args.self.now mid refl refl c.in-Ok.ensures.same refl g.S.Answering.shows in
     record {
-      answered = room_lasting g.S.Recording.same g.S.Recording.checkpoints g.S.Answering.says g.S.Recording.sweeps _ _ _ c.args.self.now.server c.answer_inside.new.self.server c.args.request c.answer_inside.result c.requires (inl c.answer_inside.ensures.says);
+      answered = room_lasting g.S.Recording.same g.S.Recording.checkpoints g.S.Answering.says g.S.Recording.sweeps _ _ _ _ c.args.self.now.server c.answer_inside.new.self.server c.args.request c.answer_inside.result c.requires (inl (c.answer_inside.ensures.says, ap g.L.Log.faults c.answer_inside.ensures.log ∙ c.in-Ok.ensures.cause.told (λ is. cc)));
       goes_on = goes_after _ _ _ _ _ c.args.self.now mid c.answer_inside.new.self settles c.answer_inside.ensures.goes_on;
     }
 
@@ -23,7 +23,7 @@ returns-in-Err-Device-clause-says g c =
     let mid = record c.args.self.now { log = c.reserve.new.self } in
     let settles = recounted g.S.Recording.stores g.S.Recording.logged g.S.Recording.waiting g.S.Recording.last g.L.Log.holds g.S.Recording.is_rooted c.logs_edits.ensures c.names_roots.ensures g.S.Recording.count c.args.self.now mid refl refl c.in-Err-Device.ensures.same refl g.S.Answering.shows in
     record {
-      answered = room_lasting g.S.Recording.same g.S.Recording.checkpoints g.S.Answering.says g.S.Recording.sweeps _ _ _ c.args.self.now.server c.args.self.now.server c.args.request (codec.Refused Device) c.requires (inr (refl, inl (refl, c.in-Err-Device.ensures.cause.device (ap Err c.in-Err-Device.field-0-is))));
+      answered = room_lasting g.S.Recording.same g.S.Recording.checkpoints g.S.Answering.says g.S.Recording.sweeps _ _ _ _ c.args.self.now.server c.args.self.now.server c.args.request (codec.Refused Device) c.requires (inr (refl, inl (refl, c.in-Err-Device.ensures.cause.device (ap Err c.in-Err-Device.field-0-is))));
       goes_on = goes_nowhere _ _ _ _ Device tt (λ is. cc) c.args.self.now mid settles;
     }
 
@@ -32,6 +32,6 @@ returns-in-Err-clause-says g c =
     let mid = record c.args.self.now { log = c.reserve.new.self } in
     let settles = recounted g.S.Recording.stores g.S.Recording.logged g.S.Recording.waiting g.S.Recording.last g.L.Log.holds g.S.Recording.is_rooted c.logs_edits.ensures c.names_roots.ensures g.S.Recording.count c.args.self.now mid refl refl c.in-Err.ensures.same refl g.S.Answering.shows in
     record {
-      answered = room_lasting g.S.Recording.same g.S.Recording.checkpoints g.S.Answering.says g.S.Recording.sweeps _ _ _ c.args.self.now.server c.args.self.now.server c.args.request (codec.Refused NoMemory) c.requires (inr (refl, inr refl));
+      answered = room_lasting g.S.Recording.same g.S.Recording.checkpoints g.S.Answering.says g.S.Recording.sweeps _ _ _ _ c.args.self.now.server c.args.self.now.server c.args.request (codec.Refused NoMemory) c.requires (inr (refl, inr refl));
       goes_on = goes_nowhere _ _ _ _ NoMemory tt (λ is. cc) c.args.self.now mid settles;
     }

@@ -1,6 +1,6 @@
 use Rattle.std.proofs.Common.{inl, inr, refl, sym, ap}
 use Rattle.std.specs.Prelude.{Err}
-use Rattle.durable.proofs.Logged.{emptied_lasts, holds_root, lasts_on, lasts_still, no_less, stays_stored}
+use Rattle.durable.proofs.Logged.{emptied_lasts, holds_root, lasts_on, lasts_still, no_less}
 use Rattle.durable.proofs.lasting.LastingServer.empty_log.Goals as goal
 
 pub returns-in-Ok-clause-kept : goal.returns-in-Ok-clause-kept
@@ -19,8 +19,8 @@ returns-in-Err-NoMemory-clause-kept g c = λ st put holds last covered lasts.
 pub returns-in-Err-clause-kept : goal.returns-in-Err-clause-kept
 returns-in-Err-clause-kept g c = λ st put holds last covered lasts. (
   elim (c.in-Err.ensures.err lasts.kept.records lasts.kept.in_log.0) [
-    | inl same ↦ lasts_on g.S.Recording.stores g.S.Recording.logged g.S.Recording.waiting g.S.Recording.last g.L.Log.holds g.S.Recording.is_rooted c.logs_edits.ensures c.names_roots.ensures g.S.Recording.count c.args.self.now _ st (stays_stored _ _, no_less _) lasts same (inl refl)
-    | inr one ↦ emptied_lasts g.S.Recording.stores g.S.Recording.logged g.S.Recording.waiting g.S.Recording.last g.L.Log.holds g.S.Recording.is_rooted c.logs_edits.ensures c.names_roots.ensures g.S.Recording.count c.args.self.now.server _ (g.S.Recording.next_root c.args.self.now.server) st put (stays_stored _ _) holds.low holds.limit last one (inl refl)
+    | inl same ↦ lasts_on g.S.Recording.stores g.S.Recording.logged g.S.Recording.waiting g.S.Recording.last g.L.Log.holds g.S.Recording.is_rooted c.logs_edits.ensures c.names_roots.ensures g.S.Recording.count c.args.self.now _ st (λ root base places is. is, no_less _) lasts same (inl refl)
+    | inr one ↦ emptied_lasts g.S.Recording.stores g.S.Recording.logged g.S.Recording.waiting g.S.Recording.last g.L.Log.holds g.S.Recording.is_rooted c.logs_edits.ensures c.names_roots.ensures g.S.Recording.count c.args.self.now.server _ (g.S.Recording.next_root c.args.self.now.server) st put (λ root base places is. is) holds.low holds.limit last one (inl refl)
   ],
   inl refl,
 )

@@ -11,7 +11,7 @@ returns-then-not-self-clause-says g c =
     let moves = c.recording_laws.ensures.moves c.root.new.self.server c.reply_to-reply.new.self c.args.request c.reply_to-reply.result c.requires c.reply_to-reply.ensures.says in
     let covered : g.S.Recording.last c.reply_to-reply.new.self ≤ c.root.new.self.marks.covered = (let same = moves.1.stamp in let before = c.in-Ok.ensures.covered in omega (arith, same, before)) in
     record {
-      answered = moves_rooted g.S.Recording.same g.S.Recording.checkpoints g.S.Answering.says g.S.Recording.sweeps _ _ _ c.args.self.now.server c.root_moved.new.self.server c.args.request c.reply_to-reply.result c.requires
+      answered = moves_rooted g.S.Recording.same g.S.Recording.checkpoints g.S.Answering.says g.S.Recording.sweeps _ _ _ _ c.args.self.now.server c.root_moved.new.self.server c.args.request c.reply_to-reply.result c.requires
           (inr (c.root.new.self.server, c.reply_to-reply.new.self, c.in-Ok.ensures.done, c.reply_to-reply.ensures.says, inr (c.root_moved.ensures.answered.0, never_unmarked g.S.Recording.same g.S.Recording.checkpoints _ _ c.reply_to-reply.new.self c.root_moved.new.self.server c.root_moved.ensures.answered.0 c.root_moved.ensures.answered.1)));
       goes_on = λ now reached shown.
           let mid = c.root.ensures.settles.shown now shown in
@@ -36,7 +36,7 @@ pub returns-else-not-self-clause-says : goal.returns-else-not-self-clause-says
 returns-else-not-self-clause-says g c =
     let moves = c.recording_laws.ensures.moves c.root.new.self.server c.reply_to-reply.new.self c.args.request c.reply_to-reply.result c.requires c.reply_to-reply.ensures.says in
     record {
-      answered = moves_rooted g.S.Recording.same g.S.Recording.checkpoints g.S.Answering.says g.S.Recording.sweeps _ _ _ c.args.self.now.server c.reply_to-reply.new.self c.args.request c.reply_to-reply.result c.requires
+      answered = moves_rooted g.S.Recording.same g.S.Recording.checkpoints g.S.Answering.says g.S.Recording.sweeps _ _ _ _ c.args.self.now.server c.reply_to-reply.new.self c.args.request c.reply_to-reply.result c.requires
           (inr (c.root.new.self.server, c.reply_to-reply.new.self, c.in-Ok.ensures.done, c.reply_to-reply.ensures.says, inl (g.met.S.Recording.same_self c.reply_to-reply.new.self)));
       goes_on = λ now reached shown.
           let mid = c.root.ensures.settles.shown now shown in
@@ -53,7 +53,7 @@ returns-else-not-self-clause-says g c =
 
 pub returns-in-Err-clause-says : goal.returns-in-Err-clause-says
 returns-in-Err-clause-says g c = record {
-  answered = moves_rooted g.S.Recording.same g.S.Recording.checkpoints g.S.Answering.says g.S.Recording.sweeps _ _ _ c.args.self.now.server c.root.new.self.server c.args.request (codec.Refused c.in-Err.refusal) c.requires (inl (c.in-Err.refusal, refl, c.in-Err.ensures.answered));
+  answered = moves_rooted g.S.Recording.same g.S.Recording.checkpoints g.S.Answering.says g.S.Recording.sweeps _ _ _ _ c.args.self.now.server c.root.new.self.server c.args.request (codec.Refused c.in-Err.refusal) c.requires (inl (c.in-Err.refusal, refl, c.in-Err.ensures.answered));
   goes_on = λ now reached shown. record {
     next = now;
     step = refuses (gives_up c.in-Err.ensures.refusal);

@@ -1,13 +1,12 @@
-use Rattle.std.proofs.Common.{◌≡◌, ◌≤◌, ◌∙◌, inl, inr, refl, sym, subst, arith}
+use Rattle.std.proofs.Common.{◌≤◌, ◌∙◌, inl, inr, refl, subst, arith}
 use Rattle.metadata_table.specs.Roots.{RootView}
 use Rattle.cell_key.specs.Faults.{HasRisen}
 use Rattle.si_model.specs.Machine.{State, refuses}
 use Rattle.si_model.specs.Refusing.{gives_up}
-use Rattle.durable.specs.Lasts.{HasNewRoot, HoldsLogged, Logs, shown_by}
+use Rattle.durable.specs.Lasts.{HoldsLogged, LastsIn, Logs, shown_by}
 use Rattle.durable.specs.Lasts.PutsRoot.{answered, failed, unmarked}
 use Rattle.durable.specs.Devices.{most_stamp}
-use Rattle.durable.specs.declared.lasting.LastingServer.{LastingServer}
-use Rattle.durable.proofs.Logged.{holds_any, lasts_any, lasts_on, names_it, no_less, ok_through, on_any, on_err, on_ok, root_lasts, stays_stored, true_not_false}
+use Rattle.durable.proofs.Logged.{holds_any, lasts_any, lasts_on, names_it, no_less, ok_through, on_any, on_err, on_ok, root_lasts}
 use Rattle.durable.proofs.Rooted.{named_answer, only_storage, steps_named}
 use Rattle.durable.proofs.lasting.LastingServer.root.Goals as goal
 
@@ -34,8 +33,8 @@ returns-then-is_err-clause-settles g c =
       lasting = λ now reached shown logs st lasts.
           let before = (w.ok is now shown logs).1 now (w.shown now shown) in
           inr (elim (may before.kept.records before.kept.in_log.0) [
-            | inl same ↦ lasts_on g.S.Recording.stores g.S.Recording.logged g.S.Recording.waiting g.S.Recording.last g.L.Log.holds g.S.Recording.is_rooted c.logs_edits.ensures c.names_roots.ensures g.S.Recording.count c.log_waiting.new.self _ now (stays_stored _ _, no_less _) before same (inl refl)
-            | inr more ↦ lasts_any g.S.Recording.stores g.S.Recording.logged g.S.Recording.waiting g.S.Recording.last g.L.Log.holds g.S.Recording.is_rooted c.logs_edits.ensures c.names_roots.ensures g.S.Recording.count c.log_waiting.new.self _ now (stays_stored _ _, no_less _) before more (inl refl)
+            | inl same ↦ lasts_on g.S.Recording.stores g.S.Recording.logged g.S.Recording.waiting g.S.Recording.last g.L.Log.holds g.S.Recording.is_rooted c.logs_edits.ensures c.names_roots.ensures g.S.Recording.count c.log_waiting.new.self _ now (λ root base places is. is, no_less _) before same (inl refl)
+            | inr more ↦ lasts_any g.S.Recording.stores g.S.Recording.logged g.S.Recording.waiting g.S.Recording.last g.L.Log.holds g.S.Recording.is_rooted c.logs_edits.ensures c.names_roots.ensures g.S.Recording.count c.log_waiting.new.self _ now (λ root base places is. is, no_less _) before more (inl refl)
           ]);
     }
 
@@ -59,7 +58,7 @@ returns-then-is_err-2-clause-settles g c =
           inr (held.0, held.1, holds_any g.S.Recording.stores g.S.Recording.logged g.S.Recording.waiting g.S.Recording.last g.L.Log.holds g.S.Recording.is_rooted c.logs_edits.ensures c.names_roots.ensures g.S.Recording.count c.log_waiting.new.self new held.0 held.0 held.2 refl m.rises (omega (arith, limit, stored)) m.covered (omega (arith, low, stored)) (gains held.2.records held.2.in_log));
       lasting = λ now reached shown logs st lasts.
           let before = (w.ok is now shown logs).1 now (w.shown now shown) in
-          inr (lasts_any g.S.Recording.stores g.S.Recording.logged g.S.Recording.waiting g.S.Recording.last g.L.Log.holds g.S.Recording.is_rooted c.logs_edits.ensures c.names_roots.ensures g.S.Recording.count c.log_waiting.new.self new now (stays_stored _ _, m.rises) before (gains before.kept.records before.kept.in_log.0) before.kept.in_log.1);
+          inr (lasts_any g.S.Recording.stores g.S.Recording.logged g.S.Recording.waiting g.S.Recording.last g.L.Log.holds g.S.Recording.is_rooted c.logs_edits.ensures c.names_roots.ensures g.S.Recording.count c.log_waiting.new.self new now (λ root base places is. is, m.rises) before (gains before.kept.records before.kept.in_log.0) before.kept.in_log.1);
     }
 
 pub returns-in-Ok-clause-step : goal.returns-in-Ok-clause-step
@@ -190,7 +189,7 @@ returns-in-Err-clause-settles g c =
     let last : g.S.Recording.last c.checkpoint_now.new.self ≤ new.marks.stored = omega (arith, stored, same, before) in
     let all : new.marks.covered ≤ new.marks.stored = omega (arith, stored, m.covered) in
     let covered : g.S.Recording.last c.checkpoint_now.new.self ≤ new.marks.covered = omega (arith, same, before, m.covered) in
-    let any = λ (now : State) (shown : g.S.Answering.shows c.args.self.now.server now) (logs : Logs g.S.Recording.stores g.S.Recording.logged g.L.Log.holds g.S.Recording.is_rooted c.args.self.now).
+    let any : (now : State) → g.S.Answering.shows c.args.self.now.server now → Logs g.S.Recording.stores g.S.Recording.logged g.L.Log.holds g.S.Recording.is_rooted c.args.self.now → (root : RootView) × g.S.Recording.is_rooted c.checkpoint_now.new.self root × HoldsLogged g.S.Recording.stores g.S.Recording.logged g.L.Log.holds new root × LastsIn g.S.Recording.stores g.S.Recording.logged g.L.Log.holds new now = λ now shown logs.
     let held = w.ok is now shown logs in
     let shows = w.shown now shown in
     let log = λ (root : RootView) (low : root.top ≤ new.marks.stored). holds_any g.S.Recording.stores g.S.Recording.logged g.S.Recording.waiting g.S.Recording.last g.L.Log.holds g.S.Recording.is_rooted c.logs_edits.ensures c.names_roots.ensures g.S.Recording.count c.log_waiting.new.self new held.0.0 root held.0.2 p.keeps.has m.rises limit m.covered low (gains held.0.2.records held.0.2.in_log) in

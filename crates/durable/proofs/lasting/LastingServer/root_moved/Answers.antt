@@ -1,10 +1,10 @@
-use Rattle.std.proofs.Common.{◌≡◌, ◌≤◌, ◌∙◌, inl, inr, refl, true, arith}
+use Rattle.std.proofs.Common.{◌≤◌, ◌∙◌, inl, inr, refl, true, arith}
 use Rattle.request_codec.specs.declared.replies.Reply.TheVariants as codec
 use Rattle.server_loop.specs.Commands.{checkpointed}
 use Rattle.durable.specs.Devices.{most_stamp}
 use Rattle.durable.specs.Lasts.PutsRoot.{answered, failed}
 use Rattle.durable.proofs.Rooted.{named_answer}
-use Rattle.durable.proofs.Logged.{holds_any, lasts_any, lasts_on, no_less, on_err, on_ok, root_lasts, stays_stored}
+use Rattle.durable.proofs.Logged.{holds_any, lasts_any, lasts_on, no_less, on_err, on_ok, root_lasts}
 use Rattle.durable.proofs.lasting.LastingServer.root_moved.Goals as goal
 
 pub returns-then-is_err-clause-answered : goal.returns-then-is_err-clause-answered
@@ -17,8 +17,8 @@ pub returns-then-is_err-clause-kept : goal.returns-then-is_err-clause-kept
 returns-then-is_err-clause-kept g c = λ before after root shown held none goes covered lasts.
     let may = on_err c.append.result c.is_err.result c.is_err.ensures.value c.if-is_err.true c.append.ensures.err in (
       inl (elim (may lasts.kept.records lasts.kept.in_log.0) [
-        | inl same ↦ lasts_on g.S.Recording.stores g.S.Recording.logged g.S.Recording.waiting g.S.Recording.last g.L.Log.holds g.S.Recording.is_rooted c.logs_edits.ensures c.names_roots.ensures g.S.Recording.count c.args.self.now _ before (stays_stored _ _, no_less _) lasts same (inl refl)
-        | inr more ↦ lasts_any g.S.Recording.stores g.S.Recording.logged g.S.Recording.waiting g.S.Recording.last g.L.Log.holds g.S.Recording.is_rooted c.logs_edits.ensures c.names_roots.ensures g.S.Recording.count c.args.self.now _ before (stays_stored _ _, no_less _) lasts more (inl refl)
+        | inl same ↦ lasts_on g.S.Recording.stores g.S.Recording.logged g.S.Recording.waiting g.S.Recording.last g.L.Log.holds g.S.Recording.is_rooted c.logs_edits.ensures c.names_roots.ensures g.S.Recording.count c.args.self.now _ before (λ root base places is. is, no_less _) lasts same (inl refl)
+        | inr more ↦ lasts_any g.S.Recording.stores g.S.Recording.logged g.S.Recording.waiting g.S.Recording.last g.L.Log.holds g.S.Recording.is_rooted c.logs_edits.ensures c.names_roots.ensures g.S.Recording.count c.args.self.now _ before (λ root base places is. is, no_less _) lasts more (inl refl)
       ]),
       inl refl,
     )
@@ -26,7 +26,7 @@ returns-then-is_err-clause-kept g c = λ before after root shown held none goes 
 pub returns-then-is_err-2-clause-kept : goal.returns-then-is_err-2-clause-kept
 returns-then-is_err-2-clause-kept g c = λ before after root shown held none goes covered lasts.
     let gains = on_ok c.append.result c.is_err.result c.is_err.ensures.value c.if-is_err.false c.append.ensures.ok in
-    (inl (lasts_any g.S.Recording.stores g.S.Recording.logged g.S.Recording.waiting g.S.Recording.last g.L.Log.holds g.S.Recording.is_rooted c.logs_edits.ensures c.names_roots.ensures g.S.Recording.count c.args.self.now _ before (stays_stored _ _, c.store.ensures.rises) lasts (gains lasts.kept.records lasts.kept.in_log.0) (inl refl)), inl refl)
+    (inl (lasts_any g.S.Recording.stores g.S.Recording.logged g.S.Recording.waiting g.S.Recording.last g.L.Log.holds g.S.Recording.is_rooted c.logs_edits.ensures c.names_roots.ensures g.S.Recording.count c.args.self.now _ before (λ root base places is. is, c.store.ensures.rises) lasts (gains lasts.kept.records lasts.kept.in_log.0) (inl refl)), inl refl)
 
 pub returns-in-Ok-clause-answered : goal.returns-in-Ok-clause-answered
 returns-in-Ok-clause-answered g c = (checkpointed c.empty_log.result, named_answer g.S.Recording.same g.S.Recording.checkpoints _ _ c.args.self.now.server _ c.empty_log.result c.empty_log.ensures.refusal c.empty_log.ensures.stopped (c.args.self.now.server, c.checkpoint_now.new.self, g.met.S.Recording.same_self c.args.self.now.server, c.in-Ok.ensures.says, c.empty_log.ensures.same))
