@@ -68,7 +68,7 @@ class ProgressLine:
 
     def __init__(self, command: str, is_shown: bool | None = None) -> None:
         """Shows it if that is said, and if nothing is said at a terminal."""
-        self._command, self._is_terminal = command, sys.stderr.isatty()
+        self._command, self._is_terminal = command, sys.stderr is not None and sys.stderr.isatty()
         self.is_shown = self._is_terminal if is_shown is None else is_shown
         self.reached = self._first = self._shown = Reached(0, None, "")
         self._began = self._due = 0.0
@@ -121,9 +121,10 @@ def amount(count: float, unit: str) -> str:
 
 
 def write(text: str) -> None:
-    """Writes to the standard error. A failure of that is ignored."""
-    with suppress(OSError):
-        print(text, end="", file=sys.stderr, flush=True)
+    """Writes to the standard error, if there is one. A failure of that is ignored."""
+    if sys.stderr is not None:
+        with suppress(OSError):
+            print(text, end="", file=sys.stderr, flush=True)
 
 
 def add_progress(parser: argparse.ArgumentParser) -> None:
