@@ -49,6 +49,16 @@ impl TidyFrom {
         }
     }
 
+    /// The same stamps with another one for the data.
+    fn named_from(self, start: Stamp) -> TidyFrom
+        ensures { result ≡ record self { start = start } }
+    {
+        TidyFrom {
+            commit: self.commit,
+            start,
+        }
+    }
+
     /// The stamps after these records are erased, which are the newest old ones, in falling order.
     pub(crate) fn past_records(self, records: &[(Moment, Moment)]) -> TidyFrom
         ensures commit { result.commit ≡ last_of self.commit (map (λ v. v.0) records.now) }
@@ -318,6 +328,44 @@ pub(crate) fn near_records<R: Rows>(
     let last = Some(start.stamp());
     let next = next_start(rows, cell, floor)?;
     Ok((NearStarts { last, next }, deletion))
+}
+
+/// The same stamps with a lesser `start`, if the data from there on are named too. The newest one below `start` tells: it
+/// is older than `commit`, or one of the records nearest to the floor names it. So visits that erase records also pass
+/// the data erased by earlier ones, and no later visit has to pass all of them.
+///
+/// # Errors
+///
+/// The same as for `old_records`.
+pub(crate) fn pass_named<R: Rows>(
+    rows: &mut R,
+    cell: &Cell,
+    floor: Stamp,
+    tidy: TidyFrom,
+) -> Result<TidyFrom, Refusal>
+    ensures tidy { R.seen.readable rows.old cell.now.row → AreShown (R.seen.cells rows.old)
+        → IsTidyFrom (R.seen.cells rows.old) cell.now floor tidy
+        → IfOk result (IsTidyFrom (R.seen.cells rows.old) cell.now floor) }
+    ensures reads { OnlyReads R.seen rows.old rows.new }
+    ensures refusal { IfErr result (IsRefusalOfRead
+        (R.seen.readable rows.old cell.now.row × AreShown (R.seen.cells rows.old))) }
+    ensures reason { HasReason (R.faults rows.old) (R.faults rows.new) result }
+{
+    if tidy.start <= tidy.commit {
+        return Ok(tidy);
+    }
+    let found = latest_below(rows, cell, Qualifier::Data, tidy.start)?;
+    let Some((start, _value)) = found else {
+        return Ok(tidy.named_from(tidy.commit));
+    };
+    if start < tidy.commit {
+        return Ok(tidy.named_from(tidy.commit));
+    }
+    let (near, _) = near_records(rows, cell, floor)?;
+    if is_among(start, near) {
+        return Ok(tidy.named_from(start));
+    }
+    Ok(tidy)
 }
 
 /// The newest 256 data below the floor that no record names, newest first; all of them, if there are fewer. The cell
