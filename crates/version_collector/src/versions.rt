@@ -30,8 +30,8 @@ const FEW_RECORDS: usize = 32;
 /// The most data without a record erased at once.
 const MOST_DATA: usize = 256;
 
-/// The stamps from which on a cell has nothing to erase: from `commit` on no record older than the newest one at or below
-/// the floor, and from `start` on no data below the floor that no record names.
+/// The stamps from which on a cell has nothing to erase: from `commit` on no record older than the newest one at or
+/// below the floor, and from `start` on no data below the floor that no record names.
 #[derive(Clone, Copy, Drop)]
 pub(crate) struct TidyFrom {
     pub(crate) commit: Stamp,
@@ -330,9 +330,9 @@ pub(crate) fn near_records<R: Rows>(
     Ok((NearStarts { last, next }, deletion))
 }
 
-/// The same stamps with a lesser `start`, if the data from there on are named too. The newest one below `start` tells: it
-/// is older than `commit`, or one of the records nearest to the floor names it. So visits that erase records also pass
-/// the data erased by earlier ones, and no later visit has to pass all of them.
+/// The same stamps with a lesser `start`, if the data from there on are named too. The newest data below `start` tells:
+/// its stamp is below `commit`, or one of the records nearest to the floor names it. So visits that erase records also
+/// pass the data erased by earlier ones, and no later visit has to pass all of them.
 ///
 /// # Errors
 ///
