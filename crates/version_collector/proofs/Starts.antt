@@ -246,18 +246,12 @@ older_last {Z} cells x floor from vs left is few h = older_end cells x floor fro
 
 -- ---- data that no record names
 
-module _ (cells : Cells) (shown : AreShown cells) (x : Cell) (floor : ℕ) (one : HasOneRecord cells x floor) where
+module _ (cells : Cells) (shown : AreShown cells) (x : Cell) (floor : ℕ) where
   named_one : (found : Option (ℕ × List ℕ)) (start : Option ℕ) (t : ℕ) → IsNamedBy found start → start ≡ Some t → (c : ℕ) × (b : List ℕ) × (found ≡ Some (c, b)) × NamesStart b t
   named_one None None t by e = absurd (none-some t e)
   named_one (Some (c, b)) None t by e = absurd by
   named_one None (Some s) t by e = absurd by
   named_one (Some (c, b)) (Some s) t by e = (c, b, refl, subst (λ (u : ℕ). NamesStart b u) (same_Some s t e) by)
-
-  names_it : (c t : ℕ) (b : List ℕ) (start : Option ℕ) → IsNamedBy (Some (c, b)) start → at cells x Write c ≡ Some b → NamesAt cells x c t → t < 2 ^ 63 → start ≡ Some t
-  names_it c t b None by there named low = absurd by
-  names_it c t b (Some s) by there (text, kind, named, is) low =
-      let e : text ≡ b = same_Some text b (sym named ∙ there) in
-      ap (λ (n : ℕ). Some n) (sym (read_text b t s kind by.0 (subst (λ (bs : List ℕ). IsRecordText t kind bs) e is) low by.1).0)
 
   -- a start that either names is named
   last_named : (start : Option ℕ) (t : ℕ) → NamesLast cells x floor start → start ≡ Some t → IsNamed cells x t
@@ -271,6 +265,19 @@ module _ (cells : Cells) (shown : AreShown cells) (x : Cell) (floor : ℕ) (one 
       let n = named_one next start t by e in
       let is = subst (IsOldest cells (key_of x Write) (floor + 1) (2 ^ 64 - 1)) n.2 oldest in
       (n.0, (named_text cells shown x n.0 t n.1 is.2 n.3).0)
+
+  pub among_named : (near : NearStarts) (t : ℕ) → AreNear cells x floor near → IsAmong t near → IsNamed cells x t
+  among_named near t are is = elim is [
+    | inl e ↦ last_named near.last t are.last e
+    | inr e ↦ next_named near.next t are.next e
+  ]
+
+module _ (cells : Cells) (shown : AreShown cells) (x : Cell) (floor : ℕ) (one : HasOneRecord cells x floor) where
+  names_it : (c t : ℕ) (b : List ℕ) (start : Option ℕ) → IsNamedBy (Some (c, b)) start → at cells x Write c ≡ Some b → NamesAt cells x c t → t < 2 ^ 63 → start ≡ Some t
+  names_it c t b None by there named low = absurd by
+  names_it c t b (Some s) by there (text, kind, named, is) low =
+      let e : text ≡ b = same_Some text b (sym named ∙ there) in
+      ap (λ (n : ℕ). Some n) (sym (read_text b t s kind by.0 (subst (λ (bs : List ℕ). IsRecordText t kind bs) e is) low by.1).0)
 
   -- and no other start below the floor is named
   last_names : (last : Option (ℕ × List ℕ)) (start : Option ℕ) (t c : ℕ) → IsNewest cells (key_of x Write) 0 floor last → IsNamedBy last start
@@ -293,12 +300,6 @@ module _ (cells : Cells) (shown : AreShown cells) (x : Cell) (floor : ℕ) (one 
         | inl less ↦ absurd (none-some named.0 (sym (before c (omega arith) less) ∙ named.2))
         | inr most ↦ omega (arith, least)
       ]
-
-  pub among_named : (near : NearStarts) (t : ℕ) → AreNear cells x floor near → IsAmong t near → IsNamed cells x t
-  among_named near t are is = elim is [
-    | inl e ↦ last_named near.last t are.last e
-    | inr e ↦ next_named near.next t are.next e
-  ]
 
   pub named_among : (near : NearStarts) (t : ℕ) → AreNear cells x floor near → t < floor → t < 2 ^ 63 → IsNamed cells x t → IsAmong t near
   named_among near t are below low (c, named) = elim (cases_lt floor c) [

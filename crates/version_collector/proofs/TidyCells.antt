@@ -1,6 +1,7 @@
 -- The stamps from which on a cell is tidy: after erasures of its versions, and after steps of others.
 use Rattle.std.proofs.Common.{◌≡◌, ◌≢◌, ℕ, suc, ◌-◌, ◌<◌, ◌≤◌, ◌^◌, List, [], ◌∷◌, length, map, Option, Some, None, ◌⊎◌, inl, inr, refl, sym, ap, subst, ◌∙◌, arith}
 use Rattle.std.specs.Prelude.{slice_get}
+use Rattle.std.proofs.lemmas.Bool.{cases_lt}
 use Rattle.std.proofs.lemmas.Option.{none-some, same_Some}
 use Rattle.std.specs.FinMap.{get, insert, remove}
 use Rattle.cell_key.specs.Cells.{Cells, after_edits}
@@ -19,7 +20,7 @@ use Rattle.si_model.proofs.Floors.{reached_floors}
 use Rattle.si_model.proofs.ShownAt.{cases_key, changed_off, erased_at, erased_off, key_stamp, no_data_lock, no_data_write, no_write_data, no_write_lock, put_off}
 use Rattle.si_model.proofs.Steps.{reached_sound}
 use Rattle.version_collector.specs.Erasing.{data_erasures, record_erasures}
-use Rattle.version_collector.specs.Versions.{AreFound, AreNamedFrom, AreOld, AreShown, AreUnnamed, HasNoOldFrom, IsTidyFrom, last_of}
+use Rattle.version_collector.specs.Versions.{AreFound, AreNamedFrom, AreOld, AreShown, AreUnnamed, HasNoOldFrom, IsLatestBelow, IsTidyFrom, last_of}
 use Rattle.version_collector.specs.Visits.{IsProgress}
 use Rattle.version_collector.specs.declared.erasing.CellProgress.{CellProgress}
 use Rattle.version_collector.specs.declared.collector.Pass.{Pass}
@@ -51,6 +52,41 @@ pub tidy_new : (cells : Cells) (x : Cell) (floor : ℕ) → IsTidyFrom cells x f
 tidy_new cells x floor = record {
   old = λ c d from less low there_c there_d. omega (arith, from, less, low);
   named = λ t from low there. absurd (omega (arith, from, low));
+}
+
+-- ---- with a lesser start
+
+-- there is no data from another stamp on and below the start
+pub tidy_absent : (cells : Cells) (x : Cell) (floor : ℕ) (tidy : TidyFrom) (start : ℕ) → ((t : ℕ) → start ≤ t → t < tidy.start → at cells x Data t ≡ None) → IsTidyFrom cells x floor tidy
+    → IsTidyFrom cells x floor (record tidy { start = start })
+tidy_absent cells x floor tidy start none is = record {
+  old = is.old;
+  named = λ t up low there. elim (cases_lt t tidy.start) [
+    | inl less ↦ absurd (none-some there.0 (sym (none t up less) ∙ there.1))
+    | inr more ↦ is.named t more low there
+  ];
+}
+
+-- the data found below the start is older than a stamp, or there is none
+pub tidy_older : (cells : Cells) (x : Cell) (floor : ℕ) (tidy : TidyFrom) (t : ℕ) (b : List ℕ) → IsLatestBelow cells x Data tidy.start (Some (t, b)) → t < tidy.commit → IsTidyFrom cells x floor tidy
+    → IsTidyFrom cells x floor (record tidy { start = tidy.commit })
+tidy_older cells x floor tidy t b latest older = tidy_absent cells x floor tidy tidy.commit (λ u up less. latest.2 u (omega (arith, up, older)) less)
+
+pub tidy_none : (cells : Cells) (x : Cell) (floor : ℕ) (tidy : TidyFrom) → IsLatestBelow cells x Data tidy.start None → IsTidyFrom cells x floor tidy → IsTidyFrom cells x floor (record tidy { start = tidy.commit })
+tidy_none cells x floor tidy none = tidy_absent cells x floor tidy tidy.commit (λ u up less. none u less)
+
+-- a record names the data found
+pub tidy_named : (cells : Cells) (x : Cell) (floor : ℕ) (tidy : TidyFrom) (t : ℕ) (b : List ℕ) → IsLatestBelow cells x Data tidy.start (Some (t, b)) → IsNamed cells x t → IsTidyFrom cells x floor tidy
+    → IsTidyFrom cells x floor (record tidy { start = t })
+tidy_named cells x floor tidy t b latest by is = record {
+  old = is.old;
+  named = λ u up low there. elim (cases_lt t u) [
+    | inl above ↦ elim (cases_lt u tidy.start) [
+      | inl less ↦ absurd (none-some there.0 (sym (latest.2 u above less) ∙ there.1))
+      | inr more ↦ is.named u more low there
+    ]
+    | inr most ↦ let same : t ≡ u = omega (arith, up, most) in subst (IsNamed cells x) same by
+  ];
 }
 
 -- ---- after erasures of its versions

@@ -96,7 +96,8 @@ pub record Opens (floor i : ℕ) (old new : Collectors) : Type 0 where
   pub number : i ≡ old.next
   pub next : new.next ≡ i + 1
   pub greatest : new.greatest_floor ≡ max old.greatest_floor floor
-  pub kept : kept_at new i ≡ Some (record { floor = floor; pass = First; after = None; within = None })
+  pub kept : kept_at new i
+      ≡ Some (record { floor = floor; pass = First; after = None; within = None })
   pub others : (j : ℕ) → j ≢ i → kept_at new j ≡ kept_at old j
 
 -- whether a reply closes the collector

@@ -12,7 +12,7 @@ ghost use Rattle.version_collector.specs.Erasing.{CollectsCell, ErasesOrIsTidy, 
 ghost use Rattle.version_collector.specs.Refusals.{IsVisitRefusal};
 ghost use Rattle.version_collector.specs.Versions.{AreShown, IsTidyFrom};
 
-use crate::versions::{TidyFrom, near_records, old_records, unnamed_data};
+use crate::versions::{TidyFrom, near_records, old_records, pass_named, unnamed_data};
 use cell_key::{CellKey, Edit, Moment, Qualifier, Refusal, Stamp};
 use rows::Rows;
 use si_model::Cell;
@@ -128,8 +128,9 @@ fn old_edits<R: Rows>(
 {
     let records = old_records(alloc, rows, cell, floor, tidy.commit)?;
     if !records.is_empty() {
+        let passed = pass_named(rows, cell, floor, tidy)?;
         let edits = record_edits(alloc, cell, &records)?;
-        let tidy = tidy.past_records(&records);
+        let tidy = passed.past_records(&records);
         return Ok(Erasure { edits, tidy });
     }
     let (near, deletion) = near_records(rows, cell, floor)?;

@@ -30,8 +30,8 @@ const FEW_RECORDS: usize = 32;
 /// The most data without a record erased at once.
 const MOST_DATA: usize = 256;
 
-/// The stamps from which on a cell has nothing to erase: from `commit` on no record older than the newest one at or below
-/// the floor, and from `start` on no data below the floor that no record names.
+/// The stamps from which on a cell has nothing to erase: from `commit` on no record older than the newest one at or
+/// below the floor, and from `start` on no data below the floor that no record names.
 #[derive(Clone, Copy, Drop)]
 pub(crate) struct TidyFrom {
     pub(crate) commit: Stamp,
@@ -46,6 +46,16 @@ impl TidyFrom {
         TidyFrom {
             commit: floor,
             start: floor,
+        }
+    }
+
+    /// The same stamps with another one for the data.
+    fn named_from(self, start: Stamp) -> TidyFrom
+        ensures { result ≡ record self { start = start } }
+    {
+        TidyFrom {
+            commit: self.commit,
+            start,
         }
     }
 
@@ -318,6 +328,44 @@ pub(crate) fn near_records<R: Rows>(
     let last = Some(start.stamp());
     let next = next_start(rows, cell, floor)?;
     Ok((NearStarts { last, next }, deletion))
+}
+
+/// The same stamps with a lesser `start`, if the data from there on are named too. The newest data below `start` tells:
+/// its stamp is below `commit`, or one of the records nearest to the floor names it. So visits that erase records also
+/// pass the data erased by earlier ones, and no later visit has to pass all of them.
+///
+/// # Errors
+///
+/// The same as for `old_records`.
+pub(crate) fn pass_named<R: Rows>(
+    rows: &mut R,
+    cell: &Cell,
+    floor: Stamp,
+    tidy: TidyFrom,
+) -> Result<TidyFrom, Refusal>
+    ensures tidy { R.seen.readable rows.old cell.now.row → AreShown (R.seen.cells rows.old)
+        → IsTidyFrom (R.seen.cells rows.old) cell.now floor tidy
+        → IfOk result (IsTidyFrom (R.seen.cells rows.old) cell.now floor) }
+    ensures reads { OnlyReads R.seen rows.old rows.new }
+    ensures refusal { IfErr result (IsRefusalOfRead
+        (R.seen.readable rows.old cell.now.row × AreShown (R.seen.cells rows.old))) }
+    ensures reason { HasReason (R.faults rows.old) (R.faults rows.new) result }
+{
+    if tidy.start <= tidy.commit {
+        return Ok(tidy);
+    }
+    let found = latest_below(rows, cell, Qualifier::Data, tidy.start)?;
+    let Some((start, _value)) = found else {
+        return Ok(tidy.named_from(tidy.commit));
+    };
+    if start < tidy.commit {
+        return Ok(tidy.named_from(tidy.commit));
+    }
+    let (near, _) = near_records(rows, cell, floor)?;
+    if is_among(start, near) {
+        return Ok(tidy.named_from(start));
+    }
+    Ok(tidy)
 }
 
 /// The newest 256 data below the floor that no record names, newest first; all of them, if there are fewer. The cell

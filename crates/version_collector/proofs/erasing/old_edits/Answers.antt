@@ -21,11 +21,20 @@ pub returns-then-not-is_empty-clause-tidy : goal.returns-then-not-is_empty-claus
 returns-then-not-is_empty-clause-tidy g c = λ known shown.
     let vs = c.in_ok-records.records in
     let x = c.args.cell.now in
+    let floor = c.args.floor in
     let cells = g.R.Rows.seen.cells c.args.rows.now in
+    let reads = c.in_ok-records.ensures.reads in
     let some = some_list vs.items vs.len c.is_empty.result vs.ok.0 c.is_empty.ensures c.if-not-is_empty.true in
-    let last = c.past_records-tidy.ensures.commit ∙ ap (λ (us : List (ℕ × ℕ)). last_of c.args.tidy.commit (map (λ v. v.0) us)) c.deref-then-not-is_empty.ensures.value in
-    subst (λ (es : List Edit). IsTidyFrom (after_edits cells es) x c.args.floor c.past_records-tidy.result) (sym (c.in_ok-edits.ensures.edits ∙ ap (record_erasures x) c.deref.ensures.value))
-    (tidy_records cells x c.args.floor vs.items c.args.tidy c.past_records-tidy.result some (c.in_ok-records.ensures.found known.0 shown known.1.old) last c.past_records-tidy.ensures.start (omega arith) known.1)
+    let last = c.past_records-tidy.ensures.commit ∙ ap (λ (us : List (ℕ × ℕ)). last_of c.in_ok-passed.passed.commit (map (λ v. v.0) us)) c.deref-then-not-is_empty.ensures.value in
+    let passed : IsTidyFrom cells x floor c.in_ok-passed.passed = subst (λ (cs : Cells). IsTidyFrom cs x floor c.in_ok-passed.passed) reads.kept
+    (c.in_ok-passed.ensures.tidy (reads.readable x.row known.0) (subst AreShown (sym reads.kept) shown) (subst (λ (cs : Cells). IsTidyFrom cs x floor c.args.tidy) (sym reads.kept) known.1)) in
+    subst (λ (es : List Edit). IsTidyFrom (after_edits cells es) x floor c.past_records-tidy.result) (sym (c.in_ok-edits.ensures.edits ∙ ap (record_erasures x) c.deref.ensures.value))
+    (tidy_records cells x floor vs.items c.in_ok-passed.passed c.past_records-tidy.result some (c.in_ok-records.ensures.found known.0 shown known.1.old) last c.past_records-tidy.ensures.start (omega arith) passed)
+
+pub returns-in_err-passed-clause-refusal : goal.returns-in_err-passed-clause-refusal
+returns-in_err-passed-clause-refusal g c =
+    refused_later (g.R.Rows.seen.readable c.args.rows.now c.args.cell.now.row × AreShown (g.R.Rows.seen.cells c.args.rows.now)) (g.R.Rows.seen.readable c.old_records.new.rows c.args.cell.now.row × AreShown (g.R.Rows.seen.cells c.old_records.new.rows))
+    c.from_residual-in_err-passed.result c.in_err-passed.field-0.0 (shown_later c.args.cell.now.row c.in_ok-records.ensures.reads) c.from_residual-in_err-passed.ensures.1 c.in_err-passed.ensures.refusal
 
 -- the data found, as of the beginning
 pub returns-then-not-is_empty-2-clause-old : goal.returns-then-not-is_empty-2-clause-old

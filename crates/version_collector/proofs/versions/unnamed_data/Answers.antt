@@ -44,7 +44,7 @@ loop-near-preserved-then-is_among g c =
       low = omega (arith, less, under);
       all = λ held shown one near named. data_past cells x c.args.floor c.loop-near.below t c.in-Some._value.items c.loop-near.found.items (before.all held shown one near named)
           (latest_some before.reads held x Data c.loop-near.below c.in_ok-next.next (c.in-Some.start, c.in-Some._value) c.in-Some.is c.in_ok-next.ensures.found)
-          (among_named cells shown x c.args.floor one c.args.near t near (c.is_among.ensures.0 c.if-is_among.true));
+          (among_named cells shown x c.args.floor c.args.near t near (c.is_among.ensures.0 c.if-is_among.true));
     }
 
 -- no record names it
