@@ -6,16 +6,17 @@ use lib.ListN.{get_or}
 use Rattle.std.proofs.lemmas.Bool.{cases_eq, cases_lt, leb-true, leb-false, le-leb}
 use Rattle.std.proofs.lemmas.Option.{none-some, same_Some, slice_get-get_or, slice_get-map, slice_get_within, get_or_from_slice_get}
 use Rattle.si_model.specs.Machine as machine
-use Rattle.si_model.specs.Machine.{Change, Gives, Names}
+use Rattle.si_model.specs.Machine.{Change, Gives, IsSnapshot, Names, Value}
 use Rattle.si_model.specs.Sets.{◌∈◌, here, there}
 use Rattle.si_model.specs.declared.replies.Cell.{Cell}
-use Rattle.audit.specs.Audits.{GivesAt, IsNewest, commit_of, write_of}
+use Rattle.audit.specs.Audits.{GivesAt, IsNewest, change_of, commit_of, write_of}
+use Rattle.audit.specs.AuditScans.{HasValue}
 use Rattle.audit.specs.AuditSteps.{IsWrittenAfter}
 use Rattle.audit.specs.Histories.{IsHistory, IsLastUpTo, IsLater, IsMade, IsVersion, IsWriteAt, Rises}
 use Rattle.audit.specs.declared.audit.parts.Commit.{Commit}
 use Rattle.audit.specs.declared.audit.parts.Version.{Version}
 use Rattle.audit.specs.declared.audit.parts.Write.{Write}
-use Rattle.audit.proofs.Searches.{place_of_map}
+use Rattle.audit.proofs.Searches.{none_snapshot, place_of_map, snapshot_some, some_snapshot}
 use Rattle.audit.proofs.SearchesBack.{mapped, unmapped}
 
 module _ {A : Type 0} where
@@ -230,6 +231,41 @@ pub one_write : (commits : List Commit) (u : Version) (w z : Write) → IsWriteA
 one_write commits u w z (a, at_a, put_a) (b, at_b, put_b) =
     let same = same_Some a b (sym at_a ∙ at_b) in
     same_Some w z (sym put_a ∙ (ap (λ (c : Commit). slice_get c.writes.items u.write) same ∙ put_b))
+
+-- the latest version of a cell up to a stamp is what a read as of the stamp finds
+module _ (commits : List Commit) (x : Cell) (vs : List Version) (h : IsHistory commits x vs) (s : ℕ) (u : Version) (last : IsLastUpTo vs s u) where
+  its_own : IsLastUpTo vs u.stamp u
+  its_own = record {
+    there = last.there;
+    low = omega arith;
+    most = λ w m low. let up = last.low in last.most w m (omega (arith, low, up));
+  }
+
+  pub some_write : (w : Write) × IsWriteAt commits u w
+  some_write = let r = (h.same u).0 last.there in (r.2.write, (r.0, r.1, r.2.there))
+
+  pub its_cell : (w : Write) → IsWriteAt commits u w → w.cell ≡ x
+  its_cell w put =
+      let r = (h.same u).0 last.there in
+      sym (ap (λ (z : Write). z.cell) (one_write commits u r.2.write w (r.0, r.1, r.2.there) put)) ∙ r.2.cell
+
+  pub write_found : (w : Write) (v : Change) → IsWriteAt commits u w → write_of w ≡ (x, v) → IsSnapshot (map commit_of commits) s x v
+  write_found w v put makes =
+      snapshot_some (map commit_of commits) s u.stamp x v (newest_some commits x vs h s u last) (gives_there commits x vs h u.stamp v u its_own w put refl makes)
+
+  pub found_write : (w : Write) (v : Change) → IsWriteAt commits u w → IsSnapshot (map commit_of commits) s x v → write_of w ≡ (x, v)
+  found_write w v put snapshot =
+      let so = gives_so commits x vs h u.stamp v u its_own (some_snapshot (map commit_of commits) s u.stamp x v (newest_some commits x vs h s u last) snapshot) in
+      subst (λ (z : Write). write_of z ≡ (x, v)) (one_write commits u so.1.0 w so.1.1 put) so.1.2
+
+  pub long_found : (w : Write) (least : ℕ) → IsWriteAt commits u w → ((v : Value) × (change_of w.change ≡ Some v) × (least ≤ length v)) → HasValue (map commit_of commits) s x least
+  long_found w least put (v, is, long) = (v, long, write_found w (Some v) put (λ i. (its_cell w put i, is i)))
+
+  pub found_long : (w : Write) (least : ℕ) → IsWriteAt commits u w → HasValue (map commit_of commits) s x least → (v : Value) × (change_of w.change ≡ Some v) × (least ≤ length v)
+  found_long w least put (v, long, snapshot) = (v, ap (λ (p : Cell × Change). p.1) (found_write w (Some v) put snapshot), long)
+
+pub no_value : (commits : List Commit) (x : Cell) (vs : List Version) (h : IsHistory commits x vs) (s : ℕ) (least : ℕ) → ((v : Version) → v ∈ vs → s < v.stamp) → ¬ HasValue (map commit_of commits) s x least
+no_value commits x vs h s least late (v, long, snapshot) = none-some v (sym (none_snapshot (map commit_of commits) s x (Some v) (newest_none commits x vs h s late) snapshot))
 
 pub no_commit : (commits : List Commit) (u : Version) → slice_get commits u.place ≡ None → (w : Write) → ¬ IsWriteAt commits u w
 no_commit commits u none w (c, at, put) = none-some c (sym none ∙ at)

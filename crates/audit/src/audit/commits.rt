@@ -3,7 +3,7 @@
 ghost use Rattle.std.specs.Prelude.{◌≡◌, ◌++◌, ◌∷◌, [], ℕ, length, max, Some, IfErr, IfNone, IfSome, OnErr, OnOk};
 ghost use Rattle.si_model.specs.Reads.{cell_of};
 ghost use Rattle.audit.specs.Commits.{AreMarked, latest_of};
-ghost use Rattle.audit.specs.Histories.{AreAdded, AreStarts, Histories as HistoriesOf, IsHistory, IsWriteAt};
+ghost use Rattle.audit.specs.Histories.{AreAdded, AreHistories, AreStarts, Histories as HistoriesOf, IsHistory, IsWriteAt};
 ghost use Rattle.audit.specs.declared.audit.parts.Write.{Write as WriteOf};
 
 use crate::audit::histories::{Histories, add_all, history_of};
@@ -79,6 +79,16 @@ impl Commits {
     {
         match &self.histories {
             Some(histories) => history_of(self.alloc, histories, row, family),
+            None => None,
+        }
+    }
+
+    /// The versions of each cell. `None` if they aren't kept.
+    pub(crate) fn histories(&self) -> Option<&Histories>
+        ensures { IfSome result (λ histories. AreHistories self.now histories.now) }
+    {
+        match &self.histories {
+            Some(histories) => Some(histories),
             None => None,
         }
     }
