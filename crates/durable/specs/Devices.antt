@@ -23,8 +23,8 @@ most_stamp = 2 ^ 63 - 1
 
 -- Cells are kept under a root with the places of a state's tablets. A log is over this root; the edits
 -- in its records, applied to the cells, give cells that show the state after a clean restart. The edits
--- are within the journal's limits, in number and in bytes, and the records' stamps are stamps. The
--- state's greatest stamp is covered, maybe by the records.
+-- are within the journal's limits, in number and in bytes. No record has a stamp above the greatest one.
+-- The state's greatest stamp is covered, maybe by a record.
 pub record Lasts (keeps : RootView → Cells → List Place → Type 0) (holds : List (List ℕ) → Type 0)
     (covers : List (List ℕ) → ℕ → Type 0) (st : State) : Type 0 where
   pub root : RootView

@@ -60,7 +60,7 @@ pub data LacksBase (m : Contents) (records : List (List ℕ)) : Type 0 where
       → ¬ IsOver records root → LacksBase m records
 
 -- Files and a mark are whole beside a log of these records: nothing of a checkpoint is lost, the log is
--- over the root that is there, and its records' stamps are stamps.
+-- over the root that is there, and no record has a stamp above the greatest one.
 pub record AreWhole (m : Contents) (mark : ℕ) (records : List (List ℕ)) : Type 0 where
   pub kept : ¬ IsLost m mark
   pub over : ¬ LacksBase m records

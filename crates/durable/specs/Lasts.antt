@@ -133,7 +133,7 @@ module _ {S M L : Type 0} (stores : S → RootView → Cells → List Place → 
     pub kept : Lasts (StoresUnder server) (HoldsRecords server) (CoversStamp server.marks) st
 
   -- The log is over a root and has the edits that the server counts as logged. The mark's file covers the
-  -- root's greatest stamp, and the file or the log each stamp that counts as covered.
+  -- root's greatest stamp, and the file or the log the stamps that count as covered.
   pub record HoldsLogged (server : LastingServer S M L) (root : RootView) : Type 0 where
     pub records : List (List ℕ)
     pub in_log : holds server.log records

@@ -108,7 +108,8 @@ fn renew_log<S: Recording, L: Log>(server: &S, log: &mut L) -> Result<(), Refusa
 }
 
 impl<S: Recording, M: MarkStore, L: Log> LastingServer<S, M, L> {
-    /// Whether the log can take the edits of a server with this last stamp: it hasn't failed, and edits are recorded.
+    /// Whether the log can take edits and a mark over the last stamp: it hasn't failed, and edits are recorded. The last
+    /// stamp is never above the greatest one.
     fn can_log(&self, last: Stamp) -> bool
         ensures { IsTrue result ↔ (self.now.is_stopped ≡ false)
             × (S.recording self.now.server ≡ true) × (last < 2 ^ 63) }

@@ -10,7 +10,7 @@ use cell_key::{MOST_STAMP, Stamp};
 use oracle::{MarkFault, MarkStore};
 use std::marker::Model;
 
-/// How many stamps a range has, as one of the oracle.
+/// How many stamps a range of the oracle has.
 const RANGE: Stamp = 1000;
 
 /// A store of the oracle's mark, and how far its number and the log's records cover the stamps that are answered.
@@ -37,7 +37,7 @@ impl<M: MarkStore> Model for StoredMark<M> {
 }
 
 impl<M: MarkStore> StoredMark<M> {
-    /// The mark that a store keeps. It covers the stamps up to it. After a device's fault the store is given back.
+    /// The mark that a store keeps. The stamps up to it are covered. After a device's fault the store is given back.
     pub(crate) fn load(mut marks: M) -> Result<StoredMark<M>, M>
         ensures stored { IfOk result (λ mark. IfSome (M.mark marks) (λ number.
             mark.stored ≡ number)) }
