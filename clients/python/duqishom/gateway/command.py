@@ -116,7 +116,13 @@ def parser() -> argparse.ArgumentParser:
     )
     words.add_argument("--collectors", metavar="N", type=int, default=4, help="open collectors of a connection (4)")
     words.add_argument("--record", metavar="FOLDER", help="keep all frames there for tablet_audit")
-    words.add_argument("--grace", metavar="SECONDS", type=float, default=5, help="time for last replies, at the end or of a killed client (5)")
+    words.add_argument(
+        "--grace",
+        metavar="SECONDS",
+        type=float,
+        default=5,
+        help="time for last replies, at the end or of a client that is killed (5)",
+    )
     return words
 
 
