@@ -1,6 +1,6 @@
 //! Logs over a file that fails, and in memory.
 
-ghost use Rattle.std.specs.Prelude.{◌≡◌, ◌<◌, ◌≤◌, true};
+ghost use Rattle.std.specs.Prelude.{◌≡◌, ◌<◌, ◌≤◌, ◌^◌, true};
 ghost use Rattle.commit_log.specs.Faults.{HasRisen};
 
 use super::{ENDS, FIRST, LOG, STORE, are_first};
@@ -172,11 +172,11 @@ fn a_log_that_is_renewed(rt: HostRuntime) -> Result<(), Fail> {
 /// The bytes of a frame whose record has a body of one byte.
 const FRAME: usize = 26;
 
-/// The frame of the edits `a` with this number.
-fn frame_with(alloc: Global, number: u64) -> Result<Vec<u8>, LogFault>
-    requires { 0 < number }
+/// The frame of the edits `a` with the number after this one.
+fn frame_after(alloc: Global, before: u64) -> Result<Vec<u8>, LogFault>
+    requires { before < 2 ^ 63 }
 {
-    let mut log = opened(alloc, &new_log(alloc, STORE, number - 1)?, u64::MAX, 0)?;
+    let mut log = opened(alloc, &new_log(alloc, STORE, before)?, u64::MAX, 0)?;
     log.append(RecordKind::Edits, 0, b"a")?;
     let bytes = log.into_file().bytes;
     let frame = bytes.get(ENDS[1]..ENDS[1] + FRAME).unwrap_or_default();
@@ -193,19 +193,20 @@ fn append_third(alloc: Global, body: &[u8]) -> Result<(), LogFault> {
 
 #[test]
 fn records_that_contain_a_frame(rt: HostRuntime) -> Result<(), Fail> {
-    for (number, is_later) in [
-        (FIRST + 1, false),
+    for (before, is_later) in [
+        (FIRST, false),
+        (FIRST + 1, true),
         (FIRST + 2, true),
-        (FIRST + 3, true),
-        (FIRST + 2 + 131_071, true),
-        (FIRST + 2 + 131_072, false),
+        (FIRST + 1 + 131_071, true),
+        (FIRST + 1 + 131_072, false),
     ] {
-        let appended = append_third(rt.alloc(), &frame_with(rt.alloc(), number)?);
-        assert!(rt;
-            (appended == Err(LogFault::Refused)) == is_later,
-            "{number}"
-        );
-        assert!(rt; appended.is_ok() != is_later, "{number}");
+        let appended = append_third(rt.alloc(), &frame_after(rt.alloc(), before)?);
+        let wanted = if is_later {
+            Err(LogFault::Refused)
+        } else {
+            Ok(())
+        };
+        assert!(rt; appended == wanted, "{before}");
     }
     Ok(())
 }
