@@ -8,8 +8,8 @@ from io import BytesIO
 from pathlib import Path
 from typing import BinaryIO
 
-from duqishom.files import LOG_FILE, MARK_FILE, ROOT_FILE, SIGN_FILE, file_name, renewed_log, sign_of
-from duqishom.folders import read_log, root_in
+from duqishom.files import LOG_FILE, MARK_FILE, ROOT_FILE, SIGN_FILE, file_name, renewed_log, sign_of, spelled_mark
+from duqishom.folders import read_log, read_mark, root_in
 
 # The size of a piece that is copied at once, in bytes.
 PIECE = 1 << 20
@@ -25,8 +25,8 @@ def nothing() -> None:
 
 def copy_checkpoint(source: str, target: str, go_on: Callable[[], None] = nothing) -> None:
     """Copies the last checkpoint of a folder into another one, which is empty or is created. If it has a log, the copy
-    gets its sign and a log without edits over the root. The program may put another root meanwhile, but must not remove
-    a file.
+    gets its sign, a log without edits over the root, and a mark that no stamp of the log is above. The program may put
+    another root meanwhile, but must not remove a file.
 
     `go_on` is called before each piece, and may raise an exception to end the copying. NotCopied if the other folder
     has files.
@@ -38,6 +38,10 @@ def copy_checkpoint(source: str, target: str, go_on: Callable[[], None] = nothin
     if log is not None:
         beside = {SIGN_FILE: sign_of(log.store)} if log.format == 2 else {}
         beside[LOG_FILE] = renewed_log(log, root)
+    # A store that has drawn no stamp yet has no mark
+    mark = max(read_mark(place), 0 if log is None else log.mark())
+    if mark > 0:
+        beside[MARK_FILE] = spelled_mark(mark)
     copy_store(place, copy, data, beside, go_on)
 
 
@@ -45,7 +49,8 @@ def restore(backup: str, target: str) -> None:
     """Copies the store of a folder that no program has open, with its log and all edits, into a folder that is empty or
     is created. NotCopied if that has files."""
     place, copy = Path(backup), empty_folder(target)
-    beside = {name: (place / name).read_bytes() for name in (SIGN_FILE, LOG_FILE) if (place / name).exists()}
+    kept = (SIGN_FILE, LOG_FILE, MARK_FILE)
+    beside = {name: (place / name).read_bytes() for name in kept if (place / name).exists()}
     copy_store(place, copy, (place / ROOT_FILE).read_bytes(), beside, nothing)
 
 
@@ -61,15 +66,13 @@ def empty_folder(target: str) -> Path:
 
 
 def copy_store(place: Path, copy: Path, data: bytes, beside: Mapping[str, bytes], go_on: Callable[[], None]) -> None:
-    """Copies the files that a root of these bytes names and the mark, and writes the files in `beside`. The root is
-    written last, so an incomplete copy has no root."""
+    """Copies the files that a root of these bytes names, and writes the files in `beside`. The root is written last, so
+    an incomplete copy has no root."""
     root = root_in(place, data)
     for name, said in beside.items():
         write_synced(copy / name, BytesIO(said), go_on)
     named = {file_name(reference.name) for tablet in root.tablets for reference in tablet.files}
-    # A store that has drawn no stamp yet has no mark
-    mark = [MARK_FILE] if (place / MARK_FILE).exists() else []
-    for name in (*mark, *sorted(named)):
+    for name in sorted(named):
         with (place / name).open("rb") as file:
             write_synced(copy / name, file, go_on)
     go_on()

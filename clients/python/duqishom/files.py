@@ -322,7 +322,8 @@ class RecordKind(IntEnum):
 
 
 class LogRecord(NamedTuple):
-    """A record: the greatest stamp answered by then, and its body with the body's offset."""
+    """A record: its stamp, above which none was answered by then, 0 in a record of any root; and its body with the
+    body's offset."""
 
     kind: RecordKind
     stamp: int
@@ -363,8 +364,8 @@ class Log:
         """Whether it continues this root."""
         return self.is_over_any() or (root.top, root_sum(root)) in self.roots()
 
-    def greatest(self) -> int:
-        """The greatest stamp in its records."""
+    def mark(self) -> int:
+        """The greatest stamp of its records, or 0. The store's mark is at least this one."""
         return max((record.stamp for record in self.records), default=0)
 
 
@@ -445,6 +446,8 @@ def log_record(record: bytes, at: int) -> LogRecord:
         raise BadForm("this is no kind of a record", at + LONG_NUMBER.size)
     if len(body) != lengths[RecordKind(kind)] or (kind == RecordKind.ANY_ROOT and stamp):
         raise BadForm("the record isn't that of its kind", at + LONG_NUMBER.size)
+    if stamp > MOST_STAMP:
+        raise BadForm("a record's stamp is no more than the greatest stamp", at + LONG_NUMBER.size + 1)
     return LogRecord(RecordKind(kind), stamp, at + LOG_RECORD.size, body)
 
 
@@ -513,3 +516,8 @@ def mark_of(data: bytes) -> int:
     if mark > MOST_STAMP:
         raise BadForm("a mark is no more than the greatest stamp", 0)
     return mark
+
+
+def spelled_mark(mark: int) -> bytes:
+    """The bytes that encode a mark."""
+    return LONG_NUMBER.pack(mark)

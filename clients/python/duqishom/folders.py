@@ -245,7 +245,7 @@ def root_in(folder: Path, data: bytes) -> Root:
 
 
 def read_mark(folder: Path) -> int:
-    """The mark of a folder, 0 if there is none."""
+    """The mark in a folder's file of it, 0 if there is none. A log may have a greater one."""
     file = folder / MARK_FILE
     try:
         return mark_of(file.read_bytes())
@@ -316,12 +316,10 @@ def check_over(folder: Path, log: Log | None, root: Root) -> None:
         raise FolderDamaged(folder / ROOT_FILE, "the log names a root, and there is none")
 
 
-def check_mark(folder: Path, mark: int, root: Root, log: Log | None) -> None:
-    """Checks that a folder's mark isn't below its stamps. FolderDamaged if it is."""
+def check_mark(folder: Path, mark: int, root: Root) -> None:
+    """Checks that the mark in a folder's file of it isn't below the root's stamp. FolderDamaged if it is."""
     if mark < root.top:
         raise FolderDamaged(folder / MARK_FILE, f"the mark {mark} is below the root's greatest stamp {root.top}")
-    if log is not None and mark < log.greatest():
-        raise FolderDamaged(folder / MARK_FILE, f"the mark {mark} is below the log's greatest stamp {log.greatest()}")
 
 
 def check_folder(folder: Path) -> Root:
@@ -330,7 +328,7 @@ def check_folder(folder: Path) -> Root:
     root, mark, log = read_root(folder), read_mark(folder), read_log(folder)
     last_edits(folder, log)
     check_over(folder, log, root)
-    check_mark(folder, mark, root, log)
+    check_mark(folder, mark, root)
     for reference in sorted({reference for tablet in root.tablets for reference in tablet.files}):
         file = folder / file_name(reference.name)
         try:

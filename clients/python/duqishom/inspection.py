@@ -24,6 +24,7 @@ from duqishom.cells import Cell
 from duqishom.columns import BadForm, Kind, Record, read_lock, read_record
 from duqishom.files import (
     LOG_FILE,
+    MARK_FILE,
     ROOT_FILE,
     Bytes,
     Key,
@@ -82,8 +83,9 @@ class Folder:
                 if not left:
                     raise
         self.log = last_edits(path, self._logged)
-        # A program that has the folder open raises its mark before it uses stamps
-        self.mark = read_mark(path)
+        # Read after the root: a program that has the folder open stores the mark before it puts a root
+        self.stored_mark = read_mark(path)
+        self.mark = max(self.stored_mark, 0 if self._logged is None else self._logged.mark())
 
     def _opened(self, name: int) -> SortedFile:
         """A file, with its header and its footer."""
@@ -105,7 +107,7 @@ class Folder:
 
     def check(self) -> None:
         """Reads the whole folder, as a program does at an open. FolderDamaged at the first wrong byte."""
-        check_mark(self.path, self.mark, self.root, self._logged)
+        check_mark(self.path, self.stored_mark, self.root)
         for tablet in self.root.tablets:
             for name, length in tablet.files:
                 size = self.files[name].size
@@ -162,10 +164,12 @@ def stats(folder: Folder) -> Iterator[str]:
     """Counts of everything in the folder."""
     root, unnamed = folder.root, folder.unnamed()
     size = sum(file.size for file in folder.files.values())
-    numbers = f"greatest stamp {root.top}, floor {root.floor}, mark {folder.mark}, next file {root.next_name:x}"
+    is_logged = has_log(str(folder.path))
+    stored = f" ({folder.stored_mark} in {MARK_FILE})" if is_logged else ""
+    numbers = f"greatest stamp {root.top}, floor {root.floor}, mark {folder.mark}{stored}, next file {root.next_name:x}"
     yield f"{numbers}, root of format {root.format}"
     sizes = f"{len(root.tablets)} tablets, {len(folder.files)} files, {size:,} bytes"
-    logged = f", {len(folder.log):,} keys in the log" if has_log(str(folder.path)) else ""
+    logged = f", {len(folder.log):,} keys in the log" if is_logged else ""
     yield f"{sizes}{logged}; {len(unnamed)} more files that the root doesn't name"
     counts: defaultdict[int, Counter[str]] = defaultdict(Counter)
     for (tablet, (_, _, column, _), value), is_newest in with_newest(folder.versions()):
@@ -227,7 +231,7 @@ def log_lines(path: Path) -> Iterator[str]:
         over = ["whichever root is there"] * log.is_over_any() + [f"the root of {root}" for root in roots]
         yield f"format 2, store {log.store:016x}, {len(log.records):,} records from number {log.first}, over {' and '.join(over)}"
     size = (path / LOG_FILE).stat().st_size
-    yield f"{sum(1 for _ in log.edits()):,} edits up to stamp {log.greatest()}"
+    yield f"{sum(1 for _ in log.edits()):,} edits, mark {log.mark()}"
     yield f"whole frames up to byte {log.end} of {log.room}, and {size - log.room:,} bytes of room"
     if log.later is not None:
         yield f"a broken frame at byte {log.end}, and behind it a whole one at byte {log.later}"

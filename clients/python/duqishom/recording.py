@@ -7,7 +7,8 @@ from io import BufferedWriter
 from os import PathLike
 from pathlib import Path
 
-from duqishom.files import LOG_FILE, MARK_FILE, mark_of
+from duqishom.columns import BadForm
+from duqishom.files import LOG_FILE, MARK_FILE, log_of, mark_of
 from duqishom.frames import whole_frames
 
 
@@ -77,17 +78,21 @@ def close(file: BufferedWriter) -> None:
 
 def note_reopened(place: Path, store: str | None) -> None:
     """Records that the store is opened again after the last reply."""
+    try:
+        mark = logged_mark(store)
+    except BadForm:
+        # No program opens such a folder
+        return
     replies: list[bytes] = []
     whole_frames((place / "replies").read_bytes(), replies)
-    mark = logged_mark(store)
     noted = place / ("reopened-at" if mark is None else "recovered-at")
     before = noted.read_text().strip() + "," if noted.exists() else ""
     noted.write_text(f"{before}{len(replies)}{'' if mark is None else f':{mark}'}\n")
 
 
 def logged_mark(store: str | None) -> int | None:
-    """The oracle's mark of a store in a folder, if that has a log."""
+    """The oracle's mark of a store in a folder, if that has a log: the greatest of its file's and of the log's."""
     if store is None or not (Path(store) / LOG_FILE).exists():
         return None
-    file = Path(store) / MARK_FILE
-    return mark_of(file.read_bytes()) if file.exists() else 0
+    logged, file = log_of((Path(store) / LOG_FILE).read_bytes()).mark(), Path(store) / MARK_FILE
+    return max(logged, mark_of(file.read_bytes())) if file.exists() else logged

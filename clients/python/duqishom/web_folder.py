@@ -55,8 +55,9 @@ class LockState:
 
 @dataclass(frozen=True)
 class FolderState:
-    """A folder: the figures that the line `status` shows, its tablets, its mark, whether it has a log, the bytes of
-    that now and at the read before, the free part of the disk, and the reason why it can't be read, if there is one.
+    """A folder: the figures that the line `status` shows, its tablets, the mark in its file, whether it has a log, the
+    bytes of that now and at the read before, the free part of the disk, and the reason why it can't be read, if there is
+    one.
     Of the locks those that are there longest come first, with their number, and the reason why they weren't looked
     for."""
 

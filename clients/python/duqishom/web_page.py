@@ -204,7 +204,7 @@ def folder_rows(folder: FolderState, last: Sample | None) -> Iterator[tuple[obje
         yield "on request", counted(int(last.alone("checkpoints")), "checkpoint")
     limit = log_bytes(last)
     yield "log", f"{size(folder.log)} of {size(limit)}" if folder.has_log else "none"
-    yield "mark", f"{folder.mark:,}"
+    yield "stored mark", f"{folder.mark:,}"
     for name, what in FILES:
         if name in figures:
             yield what, size(int(str(figures[name])))

@@ -141,7 +141,7 @@ class OutsideTheForm(unittest.TestCase):
     def test_later_frames(self) -> None:
         """A log with a wrong byte before a whole frame is damaged, and one with a wrong byte in its last frame ends before it."""
         [data] = [bytes_in(block) for block in fenced(PAGE, "form") if block.more.startswith("log 2")]
-        for at, end, later in ((50, 45, 102), (60, 45, 102), (101, 45, 102), (102, 102, None), (126, 102, None)):
+        for at, end, later in ((50, 45, 102), (60, 45, 102), (101, 45, 102), (102, 102, 127), (127, 127, None), (151, 127, None)):
             log = log_of(data[:at] + bytes([data[at] ^ 1]) + data[at + 1 :])
             self.assertEqual((log.end, log.later), (end, later), at)
         for head in (b"", b"TABLOG", b"TABLOG03", data[:8], data[:44], data[:20] + b"\0" + data[21:]):

@@ -9,14 +9,15 @@ import unittest
 from collections.abc import Callable
 from pathlib import Path
 
-from duqishom import Committed, Device, Store, Value
+from duqishom import Committed, Device, Qualifier, Store, Value
 from duqishom.files import log_of
 from duqishom.program import default_program
 from tests.folders import FolderTest
 
 FAMILY = b"c"
 
-# So many stamps need two further marks of the oracle.
+# So many stamps need two further marks of the oracle, each in a record of the log. There is room for these where there
+# is none for a step.
 STAMPS = 2_500
 
 
@@ -94,6 +95,22 @@ class FullDisk(FolderTest):
 
     def test_a_limit_of_the_file_size(self) -> None:
         self.goes_on(lambda: self.limit(self.log().stat().st_size + 100), lambda: self.limit(resource.RLIM_INFINITY))
+
+    def test_a_begin_without_room(self) -> None:
+        """A stamp is answered once its mark is in the log, and a new log has no room."""
+        with self.opened() as store:
+            size = self.log().stat().st_size
+            self.limit(size)
+            for _ in range(3):
+                self.assertRaises(Device, store.begin)
+            self.assertEqual(store.raw(b"000", FAMILY, Qualifier.DATA), None)
+            self.assertEqual(self.log().stat().st_size, size)
+            self.limit(resource.RLIM_INFINITY)
+            self.assertEqual(store.begin(), 1)
+            self.put(store, 0)
+            store.kill()
+        with self.opened() as store:
+            self.assertEqual(store.get(store.begin(), b"000", FAMILY), Value(bytes(60_000)))
 
     def test_a_small_disk(self) -> None:
         mount = ["mount", "-t", "tmpfs", "-o", "size=16m", "none", str(self.store_folder)]

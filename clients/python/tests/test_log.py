@@ -17,7 +17,8 @@ from pathlib import Path
 from zlib import crc32
 
 from duqishom import ConnectionLost, Held, NotOpened, Patience, Pending, ProgramEnded, Store, Transaction, TransactionFailed
-from duqishom.files import FRAME, NUMBER, log_of
+from duqishom.copies import copy_checkpoint
+from duqishom.files import FRAME, NUMBER, log_of, spelled_mark
 from duqishom.folders import has_log
 from duqishom.inspection import main as inspect
 from duqishom.program import default_program
@@ -253,13 +254,60 @@ class Logs(FolderTest):
                 (self.path / lost).unlink()
         self.assertEqual(self.told("--log"), (0, ""))
 
-    def test_a_log_whose_mark_is_gone(self) -> None:
-        """The root of a new store has no stamp, but the log has."""
+    def test_a_mark_that_is_gone_or_old(self) -> None:
+        """With its log a store goes on above all that was answered, unless its root has a greater stamp than the file
+        of the mark."""
         with self.opened() as store:
             put(store, b"1")
-        (self.path / MARK).unlink()
-        with self.assertRaisesRegex(NotOpened, f"{MARK}: the mark 0 is below the log's greatest stamp"):
+            store.checkpoint()
+            store.restart_oracle()
+            last = store.begin()
+            store.kill()
+        self.assertEqual((last, (self.path / MARK).read_bytes(), self.logged_mark()), (1001, spelled_mark(1000), 2000))
+        self.assertEqual(self.next_start(), 2001)
+        self.assertEqual(self.next_start(), 3001)
+        (self.path / MARK).write_bytes(spelled_mark(2))
+        self.assertEqual(self.next_start(), 4001)
+        with self.opened() as store:
+            store.checkpoint()
+        self.assertEqual((self.path / MARK).read_bytes(), spelled_mark(5000))
+        (self.path / MARK).write_bytes(spelled_mark(1000))
+        with self.assertRaisesRegex(NotOpened, f"{MARK}: the mark 1000 is below the root's greatest stamp 5000") as caught:
             self.opened()
+        self.assertEqual(caught.exception.status, 5)
+
+    def test_a_new_store_whose_mark_is_gone(self) -> None:
+        """Its root has no stamp, so the log's records alone say which stamps were answered."""
+        with self.opened() as store:
+            last = store.begin()
+            store.kill()
+        self.assertEqual((last, (self.path / MARK).exists(), self.logged_mark()), (1, False, 1000))
+        self.assertEqual(self.next_start(), 1001)
+
+    def test_a_copy_has_the_mark_of_the_log(self) -> None:
+        """A copy of a store that goes on meanwhile has no record of the log, but its mark."""
+        copy = self.path / "copy"
+        with self.opened() as store:
+            put(store, b"1")
+            store.checkpoint()
+            store.restart_oracle()
+            last = store.begin()
+            copy_checkpoint(self.folder, str(copy))
+        self.assertEqual((last, (copy / MARK).read_bytes()), (1001, spelled_mark(2000)))
+        self.assertEqual(len(log_of((copy / LOG).read_bytes()).records), 1)
+        self.folder = str(copy)
+        self.assertEqual((self.next_start(), self.value()), (2001, b"1"))
+
+    def logged_mark(self) -> int:
+        """The mark of the log."""
+        return log_of((self.path / LOG).read_bytes()).mark()
+
+    def next_start(self) -> int:
+        """The start of the first session after an opening. The program is killed then."""
+        with self.opened() as store:
+            start = store.begin()
+            store.kill()
+        return start
 
     def test_a_log_of_format_1_is_upgraded(self) -> None:
         with self.opened() as store:
@@ -269,6 +317,8 @@ class Logs(FolderTest):
         for record in log_of(log.read_bytes()).records[1:]:
             length = NUMBER.pack(len(record.body))
             old += FRAME.pack(len(record.body), crc32(length + record.body)) + record.body
+        # A program that writes format 1 stores the mark before it answers a stamp
+        (self.path / MARK).write_bytes(spelled_mark(log_of(log.read_bytes()).mark()))
         (self.path / SIGN).unlink()
         for tail in (b"", b"\1" * 9):
             log.write_bytes(old + tail)
@@ -312,10 +362,15 @@ class Logs(FolderTest):
         self.assertEqual(self.inspected("cells"), "counter\tc\t2\n")
         self.assertEqual(self.inspected("locks"), f"held c: session {start} sets it; its first cell is held c\n")
         self.assertIn("10 keys in the log", self.inspected("stats"))
+        self.assertIn(f", mark 1000 (1000 in {MARK}), ", self.inspected("stats"))
         size = self.end()
         what = "format 2, store [0-9a-f]{16}, [0-9]+ records from number [0-9]+, over the root of stamp"
         self.assertRegex(self.inspected("log"), what)
         self.assertRegex(self.inspected("log"), f"whole frames up to byte {size} of {size}, and [0-9,]+ bytes of room")
+        self.assertRegex(self.inspected("log"), "[0-9]+ edits, mark 1000\n")
+        self.next_start()
+        self.assertIn(f", mark 2000 (1000 in {MARK}), ", self.inspected("stats"))
+        self.assertRegex(self.inspected("log"), "[0-9]+ edits, mark 2000\n")
 
     def inspected(self, what: str) -> str:
         """The output of `inspect` for the folder."""

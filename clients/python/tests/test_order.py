@@ -11,10 +11,15 @@ from collections.abc import Callable, Iterable
 from pathlib import Path
 
 from duqishom import Store
+from duqishom.files import LOG_FILE as LOG
+from duqishom.files import log_of
 from duqishom.program import default_program
 from tests.folders import FolderTest
 
 CALLS = "write,pwrite64,writev,fdatasync,fsync,rename,renameat,renameat2,openat,ftruncate,unlink,unlinkat"
+
+# The file that a mark is written to.
+NEW_MARK = "oracle.new"
 
 # A call on an open file, and a call on a file by its path.
 ON_FILE = re.compile(r"(write|pwrite64|writev|ftruncate|fdatasync|fsync)\((\d+)<([^>]*)>.* = \d+$")
@@ -62,6 +67,18 @@ class Disk:
         self._moved.append(f"{call} of {Path(path).name}")
 
 
+def synced(trace: Iterable[str]) -> list[set[str]]:
+    """The names of the files that were synced before each reply, after the reply before it."""
+    names: list[set[str]] = [set()]
+    for line in trace:
+        found = ON_FILE.search(line)
+        if found and found[1] in ("fdatasync", "fsync"):
+            names[-1].add(Path(found[3]).name)
+        elif found and found[2] == "1":
+            names.append(set())
+    return names[:-1]
+
+
 def judged(folder: str, trace: Iterable[str]) -> Disk:
     """The state of a folder after a trace."""
     disk = Disk(folder)
@@ -101,15 +118,42 @@ class Order(FolderTest):
 
     @unittest.skipUnless(shutil.which("strace"), "strace isn't here; Debian has it in the package strace")
     def test_log_and_mark_are_written_anew_before_the_first_reply_after_a_kill(self) -> None:
-        self.traced(self.commit)
+        self.traced(self.commit_twice)
         trace = self.traced(self.commit)
         first = next(number for number, line in enumerate(trace) if "write(1<" in line)
         self.assertLessEqual({"commit.log", "oracle.mark"}, judged(self.folder, trace[:first]).renewed)
         self.assertEqual(judged(self.folder, trace).wrong, [])
 
+    @unittest.skipUnless(shutil.which("strace"), "strace isn't here; Debian has it in the package strace")
+    def test_a_stamp_lasts_by_a_record_of_the_log(self) -> None:
+        """The file of the mark is stored by a checkpoint and by an opening alone."""
+        trace = self.traced(self.draw)
+        self.assertEqual(judged(self.folder, trace).wrong, [])
+        opening, *draws, checkpoint = synced(trace)
+        self.assertEqual(draws, 2 * [{LOG}, set(), set()])
+        self.assertEqual([NEW_MARK in names for names in (opening, checkpoint)], [False, True])
+        opening, *draws, checkpoint = synced(self.traced(self.draw))
+        self.assertEqual(draws, 2 * [{LOG}, set(), set()])
+        self.assertEqual([NEW_MARK in names for names in (opening, checkpoint)], [True, True])
+
     def commit(self, store: Store) -> None:
         """Commits a cell."""
         store.run(lambda t: t.set(b"a", b"c", b"1"))
+
+    def commit_twice(self, store: Store) -> None:
+        """Commits a cell before a checkpoint and after it, which leaves a mark and records."""
+        self.commit(store)
+        store.checkpoint()
+        self.commit(store)
+
+    def draw(self, store: Store) -> None:
+        """Draws two stamps of each of two ranges, and makes a checkpoint. The log has each stamp's mark by its reply."""
+        for _ in range(2):
+            for _ in range(2):
+                start = store.begin()
+                self.assertGreaterEqual(log_of((self.path / LOG).read_bytes()).mark(), start)
+            store.restart_oracle()
+        store.checkpoint()
 
     def all_kinds(self, store: Store) -> None:
         """Requests that use each kind of call."""

@@ -40,9 +40,9 @@ class Recordings(unittest.TestCase):
         self.addCleanup(folder.cleanup)
         self.place = Path(folder.name) / "recording"
 
-    def record(self, folder: str | None = None, log: bool | None = None) -> None:
-        """Records a store that reads, writes, deletes, cleans and collects."""
-        with Store(record=self.place, folder=folder, log=log) as store:
+    def record(self, folder: str | None = None, log: bool | None = None, checkpoint: bool = True) -> None:
+        """Records a store that reads, writes, deletes, cleans and collects, and makes a checkpoint at its end or none."""
+        with Store(record=self.place, folder=folder, log=log, checkpoint_at_close=checkpoint) as store:
             with store.transaction() as transaction:
                 transaction.set(b"Ann", b"bal", b"1")
                 transaction.set(b"Bob", b"bal", b"2")
@@ -78,13 +78,13 @@ class Recordings(unittest.TestCase):
             self.record(folder, False)
             before = len(bodies(self.place / "replies"))
             self.record(folder, False)
-            self.record(folder, True)
+            self.record(folder, True, False)
             behind = len(bodies(self.place / "replies"))
             self.record(folder)
         noted = (self.place / "reopened-at").read_text().strip().split(",")
         self.assertEqual(int(noted[0]), before)
         self.assertEqual(len(noted), 2)
-        # The first Begin of each opening raises the mark by 1,000
+        # The first Begin of each opening raises the mark by 1,000, the third one in the log alone
         self.assertEqual((self.place / "recovered-at").read_text(), f"{behind}:3000\n")
 
     def test_a_socket_is_recorded_by_its_gateway(self) -> None:
