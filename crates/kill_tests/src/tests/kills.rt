@@ -68,7 +68,7 @@ const HELD: [Exchange; 3] = [
     (b"\x04\0\0\0\0\0\0\x03\xEB", b"\x84\x01\0\x01\0\x01"),
 ];
 
-/// The requests after the first ones of the transfer: up to a checkpoint, and from there to a Sweep.
+/// The requests after the first ones of the transfer, up to a checkpoint.
 const FIRST_PART: [&[Exchange]; 5] = [
     &FLUSHED,
     &SESSION_STOPPED,
@@ -77,7 +77,43 @@ const FIRST_PART: [&[Exchange]; 5] = [
     &WRITTEN,
 ];
 
-const SECOND_PART: [&[Exchange]; 2] = [&COLLECTED, &THREE_CELLS];
+/// Sessions begin in three ranges of stamps, with a checkpoint in the second one.
+const FIRST_BEGINS: [Exchange; 3] = [
+    // Begin: 1
+    (b"\x01", b"\x81\0\0\0\0\0\0\0\x01"),
+    // Begin: 2
+    (b"\x01", b"\x81\0\0\0\0\0\0\0\x02"),
+    // OracleRestart: restarted
+    (b"\x10", b"\x90"),
+];
+
+const SECOND_BEGINS: [Exchange; 4] = [
+    // Begin: 1001
+    (b"\x01", b"\x81\0\0\0\0\0\0\x03\xE9"),
+    // Checkpoint: done
+    (b"\x12", b"\x92"),
+    // Begin: 1002
+    (b"\x01", b"\x81\0\0\0\0\0\0\x03\xEA"),
+    // OracleRestart: restarted
+    (b"\x10", b"\x90"),
+];
+
+const THIRD_BEGINS: [Exchange; 2] = [
+    // Begin: 2001
+    (b"\x01", b"\x81\0\0\0\0\0\0\x07\xD1"),
+    // Begin: 2002
+    (b"\x01", b"\x81\0\0\0\0\0\0\x07\xD2"),
+];
+
+/// How many stamps a range has.
+const RANGE: u64 = 1000;
+
+/// The mark once a stamp of the first, the second or the third range was answered.
+const FIRST_MARK: u64 = 1000;
+
+const SECOND_MARK: u64 = 2000;
+
+const THIRD_MARK: u64 = 3000;
 
 /// A server that compacts and checkpoints on request.
 const ASKED: Upkeep = ON_REQUEST;
@@ -105,49 +141,69 @@ struct Cut {
     cuts_writer: bool,
 }
 
-/// The bodies of the requests, their frames, the frames of their replies, the end of each reply, and the offset of the
-/// last eight bytes of the Sweep's reply: how many files it removes depends on when others were written.
+/// The bodies of the requests, their frames, the frames of their replies, the end of each reply, the mark before the
+/// first request and after each, and the offset of the last eight bytes of the Sweep's reply: how many files it removes
+/// depends on when others were written.
 #[derive(Drop)]
 struct Script {
     bodies: Vec<&'static [u8]>,
     requests: Vec<u8>,
     replies: Vec<u8>,
     ends: Vec<usize>,
+    marks: Vec<u64>,
     removed_at: usize,
 }
 
 impl Script {
-    /// The script. A server that merges by itself is asked for no Merge.
-    fn new(alloc: Global, merges: bool) -> Result<Script, AllocError> {
-        let mut script = Script {
+    /// A script without requests.
+    fn empty(alloc: Global) -> Result<Script, AllocError> {
+        let mut marks = Vec::new(alloc);
+        marks.push(0)?;
+        Ok(Script {
             bodies: Vec::new(alloc),
             requests: Vec::new(alloc),
             replies: Vec::new(alloc),
             ends: Vec::new(alloc),
-            removed_at: 0,
-        };
-        script.push_all(&TRANSFER[..COMMITTED])?;
+            marks,
+            removed_at: usize::MAX,
+        })
+    }
+
+    /// The script of requests of all kinds. A server that merges by itself is asked for no Merge.
+    fn new(alloc: Global, merges: bool) -> Result<Script, AllocError> {
+        let mut script = Script::empty(alloc)?;
+        script.push_all(&TRANSFER[..COMMITTED], FIRST_MARK)?;
         for part in FIRST_PART {
-            script.push_all(part)?;
+            script.push_all(part, FIRST_MARK)?;
         }
         if !merges {
-            script.push_all(&MERGED)?;
+            script.push_all(&MERGED, FIRST_MARK)?;
         }
-        for part in SECOND_PART {
-            script.push_all(part)?;
-        }
-        script.push_all(&SWEPT)?;
+        script.push_all(&COLLECTED, FIRST_MARK)?;
+        script.push_all(&THREE_CELLS, SECOND_MARK)?;
+        script.push_all(&SWEPT, SECOND_MARK)?;
         script.removed_at = script.replies.len().saturating_sub(8);
-        script.push_all(&HELD)?;
+        script.push_all(&HELD, SECOND_MARK)?;
         Ok(script)
     }
 
-    fn push_all(&mut self, exchanges: &[Exchange]) -> Result<(), AllocError> {
+    /// The script of sessions that begin.
+    fn of_begins(alloc: Global) -> Result<Script, AllocError> {
+        let mut script = Script::empty(alloc)?;
+        script.push_all(&FIRST_BEGINS, FIRST_MARK)?;
+        script.push_all(&SECOND_BEGINS, SECOND_MARK)?;
+        script.push_all(&THIRD_BEGINS, THIRD_MARK)?;
+        Ok(script)
+    }
+
+    /// Adds requests with their replies. After each the mark is this one.
+    fn push_all(&mut self, exchanges: &[Exchange], mark: u64) -> Result<(), AllocError> {
         for (request, reply) in exchanges {
             self.bodies.push(*request)?;
             push_frame(&mut self.requests, request)?;
             push_frame(&mut self.replies, reply)?;
             self.ends.push(self.replies.len())?;
+            self.marks.push(mark)?;
         }
         Ok(())
     }
@@ -197,6 +253,15 @@ const GONE: &[u8] = b"\
     \0\0\0\x02\xFF\x01\
     \0\0\0\x09\x81";
 
+/// Whether what was read is a state without sessions, and then the first start above a mark.
+fn is_left(read: &[u8], state: &[u8], mark: u64) -> bool {
+    let Some(rest) = read.strip_prefix(state) else {
+        return false;
+    };
+    let start = mark.saturating_add(1);
+    rest.strip_prefix(GONE) == Some(start.to_be_bytes().as_slice())
+}
+
 /// The script, the requests after it, and the state after each prefix of its requests.
 #[derive(Drop)]
 struct Trial {
@@ -208,8 +273,7 @@ struct Trial {
 }
 
 impl Trial {
-    fn new(alloc: Global, upkeep: Upkeep) -> Result<Trial, Refusal> {
-        let script = Script::new(alloc, upkeep.merge.is_some())?;
+    fn new(alloc: Global, upkeep: Upkeep, script: Script) -> Result<Trial, Refusal> {
         let states = states(alloc, &script.bodies)?;
         let mut asks = reads(alloc)?;
         asks.extend_from_slice(SESSIONS)?;
@@ -244,16 +308,20 @@ impl Trial {
     }
 
     /// Whether the devices open with the state after a prefix of at least this many requests, without sessions, and the
-    /// next start is the first above the mark.
-    fn opens(&self, devices: &Devices, count: usize) -> Result<bool, Refusal> {
-        let start = devices.mark()?.saturating_add(1);
-        let mut gone = Vec::from_slice(self.alloc, GONE)?;
-        gone.extend_from_slice(&start.to_be_bytes())?;
+    /// next start is the first above the mark after it. Since the script the mark was raised by `raised`.
+    fn opens(&self, devices: &Devices, count: usize, raised: u64) -> Result<bool, Refusal> {
         let read = devices.replies(self.upkeep, &self.asks)?;
-        Ok(
-            self.states.iter().skip(count).any(|state| read.strip_prefix(state.as_slice())
-                == Some(gone.as_slice())),
-        )
+        for (state, mark) in self
+            .states
+            .iter()
+            .zip(self.script.marks.iter())
+            .skip(count)
+        {
+            if is_left(&read, state, mark.saturating_add(raised)) {
+                return Ok(true);
+            }
+        }
+        Ok(false)
     }
 
     /// Whether all is right after a kill at this call. `None` if there are fewer calls.
@@ -264,7 +332,7 @@ impl Trial {
         let is_over = devices.life.is_over();
         let count = self.script.count(&written);
         devices.life.begin(u64::MAX, false);
-        if !self.opens(&devices, count)? {
+        if !self.opens(&devices, count, 0)? {
             return Ok(Some(false));
         }
         if !is_over {
@@ -286,7 +354,7 @@ impl Trial {
         Ok(Err(MOST_CALLS))
     }
 
-    /// The same for an open after the whole script.
+    /// The same for an open after the whole script. Each is followed by another one, and a Begin, which raises the mark.
     fn open_calls(&self, makes_last: bool) -> Result<Result<u64, u64>, Refusal> {
         let devices = Devices::new(self.alloc)?;
         let cut = Cut {
@@ -301,7 +369,8 @@ impl Trial {
             let is_opened = devices.open(self.upkeep).is_ok();
             let is_over = devices.life.is_over();
             devices.life.begin(u64::MAX, false);
-            if is_opened == is_over || !self.opens(&devices, count)? {
+            let raised = RANGE.saturating_mul(at.saturating_sub(1));
+            if is_opened == is_over || !self.opens(&devices, count, raised)? {
                 return Ok(Err(at));
             }
             if is_opened {
@@ -351,7 +420,8 @@ const CUTS: [Cut; 5] = [
 /// The number of calls that the devices get with each cut, and in an open after the script, with the last call not made
 /// and made; or, as `Err`, the first call after which something is wrong.
 fn calls_of(alloc: Global, upkeep: Upkeep) -> Result<Vec<Result<u64, u64>>, Refusal> {
-    let trial = Trial::new(alloc, upkeep)?;
+    let script = Script::new(alloc, upkeep.merge.is_some())?;
+    let trial = Trial::new(alloc, upkeep, script)?;
     let mut calls = Vec::new(alloc);
     for cut in CUTS {
         calls.push(trial.calls(cut)?)?;
@@ -399,5 +469,51 @@ fn a_server_that_makes_checkpoints_is_killed(rt: HostRuntime) -> Result<(), Fail
 fn a_server_that_merges_is_killed(rt: HostRuntime) -> Result<(), Fail> {
     let calls = calls_of(rt.alloc(), BY_ITSELF)?;
     assert!(rt; calls.as_slice() == OWN_CALLS.as_slice(), "{calls:?}");
+    Ok(())
+}
+
+/// How the sessions that begin are cut off: each request in a batch of its own, and all in one batch.
+const BEGIN_CUTS: [Cut; 4] = [
+    Cut {
+        most: 1,
+        makes_last: false,
+        cuts_writer: true,
+    },
+    Cut {
+        most: 1,
+        makes_last: true,
+        cuts_writer: true,
+    },
+    Cut {
+        most: usize::MAX,
+        makes_last: false,
+        cuts_writer: true,
+    },
+    Cut {
+        most: usize::MAX,
+        makes_last: true,
+        cuts_writer: true,
+    },
+];
+
+/// The number of calls that the devices get while sessions begin, with each of these cuts; or, as `Err`, the first call
+/// after which something is wrong.
+fn begin_calls(alloc: Global) -> Result<Vec<Result<u64, u64>>, Refusal> {
+    let trial = Trial::new(alloc, ASKED, Script::of_begins(alloc)?)?;
+    let mut calls = Vec::new(alloc);
+    for cut in BEGIN_CUTS {
+        calls.push(trial.calls(cut)?)?;
+    }
+    Ok(calls)
+}
+
+/// The numbers of calls: an opening makes six. Each of three ranges has an append, and the checkpoint two appends or
+/// none, a store of the mark, a put and a renewal.
+const BEGIN_CALLS: [Result<u64, u64>; 4] = [Ok(13), Ok(13), Ok(12), Ok(12)];
+
+#[test]
+fn a_server_is_killed_while_sessions_begin(rt: HostRuntime) -> Result<(), Fail> {
+    let calls = begin_calls(rt.alloc())?;
+    assert!(rt; calls.as_slice() == BEGIN_CALLS.as_slice(), "{calls:?}");
     Ok(())
 }

@@ -15,7 +15,8 @@ use testing::frames::push_frame;
 
 /// A server over devices that can be cut off.
 pub type StoppingServer<'a> = LastingServer<
-    Server<Stopping<'a, MemFiles>, Stopping<'a, MemMark>>,
+    Server<Stopping<'a, MemFiles>, MemMark>,
+    Stopping<'a, MemMark>,
     Stopping<'a, FileLog<MemFile>>,
 >;
 
@@ -127,16 +128,6 @@ impl Devices {
         marks.store(u64::from(number))?;
         self.marks.set(Some(marks));
         Ok(())
-    }
-
-    /// The number in the mark store.
-    pub fn mark(&self) -> Result<u64, Refusal> {
-        let Some(mut marks) = self.marks.take() else {
-            return Err(Refusal::Device);
-        };
-        let number = marks.load();
-        self.marks.set(Some(marks));
-        Ok(number?)
     }
 
     /// A server opened over the devices.

@@ -22,33 +22,43 @@ use testing::streams::{Holding, Pieces};
 const NEW_LOG: &[u8] = b"TABLOG02\x01\x02\x03\x04\x05\x06\x07\x08\
     \0\0\0\x11\x41\xC1\x6C\xCA\0\0\0\0\0\0\0\x01\x02\0\0\0\0\0\0\0\0";
 
-/// The log after a cell was held and committed, one record for each: a value and a lock, and a commit record and the
-/// lock's erasure.
-const TWO_RECORDS: &[u8] = b"TABLOG02\x01\x02\x03\x04\x05\x06\x07\x08\
+/// The log after a cell was held and committed, one record for each batch that needs one: the mark of the first stamps;
+/// a value and a lock; and a commit record and the lock's erasure.
+const THREE_RECORDS: &[u8] = b"TABLOG02\x01\x02\x03\x04\x05\x06\x07\x08\
     \0\0\0\x11\x41\xC1\x6C\xCA\0\0\0\0\0\0\0\x01\x02\0\0\0\0\0\0\0\0\
-    \0\0\0\x53\x6D\xF1\x43\x32\0\0\0\0\0\0\0\x02\0\0\0\0\0\0\0\0\x01\
+    \0\0\0\x11\x01\xFC\xC6\xC6\0\0\0\0\0\0\0\x02\0\0\0\0\0\0\0\x03\xE8\
+    \0\0\0\x53\x99\xF8\xA2\xF7\0\0\0\0\0\0\0\x03\0\0\0\0\0\0\0\x03\xE8\
     \0\0\0\x14r\0\0c\0\0data\0\0\xFF\xFF\xFF\xFF\xFF\xFF\xFF\xFE\x01\0\0\0\x01v\
     \0\0\0\x14r\0\0c\0\0lock\0\0\xFF\xFF\xFF\xFF\xFF\xFF\xFF\xFE\x01\0\0\0\x07r\0\0c\0\0S\
-    \0\0\0\x51\xC7\x3A\xD5\x24\0\0\0\0\0\0\0\x03\0\0\0\0\0\0\0\0\x02\
+    \0\0\0\x51\xFA\xAE\xB6\x39\0\0\0\0\0\0\0\x04\0\0\0\0\0\0\0\x03\xE8\
     \0\0\0\x15r\0\0c\0\0write\0\0\xFF\xFF\xFF\xFF\xFF\xFF\xFF\xFD\x01\0\0\0\x09\0\0\0\0\0\0\0\x01S\
     \0\0\0\x14r\0\0c\0\0lock\0\0\xFF\xFF\xFF\xFF\xFF\xFF\xFF\xFE\0";
 
-/// The same edits in one record.
+/// The same edits and the same mark in one record.
 const ONE_RECORD: &[u8] = b"TABLOG02\x01\x02\x03\x04\x05\x06\x07\x08\
     \0\0\0\x11\x41\xC1\x6C\xCA\0\0\0\0\0\0\0\x01\x02\0\0\0\0\0\0\0\0\
-    \0\0\0\x93\x62\xEB\xA1\xD4\0\0\0\0\0\0\0\x02\0\0\0\0\0\0\0\0\x03\
+    \0\0\0\x93\x1B\x90\xF8\x9D\0\0\0\0\0\0\0\x02\0\0\0\0\0\0\0\x03\xE8\
     \0\0\0\x14r\0\0c\0\0data\0\0\xFF\xFF\xFF\xFF\xFF\xFF\xFF\xFE\x01\0\0\0\x01v\
     \0\0\0\x14r\0\0c\0\0lock\0\0\xFF\xFF\xFF\xFF\xFF\xFF\xFF\xFE\x01\0\0\0\x07r\0\0c\0\0S\
     \0\0\0\x15r\0\0c\0\0write\0\0\xFF\xFF\xFF\xFF\xFF\xFF\xFF\xFD\x01\0\0\0\x09\0\0\0\0\0\0\0\x01S\
     \0\0\0\x14r\0\0c\0\0lock\0\0\xFF\xFF\xFF\xFF\xFF\xFF\xFF\xFE\0";
 
-/// The log after those two records and a Checkpoint: the root has the greatest stamp 3.
-const ROOT_AFTER_TWO: &[u8] = b"TABLOG02\x01\x02\x03\x04\x05\x06\x07\x08\
-    \0\0\0\x15\x93\x86\xE8\x99\0\0\0\0\0\0\0\x05\x01\0\0\0\0\0\0\0\x03\xD1\x15\xF1\x49";
+/// The same edits in one record whose mark is that of the third range of stamps.
+const THREE_RANGES: &[u8] = b"TABLOG02\x01\x02\x03\x04\x05\x06\x07\x08\
+    \0\0\0\x11\x41\xC1\x6C\xCA\0\0\0\0\0\0\0\x01\x02\0\0\0\0\0\0\0\0\
+    \0\0\0\x93\xD0\xC9\x37\x3D\0\0\0\0\0\0\0\x02\0\0\0\0\0\0\0\x0B\xB8\
+    \0\0\0\x14r\0\0c\0\0data\0\0\xFF\xFF\xFF\xFF\xFF\xFF\xFF\xFE\x01\0\0\0\x01v\
+    \0\0\0\x14r\0\0c\0\0lock\0\0\xFF\xFF\xFF\xFF\xFF\xFF\xFF\xFE\x01\0\0\0\x07r\0\0c\0\0S\
+    \0\0\0\x15r\0\0c\0\0write\0\0\xFF\xFF\xFF\xFF\xFF\xFF\xFF\xFD\x01\0\0\0\x09\0\0\0\0\0\0\0\x01S\
+    \0\0\0\x14r\0\0c\0\0lock\0\0\xFF\xFF\xFF\xFF\xFF\xFF\xFF\xFE\0";
 
-/// The log after those two records with a checkpoint after each: the root has the greatest stamp 2.
+/// The log after those three records and a Checkpoint: the root has the greatest stamp 3.
+const ROOT_AFTER_THREE: &[u8] = b"TABLOG02\x01\x02\x03\x04\x05\x06\x07\x08\
+    \0\0\0\x15\xEF\xE7\xCD\x42\0\0\0\0\0\0\0\x06\x01\0\0\0\0\0\0\0\x03\xD1\x15\xF1\x49";
+
+/// The log after those three records with a checkpoint after each that has edits: the root has the greatest stamp 2.
 const ROOT_AFTER_EACH: &[u8] = b"TABLOG02\x01\x02\x03\x04\x05\x06\x07\x08\
-    \0\0\0\x15\xE1\xF9\x21\x92\0\0\0\0\0\0\0\x07\x01\0\0\0\0\0\0\0\x02\x25\x7C\x54\x24";
+    \0\0\0\x15\xB7\x6D\x95\x64\0\0\0\0\0\0\0\x08\x01\0\0\0\0\0\0\0\x02\x25\x7C\x54\x24";
 
 /// The log of a server after the first cell's requests and then `more`, with at most `most` bytes a read. All of the
 /// server's settings are set.
@@ -74,12 +84,18 @@ const CHECKPOINTS: Upkeep = Upkeep {
     checkpoint: Some(1),
 };
 
+/// Twice an OracleRestart and a Begin: sessions 1001 and 2001.
+const TWO_RESTARTS: &[u8] = b"\
+    \0\0\0\x01\x10\0\0\0\x01\x01\
+    \0\0\0\x01\x10\0\0\0\x01\x01";
+
 /// How a server compacts and checkpoints, the most bytes a read gives, the requests at the end, and the log then.
-const LOGS: [(Upkeep, usize, &[u8], &[u8]); 4] = [
-    (ON_REQUEST, 1, b"", TWO_RECORDS),
+const LOGS: [(Upkeep, usize, &[u8], &[u8]); 5] = [
+    (ON_REQUEST, 1, b"", THREE_RECORDS),
     (ON_REQUEST, usize::MAX, b"", ONE_RECORD),
+    (ON_REQUEST, usize::MAX, TWO_RESTARTS, THREE_RANGES),
     // Checkpoint
-    (ON_REQUEST, 1, b"\0\0\0\x01\x12", ROOT_AFTER_TWO),
+    (ON_REQUEST, 1, b"\0\0\0\x01\x12", ROOT_AFTER_THREE),
     (CHECKPOINTS, 1, b"", ROOT_AFTER_EACH),
 ];
 
@@ -92,7 +108,7 @@ fn what_the_log_has(rt: HostRuntime) -> Result<(), Fail> {
 }
 
 /// A server with a log in memory.
-type MemLasting = LastingServer<Server<MemFiles, MemMark>, MemLog>;
+type MemLasting = LastingServer<Server<MemFiles, MemMark>, MemMark, MemLog>;
 
 /// A server opened over these devices.
 fn opened(
@@ -264,8 +280,9 @@ fn logged_states(
     Ok(logged)
 }
 
-/// The number of frames of the transfer's log: each of two sessions holds two cells and writes two commit records.
-const FRAMES: usize = 8;
+/// The number of frames of the transfer's log after its first: the mark of all stamps, and each of two sessions holds two
+/// cells and writes two commit records.
+const FRAMES: usize = 9;
 
 #[test]
 fn a_log_is_cut_at_each_byte(rt: HostRuntime) -> Result<(), Fail> {
@@ -367,7 +384,7 @@ fn records_that_are_no_edits(rt: HostRuntime) -> Result<(), Fail> {
 
 #[test]
 fn edits_without_a_root(rt: HostRuntime) -> Result<(), Fail> {
-    assert!(rt; is_refused(rt.alloc(), TWO_RECORDS, true)?);
+    assert!(rt; is_refused(rt.alloc(), THREE_RECORDS, true)?);
     Ok(())
 }
 
@@ -380,15 +397,75 @@ fn opens(devices: &Devices) -> Result<bool, Refusal> {
     }
 }
 
-/// Marks, and whether a store with the mark opens if its log has records of stamps 1 and 2.
-const MARKS: [(u32, bool); 3] = [(0, false), (1, false), (2, true)];
+/// A log with three marks, of which the second is the greatest.
+const THREE_MARKS: &[u8] = b"TABLOG02\x01\x02\x03\x04\x05\x06\x07\x08\
+    \0\0\0\x11\x41\xC1\x6C\xCA\0\0\0\0\0\0\0\x01\x02\0\0\0\0\0\0\0\0\
+    \0\0\0\x11\xF4\x6A\x0B\xC0\0\0\0\0\0\0\0\x02\0\0\0\0\0\0\0\0\x05\
+    \0\0\0\x11\xA2\x50\xD0\x62\0\0\0\0\0\0\0\x03\0\0\0\0\0\0\0\x07\xD0\
+    \0\0\0\x11\x17\x7A\x1A\xAB\0\0\0\0\0\0\0\x04\0\0\0\0\0\0\0\0\x07";
+
+/// Numbers in the mark's store, and the reply to a Begin of a store whose log has these three marks: the first start
+/// above all of them.
+const STARTS: [(u32, &[u8]); 4] = [
+    (0, b"\0\0\0\x09\x81\0\0\0\0\0\0\x07\xD1"),
+    (1999, b"\0\0\0\x09\x81\0\0\0\0\0\0\x07\xD1"),
+    (2000, b"\0\0\0\x09\x81\0\0\0\0\0\0\x07\xD1"),
+    (2500, b"\0\0\0\x09\x81\0\0\0\0\0\0\x09\xC5"),
+];
+
+/// The frame of a Begin.
+const BEGIN: &[u8] = b"\0\0\0\x01\x01";
+
+/// The reply to a Begin of a store, new or opened before, with this log and this number in its mark's store.
+fn begun(alloc: Global, log: &[u8], mark: u32, is_new: bool) -> Result<Vec<u8>, Refusal> {
+    let devices = Devices::new(alloc)?;
+    if !is_new {
+        devices.replies(ON_REQUEST, b"")?;
+    }
+    devices.set_log(log)?;
+    devices.set_mark(mark)?;
+    devices.replies(ON_REQUEST, BEGIN)
+}
 
 #[test]
-fn a_mark_before_a_record(rt: HostRuntime) -> Result<(), Fail> {
+fn the_greatest_mark_counts(rt: HostRuntime) -> Result<(), Fail> {
+    for (mark, reply) in STARTS {
+        for is_new in [false, true] {
+            assert!(rt;
+                begun(rt.alloc(), THREE_MARKS, mark, is_new)?.as_slice() == reply,
+                "{mark} {is_new}"
+            );
+        }
+    }
+    Ok(())
+}
+
+/// Logs with a mark that is the greatest stamp, and one more than it.
+const GREATEST_MARK: &[u8] = b"TABLOG02\x01\x02\x03\x04\x05\x06\x07\x08\
+    \0\0\0\x11\x41\xC1\x6C\xCA\0\0\0\0\0\0\0\x01\x02\0\0\0\0\0\0\0\0\
+    \0\0\0\x11\x93\x5D\x7A\xE0\0\0\0\0\0\0\0\x02\0\x7F\xFF\xFF\xFF\xFF\xFF\xFF\xFF";
+
+const TOO_GREAT_MARK: &[u8] = b"TABLOG02\x01\x02\x03\x04\x05\x06\x07\x08\
+    \0\0\0\x11\x41\xC1\x6C\xCA\0\0\0\0\0\0\0\x01\x02\0\0\0\0\0\0\0\0\
+    \0\0\0\x11\xD7\x3B\x7A\x95\0\0\0\0\0\0\0\x02\0\x80\0\0\0\0\0\0\0";
+
+#[test]
+fn marks_end_with_the_stamps(rt: HostRuntime) -> Result<(), Fail> {
+    // Begin: refused 18
+    let reply = begun(rt.alloc(), GREATEST_MARK, 0, false)?;
+    assert!(rt; reply.as_slice() == b"\0\0\0\x02\xFF\x12");
+    assert!(rt; is_refused(rt.alloc(), TOO_GREAT_MARK, false)?);
+    Ok(())
+}
+
+/// Numbers in the mark's store, and whether a store opens whose root has the greatest stamp 2.
+const MARKS: [(u32, bool); 4] = [(0, false), (1, false), (2, true), (1000, true)];
+
+#[test]
+fn a_mark_below_the_root(rt: HostRuntime) -> Result<(), Fail> {
+    let devices = Devices::new(rt.alloc())?;
+    two_roots(rt.alloc(), &devices)?;
     for (mark, is_opened) in MARKS {
-        let devices = Devices::new(rt.alloc())?;
-        devices.replies(ON_REQUEST, b"")?;
-        devices.set_log(TWO_RECORDS)?;
         devices.set_mark(mark)?;
         assert!(rt; opens(&devices)? == is_opened, "{mark}");
     }
@@ -520,8 +597,9 @@ fn lost_at(alloc: Global, most: usize, at: u64) -> Result<Option<usize>, Refusal
     Err(Refusal::Device)
 }
 
-/// How many bytes were written when an append failed: before the cell is held, and before it is committed.
-const LOST: [(usize, &[usize]); 2] = [(1, &[18, 42]), (usize::MAX, &[0])];
+/// How many bytes were written when an append failed: before the session begins, before the cell is held, and before it
+/// is committed.
+const LOST: [(usize, &[usize]); 2] = [(1, &[0, 18, 42]), (usize::MAX, &[0])];
 
 #[test]
 fn an_append_fails(rt: HostRuntime) -> Result<(), Fail> {

@@ -13,7 +13,7 @@ use testing::frames::stream_of;
 use testing::memory::{Call, Subject, Table};
 
 /// A server with a log over devices in memory.
-type LogServer = LastingServer<Server<MemFiles, MemMark>, MemLog>;
+type LogServer = LastingServer<Server<MemFiles, MemMark>, MemMark, MemLog>;
 
 /// The requests served before: a commit that the root has, a commit that only the log has, and a lock.
 const SET_UP: [&[u8]; 14] = [
