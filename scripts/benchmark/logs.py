@@ -205,7 +205,7 @@ def add_edits(log: Path, other: Path) -> None:
         joined.truncate(to.end)
         joined.seek(to.end)
         for number, record in enumerate(edits, start=to.first + len(to.records)):
-            joined.write(frame_of(number, record.kind, 0, record.body))
+            joined.write(frame_of(number, record.kind, record.stamp, record.body))
 
 
 def tabletd_opening(program: str, folder: Path, edits: int) -> tuple[float, int]:

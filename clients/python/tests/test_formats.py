@@ -11,6 +11,7 @@ from contextlib import redirect_stderr, redirect_stdout
 
 from duqishom import BadForm, Kind, Lock, Patience, Qualifier, Record, Store, read_lock, read_record
 from duqishom.files import (
+    MOST_STAMP,
     FileRef,
     Key,
     RecordKind,
@@ -18,12 +19,14 @@ from duqishom.files import (
     RootTablet,
     SortedFile,
     edits_in,
+    frame_of,
     key_of,
     log_of,
     mark_of,
     root_of,
     root_sum,
     sign_of,
+    spelled_mark,
     store_of,
 )
 from duqishom.inspection import main
@@ -146,6 +149,16 @@ class OutsideTheForm(unittest.TestCase):
             self.assertEqual((log.end, log.later), (end, later), at)
         for head in (b"", b"TABLOG", b"TABLOG03", data[:8], data[:44], data[:20] + b"\0" + data[21:]):
             self.assertRaises(BadForm, log_of, head)
+
+    def test_a_mark_past_the_greatest_stamp(self) -> None:
+        """It is malformed in a record, too."""
+        greatest, past = (frame_of(1, RecordKind.EDITS, stamp, b"") for stamp in (MOST_STAMP, MOST_STAMP + 1))
+        self.assertEqual(log_of(b"TABLOG02" + bytes(8) + greatest).mark(), MOST_STAMP)
+        with self.assertRaises(BadForm) as caught:
+            log_of(b"TABLOG02" + bytes(8) + past)
+        self.assertEqual(caught.exception.at, 33)
+        self.assertEqual(mark_of(spelled_mark(MOST_STAMP)), MOST_STAMP)
+        self.assertRaises(BadForm, mark_of, spelled_mark(MOST_STAMP + 1))
 
     def test_the_checksum_of_a_root(self) -> None:
         """A log names the root of the page: the lengths of the root's files don't matter."""

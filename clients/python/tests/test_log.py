@@ -276,6 +276,24 @@ class Logs(FolderTest):
             self.opened()
         self.assertEqual(caught.exception.status, 5)
 
+    def test_no_answered_stamp_is_drawn_again(self) -> None:
+        """Sessions begin in further ranges until the program is killed, at any moment."""
+        dice, last = random.Random(31), 0
+        for _ in range(10):
+            store = self.opened()
+            killer = threading.Timer(dice.uniform(0, 0.05), store._connection.kill)
+            killer.start()
+            with suppress(ProgramEnded):
+                while True:
+                    start = store.begin()
+                    self.assertGreater(start, last)
+                    last = start
+                    store.stop(start)
+                    store.restart_oracle()
+            killer.join()
+            store.close()
+        self.assertGreater(last, 0)
+
     def test_a_new_store_whose_mark_is_gone(self) -> None:
         """Its root has no stamp, so the log's records alone say which stamps were answered."""
         with self.opened() as store:
