@@ -12,6 +12,7 @@ import threading
 import time
 import unittest
 from collections import Counter
+from collections.abc import Iterator
 from contextlib import redirect_stderr, redirect_stdout, suppress
 from pathlib import Path
 from zlib import crc32
@@ -277,22 +278,26 @@ class Logs(FolderTest):
         self.assertEqual(caught.exception.status, 5)
 
     def test_no_answered_stamp_is_drawn_again(self) -> None:
-        """Sessions begin in further ranges until the program is killed, at any moment."""
-        dice, last = random.Random(31), 0
-        for _ in range(10):
-            store = self.opened()
-            killer = threading.Timer(dice.uniform(0, 0.05), store._connection.kill)
-            killer.start()
-            with suppress(ProgramEnded):
-                while True:
-                    start = store.begin()
-                    self.assertGreater(start, last)
-                    last = start
-                    store.stop(start)
-                    store.restart_oracle()
-            killer.join()
-            store.close()
-        self.assertGreater(last, 0)
+        dice = random.Random(31)
+        starts = [start for _ in range(10) for start in self.starts_until_a_kill(dice.uniform(0, 0.05))]
+        self.assertEqual(starts, sorted(set(starts)))
+
+    def starts_until_a_kill(self, wait: float) -> Iterator[int]:
+        """The starts of sessions, each of a range of its own, in a program that is killed so many seconds after the first
+        of them was answered."""
+        store = self.opened()
+        start = store.begin()
+        yield start
+        killer = threading.Timer(wait, store._connection.kill)
+        killer.start()
+        with suppress(ProgramEnded):
+            while True:
+                store.stop(start)
+                store.restart_oracle()
+                start = store.begin()
+                yield start
+        killer.join()
+        store.close()
 
     def test_a_new_store_whose_mark_is_gone(self) -> None:
         """Its root has no stamp, so the log's records alone say which stamps were answered."""

@@ -449,11 +449,12 @@ const TOO_GREAT_MARK: &[u8] = b"TABLOG02\x01\x02\x03\x04\x05\x06\x07\x08\
     \0\0\0\x11\x41\xC1\x6C\xCA\0\0\0\0\0\0\0\x01\x02\0\0\0\0\0\0\0\0\
     \0\0\0\x11\xD7\x3B\x7A\x95\0\0\0\0\0\0\0\x02\0\x80\0\0\0\0\0\0\0";
 
+/// The reply to a Begin without stamps: refused 18.
+const EXHAUSTED: &[u8] = b"\0\0\0\x02\xFF\x12";
+
 #[test]
 fn marks_end_with_the_stamps(rt: HostRuntime) -> Result<(), Fail> {
-    // Begin: refused 18
-    let reply = begun(rt.alloc(), GREATEST_MARK, 0, false)?;
-    assert!(rt; reply.as_slice() == b"\0\0\0\x02\xFF\x12");
+    assert!(rt; begun(rt.alloc(), GREATEST_MARK, 0, false)?.as_slice() == EXHAUSTED);
     assert!(rt; is_refused(rt.alloc(), TOO_GREAT_MARK, false)?);
     Ok(())
 }
