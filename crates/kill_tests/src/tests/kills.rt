@@ -311,12 +311,7 @@ impl Trial {
     /// next start is the first above the mark after it. Since the script the mark was raised by `raised`.
     fn opens(&self, devices: &Devices, count: usize, raised: u64) -> Result<bool, Refusal> {
         let read = devices.replies(self.upkeep, &self.asks)?;
-        for (state, mark) in self
-            .states
-            .iter()
-            .zip(self.script.marks.iter())
-            .skip(count)
-        {
+        for (state, mark) in self.states.iter().zip(self.script.marks.iter()).skip(count) {
             if is_left(&read, state, mark.saturating_add(raised)) {
                 return Ok(true);
             }
@@ -434,19 +429,19 @@ fn calls_of(alloc: Global, upkeep: Upkeep) -> Result<Vec<Result<u64, u64>>, Refu
 /// The numbers of calls.
 type Calls = [Result<u64, u64>; 7];
 
-const ASKED_CALLS: Calls = [Ok(78), Ok(76), Ok(84), Ok(84), Ok(84), Ok(29), Ok(29)];
+const ASKED_CALLS: Calls = [Ok(77), Ok(75), Ok(85), Ok(85), Ok(85), Ok(29), Ok(29)];
 
 const CHECKPOINT_CALLS: Calls = [
     Ok(475),
-    Ok(475),
-    Ok(475),
-    Ok(475),
-    Ok(475),
+    Ok(474),
+    Ok(476),
+    Ok(476),
+    Ok(476),
     Ok(101),
     Ok(101),
 ];
 
-const OWN_CALLS: Calls = [Ok(192), Ok(191), Ok(196), Ok(196), Ok(196), Ok(17), Ok(17)];
+const OWN_CALLS: Calls = [Ok(191), Ok(190), Ok(197), Ok(197), Ok(197), Ok(17), Ok(17)];
 
 #[test]
 fn a_server_is_killed(rt: HostRuntime) -> Result<(), Fail> {
@@ -507,9 +502,10 @@ fn begin_calls(alloc: Global) -> Result<Vec<Result<u64, u64>>, Refusal> {
     Ok(calls)
 }
 
-/// The numbers of calls: an opening makes six. Each of three ranges has an append, and the checkpoint two appends or
-/// none, a store of the mark, a put and a renewal.
-const BEGIN_CALLS: [Result<u64, u64>; 4] = [Ok(13), Ok(13), Ok(12), Ok(12)];
+/// The numbers of calls. The opening makes five: it reads the log, looks for a root twice, puts one and loads the mark.
+/// The checkpoint makes four: an append, a store of the mark, a put and a renewal. There is an append for each range of
+/// stamps or, in one batch, one before the checkpoint and one behind it.
+const BEGIN_CALLS: [Result<u64, u64>; 4] = [Ok(12), Ok(12), Ok(11), Ok(11)];
 
 #[test]
 fn a_server_is_killed_while_sessions_begin(rt: HostRuntime) -> Result<(), Fail> {
