@@ -27,6 +27,7 @@ td:last-child, th:last-child { padding-right: 0 } tr + tr td { border-top: 1px s
 .pairs td:last-child { text-align: right; white-space: nowrap }
 .numbers td:nth-child(n+2):nth-child(-n+3), .numbers th:nth-child(n+2):nth-child(-n+3) { text-align: right; width: 90px }
 .times td:nth-child(n+2):nth-child(-n+6), .times th:nth-child(n+2):nth-child(-n+6) { text-align: right; width: auto }
+.times td, .times th { white-space: nowrap; padding-right: 10px }
 svg { display: block; max-width: 100% } .numbers svg { margin-left: auto }
 svg text { font-size: 13px; fill: #666 } .end { text-anchor: end }
 .line polyline { fill: none; stroke: #2a62a5; stroke-width: 1.5; stroke-linecap: round } .line .scale { stroke: #ddd }
