@@ -163,7 +163,7 @@ fn came(rt: &HostRuntime, path: &str, at: u64, how: How) -> Result<(usize, Optio
 }
 
 /// The numbers of the file calls that put a root. The second is the last call.
-const ROOTS: [u64; 2] = [4, 35];
+const ROOTS: [u64; 2] = [4, 37];
 
 /// The checkpoint that must open if this call fails in this way: the last answered one, or the refused one if its whole
 /// root was put. Half a root is damage, `None`.

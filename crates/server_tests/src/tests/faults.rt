@@ -17,7 +17,7 @@ const MARK_CALLS: u64 = 4;
 
 /// Whether the server compacts by itself, and the numbers of the script's file calls: by requests, and between two
 /// requests.
-const FILE_CALLS: [(bool, u64, u64); 2] = [(false, 30, 0), (true, 46, 37)];
+const FILE_CALLS: [(bool, u64, u64); 2] = [(false, 32, 0), (true, 48, 37)];
 
 /// An upper bound of the number of calls.
 const MOST_CALLS: u64 = 1000;
