@@ -4,20 +4,12 @@ use super::{LOG, TWO};
 use commit_log::{Log, LogFault, RecordKind, make_log, open_log};
 use std::test::Fail;
 use std::{fs, io, process};
+use testing::folders::new_folder;
 
 /// The file of a folder's log, and that of the bytes that were cut.
 const FILE: &str = "commit.log";
 
 const CUT: &str = "commit.cut";
-
-/// The path of a new folder in the machine's temporary folder.
-fn new_folder(rt: &HostRuntime, name: &str) -> io::Result<String> {
-    let number = process::id(rt.process());
-    let folder = format!(in rt.alloc(); "/tmp/duqishom-{number}-{name}")?;
-    let _ = fs::remove_dir_all(rt, folder.as_str());
-    fs::create_dir(rt, folder.as_str())?;
-    Ok(folder)
-}
 
 /// The bytes of a file of a folder.
 fn bytes_of(rt: &HostRuntime, folder: &str, name: &str) -> io::Result<Vec<u8>> {
@@ -66,7 +58,7 @@ const FOUND: [(&[u8], &[u8], (usize, usize)); 8] = [
 
 #[test]
 fn logs_that_a_folder_has(rt: HostRuntime) -> Result<(), Fail> {
-    let folder = new_folder(&rt, "logs")?;
+    let folder = new_folder(&rt, process::id(rt.process()), "logs")?;
     for (at, (log, sign, wanted)) in FOUND.iter().enumerate() {
         put_file(&rt, &folder, FILE, log)?;
         put_file(&rt, &folder, "commit.id", sign)?;
@@ -91,7 +83,7 @@ fn fill(rt: &HostRuntime, folder: &str) -> Result<(), Fail> {
 
 #[test]
 fn a_log_in_a_folder(rt: HostRuntime) -> Result<(), Fail> {
-    let folder = new_folder(&rt, "log")?;
+    let folder = new_folder(&rt, process::id(rt.process()), "log")?;
     assert!(rt; open_log(&rt, folder.as_str())?.is_none());
     fill(&rt, &folder)?;
     // The root's record ends at 45, the edits' one at 73, and a piece of room was written behind the first
@@ -106,7 +98,7 @@ fn a_log_in_a_folder(rt: HostRuntime) -> Result<(), Fail> {
 
 #[test]
 fn a_torn_log_in_a_folder(rt: HostRuntime) -> Result<(), Fail> {
-    let folder = new_folder(&rt, "torn")?;
+    let folder = new_folder(&rt, process::id(rt.process()), "torn")?;
     fill(&rt, &folder)?;
     let made = bytes_of(&rt, &folder, FILE)?;
     let mut torn = Vec::from_slice(rt.alloc(), made.get(..70).unwrap_or_default())?;
