@@ -19,6 +19,7 @@ use Rattle.row_atomic.specs.Commands.{AnswersFromCells, cells_shown}
 use Rattle.row_atomic.specs.Journals.{HasRoomFor, HasWritten, JournalView, with_waiting}
 use Rattle.row_atomic.specs.Open.{IsOpenedOf, IsStore}
 use Rattle.row_atomic.specs.Recorded.{FitsMemtables, Follows, IfWritten, IsOfUpkeep, KeepsFollowing, OpensFollowing, OverfillsJournal, Tracks, TracksListed, logged_of, seen_recorded}
+use Rattle.row_atomic.specs.RootSweeps.{RootOutlastsSweeps}
 use Rattle.row_atomic.specs.Roots.{HasRoot, KeepsRoot, Rests, RootIsStored, RootOutlastsFlushes, RootOutlastsMerges, RootStays, root_at, root_name}
 use Rattle.row_atomic.specs.declared.commands.Command.{Command}
 use Rattle.row_atomic.specs.declared.commands.Command.TheVariants as command
@@ -211,12 +212,13 @@ module _ {F : Type 0} (contents : F → Option Contents) (faults : F → ℕ) wh
     lists = (rests holds).lists;
   }
 
-  pub keeps_following : Replays → RootStays contents faults → RootOutlastsFlushes contents faults → RootOutlastsMerges contents faults → KeepsFollowing contents faults
-  keeps_following replays stay outlast_flushes outlast_merges = record {
+  pub keeps_following : Replays → RootStays contents faults → RootOutlastsFlushes contents faults → RootOutlastsMerges contents faults → RootOutlastsSweeps contents faults → KeepsFollowing contents faults
+  keeps_following replays stay outlast_flushes outlast_merges outlast_sweeps = record {
     commands = λ request result journal old new is of other holds. each_such
         (on old new (unchanged _ _ request result of (is.answers holds)) (λ root cells. (stay request result root cells old new is).0 (λ sweep. absurd (other sweep)))) journal;
     sweeps = λ result journal old new is holds. each_such
         (on_listed old new (unchanged _ _ command.Sweep result tt (is.answers holds)) (λ root cells. (stay command.Sweep result root cells old new is).1 (λ takes. takes.0))) journal;
+    root_sweeps = λ result journal old new is holds. each_such (on old new (is.shown holds) (λ root cells. outlast_sweeps.stays root cells result old new is)) journal;
     flushes = λ limits journal old new is keeps holds. each_such (on old new (keeps.kept holds).1 (λ root cells. ((outlast_flushes root cells old new).0 limits is).0)) journal;
     merges = λ most journal old new is keeps holds. each_such (on old new (keeps.kept holds).1 (λ root cells. outlast_merges root cells old new most is)) journal;
     checkpoints = λ top floor journal old new rests keeps holds. each_such (rests_all replays top floor old new rests holds (keeps.kept holds).1) journal;

@@ -1,12 +1,14 @@
 -- Commands leave a root and its cells in the files.
-use Rattle.std.proofs.Common.{◌≡◌, ◌≢◌, ◌≤◌, ◌<◌, ◌==◌, ◌||◌, ◌⊎◌, inl, inr, ℕ, suc, Bool, true, false, cond, List, [], ◌∷◌, map, Option, Some, None, option_map, refl, sym, ap, ◌∙◌, subst, arith}
+use Rattle.std.proofs.Common.{◌≡◌, ◌≢◌, ◌≤◌, ◌<◌, ◌==◌, ◌||◌, ◌⊎◌, inl, inr, ℕ, suc, Bool, true, false, cond, List, [], ◌∷◌, map, Option, Some, None, Result, IfSome, IsErrOf, option_map, refl, sym, ap, ◌∙◌, subst, arith}
 use Rattle.std.proofs.lemmas.Option.{same_Some}
 use Rattle.std.specs.FinMap.{get, get-retain_keys, nat_cmp-IsAntisymmetric}
 use Rattle.std.specs.List.{AllByRecursion, Contains, list_any}
 use Rattle.cell_key.specs.Cells.{Cells}
+use Rattle.cell_key.specs.declared.refusals.Refusal.{Refusal}
+use Rattle.cell_key.specs.declared.refusals.Refusal.TheVariants.{Damaged}
 use Rattle.file_store.specs.Store.{Contents, KeepsOthers}
 use Rattle.metadata_table.specs.Places.{PlaceView}
-use Rattle.metadata_table.specs.Roots.{AreFiles, IsSoundRoot, RootView, file_names}
+use Rattle.metadata_table.specs.Roots.{AreFiles, IsRoot, IsSoundRoot, RootView, file_names}
 use Rattle.metadata_table.specs.Table.{IsListed, IsTable}
 use Rattle.tablet.specs.Laws.{UnnamedMayGo}
 use Rattle.tablet.specs.Views.{Holds as HoldsAt, UsesName, cells_at, names_of}
@@ -16,7 +18,9 @@ use Rattle.row_atomic.specs.Clusters.{ArePlaced, ClusterState, joined, storage_o
 use Rattle.row_atomic.specs.Commands.{AnswersAll, IsOutcome, TakesFiles}
 use Rattle.row_atomic.specs.Flushes.{MergesEach}
 use Rattle.row_atomic.specs.Roots.{AreOpened, FlushesEach, HasRoot, KeepsCells, KeepsRoot, StayRooted, flushes_none, flushes_one, refuses_one, root_name}
-use Rattle.row_atomic.specs.Sweeps.{IsSwept, IsSweptInPart, MayLackUnkept, is_kept, swept}
+use Rattle.row_atomic.specs.Open.{HasBadRoot}
+use Rattle.row_atomic.specs.RootSweeps.{AreNamedIn, AreRootPlaces, SweepsBesideRoot}
+use Rattle.row_atomic.specs.Sweeps.{IsSwept, IsSweptInPart, MayLackUnkept, is_kept, is_kept_beside, swept}
 use Rattle.row_atomic.specs.declared.commands.Command.{Command}
 use Rattle.row_atomic.specs.declared.commands.Command.TheVariants as command
 use Rattle.row_atomic.specs.declared.commands.Outcome.{Outcome}
@@ -25,7 +29,7 @@ use Rattle.row_atomic.proofs.ChangedTablets.{contained}
 use Rattle.row_atomic.proofs.Lengths.{of_places, still_measured}
 use Rattle.row_atomic.proofs.Owners.{each_placed}
 use Rattle.row_atomic.proofs.Shares.{each_at, each_map}
-use Rattle.row_atomic.proofs.Sweeps.{each_of, listed_true, maps_alike}
+use Rattle.row_atomic.proofs.Sweeps.{beside_named, each_of, lacks_fewer, listed_true, maps_alike}
 use Rattle.row_atomic.proofs.EmptiedCaches.{uncached_stored}
 
 -- ---- listed files
@@ -134,7 +138,7 @@ not_gone : (places : List PlaceView) (m n : Contents) (name : ℕ) → is_kept p
 not_gone places m n name kept (inl same) = same
 not_gone places m n name kept (inr gone) = let not = gone.0 in cc
 
-lacking_told : (root places : List PlaceView) (m : Contents) (told : Option Contents) → MayLackUnkept places (Some m) told → ListsAll root places → StillTells root m told
+lacking_told : (root places : List PlaceView) (m : Contents) (told : Option Contents) → MayLackUnkept (is_kept places) (Some m) told → ListsAll root places → StillTells root m told
 lacking_told root places m None lacks lists = absurd lacks
 lacking_told root places m (Some n) lacks lists = (
   n,
@@ -145,14 +149,14 @@ lacking_told root places m (Some n) lacks lists = (
   },
 )
 
-swept_get : (places : List PlaceView) (m : Contents) (name : ℕ) → is_kept places name ≡ true → get (swept places m) name ≡ get m name
+swept_get : (places : List PlaceView) (m : Contents) (name : ℕ) → is_kept places name ≡ true → get (swept (is_kept places) m) name ≡ get m name
 swept_get places m name kept =
     get-retain_keys m (is_kept places) name (λ x e. ap (is_kept places) (sym (nat_cmp-IsAntisymmetric name x e)))
     ∙ ap (λ (b : Bool). cond b (get m name) None) kept
 
-swept_told : (root places : List PlaceView) (m : Contents) (told : Option Contents) → told ≡ Some (swept places m) → ListsAll root places → StillTells root m told
+swept_told : (root places : List PlaceView) (m : Contents) (told : Option Contents) → told ≡ Some (swept (is_kept places) m) → ListsAll root places → StillTells root m told
 swept_told root places m told is lists = (
-  swept places m,
+  swept (is_kept places) m,
   is,
   record {
     root = swept_get places m root_name (root_kept places);
@@ -186,6 +190,18 @@ module _ {F : Type 0} (contents : F → Option Contents) (root : RootView) (cell
   none_stay : (old new : ClusterState F) → new ≡ old → StayRooted contents root cells old new
   none_stay old new same = (subst (HasRoot contents root cells) (sym same), subst (KeepsRoot contents root cells) (sym same))
 
+module _ {F : Type 0} (contents : F → Option Contents) (root : RootView) (cells : Cells) where
+  -- the root's places are those that the root file names
+  named_by_root : (old : ClusterState F) → HasRoot contents root cells old → AreNamedIn (contents old.files) (Some root.places)
+  named_by_root old has = subst (λ (o : Option Contents). AreNamedIn o (Some root.places)) (sym has.on_disk)
+      (subst (λ (found : Option (List ℕ)). AreRootPlaces found (Some root.places)) (sym has.keeps.there) (root, has.keeps.form, refl))
+
+  -- the root file is a root
+  pub beside_whole : (faults : F → ℕ) (result : Result ℕ Refusal) (old new : ClusterState F) → SweepsBesideRoot contents faults result old new → HasRoot contents root cells old → ¬ IsErrOf result Damaged
+  beside_whole faults result old new is has damaged =
+      let bad : HasBadRoot has.kept = subst (λ (o : Option Contents). IfSome o HasBadRoot) has.on_disk (is.damaged damaged) in
+      bad.2 root (subst (λ (image : List ℕ). IsRoot root image) (same_Some has.keeps.image bad.0 (sym has.keeps.there ∙ bad.1)) has.keeps.form)
+
 module _ {F : Type 0} (contents : F → Option Contents) (law : UnnamedMayGo) (root : RootView) (cells : Cells) where
   has_told : (old new : ClusterState F) (has : HasRoot contents root cells old) → StillTells root.places has.kept (contents new.files) → root.next_name ≤ new.next_name → HasRoot contents root cells new
   has_told old new has still below = record {
@@ -201,14 +217,23 @@ module _ {F : Type 0} (contents : F → Option Contents) (law : UnnamedMayGo) (r
       has_told old new has used.0 used.1
 
   -- a sweep leaves the files that the tablets list
-  has_lacking : (old new : ClusterState F) → IsSweptInPart contents old new → ListsAll root.places old.places → HasRoot contents root cells old → HasRoot contents root cells new
+  has_lacking : (old new : ClusterState F) → IsSweptInPart (is_kept old.places) contents old new → ListsAll root.places old.places → HasRoot contents root cells old → HasRoot contents root cells new
   has_lacking old new is lists has = has_told old new has
-      (lacking_told root.places old.places has.kept (contents new.files) (subst (λ (o : Option Contents). MayLackUnkept old.places o (contents new.files)) has.on_disk is.files) lists)
+      (lacking_told root.places old.places has.kept (contents new.files) (subst (λ (o : Option Contents). MayLackUnkept (is_kept old.places) o (contents new.files)) has.on_disk is.files) lists)
       (subst (λ (state : ClusterState F). root.next_name ≤ state.next_name) (sym is.rest) has.below)
 
-  has_swept : (old new : ClusterState F) (count : ℕ) → IsSwept contents count old new → ListsAll root.places old.places → HasRoot contents root cells old → HasRoot contents root cells new
+  has_swept : (old new : ClusterState F) (count : ℕ) → IsSwept (is_kept old.places) contents count old new → ListsAll root.places old.places → HasRoot contents root cells old → HasRoot contents root cells new
   has_swept old new count is lists has = has_told old new has
-      (swept_told root.places old.places has.kept (contents new.files) (is.files ∙ ap (option_map (swept old.places)) has.on_disk) lists)
+      (swept_told root.places old.places has.kept (contents new.files) (is.files ∙ ap (option_map (swept (is_kept old.places))) has.on_disk) lists)
+      (subst (λ (state : ClusterState F). root.next_name ≤ state.next_name) (sym is.rest) has.below)
+
+  -- a sweep beside the root leaves the files that the root has
+  pub has_beside : (faults : F → ℕ) (result : Result ℕ Refusal) (old new : ClusterState F) → SweepsBesideRoot contents faults result old new → HasRoot contents root cells old → HasRoot contents root cells new
+  has_beside faults result old new is has = has_told old new has
+      (lacking_told root.places root.places has.kept (contents new.files)
+      (subst (λ (o : Option Contents). MayLackUnkept (is_kept root.places) o (contents new.files)) has.on_disk
+      (lacks_fewer (is_kept_beside (Some root.places) old.places) (is_kept root.places) (beside_named root.places old.places) (contents old.files) (contents new.files) (is.part (Some root.places) (named_by_root contents root cells old has)).files))
+      (λ name l. l))
       (subst (λ (state : ClusterState F). root.next_name ≤ state.next_name) (sym is.rest) has.below)
 
   module _ (faults : F → ℕ) (old new : ClusterState F) where

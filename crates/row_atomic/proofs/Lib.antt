@@ -36,6 +36,7 @@ pub mod PlacedTablets
 pub mod Readable
 pub mod RestedClusters
 pub mod RootFlushes
+pub mod RootSweeps
 pub mod RowAnswers
 pub mod Scans
 pub mod Shares

@@ -15,7 +15,7 @@ use Rattle.tablet.specs.declared.tablet.Tablet.{Tablet}
 use Rattle.row_atomic.specs.Changes.{Holds, IsEmptied}
 use Rattle.row_atomic.specs.Clusters.{ArePlaced, ClusterState, cells_in, joined, tablet_numbered}
 use Rattle.row_atomic.specs.Roots.{AreMeasured, AreOpened, KeepsCells, root_at, root_name}
-use Rattle.row_atomic.specs.Open.{AreLoaded, FindsRoot, IsDamaged, IsStore, LacksFile, Reopens, no_file, no_length, no_root}
+use Rattle.row_atomic.specs.Open.{AreLoaded, FindsRoot, HasBadRoot, IsDamaged, IsStore, LacksFile, Reopens, no_file, no_length, no_root}
 use Rattle.row_atomic.proofs.ListedFiles.{same_lists}
 use Rattle.row_atomic.proofs.Owners.{each_placed}
 use Rattle.row_atomic.proofs.Shares.{each_at, each_map}
@@ -23,9 +23,13 @@ use Rattle.row_atomic.proofs.Sweeps.{each_of}
 
 -- ---- damage
 
-pub no_root_told : (told : Option Contents) (image : List ℕ) → IfSome told (λ m. Some image ≡ get m root_name) → IsNoRoot image → IfSome told (λ m. IsDamaged m)
+pub no_root_told : (told : Option Contents) (image : List ℕ) → IfSome told (λ m. Some image ≡ get m root_name) → IsNoRoot image → IfSome told HasBadRoot
 no_root_told None image there none = tt
-no_root_told (Some m) image there none = no_root image (sym there) none
+no_root_told (Some m) image there none = (image, sym there, none)
+
+pub bad_is_damaged : (told : Option Contents) → IfSome told HasBadRoot → IfSome told IsDamaged
+bad_is_damaged None bad = tt
+bad_is_damaged (Some m) bad = no_root bad.0 bad.1 bad.2
 
 pub lacks_told : (told : Option Contents) (root : RootView) (lengths : List ℕ) → IfSome told (λ m. FindsRoot (get m root_name) (Some (root, lengths))) → IfSome told (λ m. LacksFile m root.places ⊎ (¬ AreMeasured m (file_names root.places) lengths)) → IfSome told (λ m. IsDamaged m)
 lacks_told None root lengths finds lacks = tt

@@ -17,7 +17,7 @@ use Rattle.row_atomic.specs.Changes.{Holds, IsAsBefore, IsCompacted, IsCut, IsEm
 use Rattle.row_atomic.specs.Clusters.{ClusterState, spots_of, storage_of}
 use Rattle.row_atomic.specs.Commands.{AnswersFromCells, BarsCompaction, BarsReading, HasCause, IsNoFuller, IsOutcome, LeavesRoom, MayCompact, OverfillsCluster, TellsFaults, Upholds, UsesFiles, cells_shown, compacting, done_of, split_of, swept_of}
 use Rattle.rows.specs.Refusals.{IsApplyRefusal, IsReadRefusal}
-use Rattle.row_atomic.specs.Sweeps.{MayLackUnkept, count_swept, swept}
+use Rattle.row_atomic.specs.Sweeps.{MayLackUnkept, count_swept, is_kept, swept}
 use Rattle.tablet.specs.declared.compactions.Compaction.{Compaction}
 use Rattle.tablet.specs.declared.compactions.Compaction.TheVariants as compactions
 use Rattle.row_atomic.specs.declared.commands.Command.{Command}
@@ -543,8 +543,8 @@ module _ {F : Type 0} (contents : F → Option Contents) (count : F → ℕ) (ol
   same_room : IsNoFuller old new
   same_room row later full = subst (λ (state : ClusterState F). OverfillsCluster state row later) rest full
 
-  pub swept_so : (r : Result ℕ Refusal) → OnOk r (contents new.files ≡ option_map (swept old.places) (contents old.files)) → IfOk r (λ many. IfSome (contents old.files) (λ m. many ≡ count_swept old.places m))
-      → MayLackUnkept old.places (contents old.files) (contents new.files) → IfErr r (λ refusal. (refusal ≡ Device) ⊎ (refusal ≡ NoMemory)) → HasReason (count old.files) (count new.files) r → IsOutcome contents count command.Sweep (swept_of r) old new
+  pub swept_so : (r : Result ℕ Refusal) → OnOk r (contents new.files ≡ option_map (swept (is_kept old.places)) (contents old.files)) → IfOk r (λ many. IfSome (contents old.files) (λ m. many ≡ count_swept (is_kept old.places) m))
+      → MayLackUnkept (is_kept old.places) (contents old.files) (contents new.files) → IfErr r (λ refusal. (refusal ≡ Device) ⊎ (refusal ≡ NoMemory)) → HasReason (count old.files) (count new.files) r → IsOutcome contents count command.Sweep (swept_of r) old new
   swept_so (Ok many) files counted lacks refusal reason = record {
     still = λ order. (kept order).0;
     answers = λ order. (kept order).1;

@@ -17,7 +17,7 @@ use Rattle.tablet.specs.Views.{Holds, IsBelow, cells_at, names_of}
 use Rattle.tablet.specs.Laws.{UnnamedMayGo}
 use Rattle.tablet.specs.declared.tablet.Tablet.{Tablet}
 use Rattle.row_atomic.specs.Clusters.{tablet_numbered, cells_in, joined, InOrder, ArePlaced}
-use Rattle.row_atomic.specs.Sweeps.{MayLackUnkept, is_kept, swept, unkept, without_files, count_swept}
+use Rattle.row_atomic.specs.Sweeps.{MayLackUnkept, is_kept, is_kept_beside, swept, unkept, without_files, count_swept}
 use Rattle.row_atomic.proofs.Owners.{each_placed}
 use Rattle.row_atomic.proofs.PlacedTablets.{is_placed}
 use Rattle.row_atomic.proofs.Shares.{each_at, each_map}
@@ -82,27 +82,27 @@ kept_if_listed places name b other listed =
     ∙ sym (ap (λ (r : Bool). r || any_has places name) (not_root name other (name == 0) refl))
 
 -- a file that must stay is not among the names to remove; any other is
-pub kept_first : (places : List PlaceView) (name : ℕ) (names : List ℕ) → is_kept places name ≡ true → unkept places (name ∷ names) ≡ unkept places names
-kept_first places name names e = ap (λ (b : Bool). cond (not b) (name ∷ unkept places names) (unkept places names)) e
+pub kept_first : (kept : ℕ → Bool) (name : ℕ) (names : List ℕ) → kept name ≡ true → unkept kept (name ∷ names) ≡ unkept kept names
+kept_first kept name names e = ap (λ (b : Bool). cond (not b) (name ∷ unkept kept names) (unkept kept names)) e
 
-pub unkept_first : (places : List PlaceView) (name : ℕ) (names : List ℕ) → is_kept places name ≡ false → unkept places (name ∷ names) ≡ name ∷ unkept places names
-unkept_first places name names e = ap (λ (b : Bool). cond (not b) (name ∷ unkept places names) (unkept places names)) e
+pub unkept_first : (kept : ℕ → Bool) (name : ℕ) (names : List ℕ) → kept name ≡ false → unkept kept (name ∷ names) ≡ name ∷ unkept kept names
+unkept_first kept name names e = ap (λ (b : Bool). cond (not b) (name ∷ unkept kept names) (unkept kept names)) e
 
 -- ---- files that may be removed
 
-pub lacks_none : (places : List PlaceView) (o : Option Contents) → MayLackUnkept places o o
-lacks_none places None = refl
-lacks_none places (Some m) = λ name. inl refl
+pub lacks_none : (kept : ℕ → Bool) (o : Option Contents) → MayLackUnkept kept o o
+lacks_none kept None = refl
+lacks_none kept (Some m) = λ name. inl refl
 
 removed : (m : Contents) (name q : ℕ) → get (finite.remove m name) q ≡ cond (q == name) None (get m q)
 removed m name q = get-remove nat_cmp_total m name q ∙ ap (λ (b : Bool). cond b None (get m q)) (unsigned_tied q name)
 
-one_gone : (places : List PlaceView) (m n : Contents) (name : ℕ) → is_kept places name ≡ false → ((q : ℕ) → (get n q ≡ get m q) ⊎ ((is_kept places q ≡ false) × (get n q ≡ None)))
-    → (q : ℕ) → (get (finite.remove n name) q ≡ get m q) ⊎ ((is_kept places q ≡ false) × (get (finite.remove n name) q ≡ None))
-one_gone places m n name free before q = go (q == name) refl
+one_gone : (kept : ℕ → Bool) (m n : Contents) (name : ℕ) → kept name ≡ false → ((q : ℕ) → (get n q ≡ get m q) ⊎ ((kept q ≡ false) × (get n q ≡ None)))
+    → (q : ℕ) → (get (finite.remove n name) q ≡ get m q) ⊎ ((kept q ≡ false) × (get (finite.remove n name) q ≡ None))
+one_gone kept m n name free before q = go (q == name) refl
   where
-    go : (b : Bool) → (q == name) ≡ b → (get (finite.remove n name) q ≡ get m q) ⊎ ((is_kept places q ≡ false) × (get (finite.remove n name) q ≡ None))
-    go true e = inr (ap (is_kept places) (eqb-true q name e) ∙ free, removed n name q ∙ ap (λ (b : Bool). cond b None (get n q)) e)
+    go : (b : Bool) → (q == name) ≡ b → (get (finite.remove n name) q ≡ get m q) ⊎ ((kept q ≡ false) × (get (finite.remove n name) q ≡ None))
+    go true e = inr (ap kept (eqb-true q name e) ∙ free, removed n name q ∙ ap (λ (b : Bool). cond b None (get n q)) e)
     go false e =
         let is : get (finite.remove n name) q ≡ get n q = removed n name q ∙ ap (λ (b : Bool). cond b None (get n q)) e in
         elim (before q) [
@@ -110,17 +110,38 @@ one_gone places m n name free before q = go (q == name) refl
           | inr gone ↦ inr (gone.0, is ∙ gone.1)
         ]
 
-pub lacks_removed : (places : List PlaceView) (old now : Option Contents) (name : ℕ) → is_kept places name ≡ false → MayLackUnkept places old now → MayLackUnkept places old (without_file name now)
-lacks_removed places None None name free before = refl
-lacks_removed places None (Some n) name free before = before
-lacks_removed places (Some m) None name free before = before
-lacks_removed places (Some m) (Some n) name free before = one_gone places m n name free before
+pub lacks_removed : (kept : ℕ → Bool) (old now : Option Contents) (name : ℕ) → kept name ≡ false → MayLackUnkept kept old now → MayLackUnkept kept old (without_file name now)
+lacks_removed kept None None name free before = refl
+lacks_removed kept None (Some n) name free before = before
+lacks_removed kept (Some m) None name free before = before
+lacks_removed kept (Some m) (Some n) name free before = one_gone kept m n name free before
 
-pub lacks_more : (places : List PlaceView) (old now new : Option Contents) (name : ℕ) → is_kept places name ≡ false → MayLackUnkept places old now → MayLack name now new → MayLackUnkept places old new
-lacks_more places old now new name free before may = elim may [
-  | inl e ↦ subst (λ (o : Option Contents). MayLackUnkept places old o) (sym e) before
-  | inr e ↦ subst (λ (o : Option Contents). MayLackUnkept places old o) (sym e) (lacks_removed places old now name free before)
+pub lacks_more : (kept : ℕ → Bool) (old now new : Option Contents) (name : ℕ) → kept name ≡ false → MayLackUnkept kept old now → MayLack name now new → MayLackUnkept kept old new
+lacks_more kept old now new name free before may = elim may [
+  | inl e ↦ subst (λ (o : Option Contents). MayLackUnkept kept old o) (sym e) before
+  | inr e ↦ subst (λ (o : Option Contents). MayLackUnkept kept old o) (sym e) (lacks_removed kept old now name free before)
 ]
+
+-- files that one rule keeps, another one may not
+fewer : (kept other : ℕ → Bool) (name : ℕ) → (other name ≡ true → kept name ≡ true) → kept name ≡ false → (b : Bool) → other name ≡ b → b ≡ false
+fewer kept other name more free true e = let is = more e in cc
+fewer kept other name more free false e = refl
+
+pub lacks_fewer : (kept other : ℕ → Bool) → ((name : ℕ) → other name ≡ true → kept name ≡ true) → (old new : Option Contents) → MayLackUnkept kept old new → MayLackUnkept other old new
+lacks_fewer kept other more None new may = may
+lacks_fewer kept other more (Some m) None may = may
+lacks_fewer kept other more (Some m) (Some n) may = λ name. elim (may name) [
+  | inl same ↦ inl same
+  | inr gone ↦ inr (fewer kept other name (more name) gone.0 (other name) refl, gone.1)
+]
+
+-- beside a root, files of the root and of tablets stay
+pub beside_named : (named places : List PlaceView) (name : ℕ) → is_kept named name ≡ true → is_kept_beside (Some named) places name ≡ true
+beside_named named places name e = ap (λ (b : Bool). b || is_kept places name) e
+
+pub beside_kept : (named : Option (List PlaceView)) (places : List PlaceView) (name : ℕ) → is_kept places name ≡ true → is_kept_beside named places name ≡ true
+beside_kept None places name e = e
+beside_kept (Some named) places name e = or_right (is_kept named name) (is_kept places name) e
 
 -- ---- a complete sweep
 
@@ -156,30 +177,30 @@ and_false : (a : Bool) → false ≡ (a && false)
 and_false true = refl
 and_false false = refl
 
-has_unkept : (places : List PlaceView) (q : ℕ) (names : List ℕ) → has_eq q (unkept places names) ≡ (not (is_kept places q) && has_eq q names)
-has_unkept places q [] = and_false (not (is_kept places q))
-has_unkept places q (name ∷ names) = go (has_unkept places q names) (is_kept places name) refl (q == name) refl
+has_unkept : (kept : ℕ → Bool) (q : ℕ) (names : List ℕ) → has_eq q (unkept kept names) ≡ (not (kept q) && has_eq q names)
+has_unkept kept q [] = and_false (not (kept q))
+has_unkept kept q (name ∷ names) = go (has_unkept kept q names) (kept name) refl (q == name) refl
   where
-    go : has_eq q (unkept places names) ≡ (not (is_kept places q) && has_eq q names) → (k : Bool) → is_kept places name ≡ k → (e : Bool) → (q == name) ≡ e → has_eq q (unkept places (name ∷ names)) ≡ (not (is_kept places q) && (q == name || has_eq q names))
+    go : has_eq q (unkept kept names) ≡ (not (kept q) && has_eq q names) → (k : Bool) → kept name ≡ k → (e : Bool) → (q == name) ≡ e → has_eq q (unkept kept (name ∷ names)) ≡ (not (kept q) && (q == name || has_eq q names))
     go rest true k true e =
-        let same : is_kept places q ≡ true = ap (is_kept places) (eqb-true q name e) ∙ k in
-        ap (has_eq q) (kept_first places name names k) ∙ rest
+        let same : kept q ≡ true = ap kept (eqb-true q name e) ∙ k in
+        ap (has_eq q) (kept_first kept name names k) ∙ rest
         ∙ ap (λ (b : Bool). not b && has_eq q names) same
         ∙ sym (ap (λ (b : Bool). not b && (q == name || has_eq q names)) same)
     go rest true k false e =
-        ap (has_eq q) (kept_first places name names k) ∙ rest
-        ∙ sym (ap (λ (b : Bool). not (is_kept places q) && (b || has_eq q names)) e)
+        ap (has_eq q) (kept_first kept name names k) ∙ rest
+        ∙ sym (ap (λ (b : Bool). not (kept q) && (b || has_eq q names)) e)
     go rest false k true e =
-        let same : is_kept places q ≡ false = ap (is_kept places) (eqb-true q name e) ∙ k in
-        ap (has_eq q) (unkept_first places name names k)
-        ∙ ap (λ (b : Bool). b || has_eq q (unkept places names)) e
+        let same : kept q ≡ false = ap kept (eqb-true q name e) ∙ k in
+        ap (has_eq q) (unkept_first kept name names k)
+        ∙ ap (λ (b : Bool). b || has_eq q (unkept kept names)) e
         ∙ sym (ap (λ (b : Bool). b || has_eq q names) e)
         ∙ sym (ap (λ (b : Bool). not b && (q == name || has_eq q names)) same)
     go rest false k false e =
-        ap (has_eq q) (unkept_first places name names k)
-        ∙ ap (λ (b : Bool). b || has_eq q (unkept places names)) e
+        ap (has_eq q) (unkept_first kept name names k)
+        ∙ ap (λ (b : Bool). b || has_eq q (unkept kept names)) e
         ∙ rest
-        ∙ sym (ap (λ (b : Bool). not (is_kept places q) && (b || has_eq q names)) e)
+        ∙ sym (ap (λ (b : Bool). not (kept q) && (b || has_eq q names)) e)
 
 any_same : {A : Type 0} (f g : A → Bool) (xs : List A) → ((x : A) → f x ≡ g x) → list_any f xs ≡ list_any g xs
 any_same f g [] e = refl
@@ -194,19 +215,19 @@ chosen false true found e = refl
 chosen false false None e = refl
 chosen false false (Some x) e = cc
 
-swept_told : (places : List PlaceView) (m : Contents) → without (unkept places (finite.keys m)) m ≡ swept places m
-swept_told places m = same_map nat_cmp_total nat_cmp-IsAntisymmetric _ _ (λ q.
-    get-without (unkept places (finite.keys m)) m q
-    ∙ ap (λ (b : Bool). cond b None (get m q)) (has_unkept places q (finite.keys m))
-    ∙ chosen (is_kept places q) (has_eq q (finite.keys m)) (get m q) (there_or_none m q)
-    ∙ sym (get-retain_keys m (is_kept places) q (λ x e. ap (is_kept places) (sym (nat_cmp-IsAntisymmetric q x e)))))
+swept_told : (kept : ℕ → Bool) (m : Contents) → without (unkept kept (finite.keys m)) m ≡ swept kept m
+swept_told kept m = same_map nat_cmp_total nat_cmp-IsAntisymmetric _ _ (λ q.
+    get-without (unkept kept (finite.keys m)) m q
+    ∙ ap (λ (b : Bool). cond b None (get m q)) (has_unkept kept q (finite.keys m))
+    ∙ chosen (kept q) (has_eq q (finite.keys m)) (get m q) (there_or_none m q)
+    ∙ sym (get-retain_keys m kept q (λ x e. ap kept (sym (nat_cmp-IsAntisymmetric q x e)))))
 
-pub swept_is : (places : List PlaceView) (o : Option Contents) (names : List ℕ) → IfSome o (λ m. names ≡ finite.keys m) → without_files (unkept places names) o ≡ option_map (swept places) o
-swept_is places None names e = without_none (unkept places names)
-swept_is places (Some m) names e =
-    without_is (unkept places names) m
-    ∙ ap (λ (ns : List ℕ). Some (without (unkept places ns) m)) e
-    ∙ ap Some (swept_told places m)
+pub swept_is : (kept : ℕ → Bool) (o : Option Contents) (names : List ℕ) → IfSome o (λ m. names ≡ finite.keys m) → without_files (unkept kept names) o ≡ option_map (swept kept) o
+swept_is kept None names e = without_none (unkept kept names)
+swept_is kept (Some m) names e =
+    without_is (unkept kept names) m
+    ∙ ap (λ (ns : List ℕ). Some (without (unkept kept ns) m)) e
+    ∙ ap Some (swept_told kept m)
 
 -- ---- the tablets are unchanged
 
@@ -294,21 +315,21 @@ module _ (places : List PlaceView) (ts : List Tablet) (table : IsTable places) (
         same = ap joined (maps_alike (cells_at n) (cells_at m) ts (each_map (λ t. Holds n t × (cells_at n t ≡ cells_at m t)) (λ t. cells_at n t ≡ cells_at m t) (λ t h. h.1) ts each));
       }
 
-  swept_told_order : UnnamedMayGo → (m : Contents) (new : Option Contents) (next : ℕ) → MayLackUnkept places (Some m) new → AllByRecursion (Holds m) ts → AllByRecursion (IsBelow next) ts → KeepsOrder new next (Some m)
+  swept_told_order : UnnamedMayGo → (m : Contents) (new : Option Contents) (next : ℕ) → MayLackUnkept (is_kept places) (Some m) new → AllByRecursion (Holds m) ts → AllByRecursion (IsBelow next) ts → KeepsOrder new next (Some m)
   swept_told_order law m None next may each_open each_below = absurd may
   swept_told_order law m (Some n) next may each_open each_below = told_order law m n next may each_open each_below
 
-  pub swept_order : UnnamedMayGo → (old new : Option Contents) (next : ℕ) → MayLackUnkept places old new → InOrder old next ts → KeepsOrder new next old
+  pub swept_order : UnnamedMayGo → (old new : Option Contents) (next : ℕ) → MayLackUnkept (is_kept places) old new → InOrder old next ts → KeepsOrder new next old
   swept_order law old new next may order =
       subst (λ (o : Option Contents). KeepsOrder new next o) (sym order.on_disk)
-      (swept_told_order law order.contents new next (subst (λ (o : Option Contents). MayLackUnkept places o new) order.on_disk may) order.each_open order.each_below)
+      (swept_told_order law order.contents new next (subst (λ (o : Option Contents). MayLackUnkept (is_kept places) o new) order.on_disk may) order.each_open order.each_below)
 
 pub on_ok : {A E : Type 0} {P Q : Type 0} (r : Result A E) → (P → Q) → OnOk r P → OnOk r Q
 on_ok (Ok x) f h = f h
 on_ok (Err e) f h = tt
 
 -- the count is the number of files that need not stay
-pub counted : {E : Type 0} (places : List PlaceView) (o : Option Contents) (names : List ℕ) (r : Result ℕ E) → IfSome o (λ m. names ≡ finite.keys m) → IfOk r (λ count. count ≡ length (unkept places names)) → IfOk r (λ count. IfSome o (λ m. count ≡ count_swept places m))
-counted places None names (Ok count) keyed is = tt
-counted places (Some m) names (Ok count) keyed is = is ∙ ap (λ (ns : List ℕ). length (unkept places ns)) keyed
-counted places o names (Err e) keyed is = tt
+pub counted : {E : Type 0} (kept : ℕ → Bool) (o : Option Contents) (names : List ℕ) (r : Result ℕ E) → IfSome o (λ m. names ≡ finite.keys m) → IfOk r (λ count. count ≡ length (unkept kept names)) → IfOk r (λ count. IfSome o (λ m. count ≡ count_swept kept m))
+counted kept None names (Ok count) keyed is = tt
+counted kept (Some m) names (Ok count) keyed is = is ∙ ap (λ (ns : List ℕ). length (unkept kept ns)) keyed
+counted kept o names (Err e) keyed is = tt

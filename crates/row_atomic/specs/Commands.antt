@@ -18,7 +18,7 @@ use Rattle.row_atomic.specs.Clusters.{ClusterState, Overfills, cells_in, spots_o
 use Rattle.row_atomic.specs.Compactions as compaction
 use Rattle.rows.specs.Refusals.{IsApplyRefusal, IsReadRefusal}
 use Rattle.rows.specs.Room.{TakesNoRoom, TakesRoomOf}
-use Rattle.row_atomic.specs.Sweeps.{IsSwept, IsSweptInPart}
+use Rattle.row_atomic.specs.Sweeps.{IsSwept, IsSweptInPart, is_kept}
 use Rattle.tablet.specs.declared.compactions.Compaction.{Compaction}
 use Rattle.tablet.specs.declared.compactions.Compaction.TheVariants as compactions
 use Rattle.row_atomic.specs.declared.commands.Command.{Command}
@@ -104,7 +104,8 @@ DoesToTablets contents (command.Split row) (outcome.Split left) old new =
     × IsHalved old.next_name row left old.places old.tablets new.tablets
 DoesToTablets contents (command.Move tablet server) outcome.Done old new =
     ComesTo tablet server old new
-DoesToTablets contents command.Sweep (outcome.Swept count) old new = IsSwept contents count old new
+DoesToTablets contents command.Sweep (outcome.Swept count) old new =
+    IsSwept (is_kept old.places) contents count old new
 DoesToTablets contents command.DropCaches outcome.Done old new = IsUncached contents old new
 DoesToTablets contents _ _ old new = storage_of contents new ≡ storage_of contents old
 
@@ -120,7 +121,7 @@ LeavesTablets contents (command.Split row) old new =
 LeavesTablets contents (command.Move tablet server) old new =
     (¬ IsOn tablet server old.places)
     × (spots_of new ≡ spots_of old) × MayBeFlushed old.next_name tablet old.tablets new.tablets
-LeavesTablets contents command.Sweep old new = IsSweptInPart contents old new
+LeavesTablets contents command.Sweep old new = IsSweptInPart (is_kept old.places) contents old new
 LeavesTablets contents _ old new = storage_of contents new ≡ storage_of contents old
 
 -- a command was accepted and had its effect, or it had one of its refusals

@@ -10,6 +10,7 @@ pub mod Open
 pub mod PlaceCaches
 pub mod ReadableLaw
 pub mod Recorded
+pub mod RootSweeps
 pub mod Roots
 pub mod Seen
 pub mod Sweeps

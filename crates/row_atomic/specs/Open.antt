@@ -23,6 +23,10 @@ use Rattle.row_atomic.specs.Roots.{AreMeasured, AreOpened, KeepsRoot, root_at, r
 abbrev pub LacksFile : Contents → List PlaceView → Type 0
 LacksFile m places = ¬ AllByRecursion (λ p. AllByRecursion (HasFile m) p.files) places
 
+-- the root file exists but is not a root
+abbrev pub HasBadRoot : Contents → Type 0
+HasBadRoot m = (image : List ℕ) × (get m root_name ≡ Some image) × IsNoRoot image
+
 -- The root file exists but is not a root, or it names such a file, or a length in it differs from its file's.
 pub data IsDamaged (m : Contents) : Type 0 where
   no_root : (image : List ℕ) → get m root_name ≡ Some image → IsNoRoot image → IsDamaged m

@@ -1,9 +1,10 @@
 -- Clusters with a journal: its edits lead from the cells in the files to the cells shown.
-use Rattle.std.specs.Prelude.{◌≡◌, ◌≢◌, ◌⊎◌, ℕ, ◌+◌, List, [], length, Option, None, Some, IsSome, ⊤}
+use Rattle.std.specs.Prelude.{◌≡◌, ◌≢◌, ◌⊎◌, ℕ, ◌+◌, List, [], length, Option, None, Some, IsSome, Result, ⊤}
 use Rattle.std.specs.FinMap.{get}
 use Rattle.std.specs.List.{AllByRecursion}
 use Rattle.cell_key.specs.Cells.{Cells, after_edits}
 use Rattle.cell_key.specs.declared.edits.Edit.{Edit}
+use Rattle.cell_key.specs.declared.refusals.Refusal.{Refusal}
 use Rattle.file_store.specs.Store.{Contents}
 use Rattle.metadata_table.specs.Roots.{RootView}
 use Rattle.rows.specs.Calls.{View}
@@ -14,6 +15,7 @@ use Rattle.row_atomic.specs.Commands.{IsOutcome, OverfillsCluster, cells_shown}
 use Rattle.row_atomic.specs.Flushes.{CompactsFull, KeepsShown, MergesMany}
 use Rattle.row_atomic.specs.Journals.{HasRoomFor, HasWritten, JournalView}
 use Rattle.row_atomic.specs.Open.{IsStore, Reopens}
+use Rattle.row_atomic.specs.RootSweeps.{SweepsBesideRoot}
 use Rattle.row_atomic.specs.Roots.{HasRoot, Rests, StaysOrRests, root_name}
 use Rattle.row_atomic.specs.declared.commands.Command.{Command}
 use Rattle.row_atomic.specs.declared.commands.Command.TheVariants as command
@@ -119,6 +121,10 @@ pub record KeepsFollowing {F : Type 0} (contents : F → Option Contents) (fault
   pub sweeps : (result : Outcome) (journal : Option JournalView) (old new : ClusterState F)
       → IsOutcome contents faults command.Sweep result old new → Holds contents old
       → FollowsListed contents old journal → FollowsListed contents new journal
+  -- a sweep beside the root
+  pub root_sweeps : (result : Result ℕ Refusal) (journal : Option JournalView)
+      (old new : ClusterState F) → SweepsBesideRoot contents faults result old new
+      → Holds contents old → Follows contents old journal → Follows contents new journal
   -- automatic compactions between two requests
   pub flushes : (limits : FlushLimits) (journal : Option JournalView) (old new : ClusterState F)
       → CompactsFull contents faults limits old new → KeepsShown contents faults old new

@@ -10,39 +10,45 @@ use Rattle.row_atomic.specs.Clusters.{ClusterState}
 abbrev pub is_kept : List PlaceView → ℕ → Bool
 is_kept places name = name == 0 || list_any (λ p. list_any (λ file. file == name) p.files) places
 
--- the files that must stay
-abbrev pub swept : List PlaceView → Contents → Contents
-swept places m = retain_keys m (is_kept places)
-
--- the names that need not stay
-abbrev pub unkept : List PlaceView → List ℕ → List ℕ
-unkept places names = filter (λ name. not (is_kept places name)) names
+-- the same, beside the places of a root, if there are any: files that they have must stay too
+abbrev pub is_kept_beside : Option (List PlaceView) → List PlaceView → ℕ → Bool
+is_kept_beside None places name = is_kept places name
+is_kept_beside (Some named) places name = is_kept named name || is_kept places name
 
 -- contents without the files of these names
 abbrev pub without_files : List ℕ → Option Contents → Option Contents
 without_files [] disk = disk
 without_files (name ∷ names) disk = without_files names (without_file name disk)
 
--- how many files need not stay
-abbrev pub count_swept : List PlaceView → Contents → ℕ
-count_swept places m = length (unkept places (keys m))
+-- The effects of a sweep after which these files must stay.
+module _ (kept : ℕ → Bool) where
+  -- the files that must stay
+  abbrev pub swept : Contents → Contents
+  swept m = retain_keys m kept
 
--- If the files' bytes were known they still are, and each file is unchanged, or it was removed and need not stay.
-abbrev pub MayLackUnkept : List PlaceView → Option Contents → Option Contents → Type 0
-MayLackUnkept places None new = IsNone new
-MayLackUnkept places (Some m) new =
-    IsSomeAnd new (λ n. (name : ℕ)
-    → (get n name ≡ get m name) ⊎ ((is_kept places name ≡ false) × (get n name ≡ None)))
+  -- the names that need not stay
+  abbrev pub unkept : List ℕ → List ℕ
+  unkept names = filter (λ name. not (kept name)) names
 
--- All files that need not stay were removed, and the count is their number. Nothing else changed.
-pub record IsSwept {F : Type 0} (contents : F → Option Contents) (count : ℕ)
-    (old new : ClusterState F) : Type 0 where
-  pub files : contents new.files ≡ option_map (swept old.places) (contents old.files)
-  pub counted : IfSome (contents old.files) (λ m. count ≡ count_swept old.places m)
-  pub rest : new ≡ record old { files = new.files }
+  -- how many files need not stay
+  abbrev pub count_swept : Contents → ℕ
+  count_swept m = length (unkept (keys m))
 
--- Some files that need not stay may have been removed. Nothing else changed.
-pub record IsSweptInPart {F : Type 0} (contents : F → Option Contents)
-    (old new : ClusterState F) : Type 0 where
-  pub files : MayLackUnkept old.places (contents old.files) (contents new.files)
-  pub rest : new ≡ record old { files = new.files }
+  -- If the files' bytes were known they still are, and each file is unchanged, or it was removed and need not stay.
+  abbrev pub MayLackUnkept : Option Contents → Option Contents → Type 0
+  MayLackUnkept None new = IsNone new
+  MayLackUnkept (Some m) new =
+      IsSomeAnd new (λ n. (name : ℕ)
+      → (get n name ≡ get m name) ⊎ ((kept name ≡ false) × (get n name ≡ None)))
+
+  module _ {F : Type 0} (contents : F → Option Contents) where
+    -- All files that need not stay were removed, and the count is their number. Nothing else changed.
+    pub record IsSwept (count : ℕ) (old new : ClusterState F) : Type 0 where
+      pub files : contents new.files ≡ option_map swept (contents old.files)
+      pub counted : IfSome (contents old.files) (λ m. count ≡ count_swept m)
+      pub rest : new ≡ record old { files = new.files }
+
+    -- Some files that need not stay may have been removed. Nothing else changed.
+    pub record IsSweptInPart (old new : ClusterState F) : Type 0 where
+      pub files : MayLackUnkept (contents old.files) (contents new.files)
+      pub rest : new ≡ record old { files = new.files }

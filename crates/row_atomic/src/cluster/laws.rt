@@ -2,6 +2,7 @@
 
 ghost use Rattle.row_atomic.specs.Clusters.{CellsByTablet};
 ghost use Rattle.row_atomic.specs.Recorded.{KeepsFollowing, OpensFollowing};
+ghost use Rattle.row_atomic.specs.RootSweeps.{RootOutlastsSweeps};
 ghost use Rattle.row_atomic.specs.Roots.{RootIsStored, RootOutlastsFlushes, RootOutlastsMerges, RootStays};
 
 use cell_key::replays;
@@ -40,8 +41,15 @@ pub fn root_outlasts_merges<F: Files>()
     unnamed_may_go();
 }
 
+/// A sweep beside the root leaves the root and its cells in the files.
+pub fn root_outlasts_sweeps<F: Files>()
+    ensures { RootOutlastsSweeps F.contents F.faults }
+{
+    unnamed_may_go();
+}
+
 /// The journal still leads from the files to the cluster's cells after everything a cluster does except `apply`:
-/// commands (a sweep only if the tablets have the root's files), automatic compactions and merges, and checkpoints,
+/// commands (a sweep only if the tablets have the root's files, or beside the root), automatic compactions and merges, and checkpoints,
 /// done or refused.
 pub fn keeps_following<F: Files>()
     ensures { KeepsFollowing F.contents F.faults }
@@ -50,6 +58,7 @@ pub fn keeps_following<F: Files>()
     root_stays::<F>();
     root_outlasts_flushes::<F>();
     root_outlasts_merges::<F>();
+    root_outlasts_sweeps::<F>();
 }
 
 /// A store that was opened from a root shows that root's cells, and its memtables are empty.

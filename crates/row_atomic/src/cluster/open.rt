@@ -12,7 +12,7 @@ ghost use Rattle.sorted_file.specs.Source.{IsReadRefusal, ReadsFiles};
 ghost use Rattle.tablet.specs.Views.{Holds as HoldsAt};
 ghost use Rattle.row_atomic.specs.Changes.{Holds, IsEmptied};
 ghost use Rattle.row_atomic.specs.Roots.{AreMeasured, KeepsCells, root_name};
-ghost use Rattle.row_atomic.specs.Open.{AreCounted, AreLoaded, FindsRoot, FitsAt, IsDamaged, IsStore, LacksFile, Reopens, refused_by, told_of};
+ghost use Rattle.row_atomic.specs.Open.{AreCounted, AreLoaded, FindsRoot, FitsAt, HasBadRoot, IsDamaged, IsStore, LacksFile, Reopens, refused_by, told_of};
 
 use crate::cluster::Cluster;
 use crate::cluster::checkpoint::{ROOT_NAME, file_lengths};
@@ -26,14 +26,14 @@ use std::alloc::{AllocError, Global};
 use tablet::{RowRange, Tablet, files_are_there, same_cells};
 
 /// The root in the root file, if that exists.
-fn read_root<F: Files>(alloc: Global, files: &mut F) -> Result<Option<Root>, Refusal>
+pub(crate) fn read_root<F: Files>(alloc: Global, files: &mut F) -> Result<Option<Root>, Refusal>
     ensures finds { IfOk result (λ found. IfSome (F.contents files.old) (λ m.
         FindsRoot (get m root_name) (option_map told_of found))) }
     ensures counted { IfOk result (λ found.
         IfSome found (λ root. AreCounted root.table (lengths_of root))) }
     ensures sound { IfOk result (λ found. IfSome found (λ root. IsSoundRoot (root_of root))) }
     ensures damaged { IsErrOf result Refusal.Damaged
-        → IfSome (F.contents files.old) (λ m. IsDamaged m) }
+        → IfSome (F.contents files.old) HasBadRoot }
     ensures reads { ReadsFiles F.contents F.faults files.old files.new result }
 {
     match read_whole(alloc, files, ROOT_NAME) {

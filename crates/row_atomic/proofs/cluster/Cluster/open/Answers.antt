@@ -5,13 +5,13 @@ use Rattle.file_store.specs.Store.{Contents}
 use Rattle.metadata_table.specs.Roots.{file_names, root_of}
 use Rattle.row_atomic.specs.Roots.{AreMeasured}
 use Rattle.row_atomic.specs.Open.{LacksFile}
-use Rattle.row_atomic.proofs.OpenedRoots.{lacks_told, not_damaged, opened_holds, opened_kept, opened_store, opened_whole}
+use Rattle.row_atomic.proofs.OpenedRoots.{bad_is_damaged, lacks_told, not_damaged, opened_holds, opened_kept, opened_store, opened_whole}
 use Rattle.row_atomic.proofs.Outcomes.{err_of}
 use Rattle.row_atomic.proofs.cluster.Cluster.open.Goals as goal
 
 pub returns-in-Err-clause-kept : goal.returns-in-Err-clause-kept
 returns-in-Err-clause-kept g c =
-    not_damaged g.F.Files.contents c.one_root.ensures c.one_measure.ensures c.same_cells.ensures c.files_are_there.ensures (g.F.Files.contents c.args.files) _ (λ is. c.in-Err.ensures.damaged (err_of c.in-Err.refusal Damaged is))
+    not_damaged g.F.Files.contents c.one_root.ensures c.one_measure.ensures c.same_cells.ensures c.files_are_there.ensures (g.F.Files.contents c.args.files) _ (λ is. bad_is_damaged _ (c.in-Err.ensures.damaged (err_of c.in-Err.refusal Damaged is)))
 
 pub returns-in-Ok-load_root-clause-store : goal.returns-in-Ok-load_root-clause-store
 returns-in-Ok-load_root-clause-store g c =
@@ -51,3 +51,6 @@ returns-in-Err-load_root-clause-kept g c =
     not_damaged g.F.Files.contents c.one_root.ensures c.one_measure.ensures c.same_cells.ensures c.files_are_there.ensures (g.F.Files.contents c.args.files) _ (λ is.
     lacks_told (g.F.Files.contents c.args.files) (root_of c.in-Ok-Some.root) c.in-Ok-Some.root.lengths.items (rw c.in-Ok-Some.field-0-is at c.in-Ok-Some.ensures.finds)
     (subst (λ (told : Option Contents). IfSome told (λ m. LacksFile m c.in-Ok-Some.root.table ⊎ (¬ AreMeasured m (file_names c.in-Ok-Some.root.table) c.in-Ok-Some.root.lengths.items))) c.read_root.ensures.reads.same (c.in-Err-load_root.ensures.damaged (err_of c.in-Err-load_root.refusal Damaged is))))
+
+pub returns-in-Err-clause-damaged : goal.returns-in-Err-clause-damaged
+returns-in-Err-clause-damaged g c = λ is. bad_is_damaged _ (c.in-Err.ensures.damaged (err_of c.in-Err.refusal Damaged is))

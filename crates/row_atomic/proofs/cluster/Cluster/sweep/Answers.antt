@@ -1,7 +1,7 @@
 -- The names of all files determine the removed ones, and no tablet is changed.
 use Rattle.std.proofs.Common.{◌∙◌, Option, Err, refl, sym, ap, subst}
 use Rattle.file_store.specs.Store.{Contents}
-use Rattle.row_atomic.specs.Sweeps.{MayLackUnkept, unkept, without_files}
+use Rattle.row_atomic.specs.Sweeps.{MayLackUnkept, is_kept, unkept, without_files}
 use Rattle.row_atomic.proofs.RowAnswers.{same_cells_in, still_in_order}
 use Rattle.row_atomic.proofs.Outcomes.{err_reason, refused_sweep, swept_so}
 use Rattle.row_atomic.proofs.PassedRefusals.{reason_after}
@@ -19,15 +19,15 @@ returns-in_err-names g c =
     rw (← c.self.view_is) (refused_sweep g.F.Files.contents g.F.Files.faults _ c.from_residual.result e e _ _ c.from_residual.ensures.1 refl
     (swept_so g.F.Files.contents g.F.Files.faults _ _
     (λ order. (still_in_order told now c.self.inside.next_name c.self.inside.tablets.items c.names_of.ensures.same order, same_cells_in told now c.self.inside.tablets.items c.names_of.ensures.same))
-    refl (Err e) tt tt (subst (λ (o : Option Contents). MayLackUnkept c.self.inside.table told o) (sym c.names_of.ensures.same) (lacks_none c.self.inside.table told)) c.in_err-names.ensures.refusal (err_reason e _ _ c.in_err-names.ensures.reason)))
+    refl (Err e) tt tt (subst (λ (o : Option Contents). MayLackUnkept (is_kept c.self.inside.table) told o) (sym c.names_of.ensures.same) (lacks_none (is_kept c.self.inside.table) told)) c.in_err-names.ensures.refusal (err_reason e _ _ c.in_err-names.ensures.reason)))
 
 pub returns : goal.returns
 returns g c =
     let places = c.self.inside.table in
     let names = c.in_ok-names.names.items in
-    let lacks = subst (λ (o : Option Contents). MayLackUnkept places o (g.F.Files.contents c.remove_unkept.new.files)) c.names_of.ensures.same c.remove_unkept.ensures.lacks in
+    let lacks = subst (λ (o : Option Contents). MayLackUnkept (is_kept places) o (g.F.Files.contents c.remove_unkept.new.files)) c.names_of.ensures.same c.remove_unkept.ensures.lacks in
     rw (← c.self.view_is) (swept_so g.F.Files.contents g.F.Files.faults _ _
     (λ order. let kept = swept_order places c.self.inside.tablets.items c.len.ensures.table c.self.invariant.0.placed c.self.invariant.0.as_many c.unnamed_may_go.ensures (g.F.Files.contents c.self.inside.files) (g.F.Files.contents c.remove_unkept.new.files) c.self.inside.next_name lacks order in (kept.order, kept.same))
     refl c.remove_unkept.result
-    (on_ok c.remove_unkept.result (λ e. e ∙ ap (without_files (unkept places names)) c.names_of.ensures.same ∙ swept_is places (g.F.Files.contents c.self.inside.files) names c.in_ok-names.ensures.names) c.remove_unkept.ensures.removed)
-    (counted places (g.F.Files.contents c.self.inside.files) names c.remove_unkept.result c.in_ok-names.ensures.names c.remove_unkept.ensures.count) lacks c.remove_unkept.ensures.refusal (reason_after c.remove_unkept.result c.in_ok-names.names _ _ _ c.in_ok-names.ensures.reason c.remove_unkept.ensures.reason))
+    (on_ok c.remove_unkept.result (λ e. e ∙ ap (without_files (unkept (is_kept places) names)) c.names_of.ensures.same ∙ swept_is (is_kept places) (g.F.Files.contents c.self.inside.files) names c.in_ok-names.ensures.names) c.remove_unkept.ensures.removed)
+    (counted (is_kept places) (g.F.Files.contents c.self.inside.files) names c.remove_unkept.result c.in_ok-names.ensures.names c.remove_unkept.ensures.count) lacks c.remove_unkept.ensures.refusal (reason_after c.remove_unkept.result c.in_ok-names.names _ _ _ c.in_ok-names.ensures.reason c.remove_unkept.ensures.reason))
