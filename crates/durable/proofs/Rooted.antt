@@ -13,16 +13,16 @@ use Rattle.server_loop.specs.Runs.{StepsAs}
 use Rattle.si_model.specs.Machine.{IsStorageRefusal, Refused, Reply as MachineReply, Request as MachineRequest, State, Checkpoint as CheckpointAsked, refuses}
 use Rattle.si_model.specs.Refusing.{gives_up}
 use Rattle.durable.specs.Lasting.{GoesOn, Settles}
-use Rattle.durable.specs.Lasts.{AnswersInRoom, AnswersLasting, AnswersRooted, Checkpoints, MovesTablets, NeedsRoom, NeedsRoot, PutsRoot}
+use Rattle.durable.specs.Lasts.{AnswersInRoom, AnswersLasting, AnswersRooted, Checkpoints, MovesTablets, NeedsRoom, ActsOnRoots, PutsRoot}
 use Rattle.durable.specs.Lasts.PutsRoot.{answered, failed, unmarked, unnamed}
 
-module _ {S : Type 0} (same : S → S → Type 0) (checkpoints : S → Reply → S → Type 0) (says : S → Request → Reply → S → Type 0) (sweeps : S → Reply → S → Type 0) (stopped risen : Type 0) (before now : ℕ) where
+module _ {S : Type 0} (same : S → S → Type 0) (checkpoints : S → Reply → S → Type 0) (says : S → Request → Reply → S → Type 0) (sweeps : S → Result ℕ Refusal → S → Type 0) (stopped risen : Type 0) (before now : ℕ) where
   pub moves_rooted : (old new : S) (request : Request) (reply : Reply) → MovesTablets request → AnswersRooted same checkpoints (λ a r b. says a request r b) stopped risen old reply new → AnswersLasting same checkpoints says sweeps stopped risen before now old request reply new
   moves_rooted old new (Split row) reply of p = p
   moves_rooted old new (Move tablet server) reply of p = p
   moves_rooted old new request reply of p = absurd of
 
-  pub plain_lasting : (old new : S) (request : Request) (reply : Reply) → ¬ NeedsRoot request → ¬ NeedsRoom request → says old request reply new → AnswersLasting same checkpoints says sweeps stopped risen before now old request reply new
+  pub plain_lasting : (old new : S) (request : Request) (reply : Reply) → ¬ ActsOnRoots request → ¬ NeedsRoom request → says old request reply new → AnswersLasting same checkpoints says sweeps stopped risen before now old request reply new
   plain_lasting old new (Split row) reply other plain p = absurd (other tt)
   plain_lasting old new (Move tablet server) reply other plain p = absurd (other tt)
   plain_lasting old new Sweep reply other plain p = absurd (other tt)
@@ -40,7 +40,7 @@ module _ {S : Type 0} (same : S → S → Type 0) (checkpoints : S → Reply →
   room_lasting old new (CollectStep collector visits) reply needs p = p
   room_lasting old new request reply needs p = absurd needs
 
-pub rootless : (request : Request) → NeedsRoom request → ¬ NeedsRoot request
+pub rootless : (request : Request) → NeedsRoom request → ¬ ActsOnRoots request
 rootless Begin needs root = root
 rootless (Step start) needs root = root
 rootless (CleanStep cleaner) needs root = root
@@ -57,6 +57,14 @@ module _ {S : Type 0} (same : S → S → Type 0) (checkpoints : S → Reply →
   puts_more a b c reply (unmarked is risen p) s = unmarked is (rises risen) (then a b c p s)
   puts_more a b c reply (failed is stops (inl p)) s = failed is (still stops) (inl (then a b c p s))
   puts_more a b c reply (failed is stops (inr p)) s = failed is (still stops) (inr (both_then a b c _ p s))
+
+-- what is stopped, or has risen, may be said of a later moment
+module _ {S : Type 0} (same : S → S → Type 0) (checkpoints : S → Reply → S → Type 0) {stopped stopped' risen risen' : Type 0} (still : stopped → stopped') (rises : risen → risen') where
+  pub puts_still : (a b : S) (reply : Reply) → PutsRoot same checkpoints stopped risen a reply b → PutsRoot same checkpoints stopped' risen' a reply b
+  puts_still a b reply (answered p) = answered p
+  puts_still a b reply (unnamed is p) = unnamed is p
+  puts_still a b reply (unmarked is risen p) = unmarked is (rises risen) p
+  puts_still a b reply (failed is stops p) = failed is (still stops) p
 
 -- a root whose mark's file did not fail
 module _ {S : Type 0} (same : S → S → Type 0) (checkpoints : S → Reply → S → Type 0) (stopped risen : Type 0) where

@@ -1,11 +1,12 @@
 -- The cells that a server's files keep under their root, and the calls that leave them.
-use Rattle.std.proofs.Common.{◌≡◌, ◌≢◌, ◌≤◌, ◌⊎◌, ℕ, Bool, true, false, List, [], ◌++◌, length, map, Option, None, Some, Result, Ok, Err, OnErr, OnOk, append-nil, inl, inr, refl, sym, ap, ◌∙◌, subst, arith}
+use Rattle.std.proofs.Common.{◌≡◌, ◌≢◌, ◌≤◌, ◌⊎◌, ℕ, Bool, true, false, List, [], ◌++◌, length, map, Option, None, Some, Result, Ok, Err, IfErr, IsErrOf, OnErr, OnOk, append-nil, inl, inr, refl, sym, ap, ◌∙◌, subst, arith}
 use Rattle.std.specs.Prelude.{is_some, option_map}
 use Rattle.std.specs.List.{AllByRecursion}
 use Rattle.std.specs.FinMap.{get}
 use Rattle.cell_key.specs.Cells.{Cells}
 use Rattle.cell_key.specs.declared.edits.Edit.{Edit}
 use Rattle.cell_key.specs.declared.refusals.Refusal.{Refusal}
+use Rattle.cell_key.specs.declared.refusals.Refusal.TheVariants.{Damaged, Device, NoMemory}
 use Rattle.commit_log.specs.Edits.{IsStoredEdit, LogsEdits, spelled_edits}
 use Rattle.file_store.specs.Store.{Contents}
 use Rattle.file_store.specs.declared.files.Files.{Ghosts as Files}
@@ -17,12 +18,14 @@ use Rattle.request_codec.specs.Requests.{asked}
 use Rattle.request_codec.specs.declared.replies.Reply.{Reply as CodecReply}
 use Rattle.request_codec.specs.declared.requests.Request.{Request as Lent}
 use Rattle.request_codec.specs.declared.requests.Request.TheVariants as lent
-use Rattle.row_atomic.specs.Changes.{Holds, ListsAll}
+use Rattle.rows.specs.Refusals.{IsReadRefusal}
+use Rattle.row_atomic.specs.Changes.{Holds}
 use Rattle.row_atomic.specs.Clusters.{ClusterState, Spot, spot_of, spots_of}
 use Rattle.row_atomic.specs.Commands.{cells_shown}
 use Rattle.row_atomic.specs.Journals.{JournalView, all_logged}
-use Rattle.row_atomic.specs.Recorded.{Follows, FollowsListed, Tracks, edits_written, logged_of, waiting_of}
+use Rattle.row_atomic.specs.Recorded.{Follows, Tracks, edits_written, logged_of, waiting_of}
 use Rattle.row_atomic.specs.declared.recorded.Recorded.{Recorded}
+use Rattle.row_atomic.specs.RootSweeps.{RootOutlastsSweeps, SweepsBesideRoot}
 use Rattle.row_atomic.specs.Roots.{HasRoot, RootIsStored, RootOutlastsFlushes, RootOutlastsMerges, Rests, RootStays, root_at, root_name}
 use Rattle.row_atomic.specs.declared.commands.Command.{Command}
 use Rattle.row_atomic.specs.declared.commands.Command.TheVariants as command
@@ -32,9 +35,9 @@ use Rattle.si_model.specs.ShowsCells.{ShowsCells}
 use Rattle.server_loop.specs.Answer.{IsAnswer, IsPlainAnswer, KeepsLogged, TendsTablets}
 use Rattle.server_loop.specs.Commands.{HasOutcome, checkpointed, command_of, outcome_of}
 use Rattle.durable.specs.Lasts as lasts
-use Rattle.durable.specs.Lasts.{HasNewRoot, KeepsRecording, MovesTablets, NeedsRoot, StaysRooted, StaysStored}
+use Rattle.durable.specs.Lasts.{HasNewRoot, KeepsRecording, MovesTablets, ActsOnRoots, StaysRooted, StaysStored}
 use Rattle.server_loop.specs.Sessions.{KeepsOracle}
-use Rattle.server_loop.specs.Server.{Shows, cluster_of, floor_of, forgets, journal_of, last_of, machine_place, machine_places, next_root, top_of}
+use Rattle.server_loop.specs.Server.{Shows, cluster_of, floor_of, forgets, journal_of, last_of, machine_place, machine_places, next_root, rows_of, top_of}
 use Rattle.durable.specs.Stored.{IsClean, IsRooted, StoresCells}
 use Rattle.server_loop.specs.Tending.{IsTended, MergesWhere}
 use Rattle.server_loop.specs.declared.server.Server.{Server}
@@ -118,30 +121,14 @@ module _ {F M : Type 0} (contents : F → Option Contents) where
         low = low;
       })
 
-  -- ---- sweeps
-
-  pub clean_lists : OneRoot → (server : Server F M) (journal : Option JournalView) → IsClean contents server → Follows contents (cluster_of server) journal → FollowsListed contents (cluster_of server) journal
-  clean_lists one server None clean follows = tt
-  clean_lists one server (Some journal) clean follows =
-      let same = same_root contents one clean.tracks.root follows.such.root clean.tracks.base follows.such.base (cluster_of server) clean.tracks.has follows.such.has in
-      record {
-        logged = follows.logged;
-        waiting = follows.waiting;
-        logged_bytes = follows.logged_bytes;
-        waiting_bytes = follows.waiting_bytes;
-        counted = follows.counted;
-        stored = follows.stored;
-        such = record { tracks = follows.such; lists = subst (λ (root : RootView). ListsAll root.places (cluster_of server).places) same clean.lists };
-      }
-
 -- ---- answers
 
-plain_keeps : (request : Lent) → ¬ NeedsRoot request → KeepsPlaces (asked request)
+plain_keeps : (request : Lent) → ¬ ActsOnRoots request → KeepsPlaces (asked request)
 plain_keeps (lent.Split row) other = absurd (other tt)
 plain_keeps (lent.Move tablet server) other = absurd (other tt)
 plain_keeps request other = tt
 
-plain_not_sweep : (request : Lent) → ¬ NeedsRoot request → command_of request ≢ Some command.Sweep
+plain_not_sweep : (request : Lent) → ¬ ActsOnRoots request → command_of request ≢ Some command.Sweep
 plain_not_sweep lent.Sweep other = λ is. other tt
 plain_not_sweep request other = λ is. cc
 
@@ -150,13 +137,13 @@ moves_not_sweep (lent.Split row) of = λ is. cc
 moves_not_sweep (lent.Move tablet server) of = λ is. cc
 moves_not_sweep request of = absurd of
 
-plain_not_checkpoint : (request : Lent) → ¬ NeedsRoot request → request ≢ lent.Checkpoint
-plain_not_checkpoint request other is = other (subst NeedsRoot (sym is) tt)
+plain_not_checkpoint : (request : Lent) → ¬ ActsOnRoots request → request ≢ lent.Checkpoint
+plain_not_checkpoint request other is = other (subst ActsOnRoots (sym is) tt)
 
 moves_not_checkpoint : (request : Lent) → MovesTablets request → request ≢ lent.Checkpoint
 moves_not_checkpoint request of is = subst MovesTablets is of
 
-plain_logged : (request : Lent) (old new : Option JournalView) → ¬ NeedsRoot request → KeepsLogged request old new → logged_of new ≡ logged_of old
+plain_logged : (request : Lent) (old new : Option JournalView) → ¬ ActsOnRoots request → KeepsLogged request old new → logged_of new ≡ logged_of old
 plain_logged (lent.Split row) old new other p = absurd (other tt)
 plain_logged (lent.Move tablet server) old new other p = absurd (other tt)
 plain_logged lent.Sweep old new other p = absurd (other tt)
@@ -185,7 +172,7 @@ module _ {F M : Type 0} (files : Files F) (marks : MarkStore M) (stored : RootIs
   answer_root lent.Checkpoint reply old new first other tends = absurd (first refl)
   answer_root request reply old new first other tends = by_has (command_of request) request reply (cluster_of old) (cluster_of new) other tends
 
-  pub answer_leaves : (old new : Server F M) (request : Lent) (reply : CodecReply) → ¬ NeedsRoot request → IsAnswer files marks old request reply new → (now : State) → IsReached now → Shows files.contents old now
+  pub answer_leaves : (old new : Server F M) (request : Lent) (reply : CodecReply) → ¬ ActsOnRoots request → IsAnswer files marks old request reply new → (now : State) → IsReached now → Shows files.contents old now
       → StaysRooted (StoresCells files.contents) (IsRooted files.contents) old new × (logged_of (journal_of new) ≡ logged_of (journal_of old))
   answer_leaves old new request reply other answer now reached shown =
       let plain = answer.plain in
@@ -299,14 +286,28 @@ module _ {F M : Type 0} (files : Files F) (marks : MarkStore M) (reopens : (cell
 
 -- ---- sweeps
 
-module _ {F M : Type 0} (files : Files F) (marks : MarkStore M) (one : OneRoot) (stays : RootStays files.contents files.faults) where
-  pub sweep_stays : (old new : Server F M) (reply : CodecReply) → IsPlainAnswer files marks old lent.Sweep reply (forgets new) → spots_of (cluster_of new) ≡ spots_of (cluster_of old) → IsClean files.contents old
-      → StaysRooted (StoresCells files.contents) (IsRooted files.contents) old new
-  sweep_stays old new reply plain spots clean =
-      stays_rooted files.contents old new (λ root cells has. by_sweep plain.tablets root cells has) (same_machine_places (cluster_of old).places (cluster_of new).places spots)
+-- the refusals of reading are storage refusals
+pub read_storage : (r : Result ℕ Refusal) → IfErr r IsReadRefusal → IfErr r machine.IsStorageRefusal
+read_storage (Ok count) read = tt
+read_storage (Err Device) read = tt
+read_storage (Err NoMemory) read = tt
+read_storage (Err Damaged) read = tt
+read_storage (Err _) read = absurd read
+
+module _ {F M : Type 0} (contents : F → Option Contents) (faults : F → ℕ) (law : RootOutlastsSweeps contents faults) (old new : Server F M) (result : Result ℕ Refusal) (swept : SweepsBesideRoot contents faults result (cluster_of old) (cluster_of new)) where
+  -- a server with a journal has a root, so its root file is one
+  pub swept_sound : is_some (journal_of old) ≡ true → Follows contents (cluster_of old) (journal_of old) → ¬ IsErrOf result Damaged
+  swept_sound = go (journal_of old)
     where
-      by_sweep : TendsTablets files lent.Sweep reply old (forgets new) → (root : RootView) (cells : Cells) → HasRoot files.contents root cells (cluster_of old) → HasRoot files.contents root cells (cluster_of new)
-      by_sweep (inl is) root cells has =
-          let same = same_root files.contents one clean.tracks.root root clean.tracks.base cells (cluster_of old) clean.tracks.has has in
-          (stays command.Sweep (outcome_of reply) root cells (cluster_of old) (cluster_of new) is).0 (λ sweep. subst (λ (r : RootView). ListsAll r.places (cluster_of old).places) same clean.lists) has
-      by_sweep (inr none) root cells has = absurd none.0
+      go : (journal : Option JournalView) → is_some journal ≡ true → Follows contents (cluster_of old) journal → ¬ IsErrOf result Damaged
+      go None some follows = cc
+      go (Some journal) some follows = law.whole follows.such.root follows.such.base result (cluster_of old) (cluster_of new) swept follows.such.has
+
+pub sweep_keeps : {F M : Type 0} (old new : Server F M) → new ≡ record old { rows = record (rows_of old) { cluster = cluster_of new } }
+    → KeepsRecording (λ server. is_some (journal_of server)) (λ server. logged_of (journal_of server)) (λ server. waiting_of (journal_of server)) last_of old new
+sweep_keeps old new others = record {
+  goes_on = ap (λ (s : Server _ _). is_some (journal_of s)) others;
+  has = ap (λ (s : Server _ _). logged_of (journal_of s)) others;
+  waits = ap (λ (s : Server _ _). waiting_of (journal_of s)) others;
+  stamp = ap (λ (s : Server _ _). last_of s) others;
+}

@@ -18,6 +18,8 @@ abbrev pub tried_at : Reply → ℕ → ℕ
 tried_at (Refused refusal) written = written
 tried_at reply written = 0
 
--- it is due by the same sizes
+-- it is due by the same sizes, with the same upkeep
 abbrev pub IsDueAlike : {S M L : Type 0} → LastingServer S M L → LastingServer S M L → Type 0
-IsDueAlike old new = (new.root_bytes ≡ old.root_bytes) × (new.tried_bytes ≡ old.tried_bytes)
+IsDueAlike old new =
+    (new.root_bytes ≡ old.root_bytes) × (new.tried_bytes ≡ old.tried_bytes)
+    × (new.upkeep ≡ old.upkeep)

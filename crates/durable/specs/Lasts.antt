@@ -1,5 +1,5 @@
 -- The state that a server with a log keeps over a kill.
-use Rattle.std.specs.Prelude.{◌≡◌, ◌≤◌, ◌+◌, ◌⊎◌, ℕ, List, ◌++◌, length, Bool, true, flat_map, ⊤}
+use Rattle.std.specs.Prelude.{◌≡◌, ◌≤◌, ◌+◌, ◌⊎◌, ℕ, List, ◌++◌, length, Bool, Result, Ok, Err, true, flat_map, ⊤}
 use Rattle.std.specs.List.{AllByRecursion}
 use Rattle.cell_key.specs.Cells.{Cells, after_edits}
 use Rattle.cell_key.specs.declared.edits.Edit.{Edit}
@@ -32,12 +32,13 @@ MovesTablets (Split row) = ⊤
 MovesTablets (Move tablet server) = ⊤
 MovesTablets request = ⊥
 
-abbrev pub NeedsRoot : Request → Type 0
-NeedsRoot (Split row) = ⊤
-NeedsRoot (Move tablet server) = ⊤
-NeedsRoot Sweep = ⊤
-NeedsRoot Checkpoint = ⊤
-NeedsRoot request = ⊥
+-- requests that put roots or remove files: the server inside doesn't answer them by itself
+abbrev pub ActsOnRoots : Request → Type 0
+ActsOnRoots (Split row) = ⊤
+ActsOnRoots (Move tablet server) = ⊤
+ActsOnRoots Sweep = ⊤
+ActsOnRoots Checkpoint = ⊤
+ActsOnRoots request = ⊥
 
 -- requests that need room in the log: they may write edits or draw a stamp
 abbrev pub NeedsRoom : Request → Type 0
@@ -162,6 +163,18 @@ shown_by shows server st = shows server.server st
 
 -- ---- answers
 
+-- the reply to a sweep
+abbrev pub swept : Result ℕ Refusal → Reply
+swept (Ok count) = codec.Sweep count
+swept (Err refusal) = codec.Refused refusal
+
+-- A sweep left the root's files. Or no edits are recorded: nothing was done, and no reply leaves the
+-- server any more.
+abbrev pub SweepsNow : {S : Type 0} → (S → Result ℕ Refusal → S → Type 0) → Type 0 → S → Result ℕ Refusal → S
+    → Type 0
+SweepsNow sweeps stopped old result new =
+    sweeps old result new ⊎ ((result ≡ Err Device) × stopped × (new ≡ old))
+
 module _ {S : Type 0} (same : S → S → Type 0) (checkpoints : S → Reply → S → Type 0) where
   -- The files answered a checkpoint, apart from the journal.
   abbrev pub Checkpoints : S → Reply → S → Type 0
@@ -204,15 +217,17 @@ module _ {S : Type 0} (same : S → S → Type 0) (checkpoints : S → Reply →
       (is_said × (now ≡ before)) ⊎ LacksRoom (HasRisen before now) old reply new
 
   -- The answers of a server with a log are those of one without, except that checkpoints come with
-  -- splits, moves and sweeps, and that requests which need room in the log are refused if it has none.
-  abbrev pub AnswersLasting : (S → Request → Reply → S → Type 0) → (S → Reply → S → Type 0)
+  -- splits and moves, that a sweep leaves the root's files, and that requests which need room in the log
+  -- are refused if it has none.
+  abbrev pub AnswersLasting : (S → Request → Reply → S → Type 0)
+      → (S → Result ℕ Refusal → S → Type 0)
       → (stopped risen : Type 0) → (before now : ℕ) → S → Request → Reply → S → Type 0
   AnswersLasting says sweeps stopped risen before now old (Split row) reply new =
       AnswersRooted (λ a r b. says a (Split row) r b) stopped risen old reply new
   AnswersLasting says sweeps stopped risen before now old (Move tablet server) reply new =
       AnswersRooted (λ a r b. says a (Move tablet server) r b) stopped risen old reply new
   AnswersLasting says sweeps stopped risen before now old Sweep reply new =
-      AnswersRooted sweeps stopped risen old reply new
+      (result : Result ℕ Refusal) × (reply ≡ swept result) × SweepsNow sweeps stopped old result new
   AnswersLasting says sweeps stopped risen before now old Checkpoint reply new =
       PutsRoot stopped risen old reply new
   AnswersLasting says sweeps stopped risen before now old Begin reply new =
@@ -238,13 +253,24 @@ pub record IsLastingAnswer {S M L : Type 0} (shows : S → State → Type 0)
       (log_faults old.log) (log_faults new.log) old.server request reply new.server
   pub goes_on : GoesOn (shown_by shows) lasts logs (asked request) (replied reply) old new
 
--- a root was put, or refused, and the size from which the next try is counted was set
+-- with upkeep, a sweep follows a root that was put
+abbrev pub SweepsAfter : {S : Type 0} → (S → Result ℕ Refusal → S → Type 0) → Type 0 → Bool → Reply
+    → S → S → Type 0
+SweepsAfter sweeps stopped true codec.Checkpoint old new =
+    (result : Result ℕ Refusal) × SweepsNow sweeps stopped old result new
+SweepsAfter sweeps stopped upkeep reply old new = new ≡ old
+
+-- A root was put, or refused, and the size from which the next try is counted was set. With upkeep, a
+-- sweep followed a root that was put.
 pub record TriesRoot {S M L : Type 0} (mark_faults : M → ℕ)
-    (roots : (stopped risen : Type 0) → S → Reply → S → Type 0) (written : ℕ) (mid : S)
+    (roots : (stopped risen : Type 0) → S → Reply → S → Type 0)
+    (sweeps : S → Result ℕ Refusal → S → Type 0) (written : ℕ) (mid : S)
     (old new : LastingServer S M L) : Type 0 where
   pub reply : Reply
+  pub next : S
   pub answered : roots (new.is_stopped ≡ true)
-      (HasRisen (mark_faults old.marks.marks) (mark_faults new.marks.marks)) mid reply new.server
+      (HasRisen (mark_faults old.marks.marks) (mark_faults new.marks.marks)) mid reply next
+  pub swept : SweepsAfter sweeps (new.is_stopped ≡ true) old.upkeep reply next new.server
   pub tried : new.tried_bytes ≡ tried_at reply written
 
 -- Upkeep between two answers: that of a server without a log, and then a checkpoint if one is due by the
@@ -252,11 +278,13 @@ pub record TriesRoot {S M L : Type 0} (mark_faults : M → ℕ)
 pub record IsLastingTended {S M L : Type 0} (shows : S → State → Type 0)
     (lasts : LastingServer S M L → State → Type 0) (logs : LastingServer S M L → Type 0)
     (mark_faults : M → ℕ) (between same : S → S → Type 0)
-    (roots : (stopped risen : Type 0) → S → Reply → S → Type 0) (size : S → ℕ)
+    (roots : (stopped risen : Type 0) → S → Reply → S → Type 0)
+    (sweeps : S → Result ℕ Refusal → S → Type 0) (size : S → ℕ)
     (old new : LastingServer S M L) : Type 0 where
   pub mid : S
   pub tended : between old.server mid
-  pub rooted : (IsRootDue old (size mid) × TriesRoot mark_faults roots (size mid) mid old new)
+  pub rooted : (IsRootDue old (size mid) × TriesRoot mark_faults roots sweeps (size mid) mid old new)
       ⊎ ((¬ IsRootDue old (size mid)) × same mid new.server × (new.tried_bytes ≡ old.tried_bytes))
   pub root_bytes : new.root_bytes ≡ old.root_bytes
+  pub upkeep : new.upkeep ≡ old.upkeep
   pub settles : Settles (shown_by shows) lasts logs old new

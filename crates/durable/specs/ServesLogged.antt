@@ -11,7 +11,7 @@ use Rattle.server_loop.specs.Answer.{IsAnswer}
 use Rattle.durable.specs.Lasting.{IsSettled, ServesLasting}
 use Rattle.durable.specs.Lasts.{AnswersLasting, IsLastingAnswer, IsLastingTended, LastsIn, Logs, PutsRoot, shown_by}
 use Rattle.server_loop.specs.Server.{Shows, journal_of}
-use Rattle.durable.specs.Stored.{AnswersCheckpoint, AnswersSweep, IsRooted, IsSame, StoresCells, journal_size}
+use Rattle.durable.specs.Stored.{AnswersCheckpoint, IsRooted, IsSame, StoresCells, SweepsFiles, journal_size}
 use Rattle.server_loop.specs.Tending.{IsTended}
 use Rattle.durable.specs.declared.lasting.LastingServer.{LastingServer}
 use Rattle.server_loop.specs.declared.server.Server.{Server}
@@ -42,13 +42,14 @@ module _ {F N M L : Type 0} (files : Files F) (inside : MarkStore N) (marks : Ma
       IsLastingAnswer (Shows files.contents) (LastsOver files log) (LogsOver files log)
       marks.faults log.faults
       (AnswersLasting IsSame (AnswersCheckpoint files inside) (IsAnswer files inside)
-      (AnswersSweep files inside))
+      (SweepsFiles files.contents files.faults))
 
   abbrev pub IsTendedOver : LastingServer (Server F N) M L → LastingServer (Server F N) M L → Type 0
   IsTendedOver =
       IsLastingTended (Shows files.contents) (LastsOver files log) (LogsOver files log)
       marks.faults (IsTended files.contents files.faults) IsSame
       (PutsRoot IsSame (AnswersCheckpoint files inside))
+      (SweepsFiles files.contents files.faults)
       (λ server. journal_size (journal_of server))
 
   abbrev pub ServesOver : LastingServer (Server F N) M L → LastingServer (Server F N) M L

@@ -1,18 +1,20 @@
 -- The cells that a server's files keep under their root.
-use Rattle.std.specs.Prelude.{◌≡◌, ◌*◌, ◌^◌, ◌-◌, ℕ, List, [], Option, max, min}
+use Rattle.std.specs.Prelude.{◌≡◌, ◌*◌, ◌^◌, ◌-◌, ℕ, List, [], Option, Result, max, min}
 use Rattle.cell_key.specs.Cells.{Cells}
+use Rattle.cell_key.specs.declared.refusals.Refusal.{Refusal}
 use Rattle.file_store.specs.Store.{Contents}
 use Rattle.file_store.specs.declared.files.Files.{Ghosts as Files}
 use Rattle.metadata_table.specs.Roots.{RootView}
 use Rattle.oracle.specs.declared.marks.MarkStore.{Ghosts as MarkStore}
 use Rattle.request_codec.specs.declared.replies.Reply.{Reply}
-use Rattle.request_codec.specs.declared.requests.Request.TheVariants.{Sweep, Checkpoint}
+use Rattle.request_codec.specs.declared.requests.Request.TheVariants.{Checkpoint}
 use Rattle.row_atomic.specs.Journals.{JournalView}
-use Rattle.row_atomic.specs.Recorded.{TracksListed, bytes_written, edits_written}
+use Rattle.row_atomic.specs.Recorded.{Tracks, bytes_written, edits_written}
+use Rattle.row_atomic.specs.RootSweeps.{SweepsBesideRoot}
 use Rattle.row_atomic.specs.Roots.{HasRoot}
 use Rattle.si_model.specs.Machine.{Place}
 use Rattle.server_loop.specs.Answer.{IsPlainAnswer}
-use Rattle.server_loop.specs.Server.{cluster_of, forgets, machine_places}
+use Rattle.server_loop.specs.Server.{cluster_of, forgets, machine_places, rows_of}
 use Rattle.server_loop.specs.declared.server.Server.{Server}
 
 module _ {F M : Type 0} (contents : F → Option Contents) where
@@ -28,9 +30,9 @@ module _ {F M : Type 0} (contents : F → Option Contents) where
     pub has : HasRoot contents root base (cluster_of server)
     pub placed : machine_places root.places ≡ machine_places (cluster_of server).places
 
-  -- The root's cells are the shown ones, and its files all belong to tablets, so no sweep removes one.
+  -- the root's cells are the shown ones
   abbrev pub IsClean : Server F M → Type 0
-  IsClean server = TracksListed contents (cluster_of server) []
+  IsClean server = Tracks contents (cluster_of server) []
 
 -- the size of a journal: its bytes, or 671 for each edit if that is more
 abbrev pub journal_size : Option JournalView → ℕ
@@ -44,5 +46,9 @@ module _ {F M : Type 0} (files : Files F) (marks : MarkStore M) where
   abbrev pub AnswersCheckpoint : Server F M → Reply → Server F M → Type 0
   AnswersCheckpoint old reply new = IsPlainAnswer files marks old Checkpoint reply (forgets new)
 
-  abbrev pub AnswersSweep : Server F M → Reply → Server F M → Type 0
-  AnswersSweep old reply new = IsPlainAnswer files marks old Sweep reply (forgets new)
+-- Files went that neither a tablet nor the root has, or some of them, and nothing else changed.
+abbrev pub SweepsFiles : {F M : Type 0} → (F → Option Contents) → (F → ℕ) → Server F M
+    → Result ℕ Refusal → Server F M → Type 0
+SweepsFiles contents faults old result new =
+    SweepsBesideRoot contents faults result (cluster_of old) (cluster_of new)
+    × (new ≡ record old { rows = record (rows_of old) { cluster = cluster_of new } })

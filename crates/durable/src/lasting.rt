@@ -13,7 +13,7 @@ ghost use Rattle.request_codec.specs.declared.requests.Request.{Request as Lent}
 ghost use Rattle.durable.specs.Due.{IsDueAlike, IsRootDue, tried_at};
 ghost use Rattle.durable.specs.Lasting.{GoesOn, IsSettled, Settles};
 ghost use Rattle.server_loop.specs.Commands.{checkpointed};
-ghost use Rattle.durable.specs.Lasts.{AnswersLasting, Checkpoints, HasNewRoot, HoldsLogged, IsLastingAnswer, LastsIn, Logs, MovesTablets, NamesItsRoot, NeedsRoom, NeedsRoot, PutsRoot, StaysRooted, named, shown_by};
+ghost use Rattle.durable.specs.Lasts.{AnswersLasting, Checkpoints, HasNewRoot, HoldsLogged, IsLastingAnswer, LastsIn, Logs, MovesTablets, NamesItsRoot, NeedsRoom, ActsOnRoots, PutsRoot, StaysRooted, SweepsAfter, SweepsNow, named, shown_by};
 ghost use Rattle.metadata_table.specs.Roots.{RootView};
 ghost use Rattle.server_loop.specs.Runs.{KeepsToLimits, StepsAs};
 ghost use Rattle.si_model.specs.Machine.{IsReached, IsStorageRefusal, State, Checkpoint as CheckpointAsked};
@@ -60,6 +60,8 @@ pub struct LastingServer<S, M: MarkStore, L> {
     pub(crate) root_bytes: usize,
     /// The journal's size when such a root was last refused; 0 after one that was put.
     pub(crate) tried_bytes: usize,
+    /// Such a root is followed by a sweep.
+    pub(crate) upkeep: bool,
 }
 
 /// The journal's size if the root was refused; 0 if it was put.
@@ -342,7 +344,52 @@ impl<S: Recording, M: MarkStore, L: Log> LastingServer<S, M, L> {
         Ok(())
     }
 
-    /// Puts a root, which names only files of tablets, then removes the files that belong to no tablet.
+    /// Removes the files that neither a tablet nor the root has, and answers how many they were. No root is put, so it
+    /// needs no room. Without a journal nothing is done, and the server is stopped.
+    ///
+    /// # Errors
+    ///
+    /// `Device` or `NoMemory`; `Device` also without a journal. Some of the files may already be removed.
+    fn sweep_files(&mut self) -> Result<u64, Refusal>
+        ensures swept { SweepsNow S.sweeps (self.new.is_stopped ≡ true) self.old.server result
+            self.new.server }
+        ensures settles { Settles (shown_by S.shows) (LastsIn S.stores S.logged L.holds)
+            (Logs S.stores S.logged L.holds S.is_rooted) self.old self.new }
+        ensures refusal { IfErr result IsStorageRefusal }
+        ensures whole { (st : State) → S.shows self.old.server st
+            → ¬ IsErrOf result Refusal.Damaged }
+        ensures marks { self.new.marks ≡ self.old.marks }
+        ensures still { self.old.is_stopped ≡ true → self.new.is_stopped ≡ true }
+        ensures due { IsDueAlike self.old self.new }
+    {
+        logs_edits();
+        names_roots();
+        if !self.server.is_recording() {
+            self.is_stopped = true;
+            return Err(Refusal::Device);
+        }
+        self.server.sweep_now()
+    }
+
+    /// With upkeep, sweeps after a root that was put. A refusal is not reported.
+    fn sweep_after(&mut self, done: &Result<(), Refusal>)
+        ensures swept { SweepsAfter S.sweeps (self.new.is_stopped ≡ true) self.old.upkeep
+            (checkpointed done.now) self.old.server self.new.server }
+        ensures settles { Settles (shown_by S.shows) (LastsIn S.stores S.logged L.holds)
+            (Logs S.stores S.logged L.holds S.is_rooted) self.old self.new }
+        ensures marks { self.new.marks ≡ self.old.marks }
+        ensures still { self.old.is_stopped ≡ true → self.new.is_stopped ≡ true }
+        ensures due { IsDueAlike self.old self.new }
+    {
+        match done {
+            Ok(()) if self.upkeep => {
+                let _ = self.sweep_files();
+            }
+            _ => {}
+        }
+    }
+
+    /// Answers a sweep.
     fn sweep(&mut self) -> Reply
         ensures limits { KeepsToLimits result }
         ensures says { IsLastingAnswer S.shows (LastsIn S.stores S.logged L.holds)
@@ -350,11 +397,8 @@ impl<S: Recording, M: MarkStore, L: Log> LastingServer<S, M, L> {
             (AnswersLasting S.same S.checkpoints S.says S.sweeps) self.old Request.Sweep result
             self.new }
     {
-        logs_edits();
-        names_roots();
-        S::recording_laws();
-        match self.root() {
-            Ok(()) => self.server.sweep_now(),
+        match self.sweep_files() {
+            Ok(count) => Reply::Sweep(count),
             Err(refusal) => Reply::Refused(refusal),
         }
     }
@@ -410,7 +454,7 @@ impl<S: Recording, M: MarkStore, L: Log> LastingServer<S, M, L> {
 
     /// Lets the server inside answer a request that needs no root.
     fn answer_inside(&mut self, request: Request<'_>) -> Reply
-        requires { ¬ NeedsRoot request }
+        requires { ¬ ActsOnRoots request }
         ensures limits { KeepsToLimits result }
         ensures says { S.says self.old.server request.entry result self.new.server }
         ensures log { self.new.log ≡ self.old.log }
@@ -457,7 +501,7 @@ impl<S: Recording, M: MarkStore, L: Log> LastingServer<S, M, L> {
 
     /// Answers a request that needs no root and no room in the log.
     fn answer_plainly(&mut self, request: Request<'_>) -> Reply
-        requires rootless { ¬ NeedsRoot request }
+        requires rootless { ¬ ActsOnRoots request }
         requires roomless { ¬ NeedsRoom request }
         ensures limits { KeepsToLimits result }
         ensures says { IsLastingAnswer S.shows (LastsIn S.stores S.logged L.holds)
@@ -480,7 +524,7 @@ impl<S: Recording, M: MarkStore, L: Log> Answering for LastingServer<S, M, L> {
 
     ghost between = { IsLastingTended S.shows (LastsIn S.stores S.logged L.holds)
         (Logs S.stores S.logged L.holds S.is_rooted) M.faults S.between S.same
-        (PutsRoot S.same S.checkpoints) S.size };
+        (PutsRoot S.same S.checkpoints) S.sweeps S.size };
 
     fn reply_to(&mut self, request: Request<'_>) -> Reply {
         match request {
@@ -504,6 +548,7 @@ impl<S: Recording, M: MarkStore, L: Log> Answering for LastingServer<S, M, L> {
         if self.is_root_due(written) {
             let done = self.root();
             self.tried_bytes = tried_after(&done, written);
+            self.sweep_after(&done);
         }
     }
 }

@@ -402,6 +402,7 @@ impl<S: Recording, M: MarkStore, L: Log> LastingServer<S, M, L> {
         ensures marks { result.marks ≡ marks }
         ensures log { result.log ≡ log }
         ensures root_bytes { result.root_bytes ≡ 33554432 }
+        ensures upkeep { result.upkeep ≡ false }
         ensures settled { (root : RootView) → S.recording server ≡ true → S.is_rooted server root
             → S.waiting server ≡ [] → S.last server ≤ marks.covered
             → HoldsLogged S.stores S.logged L.holds result root
@@ -419,6 +420,7 @@ impl<S: Recording, M: MarkStore, L: Log> LastingServer<S, M, L> {
             is_stopped: false,
             root_bytes: ROOT_BYTES,
             tried_bytes: 0,
+            upkeep: false,
         }
     }
 }
@@ -475,6 +477,7 @@ impl<F: WholeFiles + Drop, M: MarkStore + Drop, L: Log + Drop> LastingServer<
         ensures tending { IfOk result (λ opened. tending_of opened.server
             ≡ record { flush = config.flush; merge = None; merged_to = 0 }) }
         ensures root_bytes { IfOk result (λ opened. opened.root_bytes ≡ 33554432) }
+        ensures upkeep { IfOk result (λ opened. opened.upkeep ≡ false) }
         ensures refusal { IfErr result (λ refused. IsStorageRefusal refused.0) }
         ensures opening { HasRootFile (F.contents files)
             → IfErr result (λ refused. IsOpeningRefusal refused.0) }

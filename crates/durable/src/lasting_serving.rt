@@ -56,10 +56,19 @@ impl<F: WholeFiles + Drop, M: MarkStore + Drop, L: Log + Drop> LastingServer<
         self.tried_bytes = 0;
     }
 
+    /// From now on a root that is put without a request is followed by a sweep of the files that neither a tablet nor
+    /// the root has. A refusal is not reported.
+    pub fn sweep_after_checkpoints(&mut self)
+        ensures { self.new ≡ record self.old { upkeep = true } }
+    {
+        self.upkeep = true;
+    }
+
     /// Serves requests in frames as `Server::serve` does, but replies wait: the replies to one read's requests are
     /// written once all their edits, and a mark over their stamps, are in the log, which is forced to the disk once for
     /// all of them. That is done earlier if the waiting replies have reached 1,048,576 bytes. A split and a move come
-    /// between two checkpoints, a sweep after one. If the log fails, no further reply is written, and `Log` is answered.
+    /// between two checkpoints, and a sweep leaves the files that the root has. If the log fails, no further reply is
+    /// written, and `Log` is answered.
     ///
     /// Whatever the result, if the server was settled, the devices keep the machine's state after a prefix of the
     /// requests taken. The prefix contains each request of whose reply a byte was written.

@@ -9,9 +9,8 @@ use cell_key::{Refusal, Stamp};
 use commit_log::laws::logs_edits;
 use metadata_table::one_root;
 use oracle::MarkStore;
-use request_codec::Reply;
 use row_atomic::{
-    keeps_following, root_is_stored, root_outlasts_flushes, root_outlasts_merges, root_stays,
+    root_is_stored, root_outlasts_flushes, root_outlasts_merges, root_outlasts_sweeps, root_stays,
 };
 use server_loop::{RootName, Server};
 use si_model::shows_reopened;
@@ -24,7 +23,7 @@ impl<F: WholeFiles + Drop, M: MarkStore + Drop> Recording for Server<F, M> {
     ghost use Rattle.std.specs.Prelude.{is_some};
     ghost use Rattle.row_atomic.specs.Recorded.{edits_written, logged_of, waiting_of};
     ghost use Rattle.server_loop.specs.Server.{journal_of, last_of, next_root};
-    ghost use Rattle.durable.specs.Stored.{AnswersCheckpoint, AnswersSweep, IsClean, IsRooted, IsSame, StoresCells, journal_size};
+    ghost use Rattle.durable.specs.Stored.{AnswersCheckpoint, IsClean, IsRooted, IsSame, StoresCells, SweepsFiles, journal_size};
     ghost use Rattle.std.proofs.Common.{refl, ◌∙◌};
 
     ghost stores = { StoresCells F.contents };
@@ -51,7 +50,7 @@ impl<F: WholeFiles + Drop, M: MarkStore + Drop> Recording for Server<F, M> {
 
     ghost checkpoints = { AnswersCheckpoint F.Files M.MarkStore };
 
-    ghost sweeps = { AnswersSweep F.Files M.MarkStore };
+    ghost sweeps = { SweepsFiles F.contents F.faults };
 
     fn written(&self) -> usize {
         let of_edits = self.written_edits().saturating_mul(BYTES_OF_EDIT);
@@ -89,11 +88,9 @@ impl<F: WholeFiles + Drop, M: MarkStore + Drop> Recording for Server<F, M> {
         self.emptied();
     }
 
-    fn sweep_now(&mut self) -> Reply {
-        one_root();
-        root_stays::<F>();
-        keeps_following::<F>();
-        self.sweep_files()
+    fn sweep_now(&mut self) -> Result<u64, Refusal> {
+        root_outlasts_sweeps::<F>();
+        self.sweep_beside_root()
     }
 
     fn recording_laws() {

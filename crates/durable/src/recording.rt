@@ -1,20 +1,19 @@
 //! Servers with a journal: the contract of the server under a log.
 
-ghost use Rattle.std.specs.Prelude.{◌≡◌, ◌≢◌, ◌≤◌, ◌⊎◌, ◌++◌, ℕ, List, [], Bool, length, true, IfErr, IfOk, OnErr, OnOk};
+ghost use Rattle.std.specs.Prelude.{◌≡◌, ◌≢◌, ◌≤◌, ◌⊎◌, ◌++◌, ℕ, List, [], Bool, Result, length, true, IfErr, IfOk, IsErrOf, OnErr, OnOk};
 ghost use Rattle.cell_key.specs.Cells.{Cells};
 ghost use Rattle.row_atomic.specs.Journals.{IsWithin};
 ghost use Rattle.request_codec.specs.Replies.{replied};
 ghost use Rattle.request_codec.specs.declared.replies.Reply.{Reply as CodecReply};
 ghost use Rattle.request_codec.specs.declared.requests.Request.{Request as Lent};
 ghost use Rattle.metadata_table.specs.Roots.{RootView};
-ghost use Rattle.durable.specs.Lasts.{Follows, HasNewRoot, IsNameOf, KeepsRecording, MovesTablets, NeedsRoot, StaysRooted, StaysStored};
+ghost use Rattle.durable.specs.Lasts.{Follows, HasNewRoot, IsNameOf, KeepsRecording, MovesTablets, ActsOnRoots, StaysRooted, StaysStored};
 ghost use Rattle.server_loop.specs.Commands.{checkpointed};
-ghost use Rattle.server_loop.specs.Runs.{KeepsToLimits, StepsAs};
-ghost use Rattle.si_model.specs.Machine.{IsReached, IsStorageRefusal, Place, State, Checkpoint as CheckpointAsked, Sweep as SweepAsked, Step, Refused};
-ghost use Rattle.cell_key.specs.declared.refusals.Refusal.TheVariants.{Damaged};
+ghost use Rattle.server_loop.specs.Runs.{StepsAs};
+ghost use Rattle.si_model.specs.Machine.{IsReached, IsStorageRefusal, Place, State, Checkpoint as CheckpointAsked};
+ghost use Rattle.cell_key.specs.declared.refusals.Refusal.{Refusal};
 
 use cell_key::{Refusal, Stamp};
-use request_codec::Reply;
 use server_loop::{Answering, RootName};
 
 /// A server with a journal of its edits: those that the log has, and those that wait for the log.
@@ -52,10 +51,11 @@ pub(crate) trait Recording: Answering {
     /// The same server, but for the journal.
     ghost same: { Self → Self → Type 0 };
 
-    /// A checkpoint, and a sweep, may get this reply.
+    /// A checkpoint may get this reply.
     ghost checkpoints: { Self → CodecReply → Self → Type 0 };
 
-    ghost sweeps: { Self → CodecReply → Self → Type 0 };
+    /// A sweep that leaves the root's files may have this result.
+    ghost sweeps: { Self → Result ℕ Refusal → Self → Type 0 };
 
     /// The size of the journal in bytes, or 671 for each edit if that is more.
     fn written(&self) -> usize
@@ -121,16 +121,15 @@ pub(crate) trait Recording: Answering {
         ensures clean { is_clean self.old → is_clean self.new }
         ensures same { same self.old self.new };
 
-    /// Removes the files that belong to no tablet.
-    fn sweep_now(&mut self) -> Reply
-        ensures step { (before : State) → IsReached before → Self.shows self.old before
-            → is_clean self.old → (after : State) × Step before SweepAsked (replied result) after
-            × Self.shows self.new after × (replied result ≡ Refused Damaged → ⊥) }
-        ensures limits { KeepsToLimits result }
+    /// Removes the files that neither a tablet nor the root has, and answers how many they were.
+    fn sweep_now(&mut self) -> Result<u64, Refusal>
+        ensures shown { (st : State) → Self.shows self.old st → Self.shows self.new st }
+        ensures refusal { IfErr result IsStorageRefusal }
+        ensures whole { recording self.old ≡ true → (st : State) → Self.shows self.old st
+            → ¬ IsErrOf result Refusal.Damaged }
         ensures says { sweeps self.old result self.new }
         ensures keeps { KeepsRecording recording logged waiting last self.old self.new }
-        ensures stays { (st : State) → Self.shows self.old st → is_clean self.old
-            → StaysRooted stores is_rooted self.old self.new };
+        ensures stays { StaysRooted stores is_rooted self.old self.new };
 
     /// The journal leads from the root's cells to the state that is shown. There is one root. Answers leave the stored
     /// cells, the root and the logged edits unchanged, except those of Checkpoint, Sweep, Split and Move. A Split or a
@@ -144,7 +143,7 @@ pub(crate) trait Recording: Answering {
         ensures one { (server : Self) (root other : RootView) (base : Cells) (places : List Place)
             → stores server root base places → is_rooted server other → root ≡ other }
         ensures leaves { (old new : Self) (request : Lent) (reply : CodecReply)
-            → ¬ NeedsRoot request → Self.says old request reply new
+            → ¬ ActsOnRoots request → Self.says old request reply new
             → (now : State) → IsReached now → Self.shows old now
             → StaysRooted stores is_rooted old new × (logged new ≡ logged old) }
         ensures moves { (old new : Self) (request : Lent) (reply : CodecReply)

@@ -18,7 +18,7 @@ use Rattle.row_atomic.specs.Clusters.{ClusterState, cells_in, storage_of}
 use Rattle.row_atomic.specs.Commands.{AnswersFromCells, cells_shown}
 use Rattle.row_atomic.specs.Journals.{HasRoomFor, HasWritten, JournalView, with_waiting}
 use Rattle.row_atomic.specs.Open.{IsOpenedOf, IsStore}
-use Rattle.row_atomic.specs.Recorded.{FitsMemtables, Follows, IfWritten, IsOfUpkeep, KeepsFollowing, OpensFollowing, OverfillsJournal, Tracks, TracksListed, logged_of, seen_recorded}
+use Rattle.row_atomic.specs.Recorded.{FitsMemtables, Follows, IfWritten, IsOfUpkeep, KeepsFollowing, OpensFollowing, OverfillsJournal, Tracks, logged_of, seen_recorded}
 use Rattle.row_atomic.specs.RootSweeps.{RootOutlastsSweeps}
 use Rattle.row_atomic.specs.Roots.{HasRoot, KeepsRoot, Rests, RootIsStored, RootOutlastsFlushes, RootOutlastsMerges, RootStays, root_at, root_name}
 use Rattle.row_atomic.specs.declared.commands.Command.{Command}
@@ -190,78 +190,53 @@ module _ {F : Type 0} (contents : F → Option Contents) (faults : F → ℕ) wh
       → (edits : List Edit) → Tracks contents old edits → Tracks contents new edits
   on old new same goes edits tracks = record { root = tracks.root; base = tracks.base; has = goes tracks.root tracks.base tracks.has; replay = tracks.replay ∙ sym same }
 
-  on_listed : (old new : ClusterState F) → cells_shown contents new ≡ cells_shown contents old
-      → ((root : RootView) (cells : Cells) → KeepsRoot contents root cells old → KeepsRoot contents root cells new)
-      → (edits : List Edit) → TracksListed contents old edits → TracksListed contents new edits
-  on_listed old new same goes edits listed =
-      let keeps = goes listed.tracks.root listed.tracks.base (record { has = listed.tracks.has; lists = listed.lists }) in
-      record {
-        tracks = record { root = listed.tracks.root; base = listed.tracks.base; has = keeps.has; replay = listed.tracks.replay ∙ sym same };
-        lists = keeps.lists;
-      }
-
   -- from a new root the journal's edits lead to the cells shown
-  rests_all : Replays → (top floor : ℕ) (old new : ClusterState F) → Rests contents top floor old new → Holds contents old → cells_shown contents new ≡ cells_shown contents old → (edits : List Edit) → Tracks contents old edits → TracksListed contents new edits
+  rests_all : Replays → (top floor : ℕ) (old new : ClusterState F) → Rests contents top floor old new → Holds contents old → cells_shown contents new ≡ cells_shown contents old → (edits : List Edit) → Tracks contents old edits → Tracks contents new edits
   rests_all replays top floor old new rests holds same edits tracks = record {
-    tracks = record {
-      root = root_at top floor new;
-      base = cells_shown contents old;
-      has = (rests holds).has;
-      replay = ap (λ (cells : Cells). after_edits cells edits) (sym tracks.replay) ∙ (replays.again tracks.base edits ∙ (tracks.replay ∙ sym same));
-    };
-    lists = (rests holds).lists;
+    root = root_at top floor new;
+    base = cells_shown contents old;
+    has = (rests holds).has;
+    replay = ap (λ (cells : Cells). after_edits cells edits) (sym tracks.replay) ∙ (replays.again tracks.base edits ∙ (tracks.replay ∙ sym same));
   }
 
   pub keeps_following : Replays → RootStays contents faults → RootOutlastsFlushes contents faults → RootOutlastsMerges contents faults → RootOutlastsSweeps contents faults → KeepsFollowing contents faults
   keeps_following replays stay outlast_flushes outlast_merges outlast_sweeps = record {
     commands = λ request result journal old new is of other holds. each_such
         (on old new (unchanged _ _ request result of (is.answers holds)) (λ root cells. (stay request result root cells old new is).0 (λ sweep. absurd (other sweep)))) journal;
-    sweeps = λ result journal old new is holds. each_such
-        (on_listed old new (unchanged _ _ command.Sweep result tt (is.answers holds)) (λ root cells. (stay command.Sweep result root cells old new is).1 (λ takes. takes.0))) journal;
     root_sweeps = λ result journal old new is holds. each_such (on old new (is.shown holds) (λ root cells. outlast_sweeps.stays root cells result old new is)) journal;
     flushes = λ limits journal old new is keeps holds. each_such (on old new (keeps.kept holds).1 (λ root cells. ((outlast_flushes root cells old new).0 limits is).0)) journal;
     merges = λ most journal old new is keeps holds. each_such (on old new (keeps.kept holds).1 (λ root cells. outlast_merges root cells old new most is)) journal;
     checkpoints = λ top floor journal old new rests keeps holds. each_such (rests_all replays top floor old new rests holds (keeps.kept holds).1) journal;
-    rests = λ top floor old new rests keeps holds. record {
-      tracks = record { root = root_at top floor new; base = cells_shown contents old; has = (rests holds).has; replay = sym (keeps.kept holds).1 };
-      lists = (rests holds).lists;
-    };
+    rests = λ top floor old new rests keeps holds. record { root = root_at top floor new; base = cells_shown contents old; has = (rests holds).has; replay = sym (keeps.kept holds).1 };
     refused = λ top floor journal old new either keeps holds. elim either [
       | inl goes ↦ each_such (on old new (keeps.kept holds).1 (λ root cells. (goes root cells).0)) journal
-      | inr rests ↦ each_such (λ edits tracks. (rests_all replays top floor old new rests holds (keeps.kept holds).1 edits tracks).tracks) journal
+      | inr rests ↦ each_such (rests_all replays top floor old new rests holds (keeps.kept holds).1) journal
     ];
-    lists = λ journal state. each_such (λ edits listed. listed.tracks) journal;
   }
 
 -- ---- opening
 
 module _ {F : Type 0} (contents : F → Option Contents) where
-  opened_of : (m : Contents) (top floor : ℕ) (state : ClusterState F) → contents state.files ≡ Some m → (image : List ℕ) → get m root_name ≡ Some image → IsOpenedOf m top floor image state → TracksListed contents state []
+  opened_of : (m : Contents) (top floor : ℕ) (state : ClusterState F) → contents state.files ≡ Some m → (image : List ℕ) → get m root_name ≡ Some image → IsOpenedOf m top floor image state → Tracks contents state []
   opened_of m top floor state known image there opened = record {
-    tracks = record {
-      root = root_at top floor state;
-      base = cells_in (Some m) state.tablets;
-      has = record {
-        kept = m;
-        on_disk = known;
-        keeps = record { image = image; there = there; form = opened.form; measured = opened.measured; tablets = state.tablets; opened = opened.opened; shows = refl };
-        below = omega arith;
-      };
-      replay = ap (λ (disk : Option Contents). cells_in disk state.tablets) (sym known);
+    root = root_at top floor state;
+    base = cells_in (Some m) state.tablets;
+    has = record {
+      kept = m;
+      on_disk = known;
+      keeps = record { image = image; there = there; form = opened.form; measured = opened.measured; tablets = state.tablets; opened = opened.opened; shows = refl };
+      below = omega arith;
     };
-    lists = λ name listed. listed;
+    replay = ap (λ (disk : Option Contents). cells_in disk state.tablets) (sym known);
   }
 
-  store_of : (m : Contents) (top floor : ℕ) (state : ClusterState F) → contents state.files ≡ Some m → (o : Option (List ℕ)) → get m root_name ≡ o → IsSome o → IsStore m o top floor state → TracksListed contents state []
+  store_of : (m : Contents) (top floor : ℕ) (state : ClusterState F) → contents state.files ≡ Some m → (o : Option (List ℕ)) → get m root_name ≡ o → IsSome o → IsStore m o top floor state → Tracks contents state []
   store_of m top floor state known None there some store = absurd (false≢true some)
   store_of m top floor state known (Some image) there some store = opened_of m top floor state known image there store
 
   pub opens_following : OpensFollowing contents
   opens_following = record {
-    reopened = λ root cells top floor state is. record {
-      tracks = record { root = root; base = cells; has = is.keeps.has; replay = sym is.shows };
-      lists = is.keeps.lists;
-    };
+    reopened = λ root cells top floor state is. record { root = root; base = cells; has = is.keeps.has; replay = sym is.shows };
     opened = λ m top floor state known some store. store_of m top floor state known (get m root_name) refl some store;
     fits = λ state journal emptied. empty_fits state journal emptied;
   }

@@ -9,7 +9,7 @@ use Rattle.file_store.specs.Store.{Contents}
 use Rattle.metadata_table.specs.Roots.{RootView}
 use Rattle.rows.specs.Calls.{View}
 use Rattle.row_atomic.specs.Seen.{seen_of}
-use Rattle.row_atomic.specs.Changes.{Holds, IsEmptied, ListsAll}
+use Rattle.row_atomic.specs.Changes.{Holds, IsEmptied}
 use Rattle.row_atomic.specs.Clusters.{ClusterState, storage_of}
 use Rattle.row_atomic.specs.Commands.{IsOutcome, OverfillsCluster, cells_shown}
 use Rattle.row_atomic.specs.Flushes.{CompactsFull, KeepsShown, MergesMany}
@@ -33,12 +33,6 @@ pub record Tracks {F : Type 0} (contents : F → Option Contents) (state : Clust
   pub has : HasRoot contents root base state
   pub replay : after_edits base edits ≡ cells_shown contents state
 
--- The same, with a root whose files all belong to tablets, so that no sweep removes one.
-pub record TracksListed {F : Type 0} (contents : F → Option Contents) (state : ClusterState F)
-    (edits : List Edit) : Type 0 where
-  pub tracks : Tracks contents state edits
-  pub lists : ListsAll tracks.root.places state.places
-
 -- the edits of the journal, if there is one, have the property
 abbrev pub IfWritten : (List Edit → Type 0) → Option JournalView → Type 0
 IfWritten Such None = ⊤
@@ -48,11 +42,6 @@ IfWritten Such (Some journal) = HasWritten Such journal
 abbrev pub Follows : {F : Type 0} → (F → Option Contents) → ClusterState F → Option JournalView
     → Type 0
 Follows contents state journal = IfWritten (Tracks contents state) journal
-
--- The same, and no sweep removes a file of the root.
-abbrev pub FollowsListed : {F : Type 0} → (F → Option Contents) → ClusterState F
-    → Option JournalView → Type 0
-FollowsListed contents state journal = IfWritten (TracksListed contents state) journal
 
 -- the journal's bytes that are in the log, and those waiting for it
 abbrev pub logged_of : Option JournalView → List ℕ
@@ -112,15 +101,11 @@ IsOfUpkeep _ = ⊤
 -- The journal still leads to the cells shown after every call of a cluster but an apply.
 pub record KeepsFollowing {F : Type 0} (contents : F → Option Contents) (faults : F → ℕ)
     : Type 0 where
-  -- commands, whatever their outcomes
+  -- commands but a sweep of all files that no tablet has, whatever their outcomes
   pub commands : (request : Command) (result : Outcome) (journal : Option JournalView)
       (old new : ClusterState F) → IsOutcome contents faults request result old new
       → IsOfUpkeep request → request ≢ command.Sweep → Holds contents old
       → Follows contents old journal → Follows contents new journal
-  -- a sweep, if the tablets have all files of the root
-  pub sweeps : (result : Outcome) (journal : Option JournalView) (old new : ClusterState F)
-      → IsOutcome contents faults command.Sweep result old new → Holds contents old
-      → FollowsListed contents old journal → FollowsListed contents new journal
   -- a sweep beside the root
   pub root_sweeps : (result : Result ℕ Refusal) (journal : Option JournalView)
       (old new : ClusterState F) → SweepsBesideRoot contents faults result old new
@@ -135,25 +120,23 @@ pub record KeepsFollowing {F : Type 0} (contents : F → Option Contents) (fault
   -- An accepted checkpoint: from its root both the journal's edits and the empty list of edits lead to the cells shown.
   pub checkpoints : (top floor : ℕ) (journal : Option JournalView) (old new : ClusterState F)
       → Rests contents top floor old new → KeepsShown contents faults old new
-      → Holds contents old → Follows contents old journal → FollowsListed contents new journal
+      → Holds contents old → Follows contents old journal → Follows contents new journal
   pub rests : (top floor : ℕ) (old new : ClusterState F)
       → Rests contents top floor old new → KeepsShown contents faults old new
-      → Holds contents old → TracksListed contents new []
+      → Holds contents old → Tracks contents new []
   -- A refused checkpoint: from the old root or from the new one the journal's edits lead to the cells shown.
   pub refused : (top floor : ℕ) (journal : Option JournalView) (old new : ClusterState F)
       → StaysOrRests contents top floor old new → KeepsShown contents faults old new
       → Holds contents old → Follows contents old journal → Follows contents new journal
-  pub lists : (journal : Option JournalView) (state : ClusterState F)
-      → FollowsListed contents state journal → Follows contents state journal
 
 -- A store that was opened from a root shows the cells in its files, without an edit. If all memtables are empty, any
 -- journal has everything that they have.
 pub record OpensFollowing {F : Type 0} (contents : F → Option Contents) : Type 0 where
   pub reopened : (root : RootView) (cells : Cells) (top floor : ℕ) (state : ClusterState F)
-      → Reopens contents root cells top floor state → TracksListed contents state []
+      → Reopens contents root cells top floor state → Tracks contents state []
   pub opened : (m : Contents) (top floor : ℕ) (state : ClusterState F)
       → contents state.files ≡ Some m → IsSome (get m root_name)
-      → IsStore m (get m root_name) top floor state → TracksListed contents state []
+      → IsStore m (get m root_name) top floor state → Tracks contents state []
   pub fits : (state : ClusterState F) (journal : JournalView)
       → AllByRecursion IsEmptied state.tablets
       → FitsMemtables (record { cluster = state; journal = Some journal })

@@ -10,7 +10,7 @@ mod recorded;
 
 pub use cluster::laws::{
     cells_by_tablet, keeps_following, opens_following, root_is_stored, root_outlasts_flushes,
-    root_outlasts_merges, root_stays,
+    root_outlasts_merges, root_outlasts_sweeps, root_stays,
 };
 pub use cluster::{Cluster, ROOT_NAME};
 pub use commands::{Command, Outcome};

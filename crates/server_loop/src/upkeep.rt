@@ -3,7 +3,7 @@
 ghost use Rattle.std.specs.Prelude.{◌≡◌, [], IfErr, IfOk, OnOk};
 ghost use Rattle.row_atomic.specs.Changes.{Holds};
 ghost use Rattle.row_atomic.specs.Clusters.{spots_of};
-ghost use Rattle.row_atomic.specs.Recorded.{Follows, FollowsListed, TracksListed};
+ghost use Rattle.row_atomic.specs.Recorded.{Follows, Tracks};
 ghost use Rattle.row_atomic.specs.Roots.{root_sum};
 ghost use Rattle.server_loop.specs.Commands.{checkpointed};
 ghost use Rattle.si_model.specs.Machine.{IsStorageRefusal, State};
@@ -26,7 +26,8 @@ pub struct RootName {
 
 impl<F: Files + Drop, M: MarkStore + Drop> Server<F, M> {
     ghost use Rattle.server_loop.specs.Answer.{IsPlainAnswer};
-    ghost use Rattle.server_loop.specs.Server.{Shows, cluster_of, forgets, journal_of, next_root};
+    ghost use Rattle.row_atomic.specs.RootSweeps.{SweepsBesideRoot};
+    ghost use Rattle.server_loop.specs.Server.{Shows, cluster_of, forgets, journal_of, next_root, rows_of};
 
     pub(crate) fn minor(&mut self, tablet: u32) -> Reply
         ensures { IsPlainAnswer F.Files M.MarkStore self.old
@@ -87,30 +88,36 @@ impl<F: Files + Drop, M: MarkStore + Drop> Server<F, M> {
         }
     }
 
-    /// Removes the files that no tablet has. The journal is kept, so no root that it follows may name a removed file.
-    pub fn sweep_files(&mut self) -> Reply
-        ensures plain { IsPlainAnswer F.Files M.MarkStore self.old Request.Sweep result
-            (forgets self.new) }
-        ensures spots { spots_of (cluster_of self.new) ≡ spots_of (cluster_of self.old) }
-        ensures follows { Holds F.contents (cluster_of self.old)
-            → FollowsListed F.contents (cluster_of self.old) (journal_of self.old)
-            → FollowsListed F.contents (cluster_of self.new) (journal_of self.new) }
-        ensures journal { journal_of self.new ≡ journal_of self.old }
+    /// Removes the files that no tablet has. The journal is dropped, since it may need the removed files.
+    pub(crate) fn sweep(&mut self) -> Reply
+        ensures { IsPlainAnswer F.Files M.MarkStore self.old Request.Sweep result self.new }
     {
         keeps_following::<F>();
-        match self.rows.cluster.sweep() {
+        let swept = self.rows.cluster.sweep();
+        self.rows.forget();
+        match swept {
             Ok(count) => Reply::Sweep(count),
             Err(refusal) => Reply::Refused(refusal),
         }
     }
 
-    /// The same, but drops the journal, which may need the removed files.
-    pub(crate) fn sweep(&mut self) -> Reply
-        ensures { IsPlainAnswer F.Files M.MarkStore self.old Request.Sweep result self.new }
+    /// Removes the files that neither a tablet nor the root file has, and answers how many they were. The journal is
+    /// kept.
+    ///
+    /// # Errors
+    ///
+    /// `Device`, `NoMemory`, or `Damaged` if the root file is malformed. Some of the files may already be removed.
+    pub fn sweep_beside_root(&mut self) -> Result<u64, Refusal>
+        ensures swept { SweepsBesideRoot F.contents F.faults result
+            (cluster_of self.old) (cluster_of self.new) }
+        ensures others { self.new ≡ record self.old {
+          rows = record (rows_of self.old) { cluster = cluster_of self.new };
+        } }
+        ensures shown { (st : State) → Shows F.contents self.old st
+            → Shows F.contents self.new st }
     {
-        let reply = self.sweep_files();
-        self.rows.forget();
-        reply
+        keeps_following::<F>();
+        self.rows.cluster.sweep_beside_root()
     }
 
     /// The name of the root that a checkpoint would put if all tablets were flushed. Right after an accepted checkpoint
@@ -143,7 +150,7 @@ impl<F: Files + Drop, M: MarkStore + Drop> Server<F, M> {
         ensures refusal { IfErr result IsStorageRefusal }
         ensures spots { spots_of (cluster_of self.new) ≡ spots_of (cluster_of self.old) }
         ensures clean { OnOk result (Holds F.contents (cluster_of self.old)
-            → TracksListed F.contents (cluster_of self.new) []) }
+            → Tracks F.contents (cluster_of self.new) []) }
         ensures follows { F.replaces → Holds F.contents (cluster_of self.old)
             → Follows F.contents (cluster_of self.old) (journal_of self.old)
             → Follows F.contents (cluster_of self.new) (journal_of self.new) }

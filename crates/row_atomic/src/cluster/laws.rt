@@ -49,8 +49,8 @@ pub fn root_outlasts_sweeps<F: Files>()
 }
 
 /// The journal still leads from the files to the cluster's cells after everything a cluster does except `apply`:
-/// commands (a sweep only if the tablets have the root's files, or beside the root), automatic compactions and merges, and checkpoints,
-/// done or refused.
+/// commands, automatic compactions and merges, and checkpoints, done or refused. Of sweeps it does after those beside the
+/// root.
 pub fn keeps_following<F: Files>()
     ensures { KeepsFollowing F.contents F.faults }
 {

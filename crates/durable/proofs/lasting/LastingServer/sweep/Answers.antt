@@ -1,36 +1,37 @@
-use Rattle.std.proofs.Common.{inl, inr, refl}
-use Rattle.si_model.specs.Machine.{refuses}
+use Rattle.std.proofs.Common.{◌≡◌, ℕ, Err, IsErrOf, Result, inl, inr, ap, sym}
+use Rattle.si_model.specs.Machine.{Refused, accepts, refuses, sweeps, tells}
 use Rattle.si_model.specs.Refusing.{gives_up}
-use Rattle.durable.proofs.Logged.{logs_on, still_lasts}
+use Rattle.cell_key.specs.declared.refusals.Refusal.{Refusal}
+use Rattle.cell_key.specs.declared.refusals.Refusal.TheVariants.{Damaged}
+use Rattle.durable.specs.Lasts.{swept}
 use Rattle.durable.proofs.lasting.LastingServer.sweep.Goals as goal
+
+-- a reply's refusal is the call's
+named : (refusal : Refusal) → Refused refusal ≡ Refused Damaged → IsErrOf {T = ℕ} (Err refusal) Damaged
+named refusal is = cc
 
 pub returns-in-Ok-clause-says : goal.returns-in-Ok-clause-says
 returns-in-Ok-clause-says g c = record {
-  answered = inr (c.root.new.self.server, c.sweep_now.new.self, c.in-Ok.ensures.done, c.sweep_now.ensures.says, inl (g.met.S.Recording.same_self c.sweep_now.new.self));
-  goes_on = λ now reached shown.
-      let mid = c.root.ensures.settles.shown now shown in
-      let clean = c.in-Ok.ensures.clean now shown in
-      let (next, step, shows, whole) = c.sweep_now.ensures.step now reached mid clean in
-      let stays = c.sweep_now.ensures.stays now mid clean in
-      record {
-        next = next;
-        step = step;
-        shown = shows;
-        whole = whole;
-        logged = λ logs. logs_on g.S.Recording.stores g.S.Recording.logged g.S.Recording.waiting g.S.Recording.last g.L.Log.holds g.S.Recording.is_rooted c.logs_edits.ensures c.names_roots.ensures g.S.Recording.count c.root.new.self c.sweep_now.new.self stays c.sweep_now.ensures.keeps.has (c.root.ensures.settles.logged now reached shown logs);
-        lasting = λ logs st lasts. inr (inl (still_lasts g.S.Recording.stores g.S.Recording.logged g.S.Recording.waiting g.S.Recording.last g.L.Log.holds g.S.Recording.is_rooted c.logs_edits.ensures c.names_roots.ensures g.S.Recording.count c.root.new.self c.sweep_now.new.self now stays.stored c.sweep_now.ensures.keeps.has (c.in-Ok.ensures.kept now shown logs).0));
-      };
+  answered = (c.sweep_files.result, sym (ap swept c.in-Ok.is), c.sweep_files.ensures.swept);
+  goes_on = λ now reached shown. record {
+    next = now;
+    step = accepts (λ refusal applies. elim applies [ ]) (tells sweeps);
+    shown = c.sweep_files.ensures.settles.shown now shown;
+    whole = λ is. cc;
+    logged = c.sweep_files.ensures.settles.logged now reached shown;
+    lasting = λ logs st lasts. elim (c.sweep_files.ensures.settles.lasting now reached shown logs st lasts) [ inl same ↦ inl same | inr is ↦ inr (inl is) ];
+  };
 }
 
 pub returns-in-Err-clause-says : goal.returns-in-Err-clause-says
 returns-in-Err-clause-says g c = record {
-  answered = inl (c.in-Err.refusal, refl, c.in-Err.ensures.answered);
+  answered = (c.sweep_files.result, sym (ap swept c.in-Err.is), c.sweep_files.ensures.swept);
   goes_on = λ now reached shown. record {
     next = now;
     step = refuses (gives_up c.in-Err.ensures.refusal);
-    shown = c.root.ensures.settles.shown now shown;
-    whole = (c.in-Err.ensures.step now reached shown).3;
-    logged = c.root.ensures.settles.logged now reached shown;
-    lasting = λ logs st lasts. elim (c.root.ensures.settles.lasting now reached shown logs st lasts) [ inl same ↦ inl same | inr is ↦ inr (inl is) ];
+    shown = c.sweep_files.ensures.settles.shown now shown;
+    whole = λ is. c.in-Err.ensures.whole now shown (named c.in-Err.refusal is);
+    logged = c.sweep_files.ensures.settles.logged now reached shown;
+    lasting = λ logs st lasts. elim (c.sweep_files.ensures.settles.lasting now reached shown logs st lasts) [ inl same ↦ inl same | inr is ↦ inr (inl is) ];
   };
 }

@@ -1,12 +1,18 @@
-use Rattle.server_loop.specs.Server.{journal_of}
-use Rattle.durable.proofs.Stored.{clean_lists, remembers, sweep_stays}
+use Rattle.std.proofs.Common.{ap}
+use Rattle.server_loop.specs.Server.{cluster_of, machine_places}
+use Rattle.durable.proofs.Stored.{read_storage, stays_rooted, sweep_keeps, swept_sound}
 use Rattle.durable.proofs.recorded_server.ServerRecording.sweep_now.Goals as goal
 
-pub returns-clause-step : goal.returns-clause-step
-returns-clause-step g c = λ before reached shown clean.
-    let (next, step, shows, whole) = c.sweep_files.ensures.plain.step.step before reached shown in
-    let listed = clean_lists g.F.Files.contents c.one_root.ensures c.args.self.now (journal_of c.args.self.now) clean shown.in_order.1 in
-    (next, step, remembers g.F.Files.contents c.sweep_files.new.self next shows (c.keeps_following.ensures.lists _ _ (c.sweep_files.ensures.follows shown.in_order.0 listed)), whole)
+pub returns-clause-refusal : goal.returns-clause-refusal
+returns-clause-refusal g c = read_storage c.sweep_beside_root.result c.sweep_beside_root.ensures.swept.refusal
+
+pub returns-clause-whole : goal.returns-clause-whole
+returns-clause-whole g c = λ recording st shown. swept_sound g.F.Files.contents g.F.Files.faults c.root_outlasts_sweeps.ensures c.args.self.now c.sweep_beside_root.new.self c.sweep_beside_root.result c.sweep_beside_root.ensures.swept recording shown.in_order.1
+
+pub returns-clause-keeps : goal.returns-clause-keeps
+returns-clause-keeps g c = sweep_keeps c.args.self.now c.sweep_beside_root.new.self c.sweep_beside_root.ensures.others
 
 pub returns-clause-stays : goal.returns-clause-stays
-returns-clause-stays g c = λ st shown clean. sweep_stays g.F.Files g.M.MarkStore c.one_root.ensures c.root_stays.ensures c.args.self.now c.sweep_files.new.self c.sweep_files.result c.sweep_files.ensures.plain c.sweep_files.ensures.spots clean
+returns-clause-stays g c = stays_rooted g.F.Files.contents c.args.self.now c.sweep_beside_root.new.self
+    (λ root cells. c.root_outlasts_sweeps.ensures.stays root cells c.sweep_beside_root.result (cluster_of c.args.self.now) (cluster_of c.sweep_beside_root.new.self) c.sweep_beside_root.ensures.swept)
+    (ap (λ s. machine_places s.places) c.sweep_beside_root.ensures.swept.rest)

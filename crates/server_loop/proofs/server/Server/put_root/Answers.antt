@@ -53,7 +53,7 @@ pub returns-in-Ok-clause-clean : goal.returns-in-Ok-clause-clean
 returns-in-Ok-clause-clean g c = λ held. c.keeps_following.ensures.rests _ _ _ _ c.in-Ok.ensures.rests c.in-Ok.ensures.keeps held
 
 pub returns-in-Ok-clause-follows : goal.returns-in-Ok-clause-follows
-returns-in-Ok-clause-follows g c = λ replaces held follows. c.keeps_following.ensures.lists _ _ (c.keeps_following.ensures.checkpoints _ _ _ _ _ c.in-Ok.ensures.rests c.in-Ok.ensures.keeps held follows)
+returns-in-Ok-clause-follows g c = λ replaces held follows. c.keeps_following.ensures.checkpoints _ _ _ _ _ c.in-Ok.ensures.rests c.in-Ok.ensures.keeps held follows
 
 pub returns-in-Err-clause-follows : goal.returns-in-Err-clause-follows
 returns-in-Err-clause-follows g c = λ replaces held follows. c.keeps_following.ensures.refused _ _ _ _ _ (c.in-Err.ensures.whole replaces) c.in-Err.ensures.keeps held follows
