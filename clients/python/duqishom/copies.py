@@ -23,13 +23,27 @@ class NotCopied(ValueError):
 def copy_checkpoint(source: str, target: str, progress: Report = unreported) -> None:
     """Copies the last checkpoint of a folder into another one, which is empty or is created. If it has a log, the copy
     gets its sign, a log without edits over the root, and a mark that no stamp of the log is above. The program may put
-    another root meanwhile, but must not remove a file.
+    other roots meanwhile.
+
+    A later checkpoint may be followed by a sweep of files that only the root which is copied names. Then the later root
+    is copied, with the files that are missing.
 
     `progress` is told after each piece how many bytes are copied, and may raise an exception to end the copying.
     NotCopied if the other folder has files.
     """
     place, copy = Path(source), empty_folder(target)
-    data = (place / ROOT_FILE).read_bytes()
+    while True:
+        data = (place / ROOT_FILE).read_bytes()
+        try:
+            return copy_store(place, copy, data, beside_root(place, data), progress)
+        except FileNotFoundError:
+            if (place / ROOT_FILE).read_bytes() == data:
+                raise
+
+
+def beside_root(place: Path, data: bytes) -> dict[str, bytes]:
+    """The files of a copy beside a root of these bytes: the mark, and for a folder with a log its sign and an empty
+    log."""
     root, log = root_in(place, data), read_log(place)
     beside: dict[str, bytes] = {}
     if log is not None:
@@ -39,7 +53,7 @@ def copy_checkpoint(source: str, target: str, progress: Report = unreported) -> 
     mark = max(read_mark(place), 0 if log is None else log.mark())
     if mark > 0:
         beside[MARK_FILE] = spelled_mark(mark)
-    copy_store(place, copy, data, beside, progress)
+    return beside
 
 
 def restore(backup: str, target: str, progress: Report = unreported) -> None:
@@ -63,21 +77,33 @@ def empty_folder(target: str) -> Path:
 
 
 def copy_store(place: Path, copy: Path, data: bytes, beside: Mapping[str, bytes], progress: Report) -> None:
-    """Copies the files that a root of these bytes names, and writes the files in `beside`. The root is written last, so
-    an incomplete copy has no root."""
+    """Copies the files that a root of these bytes names, and writes the files in `beside`. A file that the copy has
+    already is the same, since no later file takes the name of one in a root; one that this root doesn't name is removed.
+    The root is written last, so an incomplete copy has no root."""
     root = root_in(place, data)
     named = {file_name(reference.name) for tablet in root.tablets for reference in tablet.files}
     names = sorted(named)
     size = sum((place / name).stat().st_size for name in names) + sum(map(len, (*beside.values(), data)))
     copied = Tally(progress, size, BYTES)
+    for name in names:
+        copy_file(place / name, copy / name, copied)
+    for path in copy.iterdir():
+        if path.name not in named:
+            path.unlink()
     for name, said in beside.items():
         write_synced(copy / name, BytesIO(said), copied)
-    for name in names:
-        with (place / name).open("rb") as file:
-            write_synced(copy / name, file, copied)
     # Behind the root nothing may end the copying, so it is counted before it is written
     copied.add(len(data))
     write_synced(copy / ROOT_FILE, BytesIO(data))
+
+
+def copy_file(source: Path, target: Path, copied: Tally) -> None:
+    """Copies a file and counts its bytes, unless the copy is there."""
+    if target.exists():
+        copied.add(target.stat().st_size)
+        return
+    with source.open("rb") as file:
+        write_synced(target, file, copied)
 
 
 def write_synced(path: Path, source: BinaryIO, copied: Tally | None = None) -> None:

@@ -592,10 +592,10 @@ class Unasked(unittest.TestCase):
     def test_words_of_a_store(self) -> None:
         table: list[tuple[list[str], bool, list[str]]] = [
             ([], False, ["--flush-bytes", "33554432"]),
-            ([], True, ["--flush-bytes", "33554432", "--cache", "256"]),
+            ([], True, ["--flush-bytes", "33554432", "--cache", "256", "--upkeep"]),
             (["--merge", "8"], False, ["--flush-bytes", "33554432", "--merge", "8"]),
-            (["--flush-bytes=1048576"], True, ["--cache", "256", "--flush-bytes=1048576"]),
-            (["--flush-bytes", "1048576", "--cache", "8"], True, ["--flush-bytes", "1048576", "--cache", "8"]),
+            (["--flush-bytes=1048576"], True, ["--cache", "256", "--upkeep", "--flush-bytes=1048576"]),
+            (["--cache", "8"], True, ["--flush-bytes", "33554432", "--upkeep", "--cache", "8"]),
         ]
         for words, has_folder, tuned_words in table:
             self.assertEqual(tuned(words, has_folder), tuned_words)

@@ -48,4 +48,6 @@ pub struct Options<'a> {
     pub merge: Option<u32>,
     /// The most blocks cached of each file: 8 to 4,096.
     pub cache: u32,
+    /// Whether a checkpoint that a log makes due is followed by a sweep of the files that nothing needs.
+    pub upkeep: bool,
 }

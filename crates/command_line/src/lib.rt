@@ -45,6 +45,10 @@ const MERGE_HELP: &str =
 const CACHE_HELP: &str =
     "Blocks of each file that stay in memory, those that were read last: 8 to 4096 [default: 8]";
 
+const UPKEEP_HELP: &str =
+    "In a folder with a log, remove the files that neither a tablet nor the root needs after each checkpoint that comes \
+    by itself [default: only a Sweep removes files]";
+
 /// An option that takes a number from `least` to `most`.
 fn number<'a>(
     alloc: Global,
@@ -93,6 +97,11 @@ fn command<'a>(alloc: Global) -> Result<Command<'a>, AllocError> {
     );
     let merge = number(alloc, "merge", "M", MERGE_HELP, 2, MOST_MERGE);
     let cache = number(alloc, "cache", "C", CACHE_HELP, LEAST_CACHE, MOST_CACHE);
+    let upkeep = Arg::new(alloc, "upkeep")
+        .long("upkeep")
+        .help(UPKEEP_HELP)
+        .action(ArgAction::SetTrue)
+        .requires_arg("dir")?;
     Command::new(alloc, "tabletd")
         .about(ABOUT)
         .version(VERSION)
@@ -102,11 +111,12 @@ fn command<'a>(alloc: Global) -> Result<Command<'a>, AllocError> {
         .arg(flush)?
         .arg(flush_bytes)?
         .arg(merge)?
-        .arg(cache)
+        .arg(cache)?
+        .arg(upkeep)
 }
 
 /// Parses the words of the command line, the program's name first: `tabletd [--dir DIR [--log]] [--log-bytes L]
-/// [--flush N] [--flush-bytes B] [--merge M] [--cache C]`, where L is 4,096 to 33,554,432, N is 1 to 100,000, B is
+/// [--flush N] [--flush-bytes B] [--merge M] [--cache C] [--upkeep]`, where L is 4,096 to 33,554,432, N is 1 to 100,000, B is
 /// 1,048,576 to 67,108,864, M is 2 to 64 and C is 8 to 4,096. An error has the parser's text, which for a request for
 /// help or the version is that.
 pub fn options<'a>(alloc: Global, words: &'a [&'a str]) -> Result<Options<'a>, Error>
@@ -136,6 +146,7 @@ pub fn options<'a>(alloc: Global, words: &'a [&'a str]) -> Result<Options<'a>, E
         ),
         merge: within(matches.get_one::<u32>("merge"), 2, MOST_MERGE),
         cache: cache_of(matches.get_one::<u32>("cache")),
+        upkeep: matches.get_flag("upkeep"),
     })
 }
 

@@ -1,5 +1,5 @@
 -- What checkpoints and answers leave over a kill, one after the other.
-use Rattle.std.proofs.Common.{◌≡◌, ◌⊎◌, ℕ, inl, inr, sym, subst, ap}
+use Rattle.std.proofs.Common.{◌≡◌, ◌⊎◌, ℕ, Bool, true, false, inl, inr, sym, subst, ap}
 use Rattle.std.specs.Prelude.{Result, Ok, Err, IfErr, IsErrOf}
 use Rattle.cell_key.specs.declared.refusals.Refusal.{Refusal}
 use Rattle.cell_key.specs.declared.refusals.Refusal.TheVariants.{Damaged, Device, NoMemory}
@@ -13,7 +13,7 @@ use Rattle.server_loop.specs.Runs.{StepsAs}
 use Rattle.si_model.specs.Machine.{IsStorageRefusal, Refused, Reply as MachineReply, Request as MachineRequest, State, Checkpoint as CheckpointAsked, refuses}
 use Rattle.si_model.specs.Refusing.{gives_up}
 use Rattle.durable.specs.Lasting.{GoesOn, Settles}
-use Rattle.durable.specs.Lasts.{AnswersInRoom, AnswersLasting, AnswersRooted, Checkpoints, MovesTablets, NeedsRoom, ActsOnRoots, PutsRoot}
+use Rattle.durable.specs.Lasts.{AnswersInRoom, AnswersLasting, AnswersRooted, Checkpoints, MovesTablets, NeedsRoom, ActsOnRoots, PutsRoot, SweepsAfter}
 use Rattle.durable.specs.Lasts.PutsRoot.{answered, failed, unmarked, unnamed}
 
 module _ {S : Type 0} (same : S → S → Type 0) (checkpoints : S → Reply → S → Type 0) (says : S → Request → Reply → S → Type 0) (sweeps : S → Result ℕ Refusal → S → Type 0) (stopped risen : Type 0) (before now : ℕ) where
@@ -47,17 +47,6 @@ rootless (CleanStep cleaner) needs root = root
 rootless (CollectStep collector visits) needs root = root
 rootless request needs root = absurd needs
 
-module _ {S : Type 0} (same : S → S → Type 0) (checkpoints : S → Reply → S → Type 0) (then : (a b c : S) → same a b → same b c → same a c) {stopped stopped' risen risen' : Type 0} (still : stopped → stopped') (rises : risen → risen') where
-  both_then : (a b c : S) (reply : Reply) → Checkpoints same checkpoints a reply b → same b c → Checkpoints same checkpoints a reply c
-  both_then a b c reply p s = (p.0, p.1, p.2, p.3, then p.1 b c p.4 s)
-
-  pub puts_more : (a b c : S) (reply : Reply) → PutsRoot same checkpoints stopped risen a reply b → same b c → PutsRoot same checkpoints stopped' risen' a reply c
-  puts_more a b c reply (answered p) s = answered (both_then a b c reply p s)
-  puts_more a b c reply (unnamed is p) s = unnamed is (both_then a b c _ p s)
-  puts_more a b c reply (unmarked is risen p) s = unmarked is (rises risen) (then a b c p s)
-  puts_more a b c reply (failed is stops (inl p)) s = failed is (still stops) (inl (then a b c p s))
-  puts_more a b c reply (failed is stops (inr p)) s = failed is (still stops) (inr (both_then a b c _ p s))
-
 -- what is stopped, or has risen, may be said of a later moment
 module _ {S : Type 0} (same : S → S → Type 0) (checkpoints : S → Reply → S → Type 0) {stopped stopped' risen risen' : Type 0} (still : stopped → stopped') (rises : risen → risen') where
   pub puts_still : (a b : S) (reply : Reply) → PutsRoot same checkpoints stopped risen a reply b → PutsRoot same checkpoints stopped' risen' a reply b
@@ -65,6 +54,12 @@ module _ {S : Type 0} (same : S → S → Type 0) (checkpoints : S → Reply →
   puts_still a b reply (unnamed is p) = unnamed is p
   puts_still a b reply (unmarked is risen p) = unmarked is (rises risen) p
   puts_still a b reply (failed is stops p) = failed is (still stops) p
+
+pub sweeps_still : {S : Type 0} {stopped stopped' : Type 0} (sweeps : S → Result ℕ Refusal → S → Type 0) → (stopped → stopped') → (upkeep : Bool) (reply : Reply) (a b : S) → SweepsAfter sweeps stopped upkeep reply a b → SweepsAfter sweeps stopped' upkeep reply a b
+sweeps_still sweeps still true codec.Checkpoint a b (result, inl swept) = (result, inl swept)
+sweeps_still sweeps still true codec.Checkpoint a b (result, inr none) = (result, inr (none.0, still none.1, none.2))
+sweeps_still sweeps still true _ a b same = same
+sweeps_still sweeps still false reply a b same = same
 
 -- a root whose mark's file did not fail
 module _ {S : Type 0} (same : S → S → Type 0) (checkpoints : S → Reply → S → Type 0) (stopped risen : Type 0) where

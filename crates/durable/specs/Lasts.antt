@@ -262,15 +262,17 @@ SweepsAfter sweeps stopped upkeep reply old new = new ≡ old
 
 -- A root was put, or refused, and the size from which the next try is counted was set. With upkeep, a
 -- sweep followed a root that was put.
-pub record TriesRoot {S M L : Type 0} (mark_faults : M → ℕ)
+pub record TriesRoot {S M L : Type 0} (mark_faults : M → ℕ) (same : S → S → Type 0)
     (roots : (stopped risen : Type 0) → S → Reply → S → Type 0)
     (sweeps : S → Result ℕ Refusal → S → Type 0) (written : ℕ) (mid : S)
     (old new : LastingServer S M L) : Type 0 where
   pub reply : Reply
   pub next : S
+  pub last : S
   pub answered : roots (new.is_stopped ≡ true)
       (HasRisen (mark_faults old.marks.marks) (mark_faults new.marks.marks)) mid reply next
-  pub swept : SweepsAfter sweeps (new.is_stopped ≡ true) old.upkeep reply next new.server
+  pub swept : SweepsAfter sweeps (new.is_stopped ≡ true) old.upkeep reply next last
+  pub is_same : same last new.server
   pub tried : new.tried_bytes ≡ tried_at reply written
 
 -- Upkeep between two answers: that of a server without a log, and then a checkpoint if one is due by the
@@ -283,7 +285,7 @@ pub record IsLastingTended {S M L : Type 0} (shows : S → State → Type 0)
     (old new : LastingServer S M L) : Type 0 where
   pub mid : S
   pub tended : between old.server mid
-  pub rooted : (IsRootDue old (size mid) × TriesRoot mark_faults roots sweeps (size mid) mid old new)
+  pub rooted : (IsRootDue old (size mid) × TriesRoot mark_faults same roots sweeps (size mid) mid old new)
       ⊎ ((¬ IsRootDue old (size mid)) × same mid new.server × (new.tried_bytes ≡ old.tried_bytes))
   pub root_bytes : new.root_bytes ≡ old.root_bytes
   pub upkeep : new.upkeep ≡ old.upkeep

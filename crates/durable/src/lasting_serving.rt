@@ -1,6 +1,6 @@
 //! The calls of a server with a log.
 
-ghost use Rattle.std.specs.Prelude.{◌≡◌, IsSome, Some};
+ghost use Rattle.std.specs.Prelude.{◌≡◌, IsSome, Some, true};
 ghost use Rattle.durable.specs.Devices.{LastsOn};
 ghost use Rattle.durable.specs.ServesLogged.{LastsOver, ServesOver};
 ghost use Rattle.server_loop.specs.Server.{cluster_of, rows_of, tending_of};

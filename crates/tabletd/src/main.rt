@@ -1,6 +1,6 @@
-//! `tabletd [--dir DIR [--log]] [--log-bytes L] [--flush N] [--flush-bytes B] [--merge M] [--cache C]` serves framed
-//! requests from standard input, and writes a framed reply to each to standard output. The store is in memory, or in a
-//! folder, with or without a log.
+//! `tabletd [--dir DIR [--log]] [--log-bytes L] [--flush N] [--flush-bytes B] [--merge M] [--cache C] [--upkeep]` serves
+//! framed requests from standard input, and writes a framed reply to each to standard output. The store is in memory, or
+//! in a folder, with or without a log.
 #![tactic(auto)]
 
 ghost use Rattle.std.specs.Prelude.{◌≡◌, ◌≤◌, IfErr, IfOk, IfSome};
@@ -213,6 +213,9 @@ fn serve_logged<
         return open_status(&refusal);
     }
     server.checkpoint_at(options.log_bytes as usize);
+    if options.upkeep {
+        server.sweep_after_checkpoints();
+    }
     if let Some(most) = options.merge {
         server.merge_at(most);
     }

@@ -30,9 +30,9 @@ class Copy:
 
 
 class Backups:
-    """Makes copies, each of a checkpoint of its own, in threads. Whichever root is read after it, its files exist as
-    long as none is removed, and only a Sweep removes files: no Sweep is passed on while a copy is made. `ended` is
-    called after each copy."""
+    """Makes copies, each of a checkpoint of its own, in threads. No Sweep is passed on while a copy is made, so that one
+    rarely begins anew: only a checkpoint that comes by itself may then remove files. `ended` is called after each
+    copy."""
 
     def __init__(self, folder: str | None, keeper: Keeper, ended: Callable[[], None]) -> None:
         self._folder, self._keeper, self._ended = folder, keeper, ended

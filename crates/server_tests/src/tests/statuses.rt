@@ -48,12 +48,13 @@ const NO_WORDS: Options<'static> = Options {
     flush_bytes: None,
     merge: None,
     cache: 8,
+    upkeep: false,
 };
 
 /// The words of a command line, and their options if they are accepted.
 type Line = (&'static [&'static str], Option<Options<'static>>);
 
-const LINES: [Line; 32] = [
+const LINES: [Line; 34] = [
     (&["tabletd"], Some(NO_WORDS)),
     (
         &["tabletd", "--flush", "1"],
@@ -160,6 +161,15 @@ const LINES: [Line; 32] = [
     ),
     (&["tabletd", "--log-bytes", "4095"], None),
     (&["tabletd", "--log-bytes", "33554433"], None),
+    (
+        &["tabletd", "--dir", "a", "--upkeep"],
+        Some(Options {
+            dir: Some("a"),
+            upkeep: true,
+            ..NO_WORDS
+        }),
+    ),
+    (&["tabletd", "--upkeep"], None),
     (&["tabletd", "--log=yes", "--dir", "a"], None),
     (&["tabletd", "--log", "--log", "--dir", "a"], None),
     (&["tabletd", "more"], None),

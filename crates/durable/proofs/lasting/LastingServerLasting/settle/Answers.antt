@@ -1,6 +1,6 @@
 use Rattle.std.proofs.Common.{◌∙◌, inl, inr, subst, sym}
 use Rattle.cell_key.specs.Faults.{HasRisen}
-use Rattle.durable.proofs.Rooted.{puts_more, settles_then}
+use Rattle.durable.proofs.Rooted.{puts_still, settles_then, sweeps_still}
 use Rattle.durable.proofs.lasting.LastingServerLasting.settle.Goals as goal
 
 pub returns-then-log_waiting-clause-between : goal.returns-then-log_waiting-clause-between
@@ -15,13 +15,18 @@ returns-then-log_waiting-clause-between g c = λ first b.
           due,
           record {
             reply = put.reply;
-            answered = puts_more g.S.Recording.same g.S.Recording.checkpoints g.met.S.Recording.same_then w.still (λ risen. subst (λ (m : g.row.M.Denot). HasRisen (g.M.MarkStore.faults first.marks.marks) (g.M.MarkStore.faults m)) (sym w.marks) risen) b.mid c.args.self.now.server c.log_waiting.new.self.server put.reply put.answered w.same;
+            next = put.next;
+            last = put.last;
+            answered = puts_still g.S.Recording.same g.S.Recording.checkpoints w.still (λ risen. subst (λ (m : g.row.M.Denot). HasRisen (g.M.MarkStore.faults first.marks.marks) (g.M.MarkStore.faults m)) (sym w.marks) risen) b.mid put.next put.reply put.answered;
+            swept = sweeps_still g.S.Recording.sweeps w.still first.upkeep put.reply put.next put.last put.swept;
+            is_same = g.met.S.Recording.same_then put.last _ _ put.is_same w.same;
             tried = w.due.1 ∙ put.tried;
           },
         )
         | inr (not, same, tried) ↦ inr (not, g.met.S.Recording.same_then b.mid _ _ same w.same, w.due.1 ∙ tried)
       ];
       root_bytes = w.due.0 ∙ b.root_bytes;
+      upkeep = w.due.2 ∙ b.upkeep;
       settles = settles_then _ _ _ first c.args.self.now _ b.settles (record {
         shown = w.shown;
         logged = λ now reached shown logs. inr (w.ok is now shown logs).0;
@@ -44,16 +49,24 @@ returns-else-log_waiting-clause-between g c = λ first b.
           due,
           record {
             reply = put.reply;
-            answered = puts_more g.S.Recording.same g.S.Recording.checkpoints g.met.S.Recording.same_then w.still (λ risen. subst (λ (m : g.row.M.Denot). HasRisen (g.M.MarkStore.faults first.marks.marks) (g.M.MarkStore.faults m)) (sym w.marks) risen) b.mid c.args.self.now.server c.log_waiting.new.self.server put.reply put.answered w.same;
+            next = put.next;
+            last = put.last;
+            answered = puts_still g.S.Recording.same g.S.Recording.checkpoints w.still (λ risen. subst (λ (m : g.row.M.Denot). HasRisen (g.M.MarkStore.faults first.marks.marks) (g.M.MarkStore.faults m)) (sym w.marks) risen) b.mid put.next put.reply put.answered;
+            swept = sweeps_still g.S.Recording.sweeps w.still first.upkeep put.reply put.next put.last put.swept;
+            is_same = g.met.S.Recording.same_then put.last _ _ put.is_same w.same;
             tried = w.due.1 ∙ put.tried;
           },
         )
         | inr (not, same, tried) ↦ inr (not, g.met.S.Recording.same_then b.mid _ _ same w.same, w.due.1 ∙ tried)
       ];
       root_bytes = w.due.0 ∙ b.root_bytes;
+      upkeep = w.due.2 ∙ b.upkeep;
       settles = settles_then _ _ _ first c.args.self.now _ b.settles (record {
         shown = w.shown;
         logged = λ now reached shown logs. inl (w.stopped is);
         lasting = λ now reached shown logs. w.err is now shown logs;
       });
     }
+
+pub returns-else-log_waiting-clause-err : goal.returns-else-log_waiting-clause-err
+returns-else-log_waiting-clause-err g c = λ now reached shown logs. c.log_waiting.ensures.err c.if-log_waiting.false now shown logs
