@@ -59,7 +59,6 @@ from duqishom.operations import (
     Split,
     Step,
     Stop,
-    Sweep,
 )
 from duqishom.opening import either
 from duqishom.places import Places
@@ -456,10 +455,10 @@ class Store:
         await self.ask(Move(tablet, server))
 
     async def sweep(self) -> int:
-        """Removes the files that no tablet names, and returns their number. In a folder without a log, the gateway
-        makes checkpoints before and after it. If the first one is refused, its refusal is raised and nothing is
-        removed."""
-        return await self.ask(Sweep())
+        """Removes the files that no tablet names, and returns their number. A checkpoint is made before it. In a folder
+        without a log, the gateway makes checkpoints before and after it. If the first one is refused, its refusal is
+        raised and nothing is removed."""
+        return await self.do(self._plans.sweep_beside_log())
 
     async def checkpoint(self) -> None:
         """Writes all that the store keeps into its files. Where a tablet has too many files, all of its files become one first."""

@@ -248,6 +248,14 @@ class StorePlans:
             yield from self._write_all()
             yield from ask(Checkpoint())
 
+    def sweep_beside_log(self) -> Plan[int]:
+        """Removes files from a folder with a log, or from that of a gateway, and returns their number. With a log the
+        root's files stay, so a checkpoint is made before. If it is refused, as on a full disk, fewer files go."""
+        with suppress(Refused):
+            yield from self.checkpoint()
+        count: int = yield from ask(Sweep())
+        return count
+
     def sweep(self) -> Plan[int]:
         """Removes files from a folder without a log, and returns their number. Checkpoints are made before and after
         it. If the first one is refused, nothing is removed. The second one is sent at once, whatever comes between."""

@@ -310,13 +310,16 @@ class Store(AutoCommit):
     def sweep(self) -> int:
         """Removes the files that no tablet names, and returns their number.
 
-        A file that only the root file names is removed too. So in a folder without a log, checkpoints are made before
-        and after it. If the first one is refused, its refusal is raised and nothing is removed. If the second one is
-        refused, the folder is damaged unless a later one is made.
+        A checkpoint is made before it. With a log the files that the root names stay, so it needs none: if it is refused,
+        fewer files are removed. Without a log a file goes that only the root file names. So if the checkpoint is
+        refused, its refusal is raised and nothing is removed; and another one is made after it. If that one is refused,
+        the folder is damaged unless a later one is made.
         """
         with self.alone():
-            if self.folder is None or self.has_log:
+            if self.folder is None and not self._is_remote:
                 return self.ask(Sweep())
+            if self._is_remote or self.has_log:
+                return self.do(self._plans.sweep_beside_log())
             return self.do(self._plans.sweep())
 
     def checkpoint(self) -> None:

@@ -7,6 +7,7 @@ import unittest
 from duqishom import Store
 from duqishom.dumps import cell_of, line_of
 from duqishom.files import LOG_FILE, MARK_FILE, ROOT_FILE, SIGN_FILE, file_name
+from duqishom.progress import Reached
 from tests.folders import FolderTest, said
 from tests.gateways import Gateway
 
@@ -49,6 +50,29 @@ class Copies(FolderTest):
             store.backup(copy)
         self.assertEqual(said("restore", copy, self.path / "restored")[0], 0)
         self.assertEqual(Store(folder=self.path / "restored").close(), 0)
+
+    def test_files_that_go_meanwhile(self) -> None:
+        """While a copy is made, a later checkpoint and a sweep remove the files that its root names."""
+        copy = self.path / "copy"
+        totals: list[int | None] = []
+
+        with Store(folder=self.store) as store:
+            for value in (b"3", b"4"):
+                store.run(lambda t, value=value: t.set(b"b", FAMILY, value))
+                store.checkpoint()
+
+            def replace(reached: Reached) -> None:
+                if not totals:
+                    store.major(1)
+                    store.checkpoint()
+                    self.assertGreater(store.sweep(), 1)
+                totals.append(reached.total)
+
+            store.backup(copy, replace)
+        self.assertEqual(said("verify", copy)[0], 0)
+        self.assertNotEqual(totals[0], totals[-1])
+        with Store(folder=copy) as store:
+            self.assertEqual(store.run(lambda t: [t.get(row, FAMILY) for row in (b"a", b"b", b"z")]), [b"1", b"4", b"2"])
 
     def test_damages(self) -> None:
         for name, change, why in (
