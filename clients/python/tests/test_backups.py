@@ -5,6 +5,7 @@ from __future__ import annotations
 import unittest
 
 from duqishom import Store
+from duqishom.copies import copy_checkpoint
 from duqishom.dumps import cell_of, line_of
 from duqishom.files import LOG_FILE, MARK_FILE, ROOT_FILE, SIGN_FILE, file_name
 from duqishom.progress import Reached
@@ -68,7 +69,7 @@ class Copies(FolderTest):
                     self.assertGreater(store.sweep(), 1)
                 totals.append(reached.total)
 
-            store.backup(copy, replace)
+            copy_checkpoint(str(self.store), str(copy), replace)
         self.assertEqual(said("verify", copy)[0], 0)
         self.assertNotEqual(totals[0], totals[-1])
         with Store(folder=copy) as store:
