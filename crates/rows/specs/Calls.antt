@@ -1,5 +1,5 @@
 -- Views of rows, and the effects of calls on them.
-use Rattle.std.specs.Prelude.{◌≡◌, ◌≢◌, ◌⊎◌, ℕ, List, ◌++◌, Contains, Option, None, Some, ⊤}
+use Rattle.std.specs.Prelude.{◌≡◌, ◌≢◌, ◌⊎◌, ℕ, List, ◌++◌, Option, None, Some, ⊤}
 use Rattle.std.specs.List.{AllByRecursion}
 use Rattle.std.specs.declared.cmp.Ordering.TheVariants.{Less}
 use Rattle.cell_key.specs.Cells.{Cells, after_edits}
@@ -70,13 +70,6 @@ pub record AppliesAll {R : Type 0} (seen : View R) (changes : List RowEdits)
   pub room : (r : List ℕ) (later : List Edit) → seen.overfills new r later
       → seen.overfills old r later ⊎ seen.overfills old r (all_edits changes ++ later)
   pub stays : seen.storage new ≡ seen.storage old
-
--- All the edits of several rows together would exceed a limit of the memory that holds one of the rows.
-pub record OverfillsOne {R : Type 0} (seen : View R) (changes : List RowEdits)
-    (rows : R) : Type 0 where
-  pub change : RowEdits
-  pub among : Contains changes change
-  pub over : seen.overfills rows change.row (all_edits changes)
 
 -- edits of a row that are in the relation are made
 pub record AppliesSuch {R : Type 0} (seen : View R)

@@ -9,8 +9,9 @@ ghost use Rattle.cell_key.specs.Places.{AreNextCells, IsNextCell, place_named};
 ghost use Rattle.cell_key.specs.Versions.{IsVersion, IsVersionIn, stamped};
 ghost use Rattle.rows.specs.Batches.{AreNextVersions, IsFull};
 ghost use Rattle.rows.specs.Reads.{AreNewestFirst, HasVersion};
-ghost use Rattle.rows.specs.Calls.{Applies, AppliesAll, AreReadableFrom, OnlyReads, OverfillsOne, View};
+ghost use Rattle.rows.specs.Calls.{Applies, AppliesAll, AreReadableFrom, OnlyReads, View};
 ghost use Rattle.rows.specs.Refusals.{IsApplyRefusal, IsRefusalOfRead};
+ghost use Rattle.rows.specs.Room.{OverfillsOne};
 ghost use Rattle.rows.specs.RowEdits.{AreOfTheirRow};
 
 use crate::batches::{BatchLimits, VersionBatch};
@@ -190,8 +191,8 @@ pub trait Rows {
         ensures err { OnErr result (OnlyReads seen self.old self.new) }
         ensures refusal { IfErr result IsApplyRefusal }
         ensures full { IsErrOf result Refusal.MemtableFull
-            → OverfillsOne seen changes.items self.old }
-        ensures within { OnOk result (¬ OverfillsOne seen changes.items self.old) }
+            → OverfillsOne seen.overfills changes.items self.old }
+        ensures within { OnOk result (¬ OverfillsOne seen.overfills changes.items self.old) }
         ensures untouched { faults self.new ≡ faults self.old };
 
     /// How often a device has failed. The count saturates at 2^64 - 1.
