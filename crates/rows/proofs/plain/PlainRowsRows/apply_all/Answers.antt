@@ -1,4 +1,4 @@
-use Rattle.std.proofs.Common.{List, sym, ap, subst, ◌∙◌}
+use Rattle.std.proofs.Common.{sym, ap, subst, ◌∙◌}
 use Rattle.cell_key.specs.Cells.{Cells, after_edits}
 use Rattle.rows.specs.Slots.{slot_cells}
 use Rattle.cell_key.specs.Versions.{HasLimits}
