@@ -2,6 +2,7 @@ mod BlockFacts
 mod BlockLists
 mod EntryLists
 mod Fronts
+mod Limited
 mod Locks
 mod Newest
 mod Parts

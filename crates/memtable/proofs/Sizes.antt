@@ -16,6 +16,7 @@ use Rattle.memtable.specs.Sizes.{IsSizeOf, stood_size, or_nothing}
 use Rattle.memtable.specs.Blocks.{block_entries, AreEntryBlocks, IsKept}
 use Rattle.memtable.specs.StampRanges.{IsEntryWithin}
 use Rattle.memtable.specs.declared.stamp_range.StampRange.{StampRange}
+use Rattle.memtable.specs.declared.blocks.Block.{Block}
 use Rattle.memtable.specs.declared.blocks.Blocks.{Blocks}
 use Rattle.memtable.specs.declared.size.EntrySize.{EntrySize}
 use Rattle.memtable.specs.declared.size.Size.{Size}
@@ -164,6 +165,20 @@ kept blocks staged base size made list limits is within are range all =
       bytes = is.bytes ∙ ap bytes_of (sym made);
       locks = is.locks ∙ ap lock_count (sym made);
       stamps = all;
+      blocks = are;
+    }
+
+-- room was made, and the entries are the same
+pub still_kept : (old new : Blocks) (len total locked : ℕ) (range : StampRange) → new.filled.items ≡ old.filled.items → AreEntryBlocks new → IsKept old len total locked range → IsKept new len total locked range
+still_kept old new len total locked range same are kept =
+    let entries = ap (λ (xs : List Block). block_entries xs) (sym same) in
+    record {
+      list = subst (λ (es : List Entry). IsEntryList es) entries kept.list;
+      limits = subst (λ (es : List Entry). IsWithinLimits es) entries kept.limits;
+      count = kept.count ∙ ap length entries;
+      bytes = kept.bytes ∙ ap bytes_of entries;
+      locks = kept.locks ∙ ap lock_count entries;
+      stamps = subst (λ (es : List Entry). AllByRecursion (IsEntryWithin range) es) entries kept.stamps;
       blocks = are;
     }
 

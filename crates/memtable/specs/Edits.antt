@@ -2,7 +2,7 @@
 use Rattle.std.specs.Prelude.{◌≤◌, ℕ, List, [], ◌∷◌, ◌+◌, length, Some, None}
 use Rattle.std.specs.FinMap.Entries.{put}
 use Rattle.cell_key.specs.Keys.{byte_cmp, text, IsStored}
-use Rattle.cell_key.specs.Cells.{edited_key}
+use Rattle.cell_key.specs.Cells.{IsEditOf, edited_key}
 use Rattle.cell_key.specs.Entries.{Entry, entry_len}
 use Rattle.cell_key.specs.declared.edits.Edit.{Edit}
 use Rattle.cell_key.specs.declared.edits.Edit.TheVariants.{Put, Erase}
@@ -20,6 +20,10 @@ with_edit es edit = put byte_cmp (edit_entry edit).0 (edit_entry edit).1 es
 abbrev pub with_edits : List Entry → List Edit → List Entry
 with_edits es [] = es
 with_edits es (edit ∷ edits) = with_edits (with_edit es edit) edits
+
+-- the edit, of whatever row, is within the limits
+abbrev pub IsLimited : Edit → Type 0
+IsLimited edit = IsEditOf (edited_key edit).row edit
 
 -- the key of an edit is within the limits
 abbrev pub HasStoredKey : Edit → Type 0

@@ -1,6 +1,7 @@
 pub mod Blocks
 pub mod Edits
 pub mod Order
+pub mod Prepared
 pub mod Sizes
 pub mod Slots
 pub mod StampRanges

@@ -36,6 +36,20 @@ pub(crate) struct Blocks {
     pub(crate) recent: RecentPlaces,
 }
 
+impl Blocks {
+    /// No blocks. Allocates nothing.
+    pub(crate) fn new(alloc: Global) -> Blocks
+        ensures filled { result.filled.items ≡ [] }
+        ensures spare { result.spare.items ≡ [] }
+    {
+        Blocks {
+            filled: Vec::new(alloc),
+            spare: Vec::new(alloc),
+            recent: RecentPlaces::START,
+        }
+    }
+}
+
 /// A place among the entries of blocks: the index of a block, and the index of an entry in it.
 #[derive(Clone, Copy, Drop)]
 pub(crate) struct Place {

@@ -5,6 +5,7 @@ mod blocks;
 mod cursor;
 mod entries;
 mod key_text;
+mod prepared;
 mod searches;
 mod size;
 mod sought;
@@ -14,4 +15,5 @@ mod stamp_range;
 mod table;
 
 pub use cursor::Cursor;
+pub use prepared::Prepared;
 pub use table::Memtable;

@@ -4,12 +4,11 @@ ghost use Rattle.std.specs.Prelude.{◌≡◌, ◌≤◌, ◌^◌, List, length,
 ghost use Rattle.std.specs.List.{All, AllByRecursion};
 ghost use Rattle.cell_key.specs.Keys.{text};
 ghost use Rattle.cell_key.specs.Names.{IsRow, IsFamily};
-ghost use Rattle.cell_key.specs.Cells.{IsEditOf, edited_key};
 ghost use Rattle.cell_key.specs.Entries.{Entry, IsRising, IsEntry};
 ghost use Rattle.memtable.specs.Slots.{slot_entry, slot_entries, over};
 ghost use Rattle.memtable.specs.Sizes.{IsSizeOf};
 ghost use Rattle.memtable.specs.Blocks.{block_entries, IsEntryBlock};
-ghost use Rattle.memtable.specs.Edits.{edit_entry, with_edits, HasStoredKey};
+ghost use Rattle.memtable.specs.Edits.{edit_entry, with_edits, HasStoredKey, IsLimited};
 
 use crate::blocks::{self, Block};
 use crate::entries::{self, Slot};
@@ -17,7 +16,7 @@ use crate::key_text::EntryText;
 use crate::size::Size;
 use crate::sought::version_of;
 use crate::stack_text::ShortBytes;
-use cell_key::{CellKey, Edit, Refusal, Row};
+use cell_key::{CellKey, Edit, Refusal};
 use smallvec::SmallVec;
 use std::alloc::Global;
 
@@ -44,8 +43,8 @@ fn text_of(alloc: Global, key: &CellKey) -> Result<EntryText, Refusal>
 }
 
 /// An edit as an entry.
-pub(crate) fn slot_of(alloc: Global, row: &Row, edit: Edit) -> Result<Box<Slot>, Refusal>
-    requires { IsEditOf row.now edit }
+pub(crate) fn slot_of(alloc: Global, edit: Edit) -> Result<Box<Slot>, Refusal>
+    requires { IsLimited edit }
     ensures entry { IfOk result (λ slot. slot_entry slot.value ≡ edit_entry edit) }
     ensures limits { IfOk result (λ slot. IsEntry (slot_entry slot.value)) }
     ensures key { OnOk result (HasStoredKey edit) }
@@ -65,8 +64,8 @@ pub(crate) fn slot_of(alloc: Global, row: &Row, edit: Edit) -> Result<Box<Slot>,
 }
 
 /// Edits as entries, only the last edit of each text.
-pub(crate) fn stage(alloc: Global, row: &Row, edits: Vec<Edit>) -> Result<Vec<Box<Slot>>, Refusal>
-    requires { AllByRecursion (IsEditOf row.now) edits.items }
+pub(crate) fn stage(alloc: Global, edits: Vec<Edit>) -> Result<Vec<Box<Slot>>, Refusal>
+    requires { AllByRecursion IsLimited edits.items }
     ensures rising { IfOk result (λ staged. IsRising (slot_entries staged.items)) }
     ensures staged { IfOk result (λ staged. (table : List Entry) → IsRising table
         → over (slot_entries staged.items) table ≡ with_edits table edits.items) }
@@ -76,7 +75,7 @@ pub(crate) fn stage(alloc: Global, row: &Row, edits: Vec<Edit>) -> Result<Vec<Bo
 {
     let mut staged = Vec::with_capacity(alloc, edits.len())?;
     for edit in edits {
-        let slot = slot_of(alloc, row, edit)?;
+        let slot = slot_of(alloc, edit)?;
         drop(entries::put(&mut staged, slot));
     }
     Ok(staged)

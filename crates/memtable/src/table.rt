@@ -1,6 +1,6 @@
 //! The memtable: recent writes in key order.
 
-ghost use Rattle.std.specs.Prelude.{◌≡◌, ◌↔◌, ◌+◌, ◌≤◌, ◌^◌, [], length, vec_len, IsTrue, OnOk, OnErr, IfErr, IfSome, IsErrOf, option_map, None, ◌⊎◌, IsOkUnless};
+ghost use Rattle.std.specs.Prelude.{◌≡◌, ◌↔◌, ◌+◌, ◌≤◌, ◌^◌, [], length, vec_len, IsTrue, OnOk, OnErr, IfErr, IfOk, IfSome, IsErrOf, option_map, None, ◌⊎◌, IsOkUnless};
 ghost use Rattle.std.specs.Borrow.{sem};
 ghost use Rattle.std.specs.Io.BufRead.{Rests};
 ghost use Rattle.std.specs.List.{AllByRecursion};
@@ -10,13 +10,14 @@ ghost use Rattle.cell_key.specs.Versions.{IsVersion};
 ghost use Rattle.cell_key.specs.Entries.{IsEntry, IsEntryList, IsRising, cells_of, lent_entry, entry_of_key, entries_from};
 ghost use Rattle.memtable.specs.Slots.{lent_version, over, slot_entries};
 ghost use Rattle.memtable.specs.Sizes.{IsSizeOf};
-ghost use Rattle.memtable.specs.Blocks.{block_entries, IsEntryBlock};
+ghost use Rattle.memtable.specs.Blocks.{block_entries, AreEntryBlocks, HasRoom, IsEntryBlock};
 ghost use Rattle.memtable.specs.contracts.table.Memtable.{the_row};
-ghost use Rattle.memtable.specs.Edits.{with_edits, bytes_of, IsWithinLimits, HasStoredKey};
+ghost use Rattle.memtable.specs.Edits.{with_edits, bytes_of, IsLimited, IsWithinLimits, HasStoredKey};
 
-use crate::blocks::{self, Block, Blocks, RecentPlaces};
+use crate::blocks::{self, Block, Blocks};
 use crate::cursor::Cursor;
 use crate::entries::Slot;
+use crate::prepared::Prepared;
 use crate::size::{self, Size};
 use crate::sought::{Version, version_of};
 use crate::stamp_range::StampRange;
@@ -24,19 +25,20 @@ use crate::{searches, staging};
 use cell_key::{CellKey, Edit, EntryRef, Family, Qualifier, Refusal, Row, Stamp};
 use std::alloc::Global;
 use std::marker::Model;
+use std::mem;
 
 /// The recent writes of a tablet: an entry for each key that was put or erased, in the byte order of the keys' texts
 /// (Bigtable, tablet serving: the memtable). An erasure is an entry.
 #[derive(Drop)]
 pub struct Memtable {
-    alloc: Global,
-    blocks: Blocks,
-    len: usize,
-    bytes: usize,
+    pub(crate) alloc: Global,
+    pub(crate) blocks: Blocks,
+    pub(crate) len: usize,
+    pub(crate) bytes: usize,
     /// How many locks have a value.
-    locks: usize,
+    pub(crate) locks: usize,
     /// A range with the stamps of all keys.
-    stamps: StampRange,
+    pub(crate) stamps: StampRange,
 }
 
 impl Model for Memtable {
@@ -72,6 +74,42 @@ fn fit(table: &[Block], before: Size, staged: &[Box<Slot>]) -> bool
     size.entries <= Memtable::MOST_ENTRIES as u128 && size.bytes <= Memtable::MOST_BYTES as u128
 }
 
+/// Edits as entries, for which room is made, if the limits allow them.
+fn stage_within(
+    alloc: Global,
+    blocks: &mut Blocks,
+    before: Size,
+    edits: Vec<Edit>,
+) -> Result<Vec<Box<Slot>>, Refusal>
+    requires rising { IsRising (block_entries blocks.old.filled.items) }
+    requires blocks { AreEntryBlocks blocks.old }
+    requires before { IsSizeOf before (block_entries blocks.old.filled.items) }
+    requires few { before.entries ≤ 2 ^ 64 }
+    requires small { before.bytes ≤ 2 ^ 64 }
+    requires edits { AllByRecursion IsLimited edits.items }
+    ensures same { blocks.new.filled.items ≡ blocks.old.filled.items }
+    ensures blocks { AreEntryBlocks blocks.new }
+    ensures staged { IfOk result (λ staged. over (slot_entries staged.items)
+        (block_entries blocks.old.filled.items)
+        ≡ with_edits (block_entries blocks.old.filled.items) edits.items) }
+    ensures limits { IfOk result (λ staged. AllByRecursion IsEntry (slot_entries staged.items)) }
+    ensures room { IfOk result (λ staged. HasRoom (vec_len staged) blocks.new) }
+    ensures within { OnOk result (IsWithinLimits
+        (with_edits (block_entries blocks.old.filled.items) edits.items)) }
+    ensures keys { OnOk result (AllByRecursion HasStoredKey edits.items) }
+    ensures full { IsErrOf result Refusal.MemtableFull → ¬ (IsWithinLimits
+        (with_edits (block_entries blocks.old.filled.items) edits.items)) }
+    ensures refusal { IfErr result (λ refusal.
+        (refusal ≡ Refusal.MemtableFull) ⊎ (refusal ≡ Refusal.NoMemory)) }
+{
+    let staged = staging::stage(alloc, edits)?;
+    if !fit(&blocks.filled, before, &staged) {
+        return Err(Refusal::MemtableFull);
+    }
+    blocks::make_room(alloc, blocks, staged.len())?;
+    Ok(staged)
+}
+
 impl Memtable {
     /// The most entries.
     pub const MOST_ENTRIES: usize = size::MOST_ENTRIES;
@@ -85,11 +123,7 @@ impl Memtable {
     {
         Memtable {
             alloc,
-            blocks: Blocks {
-                filled: Vec::new(alloc),
-                spare: Vec::new(alloc),
-                recent: RecentPlaces::START,
-            },
+            blocks: Blocks::new(alloc),
             len: 0,
             bytes: 0,
             locks: 0,
@@ -210,17 +244,58 @@ impl Memtable {
             return self.put_two(row, edits, before);
         }
         let stamps = self.stamps.with_edits(&edits);
-        let staged = staging::stage(self.alloc, row, edits)?;
-        if !fit(&self.blocks.filled, before, &staged) {
-            return Err(Refusal::MemtableFull);
-        }
-        blocks::make_room(self.alloc, &mut self.blocks, staged.len())?;
+        let staged = stage_within(self.alloc, &mut self.blocks, before, edits)?;
         let size = blocks::put_all(&mut self.blocks, staged, before);
         self.len = size.entries as usize;
         self.bytes = size.bytes as usize;
         self.locks = size.locks as usize;
         self.stamps = stamps;
         Ok(())
+    }
+
+    /// Takes the table out, with edits that are ready to be put: applied in order, as `apply` does, and of any rows. No
+    /// entries are left. The memory for all of the edits is allocated.
+    ///
+    /// # Errors
+    ///
+    /// `MemtableFull` if the table with all edits would have more than 100,000 entries or more than 67,108,864 bytes of
+    /// entries, and `NoMemory` if an allocation failed. The table is then unchanged.
+    pub fn prepare(&mut self, edits: Vec<Edit>) -> Result<Prepared, Refusal>
+        requires { AllByRecursion IsLimited edits.items }
+        ensures taken { OnOk result (self.new ≡ []) }
+        ensures ready { IfOk result (λ ready.
+            ready ≡ (self.old, with_edits self.old edits.items)) }
+        ensures within { OnOk result (IsWithinLimits (with_edits self.old edits.items)) }
+        ensures keys { OnOk result (AllByRecursion HasStoredKey edits.items) }
+        ensures err { OnErr result (self.new ≡ self.old) }
+        ensures full { IsErrOf result Refusal.MemtableFull
+            → ¬ (IsWithinLimits (with_edits self.old edits.items)) }
+        ensures refusal { IfErr result (λ refusal.
+            (refusal ≡ Refusal.MemtableFull) ⊎ (refusal ≡ Refusal.NoMemory)) }
+    {
+        let before = Size {
+            entries: self.len as u128,
+            bytes: self.bytes as u128,
+            locks: self.locks as u128,
+        };
+        let widened = self.stamps.with_edits(&edits);
+        let staged = stage_within(self.alloc, &mut self.blocks, before, edits)?;
+        let blocks = mem::replace(&mut self.blocks, Blocks::new(self.alloc));
+        let ready = Prepared {
+            alloc: self.alloc,
+            blocks,
+            len: self.len,
+            bytes: self.bytes,
+            locks: self.locks,
+            stamps: self.stamps,
+            staged,
+            widened,
+        };
+        self.len = 0;
+        self.bytes = 0;
+        self.locks = 0;
+        self.stamps = StampRange::EMPTY;
+        Ok(ready)
     }
 
     /// Applies two edits in order. There must be room for them, whatever they replace.
@@ -240,8 +315,8 @@ impl Memtable {
         let stamps = self.stamps.with_edits(&edits);
         let last = edits.pop().unwrap();
         let first = edits.pop().unwrap();
-        let first = staging::slot_of(self.alloc, row, first)?;
-        let last = staging::slot_of(self.alloc, row, last)?;
+        let first = staging::slot_of(self.alloc, first)?;
+        let last = staging::slot_of(self.alloc, last)?;
         blocks::make_room(self.alloc, &mut self.blocks, 2)?;
         let half = blocks::put_counted(&mut self.blocks, first, before);
         let size = blocks::put_counted(&mut self.blocks, last, half);

@@ -72,6 +72,27 @@ impl<M: MarkStore> Oracle<M> {
         }
     }
 
+    /// Begins the next range, whose end is stored as the mark first. The only refusal is `Device`.
+    fn begin_range(&mut self) -> Result<(), Refusal>
+        ensures stored { OnOk result
+            ((self.new.range_end ≡ next_range_end self.old.range_end) × (M.mark self.new.marks
+            ≡ mark_after self.new.range_end (M.mark self.old.marks))) }
+        ensures last { self.new.last ≡ self.old.last }
+        ensures refusal { IfErr result (λ refusal. refusal ≡ Refusal.Device) }
+        ensures device { OnErr result (HasRisen
+            (M.faults self.old.marks) (M.faults self.new.marks)) }
+        ensures told { OnOk result (M.faults self.new.marks ≡ M.faults self.old.marks) }
+        ensures err { OnErr result (SameNumbers self.old self.new) }
+        ensures err_mark { OnErr result (MayHold
+            (next_range_end self.old.range_end) (M.mark self.old.marks) (M.mark self.new.marks)) }
+        ensures later { M.faults self.old.marks ≤ M.faults self.new.marks }
+    {
+        let range_end = range_end_after(self.range_end);
+        self.marks.store(range_end)?;
+        self.range_end = range_end;
+        Ok(())
+    }
+
     /// The next stamp. Refused with `Exhausted` once the greatest stamp was served, and with `Device` if the next range
     /// was needed and its end could not be stored.
     pub fn draw(&mut self) -> Result<Stamp, Refusal>
@@ -107,12 +128,56 @@ impl<M: MarkStore> Oracle<M> {
             return Err(Refusal::Exhausted);
         }
         if self.last == self.range_end {
-            let range_end = range_end_after(self.range_end);
-            self.marks.store(range_end)?;
-            self.range_end = range_end;
+            self.begin_range()?;
         }
         self.last += 1;
         Ok(self.last)
+    }
+
+    /// Makes sure that the next `count` stamps can be served: if the range has fewer left, the next one begins, and its
+    /// end is stored as the mark. Refused with `Exhausted` if fewer are left up to the greatest stamp, and with `Device`
+    /// if the end could not be stored.
+    pub fn ready(&mut self, count: Stamp) -> Result<(), Refusal>
+        requires { count ≤ 1000 }
+        ensures left { OnOk result (self.old.last + count ≤ self.new.range_end) }
+        ensures last { self.new.last ≡ self.old.last }
+
+        // If the range has as many, nothing is stored and nothing is refused.
+        ensures enough { self.old.last + count ≤ self.old.range_end → IsOk result }
+        ensures unstored { self.old.last + count ≤ self.old.range_end → self.new ≡ self.old }
+        ensures stored { self.old.range_end < self.old.last + count → OnOk result
+            ((self.new.range_end ≡ next_range_end self.old.range_end) × (M.mark self.new.marks
+            ≡ mark_after self.new.range_end (M.mark self.old.marks))) }
+
+        ensures refusals { IfErr result IsDrawRefusal }
+        ensures exhausted { IsErrOf result Refusal.Exhausted
+            ↔ (MOST_STAMP < self.old.last + count) }
+        ensures unchanged { IsErrOf result Refusal.Exhausted → self.new ≡ self.old }
+        ensures device { IsErrOf result Refusal.Device
+            → HasRisen (M.faults self.old.marks) (M.faults self.new.marks) }
+        ensures told { ¬ IsErrOf result Refusal.Device
+            → M.faults self.new.marks ≡ M.faults self.old.marks }
+        ensures err { OnErr result (SameNumbers self.old self.new) }
+        ensures err_mark { OnErr result (MayHold
+            (next_range_end self.old.range_end) (M.mark self.old.marks) (M.mark self.new.marks)) }
+
+        ensures later { M.faults self.old.marks ≤ M.faults self.new.marks }
+    {
+        if count > MOST_STAMP - self.last {
+            return Err(Refusal::Exhausted);
+        }
+        if count > self.range_end - self.last {
+            self.begin_range()?;
+        }
+        Ok(())
+    }
+
+    /// Serves the next `count` stamps at once, which are left in the range. Nothing is stored.
+    pub fn serve(&mut self, count: Stamp)
+        requires { self.old.last + count ≤ self.old.range_end }
+        ensures { self.new ≡ record self.old { last = self.old.last + count } }
+    {
+        self.last += count;
     }
 
     /// Drops the rest of the range and continues from the mark. The only refusal is `Device`.

@@ -1,5 +1,5 @@
 -- The limits of stamps and values are kept.
-use Rattle.std.proofs.Common.{◌≡◌, ℕ, Bool, true, false, cond, List, [], ◌∷◌, Option, Some, None, IfSome, refl, sym, subst, ◌∙◌}
+use Rattle.std.proofs.Common.{◌≡◌, ℕ, Bool, true, false, cond, List, [], ◌∷◌, ◌++◌, Option, Some, None, IfSome, refl, sym, subst, ◌∙◌}
 use Rattle.std.proofs.lemmas.Option.{same_Some}
 use Rattle.std.specs.declared.vec.Vec.{Vec}
 use Rattle.std.specs.Ordering.{eq_by_cmp}
@@ -12,6 +12,8 @@ use Rattle.cell_key.specs.declared.keys.Qualifier.{Qualifier}
 use Rattle.cell_key.specs.declared.edits.Edit.{Edit}
 use Rattle.cell_key.specs.declared.edits.Edit.TheVariants.{Put, Erase}
 use Rattle.cell_key.specs.Versions.{IsVersion, IsVersionIn, HasLimits}
+use Rattle.rows.specs.RowEdits.{AreOfTheirRow, all_edits}
+use Rattle.rows.specs.declared.row_edits.RowEdits.{RowEdits}
 use Rattle.rows.specs.Slots.{AreKept}
 use Rattle.rows.proofs.SlotLemmas.{same_at, not_empty}
 
@@ -45,6 +47,17 @@ edit_keeps row cells (Erase key) one limits q bytes h = go (eq_by_cmp key_cmp q 
 pub edits_keep : (row : List ℕ) (cells : Cells) (edits : List Edit) → AllByRecursion (IsEditOf row) edits → HasLimits cells → HasLimits (after_edits cells edits)
 edits_keep row cells [] all limits = limits
 edits_keep row cells (edit ∷ edits) all limits = edits_keep row (after_edit cells edit) edits all.1 (edit_keeps row cells edit all.0 limits)
+
+-- edits after others
+pub after_both : (cells : Cells) (xs ys : List Edit) → after_edits cells (xs ++ ys) ≡ after_edits (after_edits cells xs) ys
+after_both cells [] ys = refl
+after_both cells (x ∷ xs) ys = after_both (after_edit cells x) xs ys
+
+pub all_keep : (cells : Cells) (changes : List RowEdits) → AllByRecursion AreOfTheirRow changes → HasLimits cells → HasLimits (after_edits cells (all_edits changes))
+all_keep cells [] all limits = limits
+all_keep cells (change ∷ changes) all limits =
+    subst (λ (cs : Cells). HasLimits cs) (sym (after_both cells change.edits.items (all_edits changes)))
+    (all_keep (after_edits cells change.edits.items) changes all.1 (edits_keep change.row cells change.edits.items all.0 limits))
 
 -- a version of a cell map is within the limits
 pub answered : (cells : Cells) (row family : List ℕ) (qualifier : Qualifier) (lo hi : ℕ) (found : Option (ℕ × List ℕ)) → HasLimits cells → IsNewest cells (version row family qualifier) lo hi found → IfSome found (IsVersionIn lo hi)

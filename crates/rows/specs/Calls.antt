@@ -1,12 +1,15 @@
 -- Views of rows, and the effects of calls on them.
 use Rattle.std.specs.Prelude.{◌≡◌, ◌≢◌, ◌⊎◌, ℕ, List, ◌++◌, Option, None, Some, ⊤}
+use Rattle.std.specs.List.{AllByRecursion}
 use Rattle.std.specs.declared.cmp.Ordering.TheVariants.{Less}
 use Rattle.cell_key.specs.Cells.{Cells, after_edits}
 use Rattle.cell_key.specs.Keys.{byte_cmp}
 use Rattle.cell_key.specs.Places.{Place}
 use Rattle.cell_key.specs.declared.edits.Edit.{Edit}
 use Rattle.rows.specs.Room.{TakesNoRoom}
+use Rattle.rows.specs.RowEdits.{all_edits}
 use Rattle.rows.specs.Storage.{Storage}
+use Rattle.rows.specs.declared.row_edits.RowEdits.{RowEdits}
 
 -- A view of rows, however they are stored.
 pub record View (R : Type 0) : Type 1 where
@@ -53,6 +56,19 @@ pub record Applies {R : Type 0} (seen : View R) (row : List ℕ) (edits : List E
   pub made : seen.readable old row → seen.cells new ≡ after_edits (seen.cells old) edits
   pub room : (r : List ℕ) (later : List Edit) → seen.overfills new r later
       → seen.overfills old r later ⊎ seen.overfills old r (edits ++ later)
+  pub stays : seen.storage new ≡ seen.storage old
+
+-- Edits of several rows are made: the premise still holds if it did, and rows that could be read still can; if each of
+-- these rows could, the cells are those after all edits, one row after the other; only the room of the edits is used,
+-- and the state below is unchanged.
+pub record AppliesAll {R : Type 0} (seen : View R) (changes : List RowEdits)
+    (old new : R) : Type 0 where
+  pub still : seen.holds old → seen.holds new
+  pub readable : StaysReadable seen old new
+  pub made : AllByRecursion (λ change. seen.readable old change.row) changes
+      → seen.cells new ≡ after_edits (seen.cells old) (all_edits changes)
+  pub room : (r : List ℕ) (later : List Edit) → seen.overfills new r later
+      → seen.overfills old r later ⊎ seen.overfills old r (all_edits changes ++ later)
   pub stays : seen.storage new ≡ seen.storage old
 
 -- edits of a row that are in the relation are made

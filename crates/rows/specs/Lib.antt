@@ -5,6 +5,7 @@ pub mod Oldest
 pub mod Reads
 pub mod Refusals
 pub mod Room
+pub mod RowEdits
 pub mod Slots
 pub mod Storage
 pub use Rattle.cell_key.specs.Cells

@@ -7,6 +7,7 @@ mod cell_version;
 mod laws;
 mod oldest_version;
 mod plain;
+mod row_edits;
 mod rows;
 mod slots;
 
@@ -15,4 +16,5 @@ pub use cell_version::CellVersion;
 pub use laws::{one_newest, one_next_cell};
 pub use oldest_version::oldest;
 pub use plain::PlainRows;
+pub use row_edits::RowEdits;
 pub use rows::Rows;

@@ -5,6 +5,7 @@ ghost use Rattle.rows.specs.Storage.{no_storage};
 ghost use Rattle.std.specs.FinMap.{empty};
 
 use crate::batches::{BatchLimits, VersionBatch};
+use crate::row_edits::{RowEdits, all_edits};
 use crate::rows::Rows;
 use crate::slots::{self, Slots};
 use cell_key::{Edit, Family, Qualifier, Refusal, Row, Stamp};
@@ -116,6 +117,12 @@ impl Rows for PlainRows {
     }
 
     fn apply(&mut self, _row: &Row, edits: Vec<Edit>) -> Result<(), Refusal> {
+        slots::apply(self.alloc, &mut self.slots, edits)?;
+        Ok(())
+    }
+
+    fn apply_all(&mut self, changes: Vec<RowEdits>) -> Result<(), Refusal> {
+        let edits = all_edits(self.alloc, changes)?;
         slots::apply(self.alloc, &mut self.slots, edits)?;
         Ok(())
     }

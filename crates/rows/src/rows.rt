@@ -9,10 +9,13 @@ ghost use Rattle.cell_key.specs.Places.{AreNextCells, IsNextCell, place_named};
 ghost use Rattle.cell_key.specs.Versions.{IsVersion, IsVersionIn, stamped};
 ghost use Rattle.rows.specs.Batches.{AreNextVersions, IsFull};
 ghost use Rattle.rows.specs.Reads.{AreNewestFirst, HasVersion};
-ghost use Rattle.rows.specs.Calls.{Applies, AreReadableFrom, OnlyReads, View};
+ghost use Rattle.rows.specs.Calls.{Applies, AppliesAll, AreReadableFrom, OnlyReads, View};
 ghost use Rattle.rows.specs.Refusals.{IsApplyRefusal, IsRefusalOfRead};
+ghost use Rattle.rows.specs.Room.{OverfillsOne};
+ghost use Rattle.rows.specs.RowEdits.{AreOfTheirRow};
 
 use crate::batches::{BatchLimits, VersionBatch};
+use crate::row_edits::RowEdits;
 use cell_key::{Edit, Family, Qualifier, Refusal, Row, Stamp};
 
 /// Rows of cells. Reads and writes of a single row are atomic (Bigtable: reads and writes under a single row are
@@ -172,6 +175,24 @@ pub trait Rows {
         ensures full { IsErrOf result Refusal.MemtableFull
             → seen.overfills self.old row.now edits.items }
         ensures within { OnOk result (¬ seen.overfills self.old row.now edits.items) }
+        ensures untouched { faults self.new ≡ faults self.old };
+
+    /// Applies edits to several rows in order, one row after the other, all of them or none. The rows may repeat. No
+    /// device is used, and nothing below the rows in memory changes.
+    ///
+    /// # Errors
+    ///
+    /// `MemtableFull` if all the edits together would exceed a limit of the memory, and `NoMemory` if an allocation
+    /// failed. If both are so, the answer is any of the two. The cells are then unchanged, and edits would exceed a
+    /// limit only if they would have before.
+    fn apply_all(&mut self, changes: Vec<RowEdits>) -> Result<(), Refusal>
+        requires { AllByRecursion AreOfTheirRow changes.items }
+        ensures ok { OnOk result (AppliesAll seen changes.items self.old self.new) }
+        ensures err { OnErr result (OnlyReads seen self.old self.new) }
+        ensures refusal { IfErr result IsApplyRefusal }
+        ensures full { IsErrOf result Refusal.MemtableFull
+            → OverfillsOne seen.overfills changes.items self.old }
+        ensures within { OnOk result (¬ OverfillsOne seen.overfills changes.items self.old) }
         ensures untouched { faults self.new ≡ faults self.old };
 
     /// How often a device has failed. The count saturates at 2^64 - 1.

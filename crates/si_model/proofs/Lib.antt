@@ -1,11 +1,15 @@
 mod Cleaned
 mod Deletions
+mod OneMoment
 mod Races
 mod ScanScript
 mod ScriptSteps
 mod TabletScript
 mod Transfers
+mod Truly
 pub mod Acceptable
+pub mod AllSteps
+pub mod AtOnce
 pub mod Bounds
 pub mod ChangeKinds
 pub mod ChangedParts
@@ -27,6 +31,7 @@ pub mod Left
 pub mod Limits
 pub mod NextCells
 pub mod Numbers
+pub mod Reached
 pub mod Recovered
 pub mod Refusals
 pub mod Pages
@@ -35,6 +40,7 @@ pub mod Scannable
 pub mod Scanned
 pub mod ShownAt
 pub mod ShownKept
+pub mod ShownPut
 pub mod ShownTouched
 pub mod Snapshots
 pub mod Steps

@@ -17,3 +17,7 @@ pub mod Enduring
 pub mod Deciding
 pub mod Collection
 pub mod Recovered
+pub mod PutCells
+pub mod Transactions
+pub mod TransactionLaws
+pub mod Answers

@@ -13,6 +13,7 @@ ghost use Rattle.si_model.specs.Machine.{IsReached, State, reopened};
 ghost use Rattle.si_model.specs.Recovered.{Recovers};
 ghost use Rattle.si_model.specs.ScanLaws.{NothingThere, PagesCover, PagesGoOn, ScansAsGets, ScansMeet, ScansSettled};
 ghost use Rattle.si_model.specs.ShowsCells.{ShowsCells, WhereShown};
+ghost use Rattle.si_model.specs.TransactionLaws.{AnswersTruly, PutsAtOnce, ReadsOneMoment, StaysReached};
 ghost use Rattle.si_model.specs.declared.replies.Cell.{Cell};
 
 /// Each value answered is the last one committed by its session's start, in the commits as they are now.
@@ -223,4 +224,24 @@ pub fn left_falls()
 pub fn make_cells()
     ensures { (cells : Cells) (x : Cell) (t : ℕ) (edits : List RowEdit)
         → MakeCells cells x t edits }
+{}
+
+/// A request that stands for several leads from a reached state to a reached state, so the machine's laws hold after it.
+pub fn stays_reached()
+    ensures { StaysReached }
+{}
+
+/// A transaction whose cells are free may put data and record of each of its writes, and no lock.
+pub fn puts_at_once()
+    ensures { PutsAtOnce }
+{}
+
+/// What is read together holds at one moment.
+pub fn reads_one_moment()
+    ensures { ReadsOneMoment }
+{}
+
+/// The answer of a transaction is true.
+pub fn answers_truly()
+    ensures { AnswersTruly }
 {}

@@ -14,7 +14,7 @@ use Rattle.cell_key.specs.declared.edits.Edit.{Edit}
 use Rattle.cell_key.specs.declared.edits.Edit.TheVariants.{Put, Erase}
 use Rattle.cell_key.proofs.EntryLaws.{stored_key}
 use Rattle.cell_key.proofs.Order.{text_order}
-use Rattle.memtable.specs.Edits.{HasStoredKey, edit_entry, with_edit, with_edits}
+use Rattle.memtable.specs.Edits.{HasStoredKey, IsLimited, edit_entry, with_edit, with_edits}
 use Rattle.cell_key.proofs.TextPlaces.{equal, one_text as same_key}
 use Rattle.cell_key.proofs.EntryLists.{total}
 use Rattle.cell_key.proofs.KeyLaws.{exact_keys}
@@ -120,9 +120,9 @@ one_edit range memory lists edit a b k inside =
     ∙ ap (λ t. cond t (edit_value edit) (get old q)) (sym (untied q (edited_key edit) n k (eq_by_cmp key_cmp q (edited_key edit)) refl))
     ∙ sym (get-after old edit q)))
 
-edit_is_entry : (row : List ℕ) (edit : Edit) → HasStoredKey edit → IsEditOf row edit → IsEntry (edit_entry edit)
-edit_is_entry row (Put key value) k e = record { key = key; stored = k; named = refl; value = e.value }
-edit_is_entry row (Erase key) k e = record { key = key; stored = k; named = refl; value = tt }
+edit_is_entry : (edit : Edit) → HasStoredKey edit → IsLimited edit → IsEntry (edit_entry edit)
+edit_is_entry (Put key value) k e = record { key = key; stored = k; named = refl; value = e.value }
+edit_is_entry (Erase key) k e = record { key = key; stored = k; named = refl; value = tt }
 
 each_put : (name : List ℕ) (v : Option (List ℕ)) (es : List Entry) → IsEntry (name, v) → AllByRecursion IsEntry es → AllByRecursion IsEntry (put byte_cmp name v es)
 each_put name v [] one all = (one, tt)
@@ -134,20 +134,33 @@ each_put name v (e ∷ es) one all =
     ] refl
 
 -- an entry list stays one after an edit, and after edits
-edit_list : (row : List ℕ) (memory : List Entry) (edit : Edit) → IsEntryList memory → HasStoredKey edit → IsEditOf row edit → IsEntryList (with_edit memory edit)
-edit_list row memory edit h k e = record {
+edit_list : (memory : List Entry) (edit : Edit) → IsEntryList memory → HasStoredKey edit → IsLimited edit → IsEntryList (with_edit memory edit)
+edit_list memory edit h k e = record {
   rising = is_sorted-put byte_cmp total (edit_entry edit).0 (edit_entry edit).1 memory h.rising;
-  each = each_put (edit_entry edit).0 (edit_entry edit).1 memory (edit_is_entry row edit k e) h.each;
+  each = each_put (edit_entry edit).0 (edit_entry edit).1 memory (edit_is_entry edit k e) h.each;
 }
 
-pub edits_list : (row : List ℕ) (memory : List Entry) (edits : List Edit) → IsEntryList memory → AllByRecursion HasStoredKey edits → AllByRecursion (IsEditOf row) edits → IsEntryList (with_edits memory edits)
-edits_list row memory [] h k e = h
-edits_list row memory (edit ∷ edits) h k e = edits_list row (with_edit memory edit) edits (edit_list row memory edit h k.0 e.0) k.1 e.1
+pub edits_list : (memory : List Entry) (edits : List Edit) → IsEntryList memory → AllByRecursion HasStoredKey edits → AllByRecursion IsLimited edits → IsEntryList (with_edits memory edits)
+edits_list memory [] h k e = h
+edits_list memory (edit ∷ edits) h k e = edits_list (with_edit memory edit) edits (edit_list memory edit h k.0 e.0) k.1 e.1
 
--- edits to a row of the range have the same effect on the shown entries as on their cells
-pub edits_shown : (range : RowRange) (row : List ℕ) (memory : List Entry) (lists : List (List Entry)) (edits : List Edit) → AllByRecursion IsEntryList (memory ∷ lists) → AllByRecursion HasStoredKey edits → AllByRecursion (IsEditOf row) edits → has_row range row ≡ true → cells_of (shown range (with_edits memory edits ∷ lists)) ≡ after_edits (cells_of (shown range (memory ∷ lists))) edits
-edits_shown range row memory lists [] a k e inside = refl
-edits_shown range row memory lists (edit ∷ edits) a k e inside =
-    let list = edit_list row memory edit a.0 k.0 e.0 in
-    edits_shown range row (with_edit memory edit) lists edits (list, a.1) k.1 e.1 inside
-    ∙ ap (λ cells. after_edits cells edits) (one_edit range memory lists edit a (list, a.1) k.0 (ap (λ r. has_row range r) e.0.under ∙ inside))
+-- the row of each edit is in the range
+abbrev pub AreIn : RowRange → List Edit → Type 0
+AreIn range edits = AllByRecursion (λ edit. has_row range (edited_key edit).row ≡ true) edits
+
+-- edits to rows of the range have the same effect on the shown entries as on their cells
+pub edits_shown : (range : RowRange) (memory : List Entry) (lists : List (List Entry)) (edits : List Edit) → AllByRecursion IsEntryList (memory ∷ lists) → AllByRecursion HasStoredKey edits → AllByRecursion IsLimited edits → AreIn range edits → cells_of (shown range (with_edits memory edits ∷ lists)) ≡ after_edits (cells_of (shown range (memory ∷ lists))) edits
+edits_shown range memory lists [] a k e inside = refl
+edits_shown range memory lists (edit ∷ edits) a k e inside =
+    let list = edit_list memory edit a.0 k.0 e.0 in
+    edits_shown range (with_edit memory edit) lists edits (list, a.1) k.1 e.1 inside.1
+    ∙ ap (λ cells. after_edits cells edits) (one_edit range memory lists edit a (list, a.1) k.0 inside.0)
+
+-- edits of a row are within the limits, and in a range that has the row
+pub all_limited : (row : List ℕ) (edits : List Edit) → AllByRecursion (IsEditOf row) edits → AllByRecursion IsLimited edits
+all_limited row [] all = tt
+all_limited row (edit ∷ edits) all = (record { under = refl; from = all.0.from; to = all.0.to; value = all.0.value }, all_limited row edits all.1)
+
+pub all_in : (range : RowRange) (row : List ℕ) (edits : List Edit) → has_row range row ≡ true → AllByRecursion (IsEditOf row) edits → AreIn range edits
+all_in range row [] inside all = tt
+all_in range row (edit ∷ edits) inside all = (ap (λ r. has_row range r) all.0.under ∙ inside, all_in range row edits inside all.1)

@@ -22,7 +22,7 @@ use Rattle.tablet.specs.declared.compactions.Compaction.{Compaction}
 use Rattle.tablet.specs.declared.compactions.Compaction.TheVariants.{Minor, Merge, Major}
 use Rattle.tablet.proofs.Held.{held_lists}
 use Rattle.tablet.proofs.Seen.{shown}
-use Rattle.tablet.proofs.KeptCells.{edits_list, edits_shown}
+use Rattle.tablet.proofs.KeptCells.{all_in, all_limited, edits_list, edits_shown}
 use Rattle.tablet.proofs.TabletLaws.{each_same, files_over, still_below}
 
 -- ---- edits
@@ -30,12 +30,12 @@ use Rattle.tablet.proofs.TabletLaws.{each_same, files_over, still_below}
 pub after_apply : (r : Result Unit Refusal) (row : List ℕ) (t : Tablet) (new : List Entry) (edits : List Edit) → AllByRecursion (IsEditOf row) edits → OnOk r (new ≡ with_edits (memory_of t) edits) → OnOk r (AllByRecursion HasStoredKey edits)
     → OnOk r ((m : Contents) → Holds m t → IsTrue (has_row (range_of t) row) → cells_at m record t { memtable = new } ≡ after_edits (cells_at m t) edits)
 after_apply (Ok x) row t new edits e is k = λ m h inside. let P : List Entry → Type 0 = λ (es : List Entry). cells_at m record t { memtable = es } ≡ after_edits (cells_at m t) edits in
-    subst P (sym is) (edits_shown (range_of t) row (memory_of t) (map (listed m) (files_of t)) edits (held_lists m t h) k e inside)
+    subst P (sym is) (edits_shown (range_of t) (memory_of t) (map (listed m) (files_of t)) edits (held_lists m t h) k (all_limited row edits e) (all_in (range_of t) row edits inside e))
 after_apply (Err x) row t new edits e is k = tt
 
 pub holds_after_apply : (r : Result Unit Refusal) (row : List ℕ) (t : Tablet) (new : List Entry) (edits : List Edit) → AllByRecursion (IsEditOf row) edits → OnOk r (new ≡ with_edits (memory_of t) edits) → OnOk r (AllByRecursion HasStoredKey edits)
     → OnOk r ((m : Contents) → Holds m t → Holds m record t { memtable = new })
-holds_after_apply (Ok x) row t new edits e is k = λ m h. record { memory = subst IsEntryList (sym is) (edits_list row (memory_of t) edits h.memory k e); files = h.files }
+holds_after_apply (Ok x) row t new edits e is k = λ m h. record { memory = subst IsEntryList (sym is) (edits_list (memory_of t) edits h.memory k (all_limited row edits e)); files = h.files }
 holds_after_apply (Err x) row t new edits e is k = tt
 
 -- ---- files

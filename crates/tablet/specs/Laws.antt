@@ -1,14 +1,17 @@
 -- Laws of tablets.
-use Rattle.std.specs.Prelude.{◌≡◌, ℕ, Some, None, false, if◌then◌else◌}
+use Rattle.std.specs.Prelude.{◌≡◌, ℕ, List, Some, None, true, false, if◌then◌else◌}
 use Rattle.std.specs.List.{AllByRecursion}
 use Rattle.std.specs.FinMap.{get}
 use Rattle.cell_key.specs.Keys.{IsStored, text}
+use Rattle.cell_key.specs.Cells.{after_edits, edited_key}
 use Rattle.cell_key.specs.Entries.{IsEntryList, first_naming, value_of}
+use Rattle.cell_key.specs.declared.edits.Edit.{Edit}
 use Rattle.cell_key.specs.declared.keys.CellKey.{CellKey}
 use Rattle.file_store.specs.Store.{Contents}
+use Rattle.memtable.specs.Edits.{HasStoredKey, IsLimited, with_edits}
 use Rattle.sorted_file.specs.File.{HasFile}
 use Rattle.tablet.specs.Ranges.{has_row}
-use Rattle.tablet.specs.Views.{range_of, memory_of, names_of, lists_of, view_of, cells_at, Holds, IsBelow, UsesName}
+use Rattle.tablet.specs.Views.{range_of, memory_of, names_of, lists_of, view_of, with_memory, cells_at, Holds, IsBelow, UsesName}
 use Rattle.tablet.specs.declared.tablet.Tablet.{Tablet}
 
 -- A tablet shows an entry list, and no cell outside its range.
@@ -49,3 +52,13 @@ SameCells =
 -- Every file of a tablet exists.
 abbrev pub FilesAreThere : Type 0
 FilesAreThere = (m : Contents) (t : Tablet) → Holds m t → AllByRecursion (HasFile m) (names_of t)
+
+-- Edits of rows in its range, put into the memtable of a tablet that holds, are edits of its cells, and it still holds.
+abbrev pub EditsShow : Type 0
+EditsShow =
+    (m : Contents) (t : Tablet) (edits : List Edit) → Holds m t
+    → AllByRecursion IsLimited edits → AllByRecursion HasStoredKey edits
+    → AllByRecursion (λ edit. has_row (range_of t) (edited_key edit).row ≡ true) edits
+    → Holds m (with_memory t (with_edits (memory_of t) edits))
+    × (cells_at m (with_memory t (with_edits (memory_of t) edits))
+    ≡ after_edits (cells_at m t) edits)

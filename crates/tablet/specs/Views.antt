@@ -25,6 +25,10 @@ files_of t = t.files
 abbrev pub names_of : Tablet → List ℕ
 names_of t = map name_of (files_of t)
 
+-- the tablet with these entries in its memtable
+abbrev pub with_memory : Tablet → List Entry → Tablet
+with_memory t es = record t { memtable = es }
+
 -- a tablet's lists, the newest first
 abbrev pub lists_of : Contents → Tablet → List (List Entry)
 lists_of m t = memory_of t ∷ map (listed m) (files_of t)

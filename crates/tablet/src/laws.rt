@@ -1,6 +1,6 @@
 //! Laws of tablets. Each is the contract of a function that does nothing.
 
-ghost use Rattle.tablet.specs.Laws.{StaysInRange, ShowsItsLists, OthersStay, UnnamedMayGo, SameCells, FilesAreThere};
+ghost use Rattle.tablet.specs.Laws.{StaysInRange, ShowsItsLists, OthersStay, UnnamedMayGo, SameCells, FilesAreThere, EditsShow};
 
 use sorted_file::{one_listing, open_is_there, stays_open};
 
@@ -42,3 +42,8 @@ pub fn files_are_there()
 {
     open_is_there();
 }
+
+/// Edits of rows in its range, put into the memtable of a tablet, are edits of its cells.
+pub fn edits_show()
+    ensures { EditsShow }
+{}

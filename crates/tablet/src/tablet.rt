@@ -1,15 +1,15 @@
 //! Tablets: the type, and its calls that write no file.
 
-ghost use Rattle.std.specs.Prelude.{◌≡◌, ◌≤◌, ◌<◌, ◌+◌, ◌++◌, ◌∷◌, ◌⊎◌, ◌↔◌, [], None, length, vec_len, vec_capacity, IsTrue, IsOk, IfErr, OnErr, OnOk, IsErrOf, IsOkUnless};
+ghost use Rattle.std.specs.Prelude.{◌≡◌, ◌≤◌, ◌<◌, ◌+◌, ◌++◌, ◌∷◌, ◌⊎◌, ◌↔◌, [], None, length, vec_len, vec_capacity, IsTrue, IsOk, IfErr, IfOk, OnErr, OnOk, IsErrOf, IsOkUnless};
 ghost use Rattle.std.specs.List.{AllByRecursion};
 ghost use Rattle.cell_key.specs.Cells.{IsEditOf, after_edits};
 ghost use Rattle.file_store.specs.Store.{Contents};
-ghost use Rattle.memtable.specs.Edits.{bytes_of, with_edits, IsWithinLimits};
+ghost use Rattle.memtable.specs.Edits.{bytes_of, with_edits, HasStoredKey, IsLimited, IsWithinLimits};
 
 use crate::open_files::OpenFiles;
 use crate::ranges::RowRange;
 use cell_key::{Edit, Refusal, Row};
-use memtable::Memtable;
+use memtable::{Memtable, Prepared};
 use sorted_file::few_blocks;
 use std::alloc::Global;
 use std::num::NonZeroUsize;
@@ -29,7 +29,7 @@ pub struct Tablet {
 
 impl Tablet {
     ghost use Rattle.tablet.specs.Ranges.{has_row};
-    ghost use Rattle.tablet.specs.Views.{range_of, memory_of, files_of, names_of, cells_at, Holds};
+    ghost use Rattle.tablet.specs.Views.{range_of, memory_of, files_of, names_of, with_memory, cells_at, Holds};
 
     /// A tablet with this many files gets no further one: a minor compaction with entries to write is refused with
     /// `TooManyFiles`.
@@ -137,5 +137,36 @@ impl Tablet {
             ⊎ (refusal ≡ Refusal.NoMemory)) }
     {
         self.memtable.apply(row, edits)
+    }
+
+    /// Takes the memtable out, with edits that are ready to be put: applied in order, of any rows. Until `finish` the
+    /// tablet has no entries in memory.
+    ///
+    /// # Errors
+    ///
+    /// `MemtableFull` if a limit of the memtable would be exceeded, and `NoMemory`. The tablet is then unchanged.
+    pub fn prepare(&mut self, edits: Vec<Edit>) -> Result<Prepared, Refusal>
+        requires { AllByRecursion IsLimited edits.items }
+        ensures taken { OnOk result (self.new ≡ with_memory self.old []) }
+        ensures ready { IfOk result (λ ready. ready
+            ≡ (memory_of self.old, with_edits (memory_of self.old) edits.items)) }
+        ensures within { OnOk result (IsWithinLimits
+            (with_edits (memory_of self.old) edits.items)) }
+        ensures keys { OnOk result (AllByRecursion HasStoredKey edits.items) }
+        ensures err { OnErr result (self.new ≡ self.old) }
+        ensures full { IsErrOf result Refusal.MemtableFull
+            → ¬ (IsWithinLimits (with_edits (memory_of self.old) edits.items)) }
+        ensures refusal { IfErr result (λ refusal. (refusal ≡ Refusal.MemtableFull)
+            ⊎ (refusal ≡ Refusal.NoMemory)) }
+    {
+        self.memtable.prepare(edits)
+    }
+
+    /// Makes a memtable that was taken out this tablet's: with its edits if they are to be put, else as it was.
+    /// Allocates nothing.
+    pub fn finish(&mut self, ready: Prepared, is_put: bool)
+        ensures { self.new ≡ with_memory self.old (if is_put then ready.1 else ready.0) }
+    {
+        self.memtable = if is_put { ready.put() } else { ready.cancel() };
     }
 }

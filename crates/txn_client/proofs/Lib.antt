@@ -1,10 +1,12 @@
 pub mod Advance
+pub mod CellReads
 pub mod Exact
 pub mod GatheredItems
 pub mod OrderedCells
 pub mod Passed
 pub mod ShownReads
 pub mod ReadCells
+pub mod ReadsShown
 pub mod Refused
 pub mod Room
 pub mod ScanSteps

@@ -81,7 +81,7 @@ shows_changed st next old new k w h a b shown now t = elim (cases_eq t k) [
   | inr ne ↦ subst (λ (o : Option Session). ShowsAt o t next) (sym (upd_off old new k w h t ne)) (shows_other st next (old t) t (a t ne) (b t ne) (shown t))
 ]
 
-abbrev begun_at : State → ℕ → State
+abbrev pub begun_at : State → ℕ → State
 begun_at st start = record st { top = start; begun = finmap.insert st.begun start []; active = finmap.insert st.active start machine.Open }
 
 -- a start that follows the oracle's last stamp names no session

@@ -1,4 +1,5 @@
 pub mod CellOrder
+pub mod CellReads
 pub mod Gathering
 pub mod Ranges
 pub mod Reads
@@ -6,6 +7,7 @@ pub mod Refusals
 pub mod Room
 pub mod Scans
 pub mod Shows
+pub mod Transactions
 pub mod Writes
 pub use Rattle.si_model.specs.Machine
 pub use Rattle.si_model.specs.Replies

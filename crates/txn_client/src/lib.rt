@@ -2,6 +2,7 @@
 #![tactic(auto)]
 
 mod cell_order;
+mod cell_reads;
 mod cells;
 mod laws;
 mod newest_read;
@@ -10,6 +11,7 @@ mod scan;
 mod session;
 mod sessions;
 mod steps;
+mod transactions;
 mod value;
 mod writes;
 

@@ -40,7 +40,7 @@ use std::alloc::Global;
 use std::collections::BTreeMap;
 
 /// The most sessions that are active at once.
-const MOST_SESSIONS: usize = 1024;
+pub(crate) const MOST_SESSIONS: usize = 1024;
 
 /// The most cells that a scan may look at.
 const MOST_SCANNED: u32 = 1000;
@@ -52,9 +52,9 @@ const MOST_SCANNED: u32 = 1000;
 /// repeated.
 #[derive(Drop)]
 pub struct Clients {
-    alloc: Global,
-    top: Stamp,
-    sessions: BTreeMap<Stamp, Session>,
+    pub(crate) alloc: Global,
+    pub(crate) top: Stamp,
+    pub(crate) sessions: BTreeMap<Stamp, Session>,
 }
 
 /// The greatest stamp answered, after a step.

@@ -5,11 +5,10 @@ use Rattle.std.specs.Cmp.Lexicographic.{nat_list_cmp_total}
 use Rattle.std.specs.FinMap.Entries.{put, is_sorted-put}
 use Rattle.std.proofs.Common.{length}
 use Rattle.cell_key.specs.Keys.{byte_cmp}
-use Rattle.cell_key.specs.Cells.{IsEditOf}
 use Rattle.cell_key.specs.Entries.{Entry, IsRising, IsEntry}
 use Rattle.cell_key.specs.declared.edits.Edit.{Edit}
 use Rattle.memtable.specs.Slots.{slot_entry, slot_entries, over}
-use Rattle.memtable.specs.Edits.{with_edit, with_edits, HasStoredKey}
+use Rattle.memtable.specs.Edits.{with_edit, with_edits, HasStoredKey, IsLimited}
 use Rattle.memtable.proofs.EntryLists.{over-put, each-put}
 use Rattle.memtable.proofs.staging.stage.Goals as goal
 
@@ -20,7 +19,7 @@ loop-edit-preserved c =
     let rest = into_iter_items c.next.new.self in
     let first = c.in-Some.ensures.steps.0 in
     let made = c.put.ensures.entries in
-    let all : AllByRecursion (IsEditOf c.args.row.now) (c.in-Some.edit ∷ rest) = subst (λ (es : List Edit). AllByRecursion (IsEditOf c.args.row.now) es) first c.loop-edit.invariant.edits in
+    let all : AllByRecursion IsLimited (c.in-Some.edit ∷ rest) = subst (λ (es : List Edit). AllByRecursion IsLimited es) first c.loop-edit.invariant.edits in
     let len = ap length first in
     record {
       rising = subst (λ (es : List Entry). IsRising es) (sym made) (is_sorted-put byte_cmp nat_list_cmp_total entry.0 entry.1 staged c.loop-edit.invariant.rising);

@@ -1,0 +1,70 @@
+-- Reads of cells one after the other.
+use Rattle.std.proofs.Common.{◌≡◌, ◌∙◌, ℕ, zero, suc, ◌+◌, [], ◌∷◌, ◌++◌, List, map, take, drop, length, get_or, ◌<◌, Option, Some, option_map, refl, sym, subst, ap, arith}
+use Rattle.std.specs.Prelude.{slice_get}
+use Rattle.std.proofs.lemmas.List.{map-append}
+use Rattle.std.proofs.lemmas.Option.{none-some, same_Some, slice_get-get_or}
+use Rattle.cell_key.specs.Cells.{Cells}
+use Rattle.cell_key.specs.declared.refusals.Refusal.{Refusal}
+use Rattle.si_model.specs.Answers.{cell_named, cells_named}
+use Rattle.si_model.specs.Machine.{Item}
+use Rattle.si_model.specs.Replies.{found_item}
+use Rattle.si_model.specs.Transactions.{told_length}
+use Rattle.si_model.specs.declared.replies.Cell.{Cell}
+use Rattle.si_model.specs.declared.scans.ScanFound.{ScanFound}
+use Rattle.si_model.specs.declared.transactions.CellName.{CellName}
+use Rattle.txn_client.specs.CellReads.{AreRead, IsReadingRefusal, IsReadSo, IsRefusedAmong, said_in, told_lengths}
+use Rattle.txn_client.specs.Scans.{IsNamed}
+
+pub said_next : (old new : List (Option ScanFound)) (said : Option ScanFound) → new ≡ old ++ said ∷ [] → said_in new ≡ said_in old ++ option_map found_item said ∷ []
+said_next old new said is = ap said_in is ∙ map-append (λ (s : Option ScanFound). option_map found_item s) old (said ∷ [])
+
+-- the i-th element is the next one after the first i
+next_of : {X : Type 0} (xs : List X) (i : ℕ) (x : X) → slice_get xs i ≡ Some x → (take (suc i) xs ≡ take i xs ++ x ∷ []) × (xs ≡ take i xs ++ x ∷ drop (suc i) xs)
+next_of [] i x e = absurd (none-some x e)
+next_of (y ∷ ys) zero x e = let same = same_Some y x e in (ap (λ z. z ∷ []) same, ap (λ z. z ∷ ys) same)
+next_of (y ∷ ys) (suc i) x e = let r = next_of ys i x e in (ap (λ zs. y ∷ zs) r.0, ap (λ zs. y ∷ zs) r.1)
+
+lengths_more : (said : List (Option Item)) (one : Option Item) → told_lengths (said ++ one ∷ []) ≡ told_lengths said + told_length one
+lengths_more [] one = omega arith
+lengths_more (r ∷ rs) one = let more = lengths_more rs one in omega (arith, more)
+
+next_taken : {X : Type 0} (xs : List X) (i : ℕ) (d : X) → i < length xs → (take (i + 1) xs ≡ take i xs ++ get_or xs i d ∷ []) × (xs ≡ take i xs ++ get_or xs i d ∷ drop (i + 1) xs)
+next_taken xs i d less =
+    let r = next_of xs i (get_or xs i d) (slice_get-get_or xs i d less) in
+    let more : suc i ≡ i + 1 = omega arith in
+    subst (λ (n : ℕ). (take n xs ≡ take i xs ++ get_or xs i d ∷ []) × (xs ≡ take i xs ++ get_or xs i d ∷ drop n xs)) more r
+
+module _ (cells : Cells) (s : ℕ) where
+  pub reads_one_more : (xs : List Cell) (said : List (Option Item)) (used : ℕ) (x : Cell) (one : Option Item) → AreRead cells s used xs said → IsNamed x → IsReadSo cells s (used + told_lengths said) x one
+      → AreRead cells s used (xs ++ x ∷ []) (said ++ one ∷ [])
+  reads_one_more [] [] used x one h named read = let none : used + 0 ≡ used = omega arith in (named, subst (λ (n : ℕ). IsReadSo cells s n x one) none read, tt)
+  reads_one_more [] (r ∷ rs) used x one h named read = absurd h
+  reads_one_more (y ∷ ys) [] used x one h named read = absurd h
+  reads_one_more (y ∷ ys) (r ∷ rs) used x one h named read =
+      let sum : used + (told_length r + told_lengths rs) ≡ used + told_length r + told_lengths rs = omega arith in
+      (h.0, h.1, reads_one_more ys rs (used + told_length r) x one h.2 named (subst (λ (n : ℕ). IsReadSo cells s n x one) sum read))
+
+  -- the first i + 1 cells are read, if the first i are, and the next one is
+  pub named_more : (names : List CellName) (i : ℕ) (d : CellName) (used : ℕ) (said new : List (Option Item)) (one : Option Item) (now : Cells) → i < length names → AreRead cells s 0 (cells_named (take i names)) said → used ≡ told_lengths said
+      → IsNamed (cell_named (get_or names i d)) → now ≡ cells → IsReadSo now s used (cell_named (get_or names i d)) one → new ≡ said ++ one ∷ [] → AreRead cells s 0 (cells_named (take (i + 1) names)) new
+  named_more names i d used said new one now less h count named same read is =
+      let sum : used ≡ 0 + told_lengths said = omega (arith, count) in
+      let more = reads_one_more (cells_named (take i names)) said 0 (cell_named (get_or names i d)) one h named (subst (λ (p : Cells × ℕ). IsReadSo p.0 s p.1 (cell_named (get_or names i d)) one) (λ j. (same j, sum j)) read) in
+      let taken = ap cells_named (next_taken names i d less).0 ∙ map-append cell_named (take i names) (get_or names i d ∷ []) in
+      subst (λ (p : List Cell × List (Option Item)). AreRead cells s 0 p.0 p.1) (λ j. (sym taken j, sym is j)) more
+
+  pub refused_named : (names : List CellName) (i : ℕ) (d : CellName) (said : List (Option Item)) (e : Refusal) → i < length names → AreRead cells s 0 (cells_named (take i names)) said
+      → IsReadingRefusal (cell_named (get_or names i d)) e → IsRefusedAmong cells s (cells_named names) e
+  refused_named names i d said e less h why = record {
+    before = cells_named (take i names);
+    cell = cell_named (get_or names i d);
+    after = cells_named (drop (i + 1) names);
+    split = ap cells_named (next_taken names i d less).1 ∙ map-append cell_named (take i names) (get_or names i d ∷ drop (i + 1) names);
+    said = said;
+    read = h;
+    why = why;
+  }
+
+-- the bytes of what is said, after one more cell
+pub lengths_now : (used used' : ℕ) (said new : List (Option Item)) (one : Option Item) → used ≡ told_lengths said → new ≡ said ++ one ∷ [] → used' ≡ used + told_length one → used' ≡ told_lengths new
+lengths_now used used' said new one count is more = more ∙ (ap (λ (n : ℕ). n + told_length one) count ∙ (sym (lengths_more said one) ∙ ap told_lengths (sym is)))

@@ -1,0 +1,48 @@
+-- Requests that stand for several of a session: what they come to, and their refusals.
+use Rattle.std.specs.Prelude.{◌≡◌, ◌≢◌, ⊤, ℕ, ◌+◌, ◌<◌, ◌≤◌, ◌-◌, ◌^◌, None}
+use Rattle.std.specs.Ordering.{nat_cmp}
+use Rattle.std.specs.BTreeMap as btree
+use Rattle.cell_key.specs.Cells.{Cells}
+use Rattle.cell_key.specs.declared.refusals.Refusal.{Refusal}
+use Rattle.cell_key.specs.declared.refusals.Refusal.TheVariants.{UnknownSession, WrongPhase, BadRow, BadColumn, TooManySessions, BadCount, Exhausted, Device, NoMemory, Damaged}
+use Rattle.si_model.specs.Machine.{State, IsReached}
+use Rattle.si_model.specs.Transactions.{Answer, Asked, Goes}
+use Rattle.txn_client.specs.Shows.{IsLate, IsOpenSession, Shows}
+use Rattle.txn_client.specs.declared.sessions.Clients.{Clients}
+
+-- From each reached state that is shown before, the request may be answered so, and leads to a state that is shown
+-- after.
+abbrev pub GoesAs : Cells → Clients → ℕ → Asked → Answer → Cells → Clients → ℕ → Type 0
+GoesAs cells clients last asked answer cells' clients' last' =
+    (st : State) → IsReached st → Shows cells clients last st
+    → (next : State) × Goes st asked answer next × Shows cells' clients' last' next
+
+-- the session of a request: the one that is named, which is open, or one that may begin with the next stamp
+pub record HasSession (clients : Clients) (last start s : ℕ) : Type 0 where
+  pub is_open : start ≢ 0 → (s ≡ start) × IsOpenSession clients start
+  pub is_new : start ≡ 0 → (s ≡ last + 1) × (s < 2 ^ 63)
+      × (btree.btree_map_len clients.sessions < 1024)
+
+-- why it has none
+abbrev pub IsSessionRefusal : Clients → ℕ → ℕ → Refusal → Type 0
+IsSessionRefusal clients last start UnknownSession =
+    (start ≢ 0) × (btree.get nat_cmp clients.sessions start ≡ None)
+IsSessionRefusal clients last start WrongPhase = (start ≢ 0) × IsLate clients start
+IsSessionRefusal clients last start TooManySessions =
+    (start ≡ 0) × (1024 ≤ btree.btree_map_len clients.sessions)
+IsSessionRefusal clients last start Exhausted =
+    (start ≡ 0) × (btree.btree_map_len clients.sessions < 1024) × (last ≡ 2 ^ 63 - 1)
+IsSessionRefusal clients last start _ = ⊥
+
+abbrev pub IsReadRequestRefusal : Refusal → Type 0
+IsReadRequestRefusal UnknownSession = ⊤
+IsReadRequestRefusal WrongPhase = ⊤
+IsReadRequestRefusal BadRow = ⊤
+IsReadRequestRefusal BadColumn = ⊤
+IsReadRequestRefusal TooManySessions = ⊤
+IsReadRequestRefusal BadCount = ⊤
+IsReadRequestRefusal Exhausted = ⊤
+IsReadRequestRefusal Device = ⊤
+IsReadRequestRefusal NoMemory = ⊤
+IsReadRequestRefusal Damaged = ⊤
+IsReadRequestRefusal _ = ⊥
