@@ -1,5 +1,5 @@
 -- Files of which each has the content that is meant.
-use Rattle.std.proofs.Common.{◌≡◌, ◌≢◌, ◌==◌, if◌then◌else◌, ℕ, List, [], ◌∷◌, ◌++◌, refl, sym, ap, ◌∙◌, subst, cond, not, T, true, false, Bool, length, inl, inr, arith}
+use Rattle.std.proofs.Common.{◌≡◌, ◌≢◌, ◌==◌, ◌<◌, if◌then◌else◌, ℕ, zero, suc, List, [], ◌∷◌, ◌++◌, refl, sym, ap, ◌∙◌, subst, cond, not, T, true, false, Bool, length, inl, inr, arith}
 use Rattle.std.specs.Prelude.{Option, Some, None, Result, Ok, Err, OnErr, ◌⊎◌}
 use Rattle.std.specs.List.{list_any}
 use Rattle.std.specs.Ordering.{nat_cmp, eq_by_cmp, is_eq}
@@ -10,14 +10,14 @@ use Rattle.std.specs.declared.cmp.Ordering.TheVariants.{Less, Equal, Greater}
 use Rattle.std.specs.FinMap.{FinMap, get, get-from_entries, get-entries, get-insert, get-remove, get-retain_keys, insert, remove, same_map, nat_cmp-IsAntisymmetric, entries, retain_keys}
 use Rattle.std.specs.FinMap.Entries.{find}
 use Rattle.file_store.specs.Store.{Contents}
-use Rattle.power_tests.specs.Meant.{mixed, set_to}
+use Rattle.power_tests.specs.Meant.{all_last, mixed, set_to}
 
 -- ---- a name's bytes
 
 -- the first of two that is there
 first_there : Option (List ℕ) → Option (List ℕ) → Option (List ℕ)
-first_there None then = then
-first_there (Some x) then = Some x
+first_there None behind = behind
+first_there (Some x) behind = Some x
 
 in_front : (b : Bool) (x : List ℕ) (o p r : Option (List ℕ)) → r ≡ first_there o p → cond b (Some x) r ≡ first_there (cond b (Some x) o) p
 unfolding first_there
@@ -209,3 +209,31 @@ copied_or_not false l a b a' b' n ea eb = (l, ap Some (ap (λ m. mixed l m b') e
 pub on_err : {T E : Type 0} (r : Result T E) {P : Type 0} → P → OnErr r P
 on_err (Ok x) p = tt
 on_err (Err e) p = p
+
+copied_at : (e d d1 : Bool) (x a b : Option (List ℕ)) → d1 ≡ cond e false d → d1 ≡ false → (e ≡ true → x ≡ a) → (d ≡ false → b ≡ a) → cond e x b ≡ a
+copied_at true d d1 x a b u none same agree = same refl
+copied_at false d d1 x a b u none same agree = agree (sym u ∙ none)
+
+-- files agree at one more name after that file was copied
+pub agree_copied : (a b a' b' : Contents) (n : ℕ) (d d1 : ℕ → Bool) → a' ≡ a → b' ≡ set_to (get a n) n b
+    → ((q : ℕ) → d1 q ≡ cond (eq_by_cmp nat_cmp n q) false (d q)) → ((q : ℕ) → d q ≡ false → get b q ≡ get a q)
+    → (q : ℕ) → d1 q ≡ false → get b' q ≡ get a' q
+agree_copied a b a' b' n d d1 ea eb u agree q gone =
+    ap (λ m. get m q) eb ∙ sets (get a n) n b q
+    ∙ copied_at (eq_by_cmp nat_cmp q n) (d q) (d1 q) (get a n) (get a q) (get b q)
+        (u q ∙ ap (λ e. cond e false (d q)) ((eq_by_cmp_equiv nat_cmp_total).symm n q)) gone
+        (λ e. ap (get a) (sym (nat_cmp-IsAntisymmetric q n (equal (nat_cmp q n) e)))) (agree q)
+    ∙ ap (λ m. get m q) (sym ea)
+
+none_below : (n : ℕ) → (0 < n → ⊥) → n ≡ 0
+none_below zero h = refl
+none_below (suc n) h = absurd (h (omega arith))
+
+-- all names were copied once none is left
+pub all_copied : (a b : Contents) (f : ℕ → ℕ → Bool) (ks : List ℕ) → (0 < length ks → ⊥) → ((q : ℕ) → list_any (f q) ks ≡ false → get b q ≡ get a q) → b ≡ a
+all_copied a b f ks empty agree = same_contents b a (λ q. agree q (none (f q) ks (none_below (length ks) empty)))
+
+-- after a loss of power each choice means what lasts
+pub all_lasting : (l : ℕ → Bool) (a b a' b' : Contents) → a' ≡ b' → b' ≡ b → mixed l a' b' ≡ mixed all_last a b
+all_lasting l a b a' b' e e' = mixed-same l a' b' (λ q. ap (λ m. get m q) e) ∙ e ∙ e'
+    ∙ same_contents _ _ (λ q. sym (get-mixed all_last a b q))
