@@ -1,2 +1,3 @@
 mod Grown
+mod Kept
 mod Mixed

@@ -9,13 +9,11 @@ ghost use Rattle.power_tests.specs.Meant.{all_last, mixed, set_to, with_root_rea
 ghost use Rattle.power_tests.specs.Views.{AgreeBut, meant_files};
 
 use crate::fates::{Choice, Fates};
+use durable::{ROOT_NAME, WholeFiles};
 use file_store::{FileFault, Files, MemFiles, read_whole};
 use std::alloc::Global;
 use std::collections::BTreeSet;
 use std::marker::{Model, PhantomData};
-
-/// The name of the root.
-const ROOT_NAME: u64 = 0;
 
 /// Files that are read, and files that last over a loss of power. A call that changes a file changes both; after a
 /// failure each of the two is by itself as before or changed. From then on the name is in doubt, and is not read until
@@ -216,4 +214,8 @@ impl<V: Choice> Files for CachedFiles<V> {
     fn faults(&self) -> u64 {
         self.faults
     }
+}
+
+impl<V: Choice> WholeFiles for CachedFiles<V> {
+    ghost whole = { tt };
 }

@@ -5,8 +5,10 @@ mod cached_files;
 mod cached_log;
 mod cached_mark;
 mod fates;
+mod servers;
 
 pub use cached_files::CachedFiles;
 pub use cached_log::CachedLogFile;
 pub use cached_mark::CachedMark;
 pub use fates::{Choice, Fate, Fates};
+pub use servers::{CachedDevices, CachedServer, open, serve};
