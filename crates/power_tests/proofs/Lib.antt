@@ -1,0 +1,3 @@
+mod Grown
+mod Kept
+mod Mixed
