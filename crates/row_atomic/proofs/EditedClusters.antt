@@ -1,20 +1,22 @@
 -- Clusters after edits of several rows.
-use Rattle.std.proofs.Common.{◌≡◌, ◌≢◌, ◌⊎◌, inl, inr, ℕ, zero, suc, Bool, true, false, cond, List, [], ◌∷◌, ◌++◌, map, filter, length, Option, Some, None, slice_get, refl, sym, ap, ◌∙◌, subst}
+use Rattle.std.proofs.Common.{◌≡◌, ◌≢◌, ◌⊎◌, inl, inr, ℕ, zero, suc, Bool, true, false, cond, List, [], ◌∷◌, ◌++◌, map, filter, length, Option, Some, None, Result, Ok, Err, OnOk, OnErr, slice_get, refl, sym, ap, ◌∙◌, subst}
 use Rattle.std.proofs.lemmas.Option.{same_Some, slice_get-map}
 use Rattle.std.proofs.lemmas.List.{length-map}
 use Rattle.std.specs.Prelude.{Contains, IsSomeAnd, option_map}
 use Rattle.std.specs.FinMap.{get, same_map, empty}
 use Rattle.std.specs.List.{AllByRecursion}
-use Rattle.cell_key.specs.Cells.{Cells, IsEditOf, after_edit, after_edits, edited_key}
+use Rattle.cell_key.specs.Cells.{Cells, after_edit, after_edits, edited_key}
 use Rattle.cell_key.specs.Keys.{key_cmp_total}
 use Rattle.cell_key.specs.declared.edits.Edit.{Edit}
 use Rattle.cell_key.specs.declared.keys.CellKey.{CellKey}
+use Rattle.cell_key.specs.declared.refusals.Refusal.{Refusal}
 use Rattle.cell_key.proofs.KeyLaws.{exact_keys}
 use Rattle.file_store.specs.Store.{Contents}
 use Rattle.memtable.specs.Edits.{HasStoredKey, IsLimited, IsWithinLimits, with_edits}
 use Rattle.metadata_table.specs.Places.{PlaceView}
 use Rattle.metadata_table.specs.Table.{IsHolder, IsTable}
-use Rattle.rows.specs.Calls.{AppliesAll}
+use Rattle.rows.specs.Calls.{AppliesAll, OnlyReads}
+use Rattle.rows.specs.Room.{OverfillsOne}
 use Rattle.rows.specs.RowEdits.{AreOfTheirRow, all_edits}
 use Rattle.rows.specs.declared.row_edits.RowEdits.{RowEdits}
 use Rattle.tablet.specs.Laws.{EditsShow}
@@ -25,9 +27,10 @@ use Rattle.tablet.specs.declared.tablet.Tablet.{Tablet}
 use Rattle.row_atomic.specs.Clusters.{ArePlaced, ClusterState, InOrder, IsMatched, IsReadable, Overfills, cells_in, edits_in, tablet_numbered}
 use Rattle.row_atomic.specs.ManyRows.{OverfillsOwner, with_changes}
 use Rattle.row_atomic.specs.Seen.{seen_of}
+use Rattle.rows.proofs.Calls.{reads_none}
 use Rattle.row_atomic.proofs.CompactionRoom.{with_both}
 use Rattle.row_atomic.proofs.Joined.{edits_agree, edits_elsewhere}
-use Rattle.row_atomic.proofs.ManyRows.{each_both, in_both, none_kept}
+use Rattle.row_atomic.proofs.ManyRows.{all_limited, each_kept, in_both, none_kept}
 use Rattle.row_atomic.proofs.Owners.{OwnsRow, holder_owns, index_of}
 use Rattle.row_atomic.proofs.Parts.{IsNumbered, at_parts, has_holder, is_owner}
 use Rattle.row_atomic.proofs.PlacedTablets.{is_placed}
@@ -39,42 +42,25 @@ clash b e h = cc
 
 -- ---- filtered edits
 
-each_kept : (P : Edit → Type 0) (p : Edit → Bool) (xs : List Edit) → AllByRecursion P xs → AllByRecursion P (filter p xs)
-each_kept P p [] all = tt
-each_kept P p (x ∷ xs) all = go (p x)
-  where
-    go : (b : Bool) → AllByRecursion P (cond b (x ∷ filter p xs) (filter p xs))
-    go true = (all.0, each_kept P p xs all.1)
-    go false = each_kept P p xs all.1
-
 each_passes : (p : Edit → Bool) (xs : List Edit) → AllByRecursion (λ x. p x ≡ true) (filter p xs)
 each_passes p [] = tt
-each_passes p (x ∷ xs) = go (p x) refl
+each_passes p (x ∷ xs) = go (each_passes p xs) (p x) refl
   where
-    go : (b : Bool) → p x ≡ b → AllByRecursion (λ y. p y ≡ true) (cond b (x ∷ filter p xs) (filter p xs))
-    go true e = (e, each_passes p xs)
-    go false e = each_passes p xs
-
--- edits of their rows are within the limits
-row_limited : (row : List ℕ) (xs : List Edit) → AllByRecursion (IsEditOf row) xs → AllByRecursion IsLimited xs
-row_limited row [] all = tt
-row_limited row (x ∷ xs) all = (record { under = refl; from = all.0.from; to = all.0.to; value = all.0.value }, row_limited row xs all.1)
-
-pub all_limited : (changes : List RowEdits) → AllByRecursion AreOfTheirRow changes → AllByRecursion IsLimited (all_edits changes)
-all_limited [] own = tt
-all_limited (c ∷ cs) own = each_both IsLimited c.edits.items (all_edits cs) (row_limited c.row c.edits.items own.0) (all_limited cs own.1)
+    go : AllByRecursion (λ y. p y ≡ true) (filter p xs) → (b : Bool) → p x ≡ b → AllByRecursion (λ y. p y ≡ true) (cond b (x ∷ filter p xs) (filter p xs))
+    go rest true e = (e, rest)
+    go rest false e = rest
 
 -- for a key of a range only the edits in the range count
 kept_agree : (c d : Cells) (range : RowRange) (edits : List Edit) (q : CellKey) → AllByRecursion IsLimited edits → has_row range q.row ≡ true → get c q ≡ get d q → get (after_edits c (edits_in range edits)) q ≡ get (after_edits d edits) q
 kept_agree c d range [] q limited has h = h
-kept_agree c d range (e ∷ es) q limited has h = go (has_row range (edited_key e).row) refl
+kept_agree c d range (e ∷ es) q limited has h = go (λ a b. kept_agree a b range es q limited.1 has) (has_row range (edited_key e).row) refl
   where
     other : has_row range (edited_key e).row ≡ false → q.row ≢ (edited_key e).row
     other lacks same = clash (has_row range q.row) has (ap (λ (row : List ℕ). has_row range row) same ∙ lacks)
 
-    go : (b : Bool) → has_row range (edited_key e).row ≡ b → get (after_edits c (cond b (e ∷ edits_in range es) (edits_in range es))) q ≡ get (after_edits (after_edit d e) es) q
-    go true is = kept_agree (after_edit c e) (after_edit d e) range es q limited.1 has (edits_agree c d (e ∷ []) q h)
-    go false is = kept_agree c (after_edit d e) range es q limited.1 has (h ∙ sym (edits_elsewhere (edited_key e).row d (e ∷ []) q (limited.0, tt) (other is)))
+    go : ((a b : Cells) → get a q ≡ get b q → get (after_edits a (edits_in range es)) q ≡ get (after_edits b es) q) → (b : Bool) → has_row range (edited_key e).row ≡ b → get (after_edits c (cond b (e ∷ edits_in range es) (edits_in range es))) q ≡ get (after_edits (after_edit d e) es) q
+    go rest true is = rest (after_edit c e) (after_edit d e) (edits_agree c d (e ∷ []) q h)
+    go rest false is = rest c (after_edit d e) (h ∙ sym (edits_elsewhere (edited_key e).row d (e ∷ []) q (limited.0, tt) (other is)))
 
 -- ---- each tablet is mapped
 
@@ -136,13 +122,13 @@ module _ (places : List PlaceView) (ts : List Tablet) (table : IsTable places) (
   -- either none of the edits are in a tablet's range, or its files are open
   touched : (o : Option Contents) (k : ℕ) (v : Tablet) → slice_get ts k ≡ Some v → (cs : List RowEdits) → AllByRecursion AreOfTheirRow cs → AllByRecursion (λ c. IsReadable o places ts c.row) cs → (edits_in (range_of v) (all_edits cs) ≡ []) ⊎ IsSomeAnd o (λ m. Holds m v)
   touched o k v there [] own readable = inl refl
-  touched o k v there (c ∷ cs) own readable = go (has_row (range_of v) c.row) refl
+  touched o k v there (c ∷ cs) own readable = go (touched o k v there cs own.1 readable.1) (has_row (range_of v) c.row) refl
     where
-      go : (b : Bool) → has_row (range_of v) c.row ≡ b → (edits_in (range_of v) (c.edits.items ++ all_edits cs) ≡ []) ⊎ IsSomeAnd o (λ m. Holds m v)
-      go true e =
+      go : (edits_in (range_of v) (all_edits cs) ≡ []) ⊎ IsSomeAnd o (λ m. Holds m v) → (b : Bool) → has_row (range_of v) c.row ≡ b → (edits_in (range_of v) (c.edits.items ++ all_edits cs) ≡ []) ⊎ IsSomeAnd o (λ m. Holds m v)
+      go rest true e =
           let h = holder_of c.row in
           inr (subst (λ (t : Tablet). IsSomeAnd o (λ m. Holds m t)) (the_holder c.row k v there e h) (readable.0 h.place h.tablet h.holder h.numbered))
-      go false e = elim (touched o k v there cs own.1 readable.1) [
+      go rest false e = elim rest [
         | inl none ↦ inl (in_both (range_of v) c.edits.items (all_edits cs) ∙ ap (λ es. es ++ edits_in (range_of v) (all_edits cs)) (none_kept (range_of v) c.row c.edits.items e own.0) ∙ none)
         | inr held ↦ inr held
       ]
@@ -268,3 +254,35 @@ module _ (changes : List RowEdits) where
       room = λ row later full. inr (room_map state.places state.tablets row later full);
       stays = refl;
     }
+
+-- ---- the answers of a cluster
+
+-- the tablets by other names
+pub made_so : {A : Type 0} (r : Result A Refusal) (changes : List RowEdits) (us vs ts ds : List Tablet) → us ≡ vs → ds ≡ ts → OnOk r (vs ≡ map (with_changes changes) ds) → OnOk r (us ≡ map (with_changes changes) ts)
+made_so (Ok x) changes us vs ts ds after before made = after ∙ made ∙ ap (λ (xs : List Tablet). map (with_changes changes) xs) before
+made_so (Err e) changes us vs ts ds after before made = tt
+
+pub same_so : {A : Type 0} (r : Result A Refusal) (us vs ts ds : List Tablet) → us ≡ vs → ds ≡ ts → OnErr r (vs ≡ ds) → OnErr r (us ≡ ts)
+same_so (Ok x) us vs ts ds after before same = tt
+same_so (Err e) us vs ts ds after before same = after ∙ same ∙ before
+
+pub matched_either : {A : Type 0} (r : Result A Refusal) (changes : List RowEdits) (limit next : ℕ) (places : List PlaceView) (ts us : List Tablet) → OnOk r (us ≡ map (with_changes changes) ts) → OnErr r (us ≡ ts) → IsMatched limit next places ts → IsMatched limit next places us
+matched_either (Ok x) changes limit next places ts us made same matched = subst (λ (vs : List Tablet). IsMatched limit next places vs) (sym made) (matched_map changes limit next places ts matched)
+matched_either (Err e) changes limit next places ts us made same matched = subst (λ (vs : List Tablet). IsMatched limit next places vs) (sym same) matched
+
+module _ {F : Type 0} (contents : F → Option Contents) (state : ClusterState F) (changes : List RowEdits) (table : IsTable state.places) (placed : ArePlaced state.tablets None state.places) (as_many : length state.tablets ≡ length state.places) where
+  pub made_answer : {A : Type 0} (r : Result A Refusal) (us : List Tablet) → AllByRecursion AreOfTheirRow changes → EditsShow → OnOk r (us ≡ map (with_changes changes) state.tablets) → OnOk r (AllByRecursion HasStoredKey (all_edits changes)) → OnOk r (AppliesAll (seen_of contents) changes state (record state { tablets = us }))
+  made_answer (Ok x) us own law made keys =
+      subst (λ (ts : List Tablet). AppliesAll (seen_of contents) changes state (record state { tablets = ts })) (sym made) (applied_all changes own keys law contents state table placed as_many)
+  made_answer (Err e) us own law made keys = tt
+
+  pub same_answer : {A : Type 0} (r : Result A Refusal) (us : List Tablet) → OnErr r (us ≡ state.tablets) → OnErr r (OnlyReads (seen_of contents) state (record state { tablets = us }))
+  same_answer (Ok x) us same = tt
+  same_answer (Err e) us same = subst (λ (ts : List Tablet). OnlyReads (seen_of contents) state (record state { tablets = ts })) (sym same) reads_none
+
+  pub full_answer : OverfillsOwner changes state.tablets → OverfillsOne (seen_of contents).overfills changes state
+  full_answer full = record { change = full.change; among = full.among; over = owner_over state.places state.tablets table placed as_many changes full }
+
+  pub within_answer : {A : Type 0} (r : Result A Refusal) → OnOk r (¬ OverfillsOwner changes state.tablets) → OnOk r (¬ OverfillsOne (seen_of contents).overfills changes state)
+  within_answer (Ok x) none = λ full. none (over_owner state.places state.tablets table placed as_many changes full.change full.among full.over)
+  within_answer (Err e) none = tt

@@ -1,5 +1,5 @@
 -- The journal leads to the cells shown.
-use Rattle.std.proofs.Common.{◌≡◌, ◌⊎◌, ◌+◌, ◌∙◌, inl, inr, ℕ, List, [], ◌∷◌, ◌++◌, length, Option, None, Some, IsSome, refl, sym, ap, subst, arith}
+use Rattle.std.proofs.Common.{◌≡◌, ◌<◌, ◌⊎◌, ◌+◌, ◌∙◌, inl, inr, ℕ, zero, suc, List, [], ◌∷◌, ◌++◌, length, Option, None, Some, IsSome, drop, take, slice_index_or, refl, sym, ap, subst, arith}
 use Rattle.std.proofs.lemmas.List.{append_assoc, length-append}
 use Rattle.std.proofs.lemmas.List.Concat.{flat_map-append}
 use Rattle.std.proofs.lemmas.Bool.{false≢true}
@@ -12,15 +12,16 @@ use Rattle.commit_log.specs.Edits.{IsStoredEdit, spelled_edit, spelled_edits}
 use Rattle.file_store.specs.Store.{Contents}
 use Rattle.metadata_table.specs.Roots.{RootView}
 use Rattle.rows.specs.Calls.{Applies, AppliesAll, OnlyReads, StaysReadable, View}
+use Rattle.rows.specs.Room.{OverfillsOne}
 use Rattle.rows.specs.RowEdits.{all_edits}
 use Rattle.rows.specs.declared.row_edits.RowEdits.{RowEdits}
 use Rattle.row_atomic.specs.Seen.{seen_of}
 use Rattle.row_atomic.specs.Changes.{Holds}
 use Rattle.row_atomic.specs.Clusters.{ClusterState, cells_in, storage_of}
 use Rattle.row_atomic.specs.Commands.{AnswersFromCells, OverfillsCluster, cells_shown}
-use Rattle.row_atomic.specs.Journals.{HasRoomFor, HasWritten, JournalView, with_waiting}
+use Rattle.row_atomic.specs.Journals.{HasRoomFor, HasWritten, IsWithin, JournalView, with_waiting}
 use Rattle.row_atomic.specs.Open.{IsOpenedOf, IsStore}
-use Rattle.row_atomic.specs.Recorded.{FitsMemtables, Follows, IfWritten, IsOfUpkeep, KeepsFollowing, OpensFollowing, OverfillsJournal, Tracks, TracksListed, logged_of, seen_recorded}
+use Rattle.row_atomic.specs.Recorded.{FitsMemtables, Follows, IfWritten, IsOfUpkeep, KeepsFollowing, OpensFollowing, OverfillsJournal, OverfillsRecorded, Tracks, TracksListed, logged_of, seen_recorded}
 use Rattle.row_atomic.specs.Roots.{HasRoot, KeepsRoot, Rests, RootIsStored, RootOutlastsFlushes, RootOutlastsMerges, RootStays, root_at, root_name}
 use Rattle.row_atomic.specs.declared.commands.Command.{Command}
 use Rattle.row_atomic.specs.declared.commands.Command.TheVariants as command
@@ -232,6 +233,55 @@ module _ {F : Type 0} (contents : F → Option Contents) where
 
   pub all_fits_recorded : (changes : List RowEdits) (old new : Recorded F) (journal : JournalView) → old.journal ≡ Some journal → new.journal ≡ Some (with_waiting (all_edits changes) journal) → AppliesAll (seen_of contents) changes old.cluster new.cluster → FitsMemtables old → FitsMemtables new
   all_fits_recorded changes old new journal was is applies = room_recorded (all_edits changes) old new journal was is applies.room
+
+-- ---- the room for edits of several rows
+
+-- a journal has room for the edits in the middle after those before them
+pub room_between : (journal : JournalView) (before edits after : List Edit) → HasRoomFor journal (before ++ (edits ++ after)) → HasRoomFor (with_waiting before journal) edits
+room_between journal before edits after room =
+    let e = room.edits in
+    let b = room.bytes in
+    let both = length-append before (edits ++ after) in
+    let rest = length-append edits after in
+    let bytes = length-append journal.waiting (spelled_edits before) in
+    let all : length (spelled_edits (before ++ (edits ++ after))) ≡ length (spelled_edits before) + length (spelled_edits (edits ++ after)) = ap (λ (bs : List ℕ). length bs) (flat_map-append spelled_edit before (edits ++ after)) ∙ length-append (spelled_edits before) (spelled_edits (edits ++ after)) in
+    let some : length (spelled_edits (edits ++ after)) ≡ length (spelled_edits edits) + length (spelled_edits after) = ap (λ (bs : List ℕ). length bs) (flat_map-append spelled_edit edits after) ∙ length-append (spelled_edits edits) (spelled_edits after) in
+    record { edits = omega (arith, e, both, rest); bytes = omega (arith, b, bytes, all, some) }
+
+-- the edits before a change, its own, and those after it
+pub edits_parted : (changes : List RowEdits) (i : ℕ) (change : RowEdits) → i < length changes → change ≡ slice_index_or changes i change → all_edits changes ≡ all_edits (take i changes) ++ (change.edits.items ++ all_edits (drop (suc i) changes))
+edits_parted [] i change below is = absurd (omega arith)
+edits_parted (c ∷ cs) zero change below is = ap (λ (d : RowEdits). d.edits.items ++ all_edits cs) (sym is)
+edits_parted (c ∷ cs) (suc i) change below is =
+    ap (λ es. c.edits.items ++ es) (edits_parted cs i change (omega arith) is)
+    ∙ sym (append_assoc c.edits.items (all_edits (take i cs)) (change.edits.items ++ all_edits (drop (suc i) cs)))
+
+module _ {F : Type 0} (changes : List RowEdits) (rows : Recorded F) where
+  -- the memtable of one row, and a journal, would exceed a limit
+  pub all_full : OverfillsOne OverfillsCluster changes rows.cluster → OverfillsOne OverfillsRecorded changes rows
+  all_full full = record { change = full.change; among = full.among; over = inl full.over }
+
+  pub journal_full : (journal : JournalView) → rows.journal ≡ Some journal → IsWithin journal → ¬ HasRoomFor journal (all_edits changes) → OverfillsOne OverfillsRecorded changes rows
+  journal_full journal was within = go changes
+    where
+      go : (cs : List RowEdits) → ¬ HasRoomFor journal (all_edits cs) → OverfillsOne OverfillsRecorded cs rows
+      go [] none =
+          let e = within.edits in
+          let b = within.bytes in
+          absurd (none (record { edits = omega (arith, e); bytes = omega (arith, b) }))
+      go (c ∷ cs) none = record { change = c; among = (zero, omega arith, refl); over = inr (subst (λ (o : Option JournalView). OverfillsJournal o (all_edits (c ∷ cs))) (sym was) none) }
+
+  pub within_plain : rows.journal ≡ None → ¬ OverfillsOne OverfillsCluster changes rows.cluster → ¬ OverfillsOne OverfillsRecorded changes rows
+  within_plain none fits full = elim full.over [
+    | inl over ↦ fits (record { change = full.change; among = full.among; over = over })
+    | inr over ↦ subst (λ (o : Option JournalView). OverfillsJournal o (all_edits changes)) none over
+  ]
+
+  pub within_recorded : (journal : JournalView) → rows.journal ≡ Some journal → HasRoomFor journal (all_edits changes) → ¬ OverfillsOne OverfillsCluster changes rows.cluster → ¬ OverfillsOne OverfillsRecorded changes rows
+  within_recorded journal was room fits full = elim full.over [
+    | inl over ↦ fits (record { change = full.change; among = full.among; over = over })
+    | inr over ↦ subst (λ (o : Option JournalView). OverfillsJournal o (all_edits changes)) was over room
+  ]
 
 -- ---- other calls of a cluster
 

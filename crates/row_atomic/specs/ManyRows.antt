@@ -1,5 +1,5 @@
 -- Edits of several rows, tablet by tablet.
-use Rattle.std.specs.Prelude.{◌≡◌, ℕ, Bool, true, List, Contains, Some, filter, not, slice_get}
+use Rattle.std.specs.Prelude.{◌≡◌, ℕ, true, List, Contains, Some, filter, not, slice_get}
 use Rattle.memtable.specs.Edits.{IsWithinLimits, with_edits}
 use Rattle.rows.specs.RowEdits.{all_edits}
 use Rattle.rows.specs.declared.row_edits.RowEdits.{RowEdits}

@@ -14,7 +14,8 @@ use tablet::{BatchLimits, VersionBatch};
 /// Without a journal an edit costs one extra branch.
 ///
 /// With a journal, its edits lead from the cells in the files to the cells that the cluster shows: an invariant of
-/// these rows. Every call of a cluster but `apply` and `apply_all` keeps it (`keeps_following`) and may be made on the cluster itself.
+/// these rows. Every call of a cluster but `apply` and `apply_all` keeps it (`keeps_following`) and may be made on the
+/// cluster itself.
 #[derive(Drop)]
 pub struct Recorded<F> {
     pub cluster: Cluster<F>,

@@ -1,12 +1,13 @@
 -- Edits in the journal are made; those of a refused call are removed again.
-use Rattle.std.proofs.Common.{◌≡◌, List, Some, refl, sym, ap, subst, ◌∙◌}
-use Rattle.std.proofs.lemmas.Result.{on_err_weaker, on_ok_weaker}
+use Rattle.std.proofs.Common.{◌≡◌, List, Some, IsErrOf, refl, sym, ap, subst, ◌∙◌}
+use Rattle.std.proofs.lemmas.Result.{err_from_is_err_and, on_err_weaker, on_ok_weaker}
 use Rattle.std.specs.List.{AllByRecursion}
+use Rattle.cell_key.specs.declared.refusals.Refusal.TheVariants.{MemtableFull}
 use Rattle.commit_log.specs.Edits.{IsStoredEdit}
 use Rattle.rows.specs.RowEdits.{AreOfTheirRow, all_edits}
 use Rattle.rows.specs.declared.row_edits.RowEdits.{RowEdits}
-use Rattle.row_atomic.specs.Journals.{with_waiting}
-use Rattle.row_atomic.proofs.Following.{all_fits_plain, all_fits_recorded, all_plain, all_recorded, reads_recorded}
+use Rattle.row_atomic.specs.Journals.{HasRoomFor, with_waiting}
+use Rattle.row_atomic.proofs.Following.{all_fits_plain, all_fits_recorded, all_full, all_plain, all_recorded, journal_full, reads_recorded, within_plain, within_recorded}
 use Rattle.row_atomic.proofs.Journals.{taken_back}
 use Rattle.row_atomic.proofs.recorded.RecordedRows.apply_all.Goals as goal
 
@@ -27,6 +28,29 @@ returns-in-None-clause-err g c = on_err_weaker c.apply_all.result (reads_recorde
 
 pub returns-in-None-clause-fits : goal.returns-in-None-clause-fits
 returns-in-None-clause-fits g c = on_ok_weaker c.apply_all.result (all_fits_plain g.F.Files.contents c.args.changes.items c.args.self.now _ c.in-None.is) c.apply_all.ensures.ok
+
+pub returns-in-None-clause-full : goal.returns-in-None-clause-full
+returns-in-None-clause-full g c = λ full. all_full c.args.changes.items c.args.self.now (c.apply_all.ensures.full full)
+
+pub returns-in-None-clause-within : goal.returns-in-None-clause-within
+returns-in-None-clause-within g c = on_ok_weaker c.apply_all.result (within_plain c.args.changes.items c.args.self.now c.in-None.is) c.apply_all.ensures.within
+
+pub returns-in_err-push_all-in-Some-clause-full : goal.returns-in_err-push_all-in-Some-clause-full
+returns-in_err-push_all-in-Some-clause-full g c =
+    let p = err_from_is_err_and c.from_residual.result c.from_residual.ensures.1 in
+    λ full.
+    let e : IsErrOf c.push_all.result MemtableFull = cc (p.1, p.2, c.in_err-push_all-in-Some.was, full) in
+    journal_full c.args.changes.items c.args.self.now c.in-Some.journal c.in-Some.is c.len-len.ensures.within
+    (subst (λ (changes : List RowEdits). ¬ HasRoomFor c.in-Some.journal (all_edits changes)) c.deref.ensures.value (c.push_all.ensures.full e))
+
+pub returns-then-is_err-clause-full : goal.returns-then-is_err-clause-full
+returns-then-is_err-clause-full g c = λ full. all_full c.args.changes.items c.args.self.now (c.apply_all-done.ensures.full full)
+
+pub returns-else-is_err-clause-within : goal.returns-else-is_err-clause-within
+returns-else-is_err-clause-within g c =
+    on_ok_weaker c.apply_all-done.result
+    (within_recorded c.args.changes.items c.args.self.now c.in-Some.journal c.in-Some.is (subst (λ (changes : List RowEdits). HasRoomFor c.in-Some.journal (all_edits changes)) c.deref.ensures.value c.in_ok-push_all-in-Some.ensures.within))
+    c.apply_all-done.ensures.within
 
 pub returns-then-is_err-clause-err : goal.returns-then-is_err-clause-err
 returns-then-is_err-clause-err g c =
