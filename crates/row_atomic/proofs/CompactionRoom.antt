@@ -125,7 +125,7 @@ not_full places ts row edits i t at there all within full =
     full.over (subst (λ (v : Tablet). IsWithinLimits (with_edits (memory_of v) (edits_in (range_of v) edits))) (is_that t full.tablet (sym numbered ∙ full.numbered)) fits)
 
 -- edits after others
-with_both : (es : List Entry) (xs ys : List Edit) → with_edits (with_edits es xs) ys ≡ with_edits es (xs ++ ys)
+pub with_both : (es : List Entry) (xs ys : List Edit) → with_edits (with_edits es xs) ys ≡ with_edits es (xs ++ ys)
 with_both es [] ys = refl
 with_both es (x ∷ xs) ys = with_both (with_edit es x) xs ys
 

@@ -1,5 +1,5 @@
 -- The journal leads to the cells shown.
-use Rattle.std.proofs.Common.{◌≡◌, ◌+◌, ◌∙◌, inl, inr, ℕ, List, [], ◌∷◌, ◌++◌, length, Option, None, Some, IsSome, refl, sym, ap, subst, arith}
+use Rattle.std.proofs.Common.{◌≡◌, ◌<◌, ◌⊎◌, ◌+◌, ◌∙◌, inl, inr, ℕ, zero, suc, List, [], ◌∷◌, ◌++◌, length, Option, None, Some, IsSome, drop, take, slice_index_or, refl, sym, ap, subst, arith}
 use Rattle.std.proofs.lemmas.List.{append_assoc, length-append}
 use Rattle.std.proofs.lemmas.List.Concat.{flat_map-append}
 use Rattle.std.proofs.lemmas.Bool.{false≢true}
@@ -11,14 +11,17 @@ use Rattle.cell_key.specs.declared.edits.Edit.{Edit}
 use Rattle.commit_log.specs.Edits.{IsStoredEdit, spelled_edit, spelled_edits}
 use Rattle.file_store.specs.Store.{Contents}
 use Rattle.metadata_table.specs.Roots.{RootView}
-use Rattle.rows.specs.Calls.{Applies, OnlyReads}
+use Rattle.rows.specs.Calls.{Applies, AppliesAll, OnlyReads, StaysReadable, View}
+use Rattle.rows.specs.Room.{OverfillsOne}
+use Rattle.rows.specs.RowEdits.{all_edits}
+use Rattle.rows.specs.declared.row_edits.RowEdits.{RowEdits}
 use Rattle.row_atomic.specs.Seen.{seen_of}
 use Rattle.row_atomic.specs.Changes.{Holds}
 use Rattle.row_atomic.specs.Clusters.{ClusterState, cells_in, storage_of}
-use Rattle.row_atomic.specs.Commands.{AnswersFromCells, cells_shown}
-use Rattle.row_atomic.specs.Journals.{HasRoomFor, HasWritten, JournalView, with_waiting}
+use Rattle.row_atomic.specs.Commands.{AnswersFromCells, OverfillsCluster, cells_shown}
+use Rattle.row_atomic.specs.Journals.{HasRoomFor, HasWritten, IsWithin, JournalView, with_waiting}
 use Rattle.row_atomic.specs.Open.{IsOpenedOf, IsStore}
-use Rattle.row_atomic.specs.Recorded.{FitsMemtables, Follows, IfWritten, IsOfUpkeep, KeepsFollowing, OpensFollowing, OverfillsJournal, Tracks, logged_of, seen_recorded}
+use Rattle.row_atomic.specs.Recorded.{FitsMemtables, Follows, IfWritten, IsOfUpkeep, KeepsFollowing, OpensFollowing, OverfillsJournal, OverfillsRecorded, Tracks, logged_of, seen_recorded}
 use Rattle.row_atomic.specs.RootSweeps.{RootOutlastsSweeps}
 use Rattle.row_atomic.specs.Roots.{HasRoot, KeepsRoot, Rests, RootIsStored, RootOutlastsFlushes, RootOutlastsMerges, RootStays, root_at, root_name}
 use Rattle.row_atomic.specs.declared.commands.Command.{Command}
@@ -79,7 +82,7 @@ less_now journal edits later none room =
     let bytes = length-append journal.waiting (spelled_edits edits) in
     none (record { edits = omega (arith, e); bytes = omega (arith, b, bytes) })
 
-more_room : (journal : JournalView) (edits later : List Edit) → ¬ HasRoomFor journal (edits ++ later) → ¬ HasRoomFor (with_waiting edits journal) later
+pub more_room : (journal : JournalView) (edits later : List Edit) → ¬ HasRoomFor journal (edits ++ later) → ¬ HasRoomFor (with_waiting edits journal) later
 more_room journal edits later none room =
     let e = room.edits in
     let b = room.bytes in
@@ -89,6 +92,20 @@ more_room journal edits later none room =
     none (record { edits = omega (arith, e, both); bytes = omega (arith, b, bytes, all) })
 
 -- ---- calls of rows
+
+-- edits of rows, if those can be read
+record Makes {R : Type 0} (seen : View R) (Read : Type 0) (edits : List Edit) (old new : R) : Type 0 where
+  still : seen.holds old → seen.holds new
+  readable : StaysReadable seen old new
+  made : Read → seen.cells new ≡ after_edits (seen.cells old) edits
+  room : (r : List ℕ) (later : List Edit) → seen.overfills new r later → seen.overfills old r later ⊎ seen.overfills old r (edits ++ later)
+  stays : seen.storage new ≡ seen.storage old
+
+of_one : {R : Type 0} {seen : View R} (row : List ℕ) (edits : List Edit) (old new : R) → Applies seen row edits old new → Makes seen (seen.readable old row) edits old new
+of_one row edits old new applies = record { still = applies.still; readable = applies.readable; made = applies.made; room = applies.room; stays = applies.stays }
+
+to_one : {R : Type 0} {seen : View R} (row : List ℕ) (edits : List Edit) (old new : R) → Makes seen (seen.readable old row) edits old new → Applies seen row edits old new
+to_one row edits old new makes = record { still = makes.still; readable = makes.readable; made = makes.made; room = makes.room; stays = makes.stays }
 
 module _ {F : Type 0} (contents : F → Option Contents) (stored : RootIsStored contents) where
   -- a call that keeps the state below, and changes the cells as the further edits do
@@ -118,54 +135,154 @@ module _ {F : Type 0} (contents : F → Option Contents) (stored : RootIsStored 
   }
 
   -- without a journal
-  pub applies_plain : (row : List ℕ) (edits : List Edit) (old new : Recorded F) → old.journal ≡ None → new.journal ≡ None → Applies (seen_of contents) row edits old.cluster new.cluster → Applies (seen_recorded contents) row edits old new
-  applies_plain row edits old new none still_none applies = record {
-    still = λ held. (applies.still held.0, subst (λ (journal : Option JournalView). Follows contents new.cluster journal) (sym still_none) tt);
-    readable = applies.readable;
-    made = applies.made;
+  makes_plain : (Read : Type 0) (edits : List Edit) (old new : Recorded F) → old.journal ≡ None → new.journal ≡ None → Makes (seen_of contents) Read edits old.cluster new.cluster → Makes (seen_recorded contents) Read edits old new
+  makes_plain Read edits old new none still_none makes = record {
+    still = λ held. (makes.still held.0, subst (λ (journal : Option JournalView). Follows contents new.cluster journal) (sym still_none) tt);
+    readable = makes.readable;
+    made = makes.made;
     room = λ r later full. elim full [
-      | inl full ↦ elim (applies.room r later full) [ inl before ↦ inl (inl before) | inr after ↦ inr (inl after) ]
+      | inl full ↦ elim (makes.room r later full) [ inl before ↦ inl (inl before) | inr after ↦ inr (inl after) ]
       | inr full ↦ absurd (subst (λ (journal : Option JournalView). OverfillsJournal journal later) still_none full)
     ];
-    stays = λ i. record (applies.stays i) { logged = logged_of ((still_none ∙ sym none) i) };
+    stays = λ i. record (makes.stays i) { logged = logged_of ((still_none ∙ sym none) i) };
   }
 
-  pub applies_recorded : Replays → (row : List ℕ) (edits : List Edit) → AllByRecursion IsStoredEdit edits → (old new : Recorded F) (journal : JournalView) → old.journal ≡ Some journal → new.journal ≡ Some (with_waiting edits journal)
-      → Applies (seen_of contents) row edits old.cluster new.cluster → Applies (seen_recorded contents) row edits old new
-  applies_recorded replays row edits are_stored old new journal was is applies = record {
+  makes_recorded : Replays → (Read : Type 0) (edits : List Edit) → AllByRecursion IsStoredEdit edits → (old new : Recorded F) (journal : JournalView) → old.journal ≡ Some journal → new.journal ≡ Some (with_waiting edits journal)
+      → ((seen_of contents).holds old.cluster → Read) → Makes (seen_of contents) Read edits old.cluster new.cluster → Makes (seen_recorded contents) Read edits old new
+  makes_recorded replays Read edits are_stored old new journal was is each makes = record {
     still = λ held. (
-      applies.still held.0,
+      makes.still held.0,
       subst (λ (o : Option JournalView). Follows contents new.cluster o) (sym is)
-          (more_written edits are_stored (λ before tracks. tracks_on old.cluster new.cluster applies.stays before (before ++ edits)
-          (λ base replay. replays.joined base before edits ∙ (ap (λ (cs : Cells). after_edits cs edits) replay ∙ sym (applies.made ((seen_of contents).each_readable old.cluster held.0 row)))) tracks)
+          (more_written edits are_stored (λ before tracks. tracks_on old.cluster new.cluster makes.stays before (before ++ edits)
+          (λ base replay. replays.joined base before edits ∙ (ap (λ (cs : Cells). after_edits cs edits) replay ∙ sym (makes.made (each held.0)))) tracks)
           journal (subst (λ (o : Option JournalView). Follows contents old.cluster o) was held.1)),
     );
-    readable = applies.readable;
-    made = applies.made;
+    readable = makes.readable;
+    made = makes.made;
     room = λ r later full. elim full [
-      | inl full ↦ elim (applies.room r later full) [ inl before ↦ inl (inl before) | inr after ↦ inr (inl after) ]
+      | inl full ↦ elim (makes.room r later full) [ inl before ↦ inl (inl before) | inr after ↦ inr (inl after) ]
       | inr full ↦ inr (inr (subst (λ (o : Option JournalView). OverfillsJournal o (edits ++ later)) (sym was) (less_room journal edits later (subst (λ (o : Option JournalView). OverfillsJournal o later) is full))))
     ];
-    stays = λ i. record (applies.stays i) { logged = logged_is i };
+    stays = λ i. record (makes.stays i) { logged = logged_is i };
   }
     where
       logged_is : logged_of new.journal ≡ logged_of old.journal
       logged_is = ap logged_of is ∙ ap logged_of (sym was)
 
+  -- edits of one row
+  pub applies_plain : (row : List ℕ) (edits : List Edit) (old new : Recorded F) → old.journal ≡ None → new.journal ≡ None → Applies (seen_of contents) row edits old.cluster new.cluster → Applies (seen_recorded contents) row edits old new
+  applies_plain row edits old new none still_none applies =
+      to_one row edits old new (makes_plain ((seen_of contents).readable old.cluster row) edits old new none still_none (of_one row edits old.cluster new.cluster applies))
+
+  pub applies_recorded : Replays → (row : List ℕ) (edits : List Edit) → AllByRecursion IsStoredEdit edits → (old new : Recorded F) (journal : JournalView) → old.journal ≡ Some journal → new.journal ≡ Some (with_waiting edits journal)
+      → Applies (seen_of contents) row edits old.cluster new.cluster → Applies (seen_recorded contents) row edits old new
+  applies_recorded replays row edits are_stored old new journal was is applies =
+      to_one row edits old new
+      (makes_recorded replays ((seen_of contents).readable old.cluster row) edits are_stored old new journal was is (λ held. (seen_of contents).each_readable old.cluster held row) (of_one row edits old.cluster new.cluster applies))
+
+  -- edits of several rows
+  abbrev AllRead : List RowEdits → ClusterState F → Type 0
+  AllRead changes state = AllByRecursion (λ change. (seen_of contents).readable state change.row) changes
+
+  each_read : (changes : List RowEdits) (state : ClusterState F) → (seen_of contents).holds state → AllRead changes state
+  each_read [] state held = tt
+  each_read (change ∷ changes) state held = ((seen_of contents).each_readable state held change.row, each_read changes state held)
+
+  of_all : (changes : List RowEdits) (old new : ClusterState F) → AppliesAll (seen_of contents) changes old new → Makes (seen_of contents) (AllRead changes old) (all_edits changes) old new
+  of_all changes old new applies = record { still = applies.still; readable = applies.readable; made = applies.made; room = applies.room; stays = applies.stays }
+
+  to_all : (changes : List RowEdits) (old new : Recorded F) → Makes (seen_recorded contents) (AllRead changes old.cluster) (all_edits changes) old new → AppliesAll (seen_recorded contents) changes old new
+  to_all changes old new makes = record { still = makes.still; readable = makes.readable; made = makes.made; room = makes.room; stays = makes.stays }
+
+  pub all_plain : (changes : List RowEdits) (old new : Recorded F) → old.journal ≡ None → new.journal ≡ None → AppliesAll (seen_of contents) changes old.cluster new.cluster → AppliesAll (seen_recorded contents) changes old new
+  all_plain changes old new none still_none applies =
+      to_all changes old new (makes_plain (AllRead changes old.cluster) (all_edits changes) old new none still_none (of_all changes old.cluster new.cluster applies))
+
+  pub all_recorded : Replays → (changes : List RowEdits) → AllByRecursion IsStoredEdit (all_edits changes) → (old new : Recorded F) (journal : JournalView) → old.journal ≡ Some journal → new.journal ≡ Some (with_waiting (all_edits changes) journal)
+      → AppliesAll (seen_of contents) changes old.cluster new.cluster → AppliesAll (seen_recorded contents) changes old new
+  all_recorded replays changes are_stored old new journal was is applies =
+      to_all changes old new
+      (makes_recorded replays (AllRead changes old.cluster) (all_edits changes) are_stored old new journal was is (each_read changes old.cluster) (of_all changes old.cluster new.cluster applies))
+
 -- ---- the room of the memtables
 
 module _ {F : Type 0} (contents : F → Option Contents) where
-  pub fits_plain : (row : List ℕ) (edits : List Edit) (old new : Recorded F) → old.journal ≡ None → Applies (seen_of contents) row edits old.cluster new.cluster → FitsMemtables old → FitsMemtables new
-  fits_plain row edits old new none applies fits = λ r later full. absurd (elim (applies.room r later full) [
+  -- the room of a cluster after edits
+  abbrev LeavesRoom : List Edit → ClusterState F → ClusterState F → Type 0
+  LeavesRoom edits old new = (r : List ℕ) (later : List Edit) → OverfillsCluster new r later → OverfillsCluster old r later ⊎ OverfillsCluster old r (edits ++ later)
+
+  room_plain : (edits : List Edit) (old new : Recorded F) → old.journal ≡ None → LeavesRoom edits old.cluster new.cluster → FitsMemtables old → FitsMemtables new
+  room_plain edits old new none room fits = λ r later full. absurd (elim (room r later full) [
     | inl before ↦ subst (λ (o : Option JournalView). OverfillsJournal o later) none (fits r later before)
     | inr after ↦ subst (λ (o : Option JournalView). OverfillsJournal o (edits ++ later)) none (fits r (edits ++ later) after)
   ])
 
-  pub fits_recorded : (row : List ℕ) (edits : List Edit) (old new : Recorded F) (journal : JournalView) → old.journal ≡ Some journal → new.journal ≡ Some (with_waiting edits journal) → Applies (seen_of contents) row edits old.cluster new.cluster → FitsMemtables old → FitsMemtables new
-  fits_recorded row edits old new journal was is applies fits = λ r later full. subst (λ (o : Option JournalView). OverfillsJournal o later) (sym is) (elim (applies.room r later full) [
+  room_recorded : (edits : List Edit) (old new : Recorded F) (journal : JournalView) → old.journal ≡ Some journal → new.journal ≡ Some (with_waiting edits journal) → LeavesRoom edits old.cluster new.cluster → FitsMemtables old → FitsMemtables new
+  room_recorded edits old new journal was is room fits = λ r later full. subst (λ (o : Option JournalView). OverfillsJournal o later) (sym is) (elim (room r later full) [
     | inl before ↦ less_now journal edits later (subst (λ (o : Option JournalView). OverfillsJournal o later) was (fits r later before))
     | inr after ↦ more_room journal edits later (subst (λ (o : Option JournalView). OverfillsJournal o (edits ++ later)) was (fits r (edits ++ later) after))
   ])
+
+  pub fits_plain : (row : List ℕ) (edits : List Edit) (old new : Recorded F) → old.journal ≡ None → Applies (seen_of contents) row edits old.cluster new.cluster → FitsMemtables old → FitsMemtables new
+  fits_plain row edits old new none applies = room_plain edits old new none applies.room
+
+  pub fits_recorded : (row : List ℕ) (edits : List Edit) (old new : Recorded F) (journal : JournalView) → old.journal ≡ Some journal → new.journal ≡ Some (with_waiting edits journal) → Applies (seen_of contents) row edits old.cluster new.cluster → FitsMemtables old → FitsMemtables new
+  fits_recorded row edits old new journal was is applies = room_recorded edits old new journal was is applies.room
+
+  pub all_fits_plain : (changes : List RowEdits) (old new : Recorded F) → old.journal ≡ None → AppliesAll (seen_of contents) changes old.cluster new.cluster → FitsMemtables old → FitsMemtables new
+  all_fits_plain changes old new none applies = room_plain (all_edits changes) old new none applies.room
+
+  pub all_fits_recorded : (changes : List RowEdits) (old new : Recorded F) (journal : JournalView) → old.journal ≡ Some journal → new.journal ≡ Some (with_waiting (all_edits changes) journal) → AppliesAll (seen_of contents) changes old.cluster new.cluster → FitsMemtables old → FitsMemtables new
+  all_fits_recorded changes old new journal was is applies = room_recorded (all_edits changes) old new journal was is applies.room
+
+-- ---- the room for edits of several rows
+
+-- a journal has room for the edits in the middle after those before them
+pub room_between : (journal : JournalView) (before edits after : List Edit) → HasRoomFor journal (before ++ (edits ++ after)) → HasRoomFor (with_waiting before journal) edits
+room_between journal before edits after room =
+    let e = room.edits in
+    let b = room.bytes in
+    let both = length-append before (edits ++ after) in
+    let rest = length-append edits after in
+    let bytes = length-append journal.waiting (spelled_edits before) in
+    let all : length (spelled_edits (before ++ (edits ++ after))) ≡ length (spelled_edits before) + length (spelled_edits (edits ++ after)) = ap (λ (bs : List ℕ). length bs) (flat_map-append spelled_edit before (edits ++ after)) ∙ length-append (spelled_edits before) (spelled_edits (edits ++ after)) in
+    let some : length (spelled_edits (edits ++ after)) ≡ length (spelled_edits edits) + length (spelled_edits after) = ap (λ (bs : List ℕ). length bs) (flat_map-append spelled_edit edits after) ∙ length-append (spelled_edits edits) (spelled_edits after) in
+    record { edits = omega (arith, e, both, rest); bytes = omega (arith, b, bytes, all, some) }
+
+-- the edits before a change, its own, and those after it
+pub edits_parted : (changes : List RowEdits) (i : ℕ) (change : RowEdits) → i < length changes → change ≡ slice_index_or changes i change → all_edits changes ≡ all_edits (take i changes) ++ (change.edits.items ++ all_edits (drop (suc i) changes))
+edits_parted [] i change below is = absurd (omega arith)
+edits_parted (c ∷ cs) zero change below is = ap (λ (d : RowEdits). d.edits.items ++ all_edits cs) (sym is)
+edits_parted (c ∷ cs) (suc i) change below is =
+    ap (λ es. c.edits.items ++ es) (edits_parted cs i change (omega arith) is)
+    ∙ sym (append_assoc c.edits.items (all_edits (take i cs)) (change.edits.items ++ all_edits (drop (suc i) cs)))
+
+module _ {F : Type 0} (changes : List RowEdits) (rows : Recorded F) where
+  -- the memtable of one row, and a journal, would exceed a limit
+  pub all_full : OverfillsOne OverfillsCluster changes rows.cluster → OverfillsOne OverfillsRecorded changes rows
+  all_full full = record { change = full.change; among = full.among; over = inl full.over }
+
+  pub journal_full : (journal : JournalView) → rows.journal ≡ Some journal → IsWithin journal → ¬ HasRoomFor journal (all_edits changes) → OverfillsOne OverfillsRecorded changes rows
+  journal_full journal was within = go changes
+    where
+      go : (cs : List RowEdits) → ¬ HasRoomFor journal (all_edits cs) → OverfillsOne OverfillsRecorded cs rows
+      go [] none =
+          let e = within.edits in
+          let b = within.bytes in
+          absurd (none (record { edits = omega (arith, e); bytes = omega (arith, b) }))
+      go (c ∷ cs) none = record { change = c; among = (zero, omega arith, refl); over = inr (subst (λ (o : Option JournalView). OverfillsJournal o (all_edits (c ∷ cs))) (sym was) none) }
+
+  pub within_plain : rows.journal ≡ None → ¬ OverfillsOne OverfillsCluster changes rows.cluster → ¬ OverfillsOne OverfillsRecorded changes rows
+  within_plain none fits full = elim full.over [
+    | inl over ↦ fits (record { change = full.change; among = full.among; over = over })
+    | inr over ↦ subst (λ (o : Option JournalView). OverfillsJournal o (all_edits changes)) none over
+  ]
+
+  pub within_recorded : (journal : JournalView) → rows.journal ≡ Some journal → HasRoomFor journal (all_edits changes) → ¬ OverfillsOne OverfillsCluster changes rows.cluster → ¬ OverfillsOne OverfillsRecorded changes rows
+  within_recorded journal was room fits full = elim full.over [
+    | inl over ↦ fits (record { change = full.change; among = full.among; over = over })
+    | inr over ↦ subst (λ (o : Option JournalView). OverfillsJournal o (all_edits changes)) was over room
+  ]
 
 -- ---- other calls of a cluster
 

@@ -5,6 +5,7 @@ pub mod CommandSteps
 pub mod CompactionRoom
 pub mod CutTablets
 pub mod DamagedTablets
+pub mod EditedClusters
 pub mod EmptiedCaches
 pub mod FileNames
 pub mod Flushes
@@ -20,6 +21,7 @@ pub mod ListRoom
 pub mod ListedFiles
 pub mod LoadedTablets
 pub mod ManyNexts
+pub mod ManyRows
 pub mod ManyVersions
 pub mod Memtables
 pub mod MovedTablets

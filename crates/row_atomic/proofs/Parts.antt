@@ -84,7 +84,7 @@ at_parts P [] p post all = all.0
 at_parts P (q ∷ pre) p post all = at_parts P pre p post all.1
 
 -- only the owner has the row
-is_owner : (ts : List Tablet) (row : List ℕ) (k : ℕ) (v : Tablet) → OwnsRow ts row k v → (i : ℕ) (t : Tablet) → slice_get ts i ≡ Some t → has_row (range_of t) row ≡ true → i ≡ k
+pub is_owner : (ts : List Tablet) (row : List ℕ) (k : ℕ) (v : Tablet) → OwnsRow ts row k v → (i : ℕ) (t : Tablet) → slice_get ts i ≡ Some t → has_row (range_of t) row ≡ true → i ≡ k
 is_owner ts row k v owns i t there has = by (nat_eq i k) refl
   where
     by : (b : Bool) → nat_eq i k ≡ b → i ≡ k

@@ -5,6 +5,7 @@ pub mod Compactions
 pub mod Flushes
 pub mod Journals
 pub mod ListRoom
+pub mod ManyRows
 pub mod Memtables
 pub mod Open
 pub mod PlaceCaches

@@ -11,6 +11,7 @@ mod caches;
 mod checkpoint;
 mod compact;
 pub(crate) mod laws;
+mod many_rows;
 mod open;
 mod row_calls;
 mod split;

@@ -6,9 +6,11 @@ ghost use Rattle.cell_key.specs.Cells.{IsEditOf};
 ghost use Rattle.commit_log.specs.Edits.{IsStoredEdit};
 ghost use Rattle.row_atomic.specs.Journals.{HasRoomFor, IsWithin, all_logged, empty_journal, with_waiting};
 ghost use Rattle.rows.specs.Refusals.{IsApplyRefusal};
+ghost use Rattle.rows.specs.RowEdits.{AreOfTheirRow, all_edits};
 
 use cell_key::{Edit, Refusal, Row};
 use commit_log::push_edits;
+use rows::RowEdits;
 use std::alloc::Global;
 use std::marker::Model;
 
@@ -124,6 +126,31 @@ impl Journal {
             return Err(Refusal::MemtableFull);
         }
         self.count += edits.len();
+        Ok(())
+    }
+
+    /// Appends edits of several rows, all of them or none.
+    ///
+    /// # Errors
+    ///
+    /// `MemtableFull` if they would exceed a limit, and `NoMemory`. The journal is then unchanged.
+    pub(crate) fn push_all(&mut self, changes: &[RowEdits]) -> Result<(), Refusal>
+        requires { AllByRecursion AreOfTheirRow changes.now }
+        ensures ok { OnOk result (self.new ≡ with_waiting (all_edits changes.now) self.old) }
+        ensures err { OnErr result (self.new ≡ self.old) }
+        ensures refusal { IfErr result IsApplyRefusal }
+        ensures full { IsErrOf result Refusal.MemtableFull
+            → ¬ HasRoomFor self.old (all_edits changes.now) }
+        ensures within { OnOk result (HasRoomFor self.old (all_edits changes.now)) }
+        ensures stored { OnOk result (AllByRecursion IsStoredEdit (all_edits changes.now)) }
+    {
+        let (len, count) = (self.bytes.len(), self.count);
+        for change in changes {
+            if let Err(refusal) = self.push(&change.row, &change.edits) {
+                self.cut(len, count);
+                return Err(refusal);
+            }
+        }
         Ok(())
     }
 

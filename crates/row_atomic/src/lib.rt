@@ -17,4 +17,4 @@ pub use commands::{Command, Outcome};
 pub use fill::FlushLimits;
 pub use journal::Journal;
 pub use recorded::Recorded;
-pub use rows::{PlainRows, Rows, oldest, one_newest, one_next_cell};
+pub use rows::{PlainRows, RowEdits, Rows, oldest, one_newest, one_next_cell};

@@ -7,14 +7,15 @@ use crate::cluster::laws::root_is_stored;
 use crate::journal::Journal;
 use cell_key::{Edit, Family, Qualifier, Refusal, Row, Stamp, replays};
 use file_store::Files;
-use rows::Rows;
+use rows::{RowEdits, Rows};
 use tablet::{BatchLimits, VersionBatch};
 
 /// A cluster and, if edits are recorded, the journal in which each is written before an answer says that it was made.
 /// Without a journal an edit costs one extra branch.
 ///
 /// With a journal, its edits lead from the cells in the files to the cells that the cluster shows: an invariant of
-/// these rows. Every call of a cluster but `apply` keeps it (`keeps_following`) and may be made on the cluster itself.
+/// these rows. Every call of a cluster but `apply` and `apply_all` keeps it (`keeps_following`) and may be made on the
+/// cluster itself.
 #[derive(Drop)]
 pub struct Recorded<F> {
     pub cluster: Cluster<F>,
@@ -121,7 +122,9 @@ impl<F: Files> Recorded<F> {
 }
 
 impl<F: Files> Rows for Recorded<F> {
-    ghost use Rattle.rows.specs.Calls.{Applies, OnlyReads};
+    ghost use Rattle.rows.specs.Calls.{Applies, AppliesAll, OnlyReads};
+    ghost use Rattle.rows.specs.Room.{OverfillsOne};
+    ghost use Rattle.rows.specs.RowEdits.{AreOfTheirRow, all_edits};
     ghost use Rattle.row_atomic.specs.Journals.{with_waiting};
     ghost use Rattle.row_atomic.specs.Recorded.{FitsMemtables, OverfillsRecorded, seen_recorded};
     ghost use Rattle.rows.specs.Refusals.{IsApplyRefusal};
@@ -220,6 +223,38 @@ impl<F: Files> Rows for Recorded<F> {
                 let (len, count) = (journal.len(), journal.count());
                 journal.push(row, &edits)?;
                 let done = self.cluster.apply(row, edits);
+                if done.is_err() {
+                    journal.cut(len, count);
+                }
+                done
+            }
+        }
+    }
+
+    fn apply_all(&mut self, changes: Vec<RowEdits>) -> Result<(), Refusal>
+        requires { AllByRecursion AreOfTheirRow changes.items }
+        ensures ok { OnOk result (AppliesAll (seen_recorded F.contents)
+            changes.items self.old self.new) }
+        ensures err { OnErr result (OnlyReads (seen_recorded F.contents) self.old self.new) }
+        ensures refusal { IfErr result IsApplyRefusal }
+        ensures full { IsErrOf result Refusal.MemtableFull
+            → OverfillsOne OverfillsRecorded changes.items self.old }
+        ensures within { OnOk result (¬ OverfillsOne OverfillsRecorded changes.items self.old) }
+        ensures untouched { F.faults self.new.cluster.files ≡ F.faults self.old.cluster.files }
+        ensures written { OnOk result (self.new.journal
+            ≡ option_map (with_waiting (all_edits changes.items)) self.old.journal) }
+        ensures unwritten { OnErr result (self.new.journal ≡ self.old.journal) }
+        // If the journal had all entries of the memtables, it still has.
+        ensures fits { OnOk result (FitsMemtables self.old → FitsMemtables self.new) }
+    {
+        root_is_stored::<F>();
+        replays();
+        match &mut self.journal {
+            None => self.cluster.apply_all(changes),
+            Some(journal) => {
+                let (len, count) = (journal.len(), journal.count());
+                journal.push_all(&changes)?;
+                let done = self.cluster.apply_all(changes);
                 if done.is_err() {
                     journal.cut(len, count);
                 }

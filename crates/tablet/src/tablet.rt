@@ -1,6 +1,6 @@
 //! Tablets: the type, and its calls that write no file.
 
-ghost use Rattle.std.specs.Prelude.{◌≡◌, ◌≤◌, ◌<◌, ◌+◌, ◌++◌, ◌∷◌, ◌⊎◌, ◌↔◌, [], None, length, vec_len, vec_capacity, IsTrue, IsOk, IfErr, IfOk, OnErr, OnOk, IsErrOf, IsOkUnless};
+ghost use Rattle.std.specs.Prelude.{◌≡◌, ◌≤◌, ◌<◌, ◌+◌, ◌++◌, ◌∷◌, ◌⊎◌, ◌↔◌, [], None, length, vec_len, vec_capacity, IsTrue, if◌then◌else◌, IsOk, IfErr, IfOk, OnErr, OnOk, IsErrOf, IsOkUnless};
 ghost use Rattle.std.specs.List.{AllByRecursion};
 ghost use Rattle.cell_key.specs.Cells.{IsEditOf, after_edits};
 ghost use Rattle.file_store.specs.Store.{Contents};

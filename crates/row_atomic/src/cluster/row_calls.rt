@@ -21,14 +21,15 @@ ghost use Rattle.rows.specs.Refusals.{IsRefusalOfRead};
 ghost use Rattle.row_atomic.specs.Clusters.{ArePlaced, AreOpenFrom, IsReadable, PrecedesCell, cells_in};
 
 use crate::cluster::Cluster;
+use crate::cluster::many_rows::apply_to;
 use crate::fill::Fill;
 use crate::place_cache::index_of;
 use cell_key::{Edit, Family, Qualifier, Refusal, Row, Stamp};
 use file_store::Files;
 use metadata_table::Place;
-use rows::Rows;
+use rows::{RowEdits, Rows};
 use std::alloc::Global;
-use tablet::{BatchLimits, CellVersions, Tablet, VersionBatch};
+use tablet::{BatchLimits, CellVersions, Tablet, VersionBatch, edits_show};
 
 /// Whether all rows of a place come before the row of a cell.
 fn precedes(place: &Place, after: Option<(&Row, &Family)>) -> bool
@@ -284,6 +285,18 @@ impl<F: Files> Rows for Cluster<F> {
         let done = self.tablets[index].apply(row, edits);
         self.most = self.most.joined(Fill::of(&self.tablets[index]));
         done
+    }
+
+    fn apply_all(&mut self, changes: Vec<RowEdits>) -> Result<(), Refusal> {
+        edits_show();
+        apply_to(
+            self.alloc,
+            &self.table,
+            &mut self.place_cache,
+            &mut self.tablets,
+            &mut self.most,
+            changes,
+        )
     }
 
     fn faults(&self) -> u64 {

@@ -10,6 +10,7 @@ use testing::memory::are_answered;
 fn calls_of_rows(rt: HostRuntime) -> Result<(), Fail> {
     assert!(rt; are_answered::<clusters::Plain>(rt.alloc(), clusters::PLAIN)?);
     assert!(rt; are_answered::<clusters::Clustered>(rt.alloc(), clusters::CLUSTERED)?);
+    assert!(rt; are_answered::<clusters::Parted>(rt.alloc(), clusters::PARTED)?);
     assert!(rt; are_answered::<sessions::Sessions>(rt.alloc(), sessions::SESSIONS)?);
     Ok(())
 }

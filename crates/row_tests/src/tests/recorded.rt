@@ -1,6 +1,6 @@
 //! Rows with a journal.
 
-use crate::tests::memory::clusters::{new_cluster, newest};
+use crate::tests::memory::clusters::{new_cluster, newest, write_all};
 use cell_key::{Refusal, Row, Stamp};
 use file_store::MemFiles;
 use row_atomic::{Recorded, Rows};
@@ -66,5 +66,16 @@ fn full_at_its_most_edits(rt: HostRuntime) -> Result<(), Fail> {
     rows.emptied();
     write(rt.alloc(), &mut rows, 2, b'2')?;
     assert!(rt; newest(rt.alloc(), &mut rows, b'a')? == b'2');
+    Ok(())
+}
+
+#[test]
+fn edits_of_several_rows_wait_together(rt: HostRuntime) -> Result<(), Fail> {
+    let mut rows = Recorded::new(new_cluster(rt.alloc())?);
+    rows.record();
+    write_all(rt.alloc(), &mut rows)?;
+    assert!(rt; rows.written_edits() == 3 && rows.waiting().len() == 96);
+    assert!(rt; newest(rt.alloc(), &mut rows, b'a')? == b'8');
+    assert!(rt; newest(rt.alloc(), &mut rows, b'n')? == b'9');
     Ok(())
 }

@@ -1,8 +1,11 @@
 //! Rows: in memory, and in a cluster of tablets.
 
+ghost use Rattle.std.specs.Prelude.{IfOk};
+ghost use Rattle.rows.specs.RowEdits.{AreOfTheirRow};
+
 use cell_key::{Family, Qualifier, Refusal, Row, Stamp};
 use file_store::MemFiles;
-use row_atomic::{Cluster, Command, Outcome, PlainRows, Rows};
+use row_atomic::{Cluster, Command, Outcome, PlainRows, RowEdits, Rows};
 use std::alloc::Global;
 use testing::FILE_LIMIT;
 use testing::edits::edits_of;
@@ -19,6 +22,23 @@ fn write<R: Rows>(
     let row = Row::new(alloc, &[row])?;
     let edits = edits_of(alloc, &row, stamp, Some(&[value]), Some(9))?;
     rows.apply(&row, edits)
+}
+
+/// A change of a row: a value of one byte at a stamp.
+fn change_of(alloc: Global, row: u8, stamp: Stamp, value: u8) -> Result<RowEdits, Refusal>
+    ensures { IfOk result AreOfTheirRow }
+{
+    let row = Row::new(alloc, &[row])?;
+    let edits = edits_of(alloc, &row, stamp, Some(&[value]), None)?;
+    Ok(RowEdits { row, edits })
+}
+
+/// Writes values into the rows `n`, `a` and again `n`, in one call.
+pub fn write_all<R: Rows>(alloc: Global, rows: &mut R) -> Result<(), Refusal> {
+    let first = change_of(alloc, b'n', 4, b'7')?;
+    let second = change_of(alloc, b'a', 4, b'8')?;
+    let third = change_of(alloc, b'n', 5, b'9')?;
+    rows.apply_all(vec![in alloc; first, second, third]?)
 }
 
 /// The first byte of the newest data of a row in the family `bal`, or a dash.
@@ -90,6 +110,10 @@ fn rows_answer<R: Rows>(
         }
         3 => Ok(wanted == next_rows(alloc, rows, 9)?.as_slice()),
         4 => Ok(wanted == all_data(alloc, rows)?.as_slice()),
+        6 => {
+            write_all(alloc, rows)?;
+            Ok(wanted.is_empty())
+        }
         _ => Ok(wanted == rows_with_data(alloc, rows)?.as_slice()),
     }
 }
@@ -100,7 +124,7 @@ pub struct Plain {
     rows: PlainRows,
 }
 
-const PLAIN_CALLS: [Call; 6] = [
+const PLAIN_CALLS: [Call; 7] = [
     // newest
     (b"1", b"12"),
     // next_cell
@@ -113,6 +137,8 @@ const PLAIN_CALLS: [Call; 6] = [
     (b"1", b"12"),
     // has_version
     (b"an", b"12"),
+    // apply_all
+    (b"", b"89"),
 ];
 
 pub const PLAIN: Table = (b"12", &PLAIN_CALLS);
@@ -255,5 +281,40 @@ impl Subject for Clustered {
         let one = refused_merge(&mut self.cluster, 1);
         let two = refused_merge(&mut self.cluster, 2);
         Ok(vec![in alloc; first, second, one, two]?)
+    }
+}
+
+/// A cluster of two tablets, with a value in each of their files, and one in the first tablet's memtable.
+#[derive(Drop)]
+pub struct Parted {
+    cluster: Cluster<MemFiles>,
+}
+
+const PARTED_CALLS: [Call; 1] = [
+    // apply_all: edits of both tablets
+    (b"", b"89"),
+];
+
+pub const PARTED: Table = (b"32", &PARTED_CALLS);
+
+impl Subject for Parted {
+    fn set_up(alloc: Global) -> Result<Parted, Refusal> {
+        let mut cluster = new_cluster(alloc)?;
+        write(alloc, &mut cluster, b'a', 1, b'1')?;
+        write(alloc, &mut cluster, b'n', 1, b'2')?;
+        let row = Row::new(alloc, b"m")?;
+        cluster.split(&row)?;
+        write(alloc, &mut cluster, b'a', 2, b'3')?;
+        Ok(Parted { cluster })
+    }
+
+    fn answers(&mut self, alloc: Global, _number: usize, wanted: &[u8]) -> Result<bool, Refusal> {
+        rows_answer(alloc, &mut self.cluster, 6, wanted)
+    }
+
+    fn read(&mut self, alloc: Global) -> Result<Vec<u8>, Refusal> {
+        let first = newest(alloc, &mut self.cluster, b'a')?;
+        let second = newest(alloc, &mut self.cluster, b'n')?;
+        Ok(vec![in alloc; first, second]?)
     }
 }

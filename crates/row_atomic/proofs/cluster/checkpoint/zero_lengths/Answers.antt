@@ -1,4 +1,4 @@
-use Rattle.std.proofs.Common.{◌≡◌, ◌++◌, ◌∷◌, ◌+◌, [], ℕ, List, length, sym, ap, ◌∙◌, length-append, append_assoc}
+use Rattle.std.proofs.Common.{◌++◌, ◌∷◌, ◌+◌, [], ℕ, List, length, sym, ap, ◌∙◌, length-append, append_assoc}
 use Rattle.std.specs.Prelude.{replicate}
 use Rattle.metadata_table.specs.Places.{view_of, views}
 use Rattle.metadata_table.specs.Roots.{file_names}
