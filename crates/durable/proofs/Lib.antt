@@ -1,6 +1,6 @@
-mod CutBatches
 mod FromLogs
 mod Kept
+mod KeptAnswers
 mod Logged
 mod OpenedLogs
 mod OpenedRows

@@ -18,7 +18,6 @@ ghost use Rattle.metadata_table.specs.Roots.{RootView};
 ghost use Rattle.server_loop.specs.Runs.{KeepsToLimits, StepsAs};
 ghost use Rattle.si_model.specs.Machine.{IsReached, IsStorageRefusal, State, Checkpoint as CheckpointAsked};
 
-use crate::batches::Lasting;
 use crate::lasting_opening::refused_by;
 use crate::recording::Recording;
 use crate::stored_mark::StoredMark;
@@ -27,7 +26,7 @@ use commit_log::laws::{as_many_edits, logs_edits, names_roots};
 use commit_log::{BEFORE_BODY, Log, LogFault, RecordKind, is_over_any, root_sum_bytes};
 use oracle::MarkStore;
 use request_codec::{Reply, Request};
-use server_loop::{Answering, ServeFault};
+use server_loop::{Answering, Heard, Hearing, ServeFault, answer_heard};
 use std::alloc::Global;
 
 /// The growth of the journal, in bytes, after which a refused root is tried again.
@@ -553,12 +552,51 @@ impl<S: Recording, M: MarkStore, L: Log> Answering for LastingServer<S, M, L> {
     }
 }
 
-impl<S: Recording, M: MarkStore, L: Log> Lasting for LastingServer<S, M, L> {
-    ghost use Rattle.durable.specs.Lasts.{LastsIn, Logs};
+impl<S: Recording, M: MarkStore, L: Log> Hearing for LastingServer<S, M, L> {
+    ghost use Rattle.durable.specs.Lasting.{FailsToSettle, SettlesAnswers};
+    ghost use Rattle.durable.specs.Lasts.{AnswersLasting, IsLastingAnswer, IsLastingTended, LastsIn, Logs, PutsRoot, shown_by};
+    ghost use Rattle.server_loop.specs.Batches.{IsAnswered};
+    ghost use Rattle.std.proofs.Common.{inl, inr};
 
-    ghost lasts = { LastsIn S.stores S.logged L.holds };
+    ghost answers = { IsAnswered (shown_by S.shows) (IsLastingAnswer S.shows
+        (LastsIn S.stores S.logged L.holds)
+        (Logs S.stores S.logged L.holds S.is_rooted) M.faults L.faults
+        (AnswersLasting S.same S.checkpoints S.says S.sweeps)) (IsLastingTended S.shows
+        (LastsIn S.stores S.logged L.holds)
+        (Logs S.stores S.logged L.holds S.is_rooted) M.faults S.between S.same
+        (PutsRoot S.same S.checkpoints) S.sweeps S.size) };
 
-    ghost logs = { Logs S.stores S.logged L.holds S.is_rooted };
+    ghost settles = { SettlesAnswers (shown_by S.shows) (IsLastingTended S.shows
+        (LastsIn S.stores S.logged L.holds)
+        (Logs S.stores S.logged L.holds S.is_rooted) M.faults S.between S.same
+        (PutsRoot S.same S.checkpoints) S.sweeps S.size) (LastsIn S.stores S.logged L.holds)
+        (Logs S.stores S.logged L.holds S.is_rooted) };
+
+    ghost fails = { FailsToSettle (shown_by S.shows) (IsLastingTended S.shows
+        (LastsIn S.stores S.logged L.holds)
+        (Logs S.stores S.logged L.holds S.is_rooted) M.faults S.between S.same
+        (PutsRoot S.same S.checkpoints) S.sweeps S.size) (LastsIn S.stores S.logged L.holds)
+        (Logs S.stores S.logged L.holds S.is_rooted) };
+
+    ghost joins = { λ first mid new taken body is after. record {
+      mid = is.mid;
+      reply = is.reply;
+      is_body = is.is_body;
+      run = is.run;
+      said = is.said;
+      tended = elim after [
+        | inl done ↦ done.joins is.mid is.tended
+        | inr failed ↦ failed.joins is.mid is.tended
+      ];
+      shown = elim after [
+        | inl done ↦ λ st shows. done.shown st (is.shown st shows)
+        | inr failed ↦ λ st shows. failed.shown st (is.shown st shows)
+      ];
+    } };
+
+    fn answer(&mut self, heard: Heard<'_>, waiting: &mut Vec<u8>) {
+        answer_heard(self, heard, waiting);
+    }
 
     fn settle(&mut self) -> Result<(), ServeFault> {
         if self.log_waiting() {
@@ -567,8 +605,4 @@ impl<S: Recording, M: MarkStore, L: Log> Lasting for LastingServer<S, M, L> {
             Err(ServeFault::Log)
         }
     }
-
-    ghost answers = { λ old new request reply is. is.goes_on };
-
-    ghost tends = { λ old new is. is.settles };
 }

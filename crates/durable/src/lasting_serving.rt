@@ -7,15 +7,17 @@ ghost use Rattle.server_loop.specs.Server.{cluster_of, rows_of, tending_of};
 ghost use Rattle.row_atomic.specs.Commands.{IsOutcome};
 ghost use Rattle.si_model.specs.Machine.{State};
 
-use crate::batches::serve_batches;
 use crate::lasting::LastingServer;
 use crate::whole_files::WholeFiles;
 use commit_log::Log;
 use oracle::{MarkStore, MemMark};
 use row_atomic::{Command, Outcome};
-use server_loop::{End, ServeFault, Server};
+use server_loop::{End, ServeFault, Server, serve_all};
 use std::io::{Read, Write};
 use std::num::NonZeroUsize;
+
+/// The bytes of waiting replies at which a batch ends: no further request is answered before it is settled.
+const MOST_WAITING: usize = 1_048_576;
 
 impl<F: WholeFiles + Drop, M: MarkStore + Drop, L: Log + Drop> LastingServer<
     Server<F, MemMark>,
@@ -82,7 +84,7 @@ impl<F: WholeFiles + Drop, M: MarkStore + Drop, L: Log + Drop> LastingServer<
             (I.remaining reader.old) (I.remaining reader.new) (O.contents writer.old)
             (O.contents writer.new) most_reads result }
     {
-        serve_batches(self.alloc, self, reader, writer, most_reads)
+        serve_all(self.alloc, self, reader, writer, MOST_WAITING, most_reads)
     }
 
     /// Its files, its mark store and its log, unchanged. If the mark is known, they keep each state that the server's

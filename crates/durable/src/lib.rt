@@ -1,7 +1,6 @@
 //! A server with a log: its answers survive a kill.
 #![tactic(auto)]
 
-mod batches;
 mod lasting;
 mod lasting_opening;
 mod lasting_serving;

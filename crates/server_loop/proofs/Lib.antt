@@ -11,6 +11,7 @@ pub mod Opened
 mod OthersShown
 mod RawReads
 pub mod ReachedRuns
+pub mod Replied
 mod Rested
 pub mod SamePlaces
 pub mod ServingLemmas

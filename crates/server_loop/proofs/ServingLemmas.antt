@@ -1,27 +1,21 @@
--- How served parts join.
-use Rattle.std.proofs.Common.{◌≡◌, ℕ, ◌+◌, ◌-◌, min, ◌<◌, ◌≤◌, Bool, true, false, nat_le, List, [], ◌∷◌, ◌++◌, length, take, drop, map, Option, Result, Ok, Err, ◌⊎◌, inl, inr, refl, sym, ap, ◌∙◌, subst, arith, append_assoc, append-nil, length-append, length-drop, length-take, take-append-drop}
+-- How answered, settled and written parts join.
+use Rattle.std.proofs.Common.{◌≡◌, ℕ, ◌+◌, ◌<◌, ◌≤◌, Bool, true, false, nat_le, List, [], ◌∷◌, ◌++◌, length, map, Option, None, Some, Result, Ok, Err, ◌⊎◌, inl, inr, refl, sym, ap, ◌∙◌, subst, arith, append_assoc, append-nil, length-append, length-drop, take, drop, min, take-append-drop, is_some, IfNone}
 use Rattle.std.specs.List.{AllByRecursion}
-use Rattle.std.specs.Io.KnownBytes.{Appends}
-use Rattle.std.proofs.KnownBytes.{Appends-trans, Appends-nil}
+use Rattle.std.specs.Io.KnownBytes.{Appends, Consumes, Keeps}
+use Rattle.std.proofs.KnownBytes.{Appends-trans, Appends-nil, Appends-kept, Keeps-refl}
+use Rattle.std.proofs.lemmas.List.{take-append-le}
 use Rattle.std.proofs.lemmas.List.Concat.{flat_map-append}
 use Rattle.std.proofs.lemmas.Bool.Decides.{nat_tests}
-use Rattle.cell_key.specs.declared.refusals.Refusal.TheVariants.{FrameTooLarge}
-use Rattle.si_model.specs.Machine.{State, Reply, Refused}
-use Rattle.request_codec.specs.Replies.{reply_body}
-use Rattle.request_codec.specs.declared.replies.Reply.{Reply as CodecReply}
-use Rattle.request_codec.specs.declared.requests.Request.{Request as Lent}
-use Rattle.server_loop.specs.Runs.{Taken, Body, Oversize, AnswersAs, RunsAs, SaysOf}
-use Rattle.server_loop.proofs.ReachedRuns.{RunOver-append, SaysAll-append, laws_of}
-use Rattle.server_loop.proofs.FrameHeads.{IsTooLong-more}
-use Rattle.request_codec.specs.Framing.{longest_frame}
-use Rattle.request_codec.specs.Stream.{frame, frames, IsTooLong, IsPartial, BeginsNoFrame, IsBody}
-use Rattle.server_loop.specs.Serve.{taken_of, written_of, Answered, Delivers, Handles, HandlesFirst, HandlesTo, IsCutShort, IsRest, TakesBodies, WritesReplies}
-use Rattle.server_loop.specs.declared.statuses.End.{End}
-use Rattle.server_loop.specs.declared.statuses.End.TheVariants as ends
-use Rattle.server_loop.specs.declared.statuses.ServeFault.{ServeFault}
-use Rattle.server_loop.specs.declared.statuses.ServeFault.TheVariants as faults
+use Rattle.std.specs.Int.{to_be_bytes, w32}
+use Rattle.server_loop.specs.Runs.{Taken, Body, Oversize}
+use Rattle.server_loop.specs.Batches.{Answered, AnswersAll, Cuts, Delivers, IsBatch, IsCutBy, IsOver, LeavesRest, Outcome, SettlesAll, over_of}
 use Rattle.server_loop.specs.declared.serving.Rest.{Rest}
 use Rattle.server_loop.specs.declared.serving.Rest.TheVariants as rests
+use Rattle.request_codec.specs.Framing.{longest_frame}
+use Rattle.request_codec.specs.Stream.{frame, frames, IsTooLong, IsPartial, BeginsNoFrame, IsBody}
+use Rattle.server_loop.specs.declared.statuses.End.{End}
+use Rattle.server_loop.specs.declared.statuses.ServeFault.{ServeFault}
+use Rattle.server_loop.specs.declared.statuses.ServeFault.TheVariants as faults
 
 -- ---- lists
 
@@ -33,25 +27,18 @@ pub each-join : (bs cs : List (List ℕ)) → AllByRecursion IsBody bs → AllBy
 each-join [] cs p q = q
 each-join (b ∷ bs) cs p q = (p.0, each-join bs cs p.1 q)
 
-frames-join : (bs cs : List (List ℕ)) → frames (bs ++ cs) ≡ frames bs ++ frames cs
+pub frames-join : (bs cs : List (List ℕ)) → frames (bs ++ cs) ≡ frames bs ++ frames cs
 frames-join bs cs = flat_map-append frame bs cs
 
-pub written_of-join : (rs qs : List Reply) → written_of (rs ++ qs) ≡ written_of rs ++ written_of qs
-written_of-join rs qs = ap frames (map-join reply_body rs qs) ∙ frames-join (map reply_body rs) (map reply_body qs)
-
-pub one_written : (reply : Reply) → written_of (reply ∷ []) ≡ frame (reply_body reply)
-one_written reply = append-nil (frame (reply_body reply))
-
-taken-join : (bs cs : List (List ℕ)) (last : List Taken) → map Body bs ++ (map Body cs ++ last) ≡ map Body (bs ++ cs) ++ last
-taken-join bs cs last = sym (append_assoc (map Body bs) (map Body cs) last) ∙ ap (λ l. l ++ last) (sym (map-join Body bs cs))
+pub taken-join : (bs cs : List (List ℕ)) (over : List Taken) → (map Body bs ++ []) ++ (map Body cs ++ over) ≡ map Body (bs ++ cs) ++ over
+taken-join bs cs over =
+    ap (λ l. l ++ (map Body cs ++ over)) (append-nil (map Body bs)) ∙ sym (append_assoc (map Body bs) (map Body cs) over)
+    ∙ ap (λ l. l ++ over) (sym (map-join Body bs cs))
 
 -- two cuts, one after the other
 pub whole-join : (bs cs : List (List ℕ)) (bytes mid rest : List ℕ) → bytes ≡ frames bs ++ mid → mid ≡ frames cs ++ rest → bytes ≡ frames (bs ++ cs) ++ rest
 whole-join bs cs bytes mid rest p q =
     p ∙ ap (λ x. frames bs ++ x) q ∙ sym (append_assoc (frames bs) (frames cs) rest) ∙ ap (λ x. x ++ rest) (sym (frames-join bs cs))
-
-pub whole-more : (bs : List (List ℕ)) (bytes rest more : List ℕ) → bytes ≡ frames bs ++ rest → bytes ++ more ≡ frames bs ++ (rest ++ more)
-whole-more bs bytes rest more p = ap (λ x. x ++ more) p ∙ append_assoc (frames bs) rest more
 
 -- ---- the rest
 
@@ -64,378 +51,6 @@ BeginsNoFrame-from_large rest p = record { short = λ h k. absurd (omega (arith,
 pub IsPartial-nil : IsPartial []
 IsPartial-nil = record { within = λ h. absurd (omega arith); short = λ h. absurd (omega arith) }
 
-pub no_oversize : (rest : List ℕ) → IsPartial rest → taken_of [] rest ≡ []
-no_oversize rest p = let w = p.within in grind (arith, nat_tests)
-
-pub oversize : (rest : List ℕ) → IsTooLong rest → taken_of [] rest ≡ Oversize ∷ []
-oversize rest p = let w = p.past in let v = p.whole_length in grind (arith, nat_tests)
-
--- before less than a frame only bodies are taken
-pub taken-partial : (bodies : List (List ℕ)) (rest : List ℕ) → IsPartial rest → map Body bodies ≡ taken_of bodies rest
-taken-partial bodies rest p = sym (append-nil (map Body bodies)) ∙ ap (λ l. map Body bodies ++ l) (sym (no_oversize rest p))
-
-pub taken-large : (bodies : List (List ℕ)) (rest : List ℕ) → IsTooLong rest → map Body bodies ++ Oversize ∷ [] ≡ taken_of bodies rest
-taken-large bodies rest p = ap (λ l. map Body bodies ++ l) (sym (oversize rest p))
-
--- ---- runs, answers and written bytes
-
-pub frame-long : (body : List ℕ) → 0 < length (frame body)
-unfolding frame
-frame-long body = omega arith
-
-pub fewer-one : (body bytes rest : List ℕ) → bytes ≡ frame body ++ rest → length rest < length bytes
-fewer-one body bytes rest whole = omega (arith, ap length whole, length-append (frame body) rest, frame-long body)
-
-module _ {S : Type 0} (shows : S → State → Type 0) where
-  pub RunsAs-none : (a : S) → RunsAs shows a a [] []
-  RunsAs-none a = λ before reached shown. record { after = before; run = refl; reached = reached; laws = laws_of before reached; shows = shown }
-
-  pub RunsAs-append : (a b c : S) (ts us : List Taken) (rs qs : List Reply) → RunsAs shows a b ts rs → RunsAs shows b c us qs → RunsAs shows a c (ts ++ us) (rs ++ qs)
-  RunsAs-append a b c ts us rs qs first second = λ before reached shown.
-      let one = first before reached shown in
-      let two = second one.after one.reached one.shows in
-      record {
-        after = two.after;
-        run = RunOver-append before one.after two.after ts us rs qs one.run two.run;
-        reached = two.reached;
-        laws = two.laws;
-        shows = two.shows;
-      }
-
-  -- a shown state is still shown
-  pub RunsAs-kept : (a b c : S) (ts : List Taken) (rs : List Reply) → RunsAs shows a b ts rs → ((st : State) → shows b st → shows c st) → RunsAs shows a c ts rs
-  RunsAs-kept a b c ts rs first keeps = λ before reached shown.
-      let one = first before reached shown in
-      record { after = one.after; run = one.run; reached = one.reached; laws = one.laws; shows = keeps one.after one.shows }
-
-  -- a length past the limit
-  RunsAs-oversize : (a : S) → RunsAs shows a a (Oversize ∷ []) (Refused FrameTooLarge ∷ [])
-  RunsAs-oversize a = λ before reached shown. record { after = before; run = (before, (refl, refl), refl); reached = reached; laws = laws_of before reached; shows = shown }
-
-module _ {S : Type 0} (shows : S → State → Type 0) (says : S → Lent → CodecReply → S → Type 0) (between : S → S → Type 0) where
-  pub AnswersAs-none : (a : S) → AnswersAs shows says between a a [] []
-  AnswersAs-none a = record { run = RunsAs-none shows a; said = refl }
-
-  pub AnswersAs-append : (a b c : S) (ts us : List Taken) (rs qs : List Reply) → AnswersAs shows says between a b ts rs → AnswersAs shows says between b c us qs → AnswersAs shows says between a c (ts ++ us) (rs ++ qs)
-  AnswersAs-append a b c ts us rs qs first second = record {
-    run = RunsAs-append shows a b c ts us rs qs first.run second.run;
-    said = SaysAll-append says between a b c ts us rs qs first.said second.said;
-  }
-
-  -- a reply that was cut short, after complete ones
-  cut_after : (a b c : S) (ts us : List Taken) (rs qs : List Reply) (written : List ℕ) → AnswersAs shows says between a b ts rs → IsCutShort says between b c us qs written
-      → IsCutShort says between a c (ts ++ us) (rs ++ qs) (written_of rs ++ written)
-  cut_after a b c ts us rs qs written p q = record {
-    front = ts ++ q.front;
-    last = q.last;
-    is_taken = ap (λ l. ts ++ l) q.is_taken ∙ sym (append_assoc ts q.front (q.last ∷ []));
-    earlier = rs ++ q.earlier;
-    reply = q.reply;
-    is_replied = ap (λ l. rs ++ l) q.is_replied ∙ sym (append_assoc rs q.earlier (q.reply ∷ []));
-    before = q.before;
-    said = SaysAll-append says between a b q.before ts q.front rs q.earlier p.said q.said;
-    answered = q.answered;
-    count = q.count;
-    short = q.short;
-    wrote = ap (λ l. written_of rs ++ l) q.wrote ∙ sym (append_assoc (written_of rs) (written_of q.earlier) (take q.count (frame (reply_body q.reply))))
-        ∙ ap (λ l. l ++ take q.count (frame (reply_body q.reply))) (sym (written_of-join rs q.earlier));
-  }
-
-  all_after : (a b c : S) (ts us : List Taken) (rs qs : List Reply) (written : List ℕ) → AnswersAs shows says between a b ts rs → WritesReplies says between (Ok ends.Clean) b c us qs written
-      → WritesReplies says between (Ok ends.Clean) a c (ts ++ us) (rs ++ qs) (written_of rs ++ written)
-  all_after a b c ts us rs qs written p q = (SaysAll-append says between a b c ts us rs qs p.said q.0, ap (λ l. written_of rs ++ l) q.1 ∙ sym (written_of-join rs qs))
-
-  writes_after : (result : Result End ServeFault) (a b c : S) (ts us : List Taken) (rs qs : List Reply) (written : List ℕ) → AnswersAs shows says between a b ts rs → WritesReplies says between result b c us qs written
-      → WritesReplies says between result a c (ts ++ us) (rs ++ qs) (written_of rs ++ written)
-  writes_after (Ok end) a b c ts us rs qs written p q = all_after a b c ts us rs qs written p q
-  writes_after (Err faults.Read) a b c ts us rs qs written p q = all_after a b c ts us rs qs written p q
-  writes_after (Err faults.NoMemory) a b c ts us rs qs written p q = all_after a b c ts us rs qs written p q
-  writes_after (Err faults.Log) a b c ts us rs qs written p q = all_after a b c ts us rs qs written p q
-  writes_after (Err faults.Write) a b c ts us rs qs written p (inl q) = inl (all_after a b c ts us rs qs written p q)
-  writes_after (Err faults.Write) a b c ts us rs qs written p (inr q) = inr (cut_after a b c ts us rs qs written p q)
-
-  pub takes_after : (result : Result End ServeFault) (bs cs : List (List ℕ)) (rest : List ℕ) (us : List Taken) → TakesBodies result cs rest us → TakesBodies result (bs ++ cs) rest (map Body bs ++ us)
-  takes_after (Ok end) bs cs rest us p = ap (λ l. map Body bs ++ l) p ∙ taken-join bs cs (taken_of [] rest)
-  takes_after (Err faults.Read) bs cs rest us p = ap (λ l. map Body bs ++ l) p ∙ taken-join bs cs (taken_of [] rest)
-  takes_after (Err faults.NoMemory) bs cs rest us p = ap (λ l. map Body bs ++ l) p ∙ taken-join bs cs (taken_of [] rest)
-  takes_after (Err faults.Log) bs cs rest us p = ap (λ l. map Body bs ++ l) p ∙ taken-join bs cs (taken_of [] rest)
-  takes_after (Err faults.Write) bs cs rest us (inl p) = inl (ap (λ l. map Body bs ++ l) p ∙ sym (map-join Body bs cs))
-  takes_after (Err faults.Write) bs cs rest us (inr p) = inr (p.0, ap (λ l. map Body bs ++ l) p.1 ∙ taken-join bs cs (Oversize ∷ []))
-
-  -- ---- frames that were answered
-
-  pub Answered-none : (a : S) (bytes : List ℕ) (h : Option (List ℕ)) → Answered shows says between a a bytes bytes h h
-  Answered-none a bytes h = record { bodies = []; whole = refl; each = tt; replies = []; run = AnswersAs-none a; appended = Appends-nil h }
-
-  pub Answered-before : (a : S) (bytes : List ℕ) (h : Option (List ℕ)) → Answered shows says between a a (bytes ++ []) bytes h h
-  Answered-before a bytes h = subst (λ (l : List ℕ). Answered shows says between a a l bytes h h) (sym (append-nil bytes)) (Answered-none a bytes h)
-
-  -- less than a frame is left alone
-  pub Answered-part : (a : S) (bytes rest : List ℕ) (h : Option (List ℕ)) → IsPartial bytes → rest ≡ bytes → IsPartial rest × Answered shows says between a a bytes rest h h
-  Answered-part a bytes rest h partial same =
-      subst (λ l. IsPartial l × Answered shows says between a a bytes l h h) (sym same) (partial, Answered-none a bytes h)
-
-  pub Answered-then : (a b c : S) (bytes mid rest : List ℕ) (h i j : Option (List ℕ)) → Answered shows says between a b bytes mid h i → Answered shows says between b c mid rest i j → Answered shows says between a c bytes rest h j
-  Answered-then a b c bytes mid rest h i j p q = record {
-    bodies = p.bodies ++ q.bodies;
-    whole = whole-join p.bodies q.bodies bytes mid rest p.whole q.whole;
-    each = each-join p.bodies q.bodies p.each q.each;
-    replies = p.replies ++ q.replies;
-    run = subst (λ (ts : List Taken). AnswersAs shows says between a c ts (p.replies ++ q.replies)) (sym (map-join Body p.bodies q.bodies)) (AnswersAs-append a b c _ _ _ _ p.run q.run);
-    appended = subst (Appends h j) (sym (written_of-join p.replies q.replies)) (Appends-trans h i j _ _ p.appended q.appended);
-  }
-
-  pub Answered-more : (a b : S) (bytes rest more : List ℕ) (h i : Option (List ℕ)) → Answered shows says between a b bytes rest h i → Answered shows says between a b (bytes ++ more) (rest ++ more) h i
-  Answered-more a b bytes rest more h i p = record {
-    bodies = p.bodies;
-    whole = whole-more p.bodies bytes rest more p.whole;
-    each = p.each;
-    replies = p.replies;
-    run = p.run;
-    appended = p.appended;
-  }
-
-  -- one frame, with the upkeep after its reply
-  pub Answered-one : (a b c : S) (body bytes rest : List ℕ) (reply : Reply) (h i : Option (List ℕ)) → IsBody body → bytes ≡ frame body ++ rest → RunsAs shows a b (Body body ∷ []) (reply ∷ []) → SaysOf says a (Body body) reply b
-      → between b c → ((st : State) → shows b st → shows c st) → Appends h i (frame (reply_body reply)) → Answered shows says between a c bytes rest h i
-  Answered-one a b c body bytes rest reply h i fits whole run says_of tends keeps appended = record {
-    bodies = body ∷ [];
-    whole = whole ∙ ap (λ l. l ++ rest) (sym (append-nil (frame body)));
-    each = (fits, tt);
-    replies = reply ∷ [];
-    run = record { run = RunsAs-kept shows a b c _ _ run keeps; said = (b, c, says_of, tends, refl) };
-    appended = subst (Appends h i) (sym (one_written reply)) appended;
-  }
-
-  -- ---- bytes that were handled
-
-  pub Handles-after : (result : Result End ServeFault) (a b c : S) (bytes mid rest : List ℕ) (h i j : Option (List ℕ)) → Answered shows says between a b bytes mid h i → Handles shows says between result b c mid rest i j → Handles shows says between result a c bytes rest h j
-  Handles-after result a b c bytes mid rest h i j p q = record {
-    bodies = p.bodies ++ q.bodies;
-    whole = whole-join p.bodies q.bodies bytes mid rest p.whole q.whole;
-    each = each-join p.bodies q.bodies p.each q.each;
-    taken = map Body p.bodies ++ q.taken;
-    takes = takes_after result p.bodies q.bodies rest q.taken q.takes;
-    replies = p.replies ++ q.replies;
-    run = RunsAs-append shows a b c _ _ _ _ p.run.run q.run;
-    written = written_of p.replies ++ q.written;
-    writes = writes_after result a b c _ _ _ _ q.written p.run q.writes;
-    appended = Appends-trans h i j _ _ p.appended q.appended;
-  }
-
-  -- unread bytes are added to the rest
-  pub Handles-more_cut : (a b : S) (bytes rest more : List ℕ) (h i : Option (List ℕ)) → Handles shows says between (Err faults.Write) a b bytes rest h i → Handles shows says between (Err faults.Write) a b (bytes ++ more) (rest ++ more) h i
-  Handles-more_cut a b bytes rest more h i p = record {
-    bodies = p.bodies;
-    whole = whole-more p.bodies bytes rest more p.whole;
-    each = p.each;
-    taken = p.taken;
-    takes = more_taken p.bodies rest more p.taken p.takes;
-    replies = p.replies;
-    run = p.run;
-    written = p.written;
-    writes = p.writes;
-    appended = p.appended;
-  } where
-    more_taken : (bs : List (List ℕ)) (rest more : List ℕ) (ts : List Taken) → TakesBodies (Err faults.Write) bs rest ts → TakesBodies (Err faults.Write) bs (rest ++ more) ts
-    more_taken bs rest more ts (inl p) = inl p
-    more_taken bs rest more ts (inr p) = inr (IsTooLong-more rest more p.0, p.1)
-
-  -- one reply was cut short
-  Handles-cut : (a b : S) (bodies : List (List ℕ)) (bytes rest : List ℕ) (t : Taken) (reply : Reply) (count : ℕ) (h i : Option (List ℕ)) → bytes ≡ frames bodies ++ rest → AllByRecursion IsBody bodies
-      → TakesBodies (Err faults.Write) bodies rest (t ∷ []) → RunsAs shows a b (t ∷ []) (reply ∷ []) → SaysOf says a t reply b → count < length (frame (reply_body reply)) → Appends h i (take count (frame (reply_body reply)))
-      → Handles shows says between (Err faults.Write) a b bytes rest h i
-  Handles-cut a b bodies bytes rest t reply count h i whole each takes run says_of short appended = record {
-    bodies = bodies;
-    whole = whole;
-    each = each;
-    taken = t ∷ [];
-    takes = takes;
-    replies = reply ∷ [];
-    run = run;
-    written = take count (frame (reply_body reply));
-    writes = inr (record {
-      front = [];
-      last = t;
-      is_taken = refl;
-      earlier = [];
-      reply = reply;
-      is_replied = refl;
-      before = a;
-      said = refl;
-      answered = says_of;
-      count = count;
-      short = short;
-      wrote = refl;
-    });
-    appended = appended;
-  }
-
-  -- one reply was not delivered
-  undelivered : (fault : ServeFault) (a b c : S) (bodies : List (List ℕ)) (bytes rest : List ℕ) (t : Taken) (reply : Reply) (h i : Option (List ℕ)) → IsTooLong rest ⊎ (length rest < length bytes) → bytes ≡ frames bodies ++ rest → AllByRecursion IsBody bodies
-      → TakesBodies (Err faults.Write) bodies rest (t ∷ []) → RunsAs shows a b (t ∷ []) (reply ∷ []) → SaysOf says a t reply b → Delivers shows between (Err fault) (reply_body reply) b c h i
-      → HandlesTo shows says between (Err fault) a c bytes rest h i
-  undelivered faults.Read a b c bodies bytes rest t reply h i fewer whole each takes run says_of d = absurd d
-  undelivered faults.NoMemory a b c bodies bytes rest t reply h i fewer whole each takes run says_of d = absurd d
-  undelivered faults.Log a b c bodies bytes rest t reply h i fewer whole each takes run says_of d = absurd d
-  undelivered faults.Write a b c bodies bytes rest t reply h i fewer whole each takes run says_of d =
-      subst (λ (s : S). HandlesTo shows says between (Err faults.Write) a s bytes rest h i) (sym d.0)
-      (fewer, Handles-cut a b bodies bytes rest t reply d.1.0 h i whole each takes run says_of d.1.1 d.1.2)
-
-  pub undelivered-one : (fault : ServeFault) (a b c : S) (body bytes rest : List ℕ) (reply : Reply) (h i : Option (List ℕ)) → IsBody body → bytes ≡ frame body ++ rest
-      → RunsAs shows a b (Body body ∷ []) (reply ∷ []) → SaysOf says a (Body body) reply b → Delivers shows between (Err fault) (reply_body reply) b c h i → HandlesTo shows says between (Err fault) a c bytes rest h i
-  undelivered-one fault a b c body bytes rest reply h i fits whole run says_of d =
-      undelivered fault a b c (body ∷ []) bytes rest (Body body) reply h i (inr (fewer-one body bytes rest whole)) (whole ∙ ap (λ l. l ++ rest) (sym (append-nil (frame body)))) (fits, tt) (inl refl) run says_of d
-
-  pub undelivered-large : (fault : ServeFault) (a c : S) (bytes rest : List ℕ) (h i : Option (List ℕ)) → IsTooLong bytes → rest ≡ bytes
-      → Delivers shows between (Err fault) (reply_body (Refused FrameTooLarge)) a c h i → HandlesTo shows says between (Err fault) a c bytes rest h i
-  undelivered-large fault a c bytes rest h i large same d =
-      let left = subst IsTooLong (sym same) large in
-      undelivered fault a a c [] bytes rest Oversize (Refused FrameTooLarge) h i (inl left) (sym same) tt (inr (left, refl)) (RunsAs-oversize shows a) (refl, refl) d
-
-  -- the refusal of a length past the limit was delivered
-  pub delivered-large : (a c : S) (bytes rest : List ℕ) (h i : Option (List ℕ)) → IsTooLong bytes → rest ≡ bytes → between a c → ((st : State) → shows a st → shows c st) → Appends h i (frame (reply_body (Refused FrameTooLarge)))
-      → IsTooLong rest × Handles shows says between (Ok ends.TooLarge) a c bytes rest h i
-  delivered-large a c bytes rest h i large same tends keeps appended =
-      let rest_large : IsTooLong rest = subst IsTooLong (sym same) large in (
-        rest_large,
-        record {
-          bodies = [];
-          whole = sym same;
-          each = tt;
-          taken = Oversize ∷ [];
-          takes = sym (oversize rest rest_large);
-          replies = Refused FrameTooLarge ∷ [];
-          run = RunsAs-kept shows a a c _ _ (RunsAs-oversize shows a) keeps;
-          written = frame (reply_body (Refused FrameTooLarge));
-          writes = ((a, c, (refl, refl), tends, refl), sym (one_written (Refused FrameTooLarge)));
-          appended = appended;
-        },
-      )
-
-  -- ---- errors that are passed on
-
-  pub first_fails : (result : Result (Option Rest) ServeFault) (fault : ServeFault) (a c : S) (bytes rest : List ℕ) (h i : Option (List ℕ)) → result ≡ Err fault → HandlesTo shows says between (Err fault) a c bytes rest h i
-      → HandlesFirst shows says between result a c bytes rest h i
-  first_fails result fault a c bytes rest h i is p = subst (λ (r : Result (Option Rest) ServeFault). HandlesFirst shows says between r a c bytes rest h i) (sym is) p
-
-  pub all_fail : (result : Result Rest ServeFault) (fault : ServeFault) (a c : S) (bytes rest : List ℕ) (h i : Option (List ℕ)) → result ≡ Err fault → HandlesTo shows says between (Err fault) a c bytes rest h i
-      → HandlesTo shows says between result a c bytes rest h i
-  all_fail result fault a c bytes rest h i is p = subst (λ (r : Result Rest ServeFault). HandlesTo shows says between r a c bytes rest h i) (sym is) p
-
-  -- ---- more bytes
-
-  pub fewer_after : (bodies : List (List ℕ)) (bytes mid rest : List ℕ) → bytes ≡ frames bodies ++ mid → IsTooLong rest ⊎ (length rest < length mid) → IsTooLong rest ⊎ (length rest < length bytes)
-  fewer_after bodies bytes mid rest whole (inl large) = inl large
-  fewer_after bodies bytes mid rest whole (inr fewer) =
-      let size : length bytes ≡ length (frames bodies ++ mid) = ap length whole in
-      inr (omega (arith, fewer, size, length-append (frames bodies) mid))
-
-  pub fewer_more : (bytes rest more : List ℕ) → IsTooLong rest ⊎ (length rest < length bytes) → IsTooLong (rest ++ more) ⊎ (length (rest ++ more) < length (bytes ++ more))
-  fewer_more bytes rest more (inl large) = inl (IsTooLong-more rest more large)
-  fewer_more bytes rest more (inr fewer) = inr (omega (arith, fewer, length-append rest more, length-append bytes more))
-
-  -- bytes are handled as their rest after some answered frames is
-  pub HandlesTo-after : (result : Result Rest ServeFault) (a b c : S) (bytes mid rest : List ℕ) (h i j : Option (List ℕ)) → Answered shows says between a b bytes mid h i → HandlesTo shows says between result b c mid rest i j
-      → HandlesTo shows says between result a c bytes rest h j
-  HandlesTo-after (Ok rests.Partial) a b c bytes mid rest h i j p q = (q.0, Answered-then a b c bytes mid rest h i j p q.1)
-  HandlesTo-after (Ok rests.TooLarge) a b c bytes mid rest h i j p q = (q.0, Handles-after (Ok ends.TooLarge) a b c bytes mid rest h i j p q.1)
-  HandlesTo-after (Err faults.Write) a b c bytes mid rest h i j p q =
-      (fewer_after p.bodies bytes mid rest p.whole q.0, Handles-after (Err faults.Write) a b c bytes mid rest h i j p q.1)
-  HandlesTo-after (Err faults.Read) a b c bytes mid rest h i j p q = absurd q
-  HandlesTo-after (Err faults.NoMemory) a b c bytes mid rest h i j p q = absurd q
-  HandlesTo-after (Err faults.Log) a b c bytes mid rest h i j p q = absurd q
-
-  Handles-more_large : (a b : S) (bytes rest more : List ℕ) (h i : Option (List ℕ)) → IsTooLong rest → Handles shows says between (Ok ends.TooLarge) a b bytes rest h i → Handles shows says between (Ok ends.TooLarge) a b (bytes ++ more) (rest ++ more) h i
-  Handles-more_large a b bytes rest more h i large p = record {
-    bodies = p.bodies;
-    whole = whole-more p.bodies bytes rest more p.whole;
-    each = p.each;
-    taken = p.taken;
-    takes = p.takes ∙ sym (taken-large p.bodies rest large) ∙ taken-large p.bodies (rest ++ more) (IsTooLong-more rest more large);
-    replies = p.replies;
-    run = p.run;
-    written = p.written;
-    writes = p.writes;
-    appended = p.appended;
-  }
-
-  HandlesTo-more_error : (fault : ServeFault) (a c : S) (bytes rest more : List ℕ) (h i : Option (List ℕ)) → HandlesTo shows says between (Err fault) a c bytes rest h i → HandlesTo shows says between (Err fault) a c (bytes ++ more) (rest ++ more) h i
-  HandlesTo-more_error faults.Write a c bytes rest more h i p = (fewer_more bytes rest more p.0, Handles-more_cut a c bytes rest more h i p.1)
-  HandlesTo-more_error faults.Read a c bytes rest more h i p = absurd p
-  HandlesTo-more_error faults.NoMemory a c bytes rest more h i p = absurd p
-  HandlesTo-more_error faults.Log a c bytes rest more h i p = absurd p
-
-  -- ---- a piece
-
-  -- part of a piece was taken, after the bytes before it, and the bytes then at hand were handled
-  pub fed : (result : Result Rest ServeFault) (a b c : S) (first piece part hand hand' rest : List ℕ) (at n : ℕ) (h i j : Option (List ℕ)) → Answered shows says between a b (first ++ take at piece) hand h i → hand' ≡ hand ++ take n part
-      → take at piece ++ take n part ≡ take (at + n) piece → HandlesTo shows says between result b c hand' rest i j → HandlesTo shows says between result a c (first ++ take (at + n) piece) rest h j
-  fed result a b c first piece part hand hand' rest at n h i j p grown more q =
-      let all : (first ++ take at piece) ++ take n part ≡ first ++ take (at + n) piece = append_assoc first (take at piece) (take n part) ∙ ap (λ l. first ++ l) more in
-      let so = Answered-more a b (first ++ take at piece) hand (take n part) h i p in
-      let same = subst (λ (l : List ℕ). Answered shows says between a b (first ++ take (at + n) piece) l h i) (sym grown) (subst (λ (l : List ℕ). Answered shows says between a b l (hand ++ take n part) h i) all so) in
-      HandlesTo-after result a b c (first ++ take (at + n) piece) hand' rest h i j same q
-
-  rest_of_piece : (first piece : List ℕ) (m : ℕ) → (first ++ take m piece) ++ drop m piece ≡ first ++ piece
-  rest_of_piece first piece m = append_assoc first (take m piece) (drop m piece) ∙ ap (λ l. first ++ l) (take-append-drop m piece)
-
-  -- the piece was not taken completely
-  pub piece_fails : (result : Result Rest ServeFault) (fault : ServeFault) (a c : S) (first piece hand rest : List ℕ) (m : ℕ) (h i : Option (List ℕ)) → result ≡ Err fault → HandlesTo shows says between (Err fault) a c (first ++ take m piece) rest h i
-      → (left : List ℕ) × IsRest result left hand × HandlesTo shows says between result a c (first ++ piece) left h i
-  piece_fails result fault a c first piece hand rest m h i is p =
-      subst (λ (r : Result Rest ServeFault). (left : List ℕ) × IsRest r left hand × HandlesTo shows says between r a c (first ++ piece) left h i) (sym is) (
-        rest ++ drop m piece,
-        tt,
-        subst (λ (l : List ℕ). HandlesTo shows says between (Err fault) a c l (rest ++ drop m piece) h i) (rest_of_piece first piece m)
-            (HandlesTo-more_error fault a c (first ++ take m piece) rest (drop m piece) h i p),
-      )
-
-  -- Nothing was at hand, and the whole frames at the front of the piece were answered.
-  pub piece_after : (result : Result Rest ServeFault) (a b c : S) (hand piece behind hand' : List ℕ) (h i j : Option (List ℕ)) → hand ≡ [] → Answered shows says between a b piece behind h i
-      → ((rest : List ℕ) × IsRest result rest hand' × HandlesTo shows says between result b c (hand ++ behind) rest i j)
-      → (rest : List ℕ) × IsRest result rest hand' × HandlesTo shows says between result a c (hand ++ piece) rest h j
-  piece_after result a b c hand piece behind hand' h i j none p (rest, left, q) = (
-    rest,
-    left,
-    subst (λ (l : List ℕ). HandlesTo shows says between result a c (l ++ piece) rest h j) (sym none)
-        (HandlesTo-after result a b c piece behind rest h i j p (subst (λ (l : List ℕ). HandlesTo shows says between result b c (l ++ behind) rest i j) none q)),
-  )
-
-  -- Nothing was at hand, and a write failed at one of them.
-  pub piece_stops : (result : Result Rest ServeFault) (fault : ServeFault) (a c : S) (hand piece hand' : List ℕ) (h i : Option (List ℕ)) → hand ≡ [] → result ≡ Err fault
-      → ((rest : List ℕ) × HandlesTo shows says between (Err fault) a c piece rest h i)
-      → (rest : List ℕ) × IsRest result rest hand' × HandlesTo shows says between result a c (hand ++ piece) rest h i
-  piece_stops result fault a c hand piece hand' h i none is (rest, p) =
-      subst (λ (r : Result Rest ServeFault). (left : List ℕ) × IsRest r left hand' × HandlesTo shows says between r a c (hand ++ piece) left h i) (sym is) (
-        rest,
-        tt,
-        subst (λ (l : List ℕ). HandlesTo shows says between (Err fault) a c (l ++ piece) rest h i) (sym none) p,
-      )
-
-  pub piece_ends : (a c : S) (first piece hand rest : List ℕ) (m : ℕ) (h i : Option (List ℕ)) → HandlesTo shows says between (Ok rests.TooLarge) a c (first ++ take m piece) rest h i
-      → (left : List ℕ) × IsRest (Ok rests.TooLarge) left hand × HandlesTo shows says between (Ok rests.TooLarge) a c (first ++ piece) left h i
-  piece_ends a c first piece hand rest m h i p = (
-    rest ++ drop m piece,
-    tt,
-    (
-      IsTooLong-more rest (drop m piece) p.0,
-      subst (λ (l : List ℕ). Handles shows says between (Ok ends.TooLarge) a c l (rest ++ drop m piece) h i) (rest_of_piece first piece m)
-          (Handles-more_large a c (first ++ take m piece) rest (drop m piece) h i p.0 p.1),
-    ),
-  )
-
-  -- The front of the piece was taken, and less than a frame is at hand.
-  pub piece_goes_on : (result : Result Rest ServeFault) (a b c : S) (first piece hand hand' : List ℕ) (m : ℕ) (h i j : Option (List ℕ))
-      → ((mid : List ℕ) × IsRest (Ok rests.Partial) mid hand × HandlesTo shows says between (Ok rests.Partial) a b (first ++ take m piece) mid h i)
-      → ((rest : List ℕ) × IsRest result rest hand' × HandlesTo shows says between result b c (hand ++ drop m piece) rest i j)
-      → (rest : List ℕ) × IsRest result rest hand' × HandlesTo shows says between result a c (first ++ piece) rest h j
-  piece_goes_on result a b c first piece hand hand' m h i j (mid, same, p) (rest, left, q) =
-      let held = subst (λ (l : List ℕ). Answered shows says between a b (first ++ take m piece) l h i) (sym same) p.1 in
-      let more = Answered-more a b (first ++ take m piece) hand (drop m piece) h i held in
-      let whole = subst (λ (l : List ℕ). Answered shows says between a b l (hand ++ drop m piece) h i) (rest_of_piece first piece m) more in
-      (rest, left, HandlesTo-after result a b c (first ++ piece) (hand ++ drop m piece) rest h i j whole q)
-
 -- less than a frame leaves room for a byte
 pub has_room : (hand : List ℕ) → IsPartial hand → length hand < longest_frame
 has_room hand p = if_few (nat_le 4 (length hand)) refl where
@@ -443,6 +58,281 @@ has_room hand p = if_few (nat_le 4 (length hand)) refl where
   if_few true is = let w = p.within in let s = p.short in grind (arith, nat_tests)
   if_few false is = grind (arith, nat_tests)
 
--- the bytes taken from a place of a piece on
-pub fits_piece : (n at room : ℕ) (piece : List ℕ) → at ≤ length piece → n ≡ min (length (take (length piece - at) (drop at piece))) room → at + n ≤ length piece
-fits_piece n at room piece within is = omega (arith, is, length-take (length piece - at) (drop at piece), length-drop at piece, within)
+-- ---- frames
+
+pub frame-long : (body : List ℕ) → 4 ≤ length (frame body)
+unfolding frame
+frame-long body = omega (arith, length-append (to_be_bytes w32 (length body)) body)
+
+-- no bytes are of no replies
+pub frames_none : (rs : List (List ℕ)) → frames rs ≡ [] → rs ≡ []
+frames_none [] p = refl
+frames_none (r ∷ rs) p = let size : length (frames (r ∷ rs)) ≡ 0 = ap length p in absurd (omega (arith, size, length-append (frame r) (frames rs), frame-long r))
+
+pub frames_some : (rs : List (List ℕ)) → 0 < length (frames rs) → 0 < length rs
+frames_some [] p = absurd (omega (arith, p))
+frames_some (r ∷ rs) p = omega arith
+
+-- waiting bytes are of replies
+pub some_framed : (waiting : List ℕ) (rs : List (List ℕ)) → waiting ≡ frames rs → 0 < length waiting → 0 < length rs
+some_framed waiting rs framed some = let size : length waiting ≡ length (frames rs) = ap length framed in frames_some rs (omega (arith, some, size))
+
+pub IsOver-leaves : (ended : Option Rest) (rest behind : List ℕ) → LeavesRest ended rest behind → IsOver (over_of ended) rest
+IsOver-leaves None rest behind p = inl refl
+IsOver-leaves (Some rests.Partial) rest behind p = inl refl
+IsOver-leaves (Some rests.TooLarge) rest behind p = inr (p, refl)
+
+pub over_none : (ended : Option Rest) → is_some ended ≡ false → over_of ended ≡ []
+over_none None none = refl
+over_none (Some rest) none = cc
+
+pub if_none : (ended : Option Rest) (P : Type 0) → is_some ended ≡ false → IfNone ended P → P
+if_none None P none p = p
+if_none (Some rest) P none p = cc
+
+-- a batch goes on while its bytes are few
+pub IsBatch-more : (most : ℕ) (rs qs : List (List ℕ)) → length (frames rs) < most → IsBatch most rs → length qs ≤ 1 → IsBatch most (rs ++ qs)
+IsBatch-more most rs [] few small one = subst (IsBatch most) (sym (append-nil rs)) small
+IsBatch-more most rs (q ∷ []) few small one = inr (rs, q, refl, few)
+IsBatch-more most rs (q ∷ p ∷ qs) few small one = absurd (omega (arith, one))
+
+-- ---- unchanged bytes
+
+pub keeps_none : (h i : Option (List ℕ)) → Keeps h i → Appends h i []
+keeps_none None i p = tt
+keeps_none (Some x) None p = absurd p
+keeps_none (Some x) (Some y) p = p ∙ sym (append-nil x)
+
+pub reads_none : (l m : Option (List ℕ)) → Keeps l m → Consumes l m []
+reads_none None m p = tt
+reads_none (Some x) None p = absurd p
+reads_none (Some x) (Some y) p = sym p
+
+pub keeps_then : (h i j : Option (List ℕ)) (bs : List ℕ) → Keeps h i → Appends i j bs → Appends h j bs
+keeps_then None i j bs p q = tt
+keeps_then (Some x) None j bs p q = absurd p
+keeps_then (Some x) (Some y) None bs p q = absurd q
+keeps_then (Some x) (Some y) (Some z) bs p q = q ∙ ap (λ l. l ++ bs) p
+
+-- ---- answers
+
+module _ {S : Type 0} (answers : S → Taken → List ℕ → S → Type 0) where
+  pub AnswersAll-append : (a m e : S) (ts us : List Taken) (rs qs : List (List ℕ)) → AnswersAll answers a ts rs m → AnswersAll answers m us qs e → AnswersAll answers a (ts ++ us) (rs ++ qs) e
+  AnswersAll-append a m e [] us [] qs p q = subst (λ (s : S). AnswersAll answers s us qs e) p q
+  AnswersAll-append a m e (t ∷ ts) us (r ∷ rs) qs p q = (p.0, p.1, AnswersAll-append p.0 m e ts us rs qs p.2 q)
+  AnswersAll-append a m e [] us (r ∷ rs) qs p q = absurd p
+  AnswersAll-append a m e (t ∷ ts) us [] qs p q = absurd p
+
+  -- without a reply nothing was done
+  pub none_answered : (a e : S) (ts : List Taken) (rs : List (List ℕ)) → rs ≡ [] → AnswersAll answers a ts rs e → e ≡ a
+  none_answered a e [] [] is p = p
+  none_answered a e [] (r ∷ rs) is p = absurd p
+  none_answered a e (t ∷ ts) [] is p = absurd p
+  none_answered a e (t ∷ ts) (r ∷ rs) is p = absurd (let size : length (r ∷ rs) ≡ 0 = ap length is in omega (arith, size))
+
+  pub length-answered : (a e : S) (ts : List Taken) (rs : List (List ℕ)) → AnswersAll answers a ts rs e → length ts ≡ length rs
+  length-answered a e [] [] p = refl
+  length-answered a e (t ∷ ts) (r ∷ rs) p = let more : length ts ≡ length rs = length-answered p.0 e ts rs p.2 in omega (arith, more)
+  length-answered a e [] (r ∷ rs) p = absurd p
+  length-answered a e (t ∷ ts) [] p = absurd p
+
+  pub Answered-none : (a : S) (bytes : List ℕ) → Answered answers a a bytes bytes [] []
+  Answered-none a bytes = record { bodies = []; whole = refl; each = tt; said = refl }
+
+  -- bytes were only moved
+  pub Answered-unmoved : (a : S) (bytes rest : List ℕ) → rest ≡ bytes → Answered answers a a bytes rest [] []
+  Answered-unmoved a bytes rest moved = record { bodies = []; whole = sym moved; each = tt; said = refl }
+
+  pub Answered-one : (a b : S) (body bytes rest reply : List ℕ) → IsBody body → bytes ≡ frame body ++ rest → answers a (Body body) reply b → Answered answers a b bytes rest [] (reply ∷ [])
+  Answered-one a b body bytes rest reply fits whole said = record {
+    bodies = body ∷ [];
+    whole = whole ∙ ap (λ l. l ++ rest) (sym (append-nil (frame body)));
+    each = (fits, tt);
+    said = (b, said, refl);
+  }
+
+  pub Answered-over : (a b : S) (bytes rest reply : List ℕ) → bytes ≡ rest → answers a Oversize reply b → Answered answers a b bytes rest (Oversize ∷ []) (reply ∷ [])
+  Answered-over a b bytes rest reply same said = record { bodies = []; whole = same; each = tt; said = (b, said, refl) }
+
+  abbrev pub Answered-then : (a b c : S) (bytes mid rest : List ℕ) (over : List Taken) (rs qs : List (List ℕ)) → Answered answers a b bytes mid [] rs → Answered answers b c mid rest over qs → Answered answers a c bytes rest over (rs ++ qs)
+  Answered-then a b c bytes mid rest over rs qs p q = record {
+    bodies = p.bodies ++ q.bodies;
+    whole = whole-join p.bodies q.bodies bytes mid rest p.whole q.whole;
+    each = each-join p.bodies q.bodies p.each q.each;
+    said = subst (λ (ts : List Taken). AnswersAll answers a ts (rs ++ qs) c) (taken-join p.bodies q.bodies over) (AnswersAll-append a b c _ _ rs qs p.said q.said);
+  }
+
+  -- a batch goes on with what one more call answered
+  pub batch_more : (most : ℕ) (a b c : S) (bytes mid rest : List ℕ) (over : List Taken) (rs qs : List (List ℕ)) (waiting waiting' : List ℕ) → IsBatch most rs → waiting ≡ frames rs → Answered answers a b bytes mid [] rs → length waiting < most
+      → length qs ≤ 1 → waiting' ≡ waiting ++ frames qs → Answered answers b c mid rest over qs → (replies : List (List ℕ)) × IsBatch most replies × (waiting' ≡ frames replies) × Answered answers a c bytes rest over replies
+  batch_more most a b c bytes mid rest over rs qs waiting waiting' small framed p few one grown q =
+      let size : length waiting ≡ length (frames rs) = ap length framed in (
+        rs ++ qs,
+        IsBatch-more most rs qs (omega (arith, few, size)) small one,
+        grown ∙ (ap (λ l. l ++ frames qs) framed ∙ sym (frames-join rs qs)),
+        Answered-then a b c bytes mid rest over rs qs p q,
+      )
+
+-- ---- bytes at hand
+
+-- some bytes of a piece were taken into a framer
+pub taken_front : (hand piece front hand' behind : List ℕ) (m n room : ℕ) → front ≡ take m piece → n ≡ min (length front) room → hand' ≡ hand ++ take n front → behind ≡ drop n piece → hand' ++ behind ≡ hand ++ piece
+taken_front hand piece front hand' behind m n room cut count grown left =
+    let all : piece ≡ front ++ drop m piece = sym (take-append-drop m piece) ∙ ap (λ l. l ++ drop m piece) (sym cut) in
+    let same : take n front ≡ take n piece = sym (take-append-le n front (drop m piece) (omega (arith, count))) ∙ ap (take n) (sym all) in
+    ap (λ l. l ++ behind) grown ∙ (ap (λ l. (hand ++ l) ++ behind) same ∙ (ap (λ l. (hand ++ take n piece) ++ l) left
+    ∙ (append_assoc hand (take n piece) (drop n piece) ∙ ap (λ l. hand ++ l) (take-append-drop n piece))))
+
+-- the first frame of the bytes at hand, if it was in the framer
+pub held_frame : (hand piece hand' behind left body : List ℕ) → hand' ++ behind ≡ hand ++ piece → hand' ≡ frame body ++ left → hand ++ piece ≡ frame body ++ (left ++ behind)
+held_frame hand piece hand' behind left body same whole = sym same ∙ (ap (λ l. l ++ behind) whole ∙ append_assoc (frame body) left behind)
+
+pub held_fewer : (hand piece hand' behind left body : List ℕ) (n : ℕ) → hand' ++ behind ≡ hand ++ piece → hand' ≡ frame body ++ left → behind ≡ drop n piece → length left + (length behind + length behind) < length hand + (length piece + length piece)
+held_fewer hand piece hand' behind left body n same whole dropped =
+    let sizes : length (hand' ++ behind) ≡ length (hand ++ piece) = ap length same in
+    let size : length hand' ≡ length (frame body ++ left) = ap length whole in
+    let less : length behind ≡ length (drop n piece) = ap length dropped in
+    omega (arith, sizes, size, less, length-append hand' behind, length-append hand piece, length-append (frame body) left, length-drop n piece, frame-long body)
+
+-- or in the piece, behind an empty framer
+pub front_frame : (hand piece behind body : List ℕ) → hand ≡ [] → piece ≡ frame body ++ behind → hand ++ piece ≡ frame body ++ (hand ++ behind)
+front_frame hand piece behind body none whole = ap (λ l. l ++ piece) none ∙ (whole ∙ ap (λ l. frame body ++ (l ++ behind)) (sym none))
+
+pub front_fewer : (piece behind body : List ℕ) (n : ℕ) → piece ≡ frame body ++ behind → n + (length behind + length behind) < n + (length piece + length piece)
+front_fewer piece behind body n whole =
+    let size : length piece ≡ length (frame body ++ behind) = ap length whole in
+    omega (arith, size, length-append (frame body) behind, frame-long body)
+
+-- the frame of one reply was appended
+pub one_framed : (waiting waiting' body : List ℕ) → waiting' ≡ waiting ++ frame body → waiting' ≡ waiting ++ frames (body ∷ [])
+one_framed waiting waiting' body grown = grown ∙ ap (λ l. waiting ++ l) (sym (append-nil (frame body)))
+
+-- ---- batches
+
+module _ {S : Type 0} (answers : S → Taken → List ℕ → S → Type 0) (settles fails : S → S → Type 0) (joins : (first mid new : S) (taken : Taken) (body : List ℕ) → answers first taken body mid → settles mid new ⊎ fails mid new → answers first taken body new) where
+  -- settling belongs to the last answer
+  pub AnswersAll-joins : (m e : S) → settles m e ⊎ fails m e → (a : S) (ts : List Taken) (rs : List (List ℕ)) → 0 < length rs → AnswersAll answers a ts rs m → AnswersAll answers a ts rs e
+  AnswersAll-joins m e is a [] [] some p = absurd (omega (arith, some))
+  AnswersAll-joins m e is a [] (r ∷ rs) some p = absurd p
+  AnswersAll-joins m e is a (t ∷ ts) [] some p = absurd p
+  AnswersAll-joins m e is a (t ∷ []) (r ∷ []) some p = (e, joins a p.0 e t r p.1 (subst (λ (s : S). settles s e ⊎ fails s e) p.2 is), refl)
+  AnswersAll-joins m e is a (t ∷ []) (r ∷ q ∷ rs) some p = absurd p.2
+  AnswersAll-joins m e is a (t ∷ u ∷ ts) (r ∷ []) some p = absurd p.2
+  AnswersAll-joins m e is a (t ∷ u ∷ ts) (r ∷ q ∷ rs) some p = (p.0, p.1, AnswersAll-joins m e is p.0 (u ∷ ts) (q ∷ rs) (omega arith) p.2)
+
+  abbrev pub Answered-joins : (a m e : S) (bytes rest : List ℕ) (over : List Taken) (rs : List (List ℕ)) → settles m e ⊎ fails m e → 0 < length rs → Answered answers a m bytes rest over rs → Answered answers a e bytes rest over rs
+  Answered-joins a m e bytes rest over rs is some p = record { bodies = p.bodies; whole = p.whole; each = p.each; said = AnswersAll-joins m e is a _ rs some p.said }
+
+  SettlesAll-then : (a b c : S) → SettlesAll answers settles fails a b → SettlesAll answers settles fails b c → SettlesAll answers settles fails a c
+  SettlesAll-then a b c (inl p) q = subst (λ (s : S). SettlesAll answers settles fails s c) p q
+  SettlesAll-then a b c (inr p) (inl q) = subst (λ (s : S). SettlesAll answers settles fails a s) (sym q) (inr p)
+  SettlesAll-then a b c (inr (ts, rs, m, some, said, settled)) (inr (us, qs, l, more, next, last)) = inr (
+    ts ++ us,
+    rs ++ qs,
+    l,
+    omega (arith, some, length-append rs qs),
+    AnswersAll-append answers a b l ts us rs qs (AnswersAll-joins m b (inl settled) a ts rs some said) next,
+    last,
+  )
+
+  pub Delivers-none : (a : S) (bytes : List ℕ) (h i : Option (List ℕ)) → Keeps h i → Delivers answers settles fails a a bytes bytes [] h i
+  Delivers-none a bytes h i keeps = record { replies = []; answered = Answered-none answers a bytes; settled = inl refl; appended = keeps_none h i keeps }
+
+  pub Delivers-then : (a b c : S) (bytes mid rest : List ℕ) (over : List Taken) (h i j : Option (List ℕ)) → Delivers answers settles fails a b bytes mid [] h i → Delivers answers settles fails b c mid rest over i j → Delivers answers settles fails a c bytes rest over h j
+  Delivers-then a b c bytes mid rest over h i j p q = record {
+    replies = p.replies ++ q.replies;
+    answered = Answered-then answers a b c bytes mid rest over p.replies q.replies p.answered q.answered;
+    settled = SettlesAll-then a b c p.settled q.settled;
+    appended = subst (Appends h j) (sym (frames-join p.replies q.replies)) (Appends-trans h i j _ _ p.appended q.appended);
+  }
+
+  -- a batch was settled and written
+  pub Delivers-batch : (a m e : S) (bytes rest : List ℕ) (over : List Taken) (rs : List (List ℕ)) (h i : Option (List ℕ)) → Answered answers a m bytes rest over rs → 0 < length rs → settles m e → Appends h i (frames rs) → Delivers answers settles fails a e bytes rest over h i
+  Delivers-batch a m e bytes rest over rs h i p some settled appended = record {
+    replies = rs;
+    answered = Answered-joins a m e bytes rest over rs (inl settled) some p;
+    settled = inr (_, rs, m, some, p.said, settled);
+    appended = appended;
+  }
+
+  -- or no reply waited
+  pub Delivers-nothing : (a m : S) (bytes rest : List ℕ) (over : List Taken) (rs : List (List ℕ)) (h : Option (List ℕ)) → rs ≡ [] → Answered answers a m bytes rest over rs → Delivers answers settles fails a m bytes rest over h h
+  Delivers-nothing a m bytes rest over rs h none p = record {
+    replies = rs;
+    answered = p;
+    settled = inl (none_answered answers a m _ rs none p.said);
+    appended = subst (λ (l : List (List ℕ)). Appends h h (frames l)) (sym none) (Appends-nil h);
+  }
+
+  pub Delivers-kept : (a b : S) (bytes rest : List ℕ) (over : List Taken) (h i j k : Option (List ℕ)) → Keeps h i → Keeps j k → Delivers answers settles fails a b bytes rest over i j → Delivers answers settles fails a b bytes rest over h k
+  Delivers-kept a b bytes rest over h i j k before after p = record {
+    replies = p.replies;
+    answered = p.answered;
+    settled = p.settled;
+    appended = Appends-kept h j k (frames p.replies) (keeps_then h i j (frames p.replies) before p.appended) after;
+  }
+
+  -- unread bytes come after the rest
+  pub Delivers-more : (a b : S) (bytes rest more : List ℕ) (h i : Option (List ℕ)) → Delivers answers settles fails a b bytes rest [] h i → Delivers answers settles fails a b (bytes ++ more) (rest ++ more) [] h i
+  Delivers-more a b bytes rest more h i p = record {
+    replies = p.replies;
+    answered = record {
+      bodies = p.answered.bodies;
+      whole = ap (λ x. x ++ more) p.answered.whole ∙ append_assoc (frames p.answered.bodies) rest more;
+      each = p.answered.each;
+      said = p.answered.said;
+    };
+    settled = p.settled;
+    appended = p.appended;
+  }
+
+  pub Cuts-after : (most : ℕ) (fault : ServeFault) (a b e : S) (bytes behind rest : List ℕ) (h i j : Option (List ℕ)) → Delivers answers settles fails a b bytes behind [] h i → Cuts answers settles fails most fault b e behind rest i j → Cuts answers settles fails most fault a e bytes rest h j
+  Cuts-after most fault a b e bytes behind rest h i j p c = record {
+    mid = c.mid;
+    behind = c.behind;
+    sent = c.sent;
+    front = Delivers-then a b c.mid bytes behind c.behind [] h i c.sent p c.front;
+    last = c.last;
+    over = c.over;
+    replies = c.replies;
+    batch = c.batch;
+    is_over = c.is_over;
+    small = c.small;
+    some = c.some;
+    written = c.written;
+    more = c.more;
+    parts = c.parts;
+    appended = c.appended;
+    cut = c.cut;
+  }
+
+  -- a first batch was cut
+  pub Cuts-first : (most : ℕ) (fault : ServeFault) (a m e : S) (bytes rest : List ℕ) (over : List Taken) (rs : List (List ℕ)) (waiting written more : List ℕ) (h i : Option (List ℕ)) → Answered answers a m bytes rest over rs → IsOver over rest → IsBatch most rs → 0 < length rs
+      → waiting ≡ frames rs → waiting ≡ written ++ more → Appends h i written → IsCutBy answers settles fails fault m e written more → Cuts answers settles fails most fault a e bytes rest h i
+  Cuts-first most fault a m e bytes rest over rs waiting written more h i p is_over small some framed parts appended cut = record {
+    mid = a;
+    behind = bytes;
+    sent = h;
+    front = Delivers-none a bytes h h (Keeps-refl h);
+    last = m;
+    over = over;
+    replies = rs;
+    batch = p;
+    is_over = is_over;
+    small = small;
+    some = some;
+    written = written;
+    more = more;
+    parts = sym framed ∙ parts;
+    appended = appended;
+    cut = cut;
+  }
+
+  -- the bytes of a piece are done as their rest after some delivered frames is
+  pub Outcome-after : (most : ℕ) (result : Result End ServeFault) (a b c : S) (bytes mid rest : List ℕ) (h i j : Option (List ℕ)) → Delivers answers settles fails a b bytes mid [] h i → Outcome answers settles fails most result b c mid rest i j → Outcome answers settles fails most result a c bytes rest h j
+  Outcome-after most (Ok end) a b c bytes mid rest h i j p q = Delivers-then a b c bytes mid rest _ h i j p q
+  Outcome-after most (Err faults.Read) a b c bytes mid rest h i j p q = Delivers-then a b c bytes mid rest [] h i j p q
+  Outcome-after most (Err faults.NoMemory) a b c bytes mid rest h i j p q = Delivers-then a b c bytes mid rest [] h i j p q
+  Outcome-after most (Err faults.Write) a b c bytes mid rest h i j p (inl (over, is_over, q)) = inl (over, is_over, Delivers-then a b c bytes mid rest over h i j p q)
+  Outcome-after most (Err faults.Write) a b c bytes mid rest h i j p (inr q) = inr (Cuts-after most faults.Write a b c bytes mid rest h i j p q)
+  Outcome-after most (Err faults.Log) a b c bytes mid rest h i j p q = Cuts-after most faults.Log a b c bytes mid rest h i j p q

@@ -10,7 +10,8 @@ use Rattle.server_loop.specs.Serve.{Serves, ServesStream, RestIs}
 use Rattle.server_loop.specs.declared.statuses.End.{End}
 use Rattle.server_loop.specs.declared.statuses.End.TheVariants as ends
 use Rattle.server_loop.specs.declared.statuses.ServeFault.{ServeFault}
-use Rattle.server_loop.proofs.ServingLemmas.{BeginsNoFrame-from_large, taken-large}
+use Rattle.server_loop.proofs.Replied.{taken-large}
+use Rattle.server_loop.proofs.ServingLemmas.{BeginsNoFrame-from_large}
 use Rattle.server_loop.proofs.FrameHeads.{IsTooLong-more}
 
 module _ {S : Type 0} (shows : S → State → Type 0) (says : S → Lent → CodecReply → S → Type 0) (between : S → S → Type 0) where
@@ -25,8 +26,8 @@ module _ {S : Type 0} (shows : S → State → Type 0) (says : S → Lent → Co
         cut = record { whole = all ∙ q.whole; each = q.each; open_rest = p.open_rest (λ h. cc) };
         rest_is = is;
         replies = q.replies;
-        run = subst (λ (ts : List Taken). AnswersAs shows says between a b ts q.replies) q.takes (record { run = q.run; said = q.writes.0 });
-        appended = subst (Appends h i) q.writes.1 q.appended;
+        run = subst (λ (ts : List Taken). AnswersAs shows says between a b ts q.replies) q.takes (record { run = q.run; said = q.said });
+        appended = subst (Appends h i) q.writes q.appended;
       }
 
   -- a length past the limit, whatever follows it
@@ -44,8 +45,8 @@ module _ {S : Type 0} (shows : S → State → Type 0) (says : S → Lent → Co
         };
         rest_is = large;
         replies = q.replies;
-        run = subst (λ (ts : List Taken). AnswersAs shows says between a b ts q.replies) (q.takes ∙ sym (taken-large q.bodies p.rest p.ending.0) ∙ taken-large q.bodies (p.rest ++ rest') large) (record { run = q.run; said = q.writes.0 });
-        appended = subst (Appends h i) q.writes.1 q.appended;
+        run = subst (λ (ts : List Taken). AnswersAs shows says between a b ts q.replies) (q.takes ∙ sym (taken-large q.bodies p.rest p.ending.0) ∙ taken-large q.bodies (p.rest ++ rest') large) (record { run = q.run; said = q.said });
+        appended = subst (Appends h i) q.writes q.appended;
       }
 
   pub whole-from_serves : (a b : S) (l m h i : Option (List ℕ)) (r : ℕ) (result : Result End ServeFault) → Serves shows says between a b l m h i r result

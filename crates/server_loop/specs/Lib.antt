@@ -2,6 +2,7 @@ pub mod Statuses
 pub mod Refusals
 pub mod Runs
 pub mod Serve
+pub mod Batches
 pub mod Server
 pub mod Commands
 pub mod Sessions

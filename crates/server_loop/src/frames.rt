@@ -12,10 +12,10 @@ use std::io::Write;
 
 /// A write failed or accepted no byte.
 #[derive(Clone, Copy)]
-pub struct WriteFailed;
+pub(crate) struct WriteFailed;
 
 /// Writes all of the bytes, in several writes if needed. After an `Err` some of them were not written.
-pub fn write_whole<W: Write>(writer: &mut W, bytes: &[u8]) -> Result<(), WriteFailed>
+pub(crate) fn write_whole<W: Write>(writer: &mut W, bytes: &[u8]) -> Result<(), WriteFailed>
     ensures ok { OnOk result (Appends (W.contents writer.old) (W.contents writer.new) bytes.now) }
     ensures err { OnErr result ((n : ℕ) × (n < length bytes.now)
         × Appends (W.contents writer.old) (W.contents writer.new) (take n bytes.now)) }
@@ -33,7 +33,7 @@ pub fn write_whole<W: Write>(writer: &mut W, bytes: &[u8]) -> Result<(), WriteFa
 
 /// Appends the frame of a reply to the buffer.
 #[tactic(auto, using(crate::proofs::Lengths::fits_frame), unfolding(request_codec::specs::Stream::frame))]
-pub fn push_frame(reply: &Reply, out: &mut Vec<u8>)
+pub(crate) fn push_frame(reply: &Reply, out: &mut Vec<u8>)
     requires room { length out.old.items + LONGEST_REPLY ≤ vec_capacity out.old }
     requires limits { KeepsToLimits reply.now }
     ensures items { out.new.items ≡ out.old.items ++ frame (reply_body (replied reply.now)) }
@@ -44,39 +44,8 @@ pub fn push_frame(reply: &Reply, out: &mut Vec<u8>)
     push_reply(reply, out);
 }
 
-/// Replaces the contents of the buffer by the frame of a reply.
-fn frame_reply(reply: &Reply, out: &mut Vec<u8>)
-    requires room { LONGEST_REPLY ≤ vec_capacity out.old }
-    requires limits { KeepsToLimits reply.now }
-    ensures items { out.new.items ≡ frame (reply_body (replied reply.now)) }
-    ensures capacity { vec_capacity out.old ≤ vec_capacity out.new }
-{
-    out.clear();
-    push_frame(reply, out);
-}
-
-/// Writes the whole frame of a reply. After an `Err` some of it was not written.
-pub(crate) fn send<W: Write>(
-    writer: &mut W,
-    reply: &Reply,
-    out: &mut Vec<u8>,
-) -> Result<(), WriteFailed>
-    requires room { LONGEST_REPLY ≤ vec_capacity out.old }
-    requires limits { KeepsToLimits reply.now }
-    ensures ok { OnOk result
-        (Appends (W.contents writer.old) (W.contents writer.new)
-        (frame (reply_body (replied reply.now)))) }
-    ensures err { OnErr result ((n : ℕ) × (n < length (frame (reply_body (replied reply.now))))
-        × Appends (W.contents writer.old) (W.contents writer.new)
-        (take n (frame (reply_body (replied reply.now))))) }
-    ensures capacity { vec_capacity out.old ≤ vec_capacity out.new }
-{
-    frame_reply(reply, out);
-    write_whole(writer, out)
-}
-
 /// Flushes the writer.
-pub fn flush<W: Write>(writer: &mut W) -> Result<(), ServeFault>
+pub(crate) fn flush<W: Write>(writer: &mut W) -> Result<(), ServeFault>
     ensures kept { Keeps (W.contents writer.old) (W.contents writer.new) }
     ensures fault { IfErr result (λ fault. fault ≡ ServeFault.Write) }
 {
@@ -87,7 +56,7 @@ pub fn flush<W: Write>(writer: &mut W) -> Result<(), ServeFault>
 }
 
 /// Flushes the writer, and returns the end.
-pub fn finish<W: Write>(writer: &mut W, end: End) -> Result<End, ServeFault>
+pub(crate) fn finish<W: Write>(writer: &mut W, end: End) -> Result<End, ServeFault>
     ensures kept { Keeps (W.contents writer.old) (W.contents writer.new) }
     ensures end { IfOk result (λ is. is ≡ end) }
     ensures fault { IfErr result (λ fault. fault ≡ ServeFault.Write) }

@@ -15,10 +15,9 @@ mod statuses;
 mod upkeep;
 
 pub use audit::Audit;
-pub use frames::{WriteFailed, finish, flush, push_frame, write_whole};
 pub use laws::{resting_is_kept, rests_between};
 pub use row_atomic::FlushLimits;
 pub use server::{Config, Server};
-pub use serving::{Answering, LONGEST_PIECE, Rest, reply_to_body, zeros};
+pub use serving::{Answering, Heard, Hearing, Rest, answer_heard, serve_all};
 pub use statuses::{End, ServeFault, end_status, open_status};
 pub use upkeep::RootName;

@@ -6,7 +6,7 @@ ghost use Rattle.row_atomic.specs.Clusters.{IsFirstTablet};
 ghost use Rattle.server_loop.specs.Serve.{Serves, ServesStream};
 ghost use Rattle.si_model.specs.Machine.{State, new_machine};
 
-use crate::serving::{Answering, serve_all};
+use crate::serving::{Answering, Heard, Hearing, answer_heard, serve_all};
 use crate::statuses::{End, ServeFault};
 use cell_key::{MOST_STAMP, Refusal, Stamp};
 use clean_up::Cleaners;
@@ -274,16 +274,16 @@ impl<F: Files + Drop, M: MarkStore + Drop> Server<F, M> {
     }
 
     /// Serves framed requests until the input ends, with at most `most_reads` reads. It allocates its buffers first. It
-    /// reads pieces of at most 65,536 bytes, and answers every whole frame before it reads again. Each reply is written
-    /// completely before the next frame is taken. After each reply, every memtable that has reached a limit of the
-    /// configuration is compacted, and files are merged as `merge_at` says.
+    /// reads pieces of at most 65,536 bytes, and answers every whole frame before it reads again. After each
+    /// answer, every memtable that has reached a limit of the configuration is compacted, and files are merged as
+    /// `merge_at` says. Then the reply is written completely, before the next frame is taken.
     ///
     /// The bytes read are cut into bodies and a rest, and the replies are given by a run of the snapshot machine over
     /// them. Each reply fulfils the contract of `answer`, and between two replies only those compactions and merges
     /// take place. Exactly the frames of these replies are written. After a failed read, the replies to all whole
     /// frames were written. After a failed write, all replies but the last were written, and a prefix of the last; no
     /// further frame was taken. If the buffers could not be allocated, nothing was read or written. The server is then
-    /// in the state after the last request taken.
+    /// in the state after the last request taken and the upkeep that follows it.
     ///
     /// The writer is flushed before each read and at every end. Only tests show this: no clause of a writer mentions
     /// it.
@@ -304,7 +304,37 @@ impl<F: Files + Drop, M: MarkStore + Drop> Server<F, M> {
             (IsTended F.contents F.faults) self.old self.new
             stream (O.contents writer.old) (O.contents writer.new) end)) }
     {
-        serve_all(self.alloc, self, reader, writer, most_reads)
+        serve_all(self.alloc, self, reader, writer, 1, most_reads)
+    }
+}
+
+impl<F: Files + Drop, M: MarkStore + Drop> Hearing for Server<F, M> {
+    ghost use Rattle.std.proofs.Common.{◌≡◌, inl, inr, subst, sym};
+    ghost use Rattle.server_loop.specs.Answer.{IsAnswer};
+    ghost use Rattle.server_loop.specs.Batches.{IsAnswered};
+    ghost use Rattle.server_loop.specs.Server.{Shows};
+    ghost use Rattle.server_loop.specs.Tending.{IsTended};
+
+    ghost answers = { IsAnswered (Shows F.contents) (IsAnswer F.Files M.MarkStore)
+        (IsTended F.contents F.faults) };
+
+    ghost settles = { λ old new. new ≡ old };
+
+    ghost fails = { λ old new. ⊥ };
+
+    ghost joins = { λ first mid new taken body is after. elim after [
+      | inl same ↦ subst (λ server. IsAnswered (Shows F.contents) (IsAnswer F.Files M.MarkStore)
+          (IsTended F.contents F.faults) first taken body server) (sym same) is
+      | inr none ↦ absurd none
+    ] };
+
+    fn answer(&mut self, heard: Heard<'_>, waiting: &mut Vec<u8>) {
+        answer_heard(self, heard, waiting);
+    }
+
+    /// The answers need no settling.
+    fn settle(&mut self) -> Result<(), ServeFault> {
+        Ok(())
     }
 }
 

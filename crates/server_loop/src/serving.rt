@@ -1,16 +1,17 @@
-//! The serving loop, over anything that answers as the snapshot machine does.
+//! The serving loop: answers wait until they are settled, and are written then.
 
-ghost use Rattle.std.specs.Prelude.{◌≡◌, ◌≤◌, ◌<◌, ◌++◌, ◌∷◌, List, ℕ, [], length, Err, IfErr, IfOk, OnOk, vec_capacity};
+ghost use Rattle.std.specs.Prelude.{◌≡◌, ◌≤◌, ◌<◌, ◌+◌, ◌++◌, ◌∷◌, ◌⊎◌, List, ℕ, [], length, Err, IfErr, IfNone, IfOk, OnErr, OnOk, Some, vec_capacity};
+ghost use Rattle.std.specs.Io.KnownBytes.{Appends};
 ghost use Rattle.si_model.specs.Machine.{State};
-ghost use Rattle.request_codec.specs.Replies.{replied, reply_body};
-ghost use Rattle.request_codec.specs.Stream.{frame, IsBody, IsPartial};
+ghost use Rattle.request_codec.specs.Replies.{replied};
+ghost use Rattle.request_codec.specs.Stream.{frame, frames, IsPartial};
 ghost use Rattle.request_codec.specs.declared.replies.Reply.{Reply as CodecReply};
 ghost use Rattle.request_codec.specs.declared.requests.Request.{Request as Lent};
 ghost use Rattle.request_codec.specs.Requests.{asked};
-ghost use Rattle.server_loop.specs.Runs.{StepsAs, RunsAs, SaysOf, Body, KeepsToLimits};
-ghost use Rattle.server_loop.specs.Serve.{Answered, Serves, Delivers, HandlesFirst, HandlesTo, IsRest, ReadsOn};
+ghost use Rattle.server_loop.specs.Batches.{Answered, Cuts, Delivers, IsAnswered, IsBatch, IsCutBy, LeavesRest, ReadsOn, ServesOn, over_of, taken_by};
+ghost use Rattle.server_loop.specs.Runs.{Body, StepsAs, RunsAs, SaysOf, Taken, KeepsToLimits};
 
-use crate::frames::{finish, flush, send};
+use crate::frames::{finish, flush, push_frame, write_whole};
 use crate::statuses::{End, ServeFault};
 use cell_key::Refusal;
 use request_codec::{Framer, LONGEST_REPLY, Next, Reply, Request, decode_request, split_frame};
@@ -18,7 +19,16 @@ use std::alloc::{AllocError, Global};
 use std::io::{Read, Write};
 
 /// The most bytes that one read requests.
-pub const LONGEST_PIECE: usize = 65_536;
+const LONGEST_PIECE: usize = 65_536;
+
+/// What is to be answered.
+#[derive(Clone, Copy)]
+pub enum Heard<'a> {
+    /// The body of a frame.
+    Body(&'a [u8]),
+    /// A length past the limit.
+    TooLarge,
+}
 
 /// The remainder of bytes whose whole frames were answered.
 #[derive(Clone, Copy)]
@@ -52,15 +62,45 @@ pub trait Answering {
         ensures shown { (st : State) → shows self.old st → shows self.new st };
 }
 
+/// Answers bodies. The replies are written once the answers are settled.
+pub trait Hearing {
+    /// What was taken, and the body of the reply, from the state before to the state after.
+    ghost answers: { Self → Taken → List ℕ → Self → Type 0 };
+
+    /// The answers were settled.
+    ghost settles: { Self → Self → Type 0 };
+
+    /// They could not be settled.
+    ghost fails: { Self → Self → Type 0 };
+
+    /// Appends the frame of the reply to what is heard to the replies that wait.
+    fn answer(&mut self, heard: Heard<'_>, waiting: &mut Vec<u8>)
+        requires room { length waiting.old.items + LONGEST_REPLY ≤ vec_capacity waiting.old }
+        ensures answers { (body : List ℕ) × answers self.old (taken_by heard.entry) body self.new
+            × (waiting.new.items ≡ waiting.old.items ++ frame body) }
+        ensures capacity { vec_capacity waiting.old ≤ vec_capacity waiting.new };
+
+    /// Settles the answers since the last call.
+    fn settle(&mut self) -> Result<(), ServeFault>
+        ensures ok { OnOk result (settles self.old self.new) }
+        ensures err { OnErr result (fails self.old self.new) }
+        ensures fault { IfErr result (λ fault. fault ≡ ServeFault.Log) };
+
+    /// Settling belongs to the answer before it.
+    ghost joins: { (first mid new : Self) (taken : Taken) (body : List ℕ)
+        → answers first taken body mid → settles mid new ⊎ fails mid new
+        → answers first taken body new };
+}
+
 /// A vector of zeros. The size is a parameter, so that no proof computes a list of a million.
-pub fn zeros(alloc: Global, size: usize) -> Result<Vec<u8>, AllocError>
+fn zeros(alloc: Global, size: usize) -> Result<Vec<u8>, AllocError>
     ensures { IfOk result (λ v. length v.items ≡ size) }
 {
     vec![in alloc; 0u8; size]
 }
 
 /// The reply to a body, well-formed or not.
-pub fn reply_to_body<A: Answering>(server: &mut A, body: &[u8]) -> Reply
+fn reply_to_body<A: Answering>(server: &mut A, body: &[u8]) -> Reply
     ensures run { RunsAs A.shows server.old server.new (Body body.now ∷ []) (replied result ∷ []) }
     ensures says { SaysOf A.says server.old (Body body.now) (replied result) server.new }
     ensures limits { KeepsToLimits result }
@@ -71,220 +111,252 @@ pub fn reply_to_body<A: Answering>(server: &mut A, body: &[u8]) -> Reply
     server.reply_to(request)
 }
 
-/// Writes a whole reply, and then lets the server do its upkeep.
-fn deliver<A: Answering, W: Write>(
-    server: &mut A,
-    writer: &mut W,
-    reply: &Reply,
-    out: &mut Vec<u8>,
-) -> Result<(), ServeFault>
-    requires out { LONGEST_REPLY ≤ vec_capacity out.old }
-    requires limits { KeepsToLimits reply.now }
-    ensures delivers { Delivers A.shows A.between result (reply_body (replied reply.now)) server.old
-        server.new (W.contents writer.old) (W.contents writer.new) }
-    ensures room { vec_capacity out.old ≤ vec_capacity out.new }
+/// The reply to what is heard.
+fn reply_to_heard<A: Answering>(server: &mut A, heard: Heard<'_>) -> Reply
+    ensures run { RunsAs A.shows server.old server.new (taken_by heard.entry ∷ [])
+        (replied result ∷ []) }
+    ensures says { SaysOf A.says server.old (taken_by heard.entry) (replied result) server.new }
+    ensures limits { KeepsToLimits result }
 {
-    match send(writer, reply, out) {
+    match heard {
+        Heard::Body(body) => reply_to_body(server, body),
+        Heard::TooLarge => Reply::Refused(Refusal::FrameTooLarge),
+    }
+}
+
+/// Appends the frame of the machine's reply to those that wait, and lets the server do its upkeep.
+pub fn answer_heard<A: Answering>(server: &mut A, heard: Heard<'_>, waiting: &mut Vec<u8>)
+    requires room { length waiting.old.items + LONGEST_REPLY ≤ vec_capacity waiting.old }
+    ensures answers { (body : List ℕ) × IsAnswered A.shows A.says A.between server.old
+        (taken_by heard.entry) body server.new
+        × (waiting.new.items ≡ waiting.old.items ++ frame body) }
+    ensures capacity { vec_capacity waiting.old ≤ vec_capacity waiting.new }
+{
+    let reply = reply_to_heard(server, heard);
+    push_frame(&reply, waiting);
+    server.tend();
+}
+
+/// Takes bytes of a piece, as far as the first frame needs them, and answers that frame if it is whole. Returns the
+/// bytes of the piece that were not taken. `None` if there may be more frames.
+fn answer_held<'p, H: Hearing>(
+    server: &mut H,
+    framer: &mut Framer,
+    piece: &'p [u8],
+    waiting: &mut Vec<u8>,
+) -> (Option<Rest>, &'p [u8])
+    requires room { length waiting.old.items + LONGEST_REPLY ≤ vec_capacity waiting.old }
+    ensures answered { (replies : List (List ℕ)) × (length replies ≤ 1)
+        × (waiting.new.items ≡ waiting.old.items ++ frames replies)
+        × Answered H.answers server.old server.new (framer.old ++ piece.now)
+        (framer.new ++ result.1.now) (over_of result.0) replies }
+    ensures rest { LeavesRest result.0 (framer.new ++ result.1.now) result.1.now }
+    ensures fewer { IfNone result.0 (length framer.new + (length result.1.now + length result.1.now)
+        < length framer.old + (length piece.now + length piece.now)) }
+    ensures capacity { vec_capacity waiting.old ≤ vec_capacity waiting.new }
+{
+    let wanted = framer.wanted().min(piece.len());
+    let (front, _) = piece.split_at(wanted);
+    let taken = framer.feed(front);
+    let (_, behind) = piece.split_at(taken);
+    match framer.next() {
+        Next::More => {
+            if behind.is_empty() {
+                return (Some(Rest::Partial), behind);
+            }
+            (None, behind)
+        }
+        Next::Frame(body) => {
+            server.answer(Heard::Body(body), waiting);
+            (None, behind)
+        }
+        Next::TooLarge => {
+            server.answer(Heard::TooLarge, waiting);
+            (Some(Rest::TooLarge), behind)
+        }
+    }
+}
+
+/// Answers the first frame of the bytes at hand, those of the framer and then those of the piece. A frame that is whole
+/// in the piece is answered where it stands. Returns the bytes of the piece that were not taken. `None` if there may be
+/// more frames.
+fn answer_next<'p, H: Hearing>(
+    server: &mut H,
+    framer: &mut Framer,
+    piece: &'p [u8],
+    waiting: &mut Vec<u8>,
+) -> (Option<Rest>, &'p [u8])
+    requires room { length waiting.old.items + LONGEST_REPLY ≤ vec_capacity waiting.old }
+    ensures answered { (replies : List (List ℕ)) × (length replies ≤ 1)
+        × (waiting.new.items ≡ waiting.old.items ++ frames replies)
+        × Answered H.answers server.old server.new (framer.old ++ piece.now)
+        (framer.new ++ result.1.now) (over_of result.0) replies }
+    ensures rest { LeavesRest result.0 (framer.new ++ result.1.now) result.1.now }
+    ensures fewer { IfNone result.0 (length framer.new + (length result.1.now + length result.1.now)
+        < length framer.old + (length piece.now + length piece.now)) }
+    ensures capacity { vec_capacity waiting.old ≤ vec_capacity waiting.new }
+{
+    if framer.is_empty() {
+        if let Some((body, behind)) = split_frame(piece) {
+            server.answer(Heard::Body(body), waiting);
+            return (None, behind);
+        }
+    }
+    answer_held(server, framer, piece, waiting)
+}
+
+/// Answers whole frames in order until so many bytes of replies wait. Returns the bytes of the piece that were not
+/// taken. `None` if there may be more frames.
+fn fill<'p, H: Hearing>(
+    server: &mut H,
+    framer: &mut Framer,
+    piece: &'p [u8],
+    waiting: &mut Vec<u8>,
+    most: usize,
+) -> (Option<Rest>, &'p [u8])
+    requires none { waiting.old.items ≡ [] }
+    requires most { 0 < most }
+    requires room { most + LONGEST_REPLY ≤ vec_capacity waiting.old }
+    ensures answered { (replies : List (List ℕ)) × IsBatch most replies
+        × (waiting.new.items ≡ frames replies)
+        × Answered H.answers server.old server.new (framer.old ++ piece.now)
+        (framer.new ++ result.1.now) (over_of result.0) replies }
+    ensures rest { LeavesRest result.0 (framer.new ++ result.1.now) result.1.now }
+    ensures fewer { IfNone result.0 (length framer.new + (length result.1.now + length result.1.now)
+        < length framer.old + (length piece.now + length piece.now)) }
+    ensures capacity { vec_capacity waiting.old ≤ vec_capacity waiting.new }
+{
+    let mut rest = piece;
+    loop {
+        let (ended, behind) = answer_next(server, framer, rest, waiting);
+        rest = behind;
+        if ended.is_some() || waiting.len() >= most {
+            return (ended, rest);
+        }
+    }
+}
+
+/// Settles the answers, then writes the waiting replies.
+fn release<H: Hearing, W: Write>(
+    server: &mut H,
+    writer: &mut W,
+    waiting: &mut Vec<u8>,
+) -> Result<(), ServeFault>
+    ensures ok { OnOk result (H.settles server.old server.new
+        × Appends (W.contents writer.old) (W.contents writer.new) waiting.old.items) }
+    ensures none { OnOk result (waiting.new.items ≡ []) }
+    ensures err { IfErr result (λ fault. (written : List ℕ) × (more : List ℕ)
+        × (waiting.old.items ≡ written ++ more)
+        × Appends (W.contents writer.old) (W.contents writer.new) written
+        × IsCutBy H.answers H.settles H.fails fault server.old server.new written more) }
+    ensures capacity { vec_capacity waiting.old ≤ vec_capacity waiting.new }
+{
+    server.settle()?;
+    match write_whole(writer, waiting) {
         Ok(()) => {
-            server.tend();
+            waiting.clear();
             Ok(())
         }
         Err(_) => Err(ServeFault::Write),
     }
 }
 
-/// Answers the body of a frame, and writes the whole reply.
-fn answer_body<A: Answering, W: Write>(
-    server: &mut A,
-    body: &[u8],
-    writer: &mut W,
-    out: &mut Vec<u8>,
-) -> Result<(), ServeFault>
-    requires out { LONGEST_REPLY ≤ vec_capacity out.old }
-    ensures answered { OnOk result ((bytes rest : List ℕ) → IsBody body.now
-        → bytes ≡ frame body.now ++ rest → Answered A.shows A.says A.between server.old server.new
-        bytes rest (W.contents writer.old) (W.contents writer.new)) }
-    ensures failed { IfErr result (λ fault. (bytes rest : List ℕ) → IsBody body.now
-        → bytes ≡ frame body.now ++ rest → HandlesTo A.shows A.says A.between (Err fault) server.old
-        server.new bytes rest (W.contents writer.old) (W.contents writer.new)) }
-    ensures room { vec_capacity out.old ≤ vec_capacity out.new }
-{
-    let reply = reply_to_body(server, body);
-    deliver(server, writer, &reply, out)?;
-    Ok(())
-}
-
-/// Answers the first frame of the bytes at hand, and writes the whole reply. `None` if there was a whole frame.
-fn answer_first<A: Answering, W: Write>(
-    server: &mut A,
+/// Answers a batch of whole frames, settles it and writes its replies. Returns the bytes of the piece that were not
+/// taken. `None` if there may be more frames.
+fn answer_batch<'p, H: Hearing, W: Write>(
+    server: &mut H,
     framer: &mut Framer,
-    writer: &mut W,
-    out: &mut Vec<u8>,
-) -> Result<Option<Rest>, ServeFault>
-    requires out { LONGEST_REPLY ≤ vec_capacity out.old }
-    ensures handles { HandlesFirst A.shows A.says A.between result server.old server.new framer.old
-        framer.new (W.contents writer.old) (W.contents writer.new) }
-    ensures room { vec_capacity out.old ≤ vec_capacity out.new }
-{
-    match framer.next() {
-        Next::More => Ok(Some(Rest::Partial)),
-        Next::Frame(body) => {
-            answer_body(server, body, writer, out)?;
-            Ok(None)
-        }
-        Next::TooLarge => {
-            deliver(server, writer, &Reply::Refused(Refusal::FrameTooLarge), out)?;
-            Ok(Some(Rest::TooLarge))
-        }
-    }
-}
-
-/// Answers each whole frame of the bytes at hand in order, and says what is left of them.
-fn answer_frames<A: Answering, W: Write>(
-    server: &mut A,
-    framer: &mut Framer,
-    writer: &mut W,
-    out: &mut Vec<u8>,
-) -> Result<Rest, ServeFault>
-    requires out { LONGEST_REPLY ≤ vec_capacity out.old }
-    ensures handles { HandlesTo A.shows A.says A.between result server.old server.new framer.old
-        framer.new (W.contents writer.old) (W.contents writer.new) }
-    ensures room { vec_capacity out.old ≤ vec_capacity out.new }
-{
-    loop {
-        match answer_first(server, framer, writer, out)? {
-            None => {}
-            Some(rest) => return Ok(rest),
-        }
-    }
-}
-
-/// Puts a piece of the input into the framer, and answers each whole frame. The framer may hold part of a frame before.
-fn feed_piece<A: Answering, W: Write>(
-    server: &mut A,
-    framer: &mut Framer,
-    piece: &[u8],
-    writer: &mut W,
-    out: &mut Vec<u8>,
-) -> Result<Rest, ServeFault>
-    requires out { LONGEST_REPLY ≤ vec_capacity out.old }
-    requires partial { IsPartial framer.old }
-    ensures handles { (rest : List ℕ) × IsRest result rest framer.new
-        × HandlesTo A.shows A.says A.between result server.old server.new (framer.old ++ piece.now)
-        rest (W.contents writer.old) (W.contents writer.new) }
-    ensures room { vec_capacity out.old ≤ vec_capacity out.new }
-{
-    let mut at = 0;
-    while at < piece.len() {
-        at += framer.feed(&piece[at..]);
-        match answer_frames(server, framer, writer, out)? {
-            Rest::Partial => {}
-            Rest::TooLarge => return Ok(Rest::TooLarge),
-        }
-    }
-    Ok(Rest::Partial)
-}
-
-/// Answers the whole frames at the front of a piece in place, and returns the bytes after them.
-fn answer_whole<'p, A: Answering, W: Write>(
-    server: &mut A,
     piece: &'p [u8],
     writer: &mut W,
-    out: &mut Vec<u8>,
-) -> Result<&'p [u8], ServeFault>
-    requires out { LONGEST_REPLY ≤ vec_capacity out.old }
-    ensures answered { IfOk result (λ rest. Answered A.shows A.says A.between server.old server.new
-        piece.now rest.now (W.contents writer.old) (W.contents writer.new)) }
-    ensures failed { IfErr result (λ fault. (rest : List ℕ) × HandlesTo A.shows A.says A.between
-        (Err fault) server.old server.new piece.now rest (W.contents writer.old)
+    waiting: &mut Vec<u8>,
+    most: usize,
+) -> Result<(Option<Rest>, &'p [u8]), ServeFault>
+    requires none { waiting.old.items ≡ [] }
+    requires most { 0 < most }
+    requires room { most + LONGEST_REPLY ≤ vec_capacity waiting.old }
+    ensures delivers { IfOk result (λ ended. Delivers H.answers H.settles H.fails server.old
+        server.new (framer.old ++ piece.now) (framer.new ++ ended.1.now) (over_of ended.0)
+        (W.contents writer.old) (W.contents writer.new)) }
+    ensures rest { IfOk result (λ ended. LeavesRest ended.0 (framer.new ++ ended.1.now)
+        ended.1.now) }
+    ensures fewer { IfOk result (λ ended. IfNone ended.0
+        (length framer.new + (length ended.1.now + length ended.1.now)
+        < length framer.old + (length piece.now + length piece.now))) }
+    ensures none { OnOk result (waiting.new.items ≡ []) }
+    ensures cuts { IfErr result (λ fault. (rest : List ℕ) × Cuts H.answers H.settles H.fails most
+        fault server.old server.new (framer.old ++ piece.now) rest (W.contents writer.old)
         (W.contents writer.new)) }
-    ensures room { vec_capacity out.old ≤ vec_capacity out.new }
+    ensures capacity { vec_capacity waiting.old ≤ vec_capacity waiting.new }
+{
+    let filled = fill(server, framer, piece, waiting, most);
+    if waiting.is_empty() {
+        return Ok(filled);
+    }
+    release(server, writer, waiting)?;
+    Ok(filled)
+}
+
+/// Takes a piece of the input, and answers each whole frame in batches. The framer may hold part of a frame before.
+fn serve_piece<H: Hearing, W: Write>(
+    server: &mut H,
+    framer: &mut Framer,
+    piece: &[u8],
+    writer: &mut W,
+    waiting: &mut Vec<u8>,
+    most: usize,
+) -> Result<Rest, ServeFault>
+    requires none { waiting.old.items ≡ [] }
+    requires most { 0 < most }
+    requires room { most + LONGEST_REPLY ≤ vec_capacity waiting.old }
+    ensures delivers { IfOk result (λ ended. (behind : List ℕ)
+        × LeavesRest (Some ended) (framer.new ++ behind) behind
+        × Delivers H.answers H.settles H.fails server.old server.new (framer.old ++ piece.now)
+        (framer.new ++ behind) (over_of (Some ended)) (W.contents writer.old)
+        (W.contents writer.new)) }
+    ensures none { OnOk result (waiting.new.items ≡ []) }
+    ensures cuts { IfErr result (λ fault. (rest : List ℕ) × Cuts H.answers H.settles H.fails most
+        fault server.old server.new (framer.old ++ piece.now) rest (W.contents writer.old)
+        (W.contents writer.new)) }
+    ensures capacity { vec_capacity waiting.old ≤ vec_capacity waiting.new }
 {
     let mut rest = piece;
-    'frames: while let Some((body, after)) = split_frame(rest) {
-        answer_body(server, body, writer, out)?;
-        rest = after;
-    }
-    Ok(rest)
-}
-
-/// Takes a piece of the input, and answers each whole frame. The framer may hold part of a frame before. If it is
-/// empty, only the bytes after the piece's whole frames are put into it.
-fn serve_whole<A: Answering, W: Write>(
-    server: &mut A,
-    framer: &mut Framer,
-    piece: &[u8],
-    writer: &mut W,
-    out: &mut Vec<u8>,
-) -> Result<Rest, ServeFault>
-    requires out { LONGEST_REPLY ≤ vec_capacity out.old }
-    requires partial { IsPartial framer.old }
-    ensures handles { (rest : List ℕ) × IsRest result rest framer.new
-        × HandlesTo A.shows A.says A.between result server.old server.new (framer.old ++ piece.now)
-        rest (W.contents writer.old) (W.contents writer.new) }
-    ensures room { vec_capacity out.old ≤ vec_capacity out.new }
-{
-    if !framer.is_empty() {
-        return feed_piece(server, framer, piece, writer, out);
-    }
-    let rest = answer_whole(server, piece, writer, out)?;
-    feed_piece(server, framer, rest, writer, out)
-}
-
-/// Takes a piece of the input, and answers each whole frame. If the framer holds part of a frame, the missing bytes of
-/// that frame are put into it first.
-fn serve_piece<A: Answering, W: Write>(
-    server: &mut A,
-    framer: &mut Framer,
-    piece: &[u8],
-    writer: &mut W,
-    out: &mut Vec<u8>,
-) -> Result<Rest, ServeFault>
-    requires out { LONGEST_REPLY ≤ vec_capacity out.old }
-    requires partial { IsPartial framer.old }
-    ensures handles { (rest : List ℕ) × IsRest result rest framer.new
-        × HandlesTo A.shows A.says A.between result server.old server.new (framer.old ++ piece.now)
-        rest (W.contents writer.old) (W.contents writer.new) }
-    ensures room { vec_capacity out.old ≤ vec_capacity out.new }
-{
-    if framer.is_empty() {
-        return serve_whole(server, framer, piece, writer, out);
-    }
-    let (front, after) = piece.split_at(framer.wanted().min(piece.len()));
-    match feed_piece(server, framer, front, writer, out)? {
-        Rest::Partial => serve_whole(server, framer, after, writer, out),
-        Rest::TooLarge => Ok(Rest::TooLarge),
+    loop {
+        let (ended, behind) = answer_batch(server, framer, rest, writer, waiting, most)?;
+        match ended {
+            None => rest = behind,
+            Some(ended) => return Ok(ended),
+        }
     }
 }
 
-/// Flushes the writer, reads once, and answers each whole frame. `None` if the input goes on.
-fn serve_read<A: Answering, R: Read, W: Write>(
-    server: &mut A,
+/// Flushes the writer, reads once, and answers each whole frame in batches. `None` if the input goes on.
+fn serve_read<H: Hearing, R: Read, W: Write>(
+    server: &mut H,
     framer: &mut Framer,
     reader: &mut R,
     writer: &mut W,
     piece: &mut [u8],
-    out: &mut Vec<u8>,
-    reads_left: &mut u64,
+    waiting: &mut Vec<u8>,
+    most: usize,
 ) -> Result<Option<End>, ServeFault>
-    requires room { LONGEST_REPLY ≤ vec_capacity out.old }
+    requires none { waiting.old.items ≡ [] }
+    requires most { 0 < most }
+    requires room { most + LONGEST_REPLY ≤ vec_capacity waiting.old }
     requires piece { 0 < length piece.old }
     requires within { length piece.old ≤ LONGEST_PIECE }
-    requires reads { 0 < reads_left.old }
     requires partial { IsPartial framer.old }
-    ensures reads { ReadsOn A.shows A.says A.between result framer.old framer.new server.old
-        server.new
-        (R.remaining reader.old) (R.remaining reader.new) (W.contents writer.old)
-        (W.contents writer.new) reads_left.old reads_left.new }
+    ensures reads { ReadsOn H.answers H.settles H.fails most result framer.old framer.new
+        server.old server.new (R.remaining reader.old) (R.remaining reader.new)
+        (W.contents writer.old) (W.contents writer.new) }
     ensures piece { length piece.new ≡ length piece.old }
-    ensures room { vec_capacity out.old ≤ vec_capacity out.new }
+    ensures none { OnOk result (waiting.new.items ≡ []) }
+    ensures capacity { vec_capacity waiting.old ≤ vec_capacity waiting.new }
 {
     flush(writer)?;
-    *reads_left -= 1;
     match reader.read(piece) {
         Ok(0) if framer.is_empty() => Ok(Some(End::Clean)),
         Ok(0) => Ok(Some(End::Truncated)),
-        Ok(count) => match serve_piece(server, framer, &piece[..count], writer, out)? {
+        Ok(count) => match serve_piece(server, framer, &piece[..count], writer, waiting, most)? {
             Rest::Partial => Ok(None),
             Rest::TooLarge => Ok(Some(End::TooLarge)),
         },
@@ -292,16 +364,21 @@ fn serve_read<A: Answering, R: Read, W: Write>(
     }
 }
 
-/// Serves framed requests until the input ends, with at most `most_reads` reads. The buffers are allocated first.
-pub(crate) fn serve_all<A: Answering, R: Read, W: Write>(
+/// Serves framed requests until the input ends, with at most `most_reads` reads. Frames are answered until `most` bytes
+/// of replies wait, or all that was read is answered; then the answers are settled, and the replies written. The
+/// buffers are allocated first.
+pub fn serve_all<H: Hearing, R: Read, W: Write>(
     alloc: Global,
-    server: &mut A,
+    server: &mut H,
     reader: &mut R,
     writer: &mut W,
+    most: usize,
     most_reads: u64,
 ) -> Result<End, ServeFault>
-    ensures { Serves A.shows A.says A.between server.old server.new (R.remaining reader.old)
-        (R.remaining reader.new)
+    requires some { 0 < most }
+    requires few { most ≤ 1048576 }
+    ensures { ServesOn H.answers H.settles H.fails most [] server.old server.new
+        (R.remaining reader.old) (R.remaining reader.new)
         (W.contents writer.old) (W.contents writer.new) most_reads result }
 {
     let Ok(mut framer) = Framer::new(alloc) else {
@@ -310,19 +387,20 @@ pub(crate) fn serve_all<A: Answering, R: Read, W: Write>(
     let Ok(mut piece) = zeros(alloc, LONGEST_PIECE) else {
         return Err(ServeFault::NoMemory);
     };
-    let Ok(mut out) = Vec::with_capacity(alloc, LONGEST_REPLY) else {
+    let Ok(mut waiting) = Vec::with_capacity(alloc, most + LONGEST_REPLY) else {
         return Err(ServeFault::NoMemory);
     };
     let mut reads_left = most_reads;
     while reads_left > 0 {
+        reads_left -= 1;
         let ended = serve_read(
             server,
             &mut framer,
             reader,
             writer,
             &mut piece,
-            &mut out,
-            &mut reads_left,
+            &mut waiting,
+            most,
         )?;
         match ended {
             None => {}

@@ -1,13 +1,15 @@
-use Rattle.std.proofs.Common.{◌≡◌, ◌≤◌, [], length, vec_capacity}
-use Rattle.server_loop.specs.Serve.{Served}
+use Rattle.std.proofs.Common.{◌≡◌, ◌+◌, ◌≤◌, ℕ, [], length, vec_capacity}
+use Rattle.server_loop.specs.Batches.{Served}
 use Rattle.server_loop.proofs.serving.serve_all.Given as goal
 
--- whole frames were answered, and all of their replies written
+-- whole frames were answered, settled and written
 abbrev pub invariant-loop-reads_left : goal.invariant-loop-reads_left
 invariant-loop-reads_left g l = record {
   size : length l.piece.items ≡ 65536;
-  room : 65554 ≤ vec_capacity l.out;
-  served : Served g.A.Answering.shows g.A.Answering.says g.A.Answering.between [] l.framer l.fn.server l.server (g.R.Read.remaining l.fn.reader) (g.R.Read.remaining l.reader) (g.W.Write.contents l.fn.writer) (g.W.Write.contents l.writer) l.fn.most_reads l.reads_left;
+  none : l.waiting.items ≡ [];
+  room : l.most + 65554 ≤ vec_capacity l.waiting;
+  served : (reads : ℕ) × (reads + l.reads_left ≡ l.fn.most_reads)
+      × Served g.H.Hearing.answers g.H.Hearing.settles g.H.Hearing.fails [] l.framer l.fn.server l.server (g.R.Read.remaining l.fn.reader) (g.R.Read.remaining l.reader) (g.W.Write.contents l.fn.writer) (g.W.Write.contents l.writer) reads;
 }
 
 abbrev pub decreases-loop-reads_left : goal.decreases-loop-reads_left
