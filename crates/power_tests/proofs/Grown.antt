@@ -1,6 +1,6 @@
 -- The bytes of a log after a write that failed.
 use Rattle.std.proofs.Common.{◌≡◌, ◌++◌, ℕ, List, Bool, true, false, take, ap, cond, refl}
-use Rattle.std.specs.Prelude.{Option, Some}
+use Rattle.std.specs.Prelude.{Some}
 use Rattle.power_tests.specs.Meant.{the_meant}
 
 pub grown : (b : Bool) (r l r' l' more : List ℕ) → ((n : ℕ) × (r' ≡ r ++ take n more))

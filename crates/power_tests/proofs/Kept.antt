@@ -1,5 +1,5 @@
 -- Devices keep what they kept.
-use Rattle.std.proofs.Common.{◌≡◌, ℕ, List, Bool, true, false, T, subst, sym, refl}
+use Rattle.std.proofs.Common.{◌≡◌, ℕ, List, true, false, T, subst, sym}
 use Rattle.std.specs.Prelude.{Option, Result, Ok, Err, OnOk, OnErr, is_err}
 use Rattle.commit_log.specs.Held.{IsKept}
 use Rattle.durable.specs.Devices.{LastsOn}
@@ -16,21 +16,21 @@ moved {m' = m'} {k = k} {k' = k'} {b = b} em ek eb st keeps =
 pub with_log : {m : Option Contents} {k : Option ℕ} {holds holds' : List (List ℕ) → Type 0}
     → ((records : List (List ℕ)) → holds records → holds' records) → (st : State) → LastsOn m k holds st → LastsOn m k holds' st
 with_log f st l = record {
-    root = l.root;
-    base = l.base;
-    kept = l.kept;
-    records = l.records;
-    in_log = f l.records l.in_log;
-    over = l.over;
-    stamps = l.stamps;
-    edits = l.edits;
-    held = l.held;
-    stored = l.stored;
-    room = l.room;
-    shows = l.shows;
-    next = l.next;
-    top = l.top
-  }
+  root = l.root;
+  base = l.base;
+  kept = l.kept;
+  records = l.records;
+  in_log = f l.records l.in_log;
+  over = l.over;
+  stamps = l.stamps;
+  edits = l.edits;
+  held = l.held;
+  stored = l.stored;
+  room = l.room;
+  shows = l.shows;
+  next = l.next;
+  top = l.top;
+}
 
 pub from_err : {U E : Type 0} {P : Type 0} (r : Result U E) → is_err r ≡ true → OnErr r P → P
 from_err (Ok x) e h = absurd (subst T (sym e) tt)

@@ -7,7 +7,7 @@ use Rattle.std.specs.Cmp.{nat_cmp_total, eq_by_cmp_equiv, unsigned_tied}
 use borrow.Author.Tests.{eqb-true}
 use Rattle.std.specs.declared.cmp.Ordering.{Ordering}
 use Rattle.std.specs.declared.cmp.Ordering.TheVariants.{Less, Equal, Greater}
-use Rattle.std.specs.FinMap.{FinMap, get, get-from_entries, get-entries, get-insert, get-remove, get-retain_keys, insert, remove, same_map, nat_cmp-IsAntisymmetric, entries, retain_keys}
+use Rattle.std.specs.FinMap.{get, get-from_entries, get-entries, get-insert, get-remove, get-retain_keys, insert, remove, same_map, nat_cmp-IsAntisymmetric, entries, retain_keys}
 use Rattle.std.specs.FinMap.Entries.{find}
 use Rattle.file_store.specs.Store.{Contents}
 use Rattle.power_tests.specs.Meant.{all_last, mixed, set_to}
@@ -42,9 +42,9 @@ get-mixed l a b q =
     get-from_entries nat_cmp_total _ q
     ∙ find-behind q (entries (retain_keys b l)) (entries (retain_keys a (λ name. not (l name))))
     ∙ ap (λ o. first_there o (find nat_cmp q (entries (retain_keys a (λ name. not (l name))))))
-        (sym (get-entries (retain_keys b l) q) ∙ get-retain_keys b l q (same l))
+    (sym (get-entries (retain_keys b l) q) ∙ get-retain_keys b l q (same l))
     ∙ ap (first_there (cond (l q) (get b q) None))
-        (sym (get-entries (retain_keys a (λ name. not (l name))) q) ∙ get-retain_keys a (λ name. not (l name)) q (same (λ name. not (l name))))
+    (sym (get-entries (retain_keys a (λ name. not (l name))) q) ∙ get-retain_keys a (λ name. not (l name)) q (same (λ name. not (l name))))
     ∙ chosen (l q) (get a q) (get b q)
 
 same_contents : (m n : Contents) → ((q : ℕ) → get m q ≡ get n q) → m ≡ n
@@ -91,7 +91,6 @@ unlike q n apart = unlike_at (eq_by_cmp nat_cmp q n) q n refl apart
 get-cond : (p : Bool) (x y : Contents) (q : ℕ) → get (cond p x y) q ≡ cond p (get x q) (get y q)
 get-cond true x y q = refl
 get-cond false x y q = refl
-
 
 one_of : {X : Type 0} (b : Bool) (x y z : X) → z ≡ cond b x y → (z ≡ y) ⊎ (z ≡ x)
 one_of true x y z e = inr e
@@ -147,7 +146,7 @@ module _ (change : Contents → Contents) (o : Option (List ℕ)) (n : ℕ)
         → ((q : ℕ) → d q ≡ false → get a q ≡ get b q) → (q : ℕ) → d1 q ≡ false → get a' q ≡ get b' q
     agree_still d d1 u agree q e =
         still_at (eq_by_cmp nat_cmp q n) p r (d q) (d1 q) o (get a q) (get b q) _ _ (taken p a a' ea q) (taken r b b' eb q)
-          (u q ∙ ap (λ x. cond x true (d q)) ((eq_by_cmp_equiv nat_cmp_total).symm n q)) e (agree q)
+        (u q ∙ ap (λ x. cond x true (d q)) ((eq_by_cmp_equiv nat_cmp_total).symm n q)) e (agree q)
 
     pub agree_done : (d d1 d2 : ℕ → Bool) → p ≡ true → r ≡ true → ((q : ℕ) → d1 q ≡ cond (eq_by_cmp nat_cmp n q) true (d q))
         → ((q : ℕ) → d2 q ≡ cond (eq_by_cmp nat_cmp n q) false (d1 q))
@@ -155,9 +154,9 @@ module _ (change : Contents → Contents) (o : Option (List ℕ)) (n : ℕ)
     agree_done d d1 d2 hp hr u u2 agree q e =
         let same : eq_by_cmp nat_cmp n q ≡ eq_by_cmp nat_cmp q n = (eq_by_cmp_equiv nat_cmp_total).symm n q in
         done_at (eq_by_cmp nat_cmp q n) (d q) (d1 q) (d2 q) o (get a q) (get b q) _ _
-          (taken p a a' ea q ∙ ap (λ s. cond s (cond (eq_by_cmp nat_cmp q n) o (get a q)) (get a q)) hp)
-          (taken r b b' eb q ∙ ap (λ s. cond s (cond (eq_by_cmp nat_cmp q n) o (get b q)) (get b q)) hr)
-          (u q ∙ ap (λ x. cond x true (d q)) same) (u2 q ∙ ap (λ x. cond x false (d1 q)) same) e (agree q)
+        (taken p a a' ea q ∙ ap (λ s. cond s (cond (eq_by_cmp nat_cmp q n) o (get a q)) (get a q)) hp)
+        (taken r b b' eb q ∙ ap (λ s. cond s (cond (eq_by_cmp nat_cmp q n) o (get b q)) (get b q)) hr)
+        (u q ∙ ap (λ x. cond x true (d q)) same) (u2 q ∙ ap (λ x. cond x false (d1 q)) same) e (agree q)
 
 -- no name of an empty set is in doubt
 pub none : (f : ℕ → Bool) (ks : List ℕ) → length ks ≡ 0 → list_any f ks ≡ false
@@ -221,8 +220,8 @@ pub agree_copied : (a b a' b' : Contents) (n : ℕ) (d d1 : ℕ → Bool) → a'
 agree_copied a b a' b' n d d1 ea eb u agree q gone =
     ap (λ m. get m q) eb ∙ sets (get a n) n b q
     ∙ copied_at (eq_by_cmp nat_cmp q n) (d q) (d1 q) (get a n) (get a q) (get b q)
-        (u q ∙ ap (λ e. cond e false (d q)) ((eq_by_cmp_equiv nat_cmp_total).symm n q)) gone
-        (λ e. ap (get a) (sym (nat_cmp-IsAntisymmetric q n (equal (nat_cmp q n) e)))) (agree q)
+    (u q ∙ ap (λ e. cond e false (d q)) ((eq_by_cmp_equiv nat_cmp_total).symm n q)) gone
+    (λ e. ap (get a) (sym (nat_cmp-IsAntisymmetric q n (equal (nat_cmp q n) e)))) (agree q)
     ∙ ap (λ m. get m q) (sym ea)
 
 none_below : (n : ℕ) → (0 < n → ⊥) → n ≡ 0

@@ -39,9 +39,9 @@ impl<V: Choice> Model for CachedFiles<V> {
     ghost coded = { files_code };
 
     ghost view = { λ files. record {
-        read = files.read;
-        lasting = files.lasting;
-        faults = files.faults;
+      read = files.read;
+      lasting = files.lasting;
+      faults = files.faults;
     } };
 
     ghost invariant = { λ files. AgreeBut (contains nat_cmp files.doubts) files.read files.lasting };
@@ -132,7 +132,13 @@ impl<V: Choice> CachedFiles<V> {
     {
         let _ = self.doubts.insert(ROOT_NAME)?;
         let fate = self.fates.next();
-        let lasts = copy_if(self.alloc, &mut self.read, &mut self.lasting, fate.lasts(), ROOT_NAME);
+        let lasts = copy_if(
+            self.alloc,
+            &mut self.read,
+            &mut self.lasting,
+            fate.lasts(),
+            ROOT_NAME,
+        );
         if fate.is_done(true, lasts) {
             let _ = self.doubts.remove(&ROOT_NAME);
             return Ok(());
@@ -146,11 +152,27 @@ impl<V: Choice> CachedFiles<V> {
         ensures { IfSome result (λ files. (lasts : ℕ → Bool)
             → meant_files lasts files ≡ meant_files all_last self) }
     {
-        let CachedFiles { alloc, mut read, mut lasting, doubts, fates, faults, meant } = self;
+        let CachedFiles {
+            alloc,
+            mut read,
+            mut lasting,
+            doubts,
+            fates,
+            faults,
+            meant,
+        } = self;
         if !copy_all(alloc, &mut lasting, &mut read, doubts) {
             return None;
         }
-        Some(CachedFiles { alloc, read, lasting, doubts: BTreeSet::new(alloc), fates, faults, meant })
+        Some(CachedFiles {
+            alloc,
+            read,
+            lasting,
+            doubts: BTreeSet::new(alloc),
+            fates,
+            faults,
+            meant,
+        })
     }
 }
 

@@ -29,10 +29,10 @@ impl<V: Choice> Model for CachedLogFile<V> {
     ghost Value = { LogView };
 
     ghost view = { λ file. record {
-        read = file.read.items;
-        lasting = file.lasting.items;
-        is_stopped = file.is_stopped;
-        faults = file.faults;
+      read = file.read.items;
+      lasting = file.lasting.items;
+      is_stopped = file.is_stopped;
+      faults = file.faults;
     } };
 
     ghost invariant = { λ file. file.is_stopped ≡ false → file.read.items ≡ file.lasting.items };
@@ -65,7 +65,11 @@ impl<V: Choice> CachedLogFile<V> {
     /// A file of these bytes, which last. `None` without memory.
     pub fn new(bytes: Vec<u8>, fates: Fates) -> Option<CachedLogFile<V>>
         ensures { IfSome result (λ file. file ≡ record {
-            read = bytes.items; lasting = bytes.items; is_stopped = false; faults = 0 }) }
+          read = bytes.items;
+          lasting = bytes.items;
+          is_stopped = false;
+          faults = 0;
+        }) }
     {
         let Ok(lasting) = Vec::from_slice(*bytes.allocator(), &bytes) else {
             return None;
@@ -114,11 +118,25 @@ impl<V: Choice> CachedLogFile<V> {
         ensures { IfSome result (λ file. (lasts : Bool)
             → meant_log lasts file ≡ meant_log true self) }
     {
-        let CachedLogFile { mut read, lasting, fates, faults, meant, .. } = self;
+        let CachedLogFile {
+            mut read,
+            lasting,
+            fates,
+            faults,
+            meant,
+            ..
+        } = self;
         if !replace_if(&mut read, true, &lasting) {
             return None;
         }
-        Some(CachedLogFile { read, lasting, is_stopped: false, fates, faults, meant })
+        Some(CachedLogFile {
+            read,
+            lasting,
+            is_stopped: false,
+            fates,
+            faults,
+            meant,
+        })
     }
 }
 

@@ -27,10 +27,10 @@ impl<V: Choice> Model for CachedMark<V> {
     ghost Value = { MarkView };
 
     ghost view = { λ mark. record {
-        read = mark.read;
-        lasting = mark.lasting;
-        in_doubt = mark.in_doubt;
-        faults = mark.faults;
+      read = mark.read;
+      lasting = mark.lasting;
+      in_doubt = mark.in_doubt;
+      faults = mark.faults;
     } };
 
     ghost invariant = { λ mark. (mark.read < 2 ^ 63) × (mark.lasting < 2 ^ 63)
@@ -93,8 +93,21 @@ impl<V: Choice> CachedMark<V> {
     pub fn without_power(self) -> CachedMark<V>
         ensures { (lasts : Bool) → meant_mark lasts result ≡ meant_mark true self }
     {
-        let CachedMark { lasting, fates, faults, meant, .. } = self;
-        CachedMark { read: lasting, lasting, in_doubt: false, fates, faults, meant }
+        let CachedMark {
+            lasting,
+            fates,
+            faults,
+            meant,
+            ..
+        } = self;
+        CachedMark {
+            read: lasting,
+            lasting,
+            in_doubt: false,
+            fates,
+            faults,
+            meant,
+        }
     }
 }
 

@@ -13,7 +13,7 @@ use crate::cached_log::CachedLogFile;
 use crate::cached_mark::CachedMark;
 use crate::fates::Choice;
 use cell_key::Refusal;
-use commit_log::{FileLog, LogFault, Log};
+use commit_log::{FileLog, Log, LogFault};
 use durable::LastingServer;
 use file_store::{FileFault, Files};
 use oracle::{MarkStore, MemMark};

@@ -2,9 +2,11 @@ use Rattle.power_tests.proofs.Kept.{with_log}
 use Rattle.power_tests.proofs.servers.open.Goals as goal
 
 pub returns-in-Err : goal.returns-in-Err
-returns-in-Err g c = λ st reached keeps.
-    ((λ damaged. c.in-Err.ensures.damaged (c.refusal_of.ensures.damaged damaged) keeps.records keeps.in_log),
-    c.refusal_of.ensures.others, with_log c.in-Err.ensures.kept st keeps)
+returns-in-Err g c = λ st reached keeps. (
+  (λ damaged. c.in-Err.ensures.damaged (c.refusal_of.ensures.damaged damaged) keeps.records keeps.in_log),
+  c.refusal_of.ensures.others,
+  with_log c.in-Err.ensures.kept st keeps,
+)
 
 pub returns-in-Ok-open : goal.returns-in-Ok-open
 returns-in-Ok-open g c = λ st reached keeps. c.in-Ok-open.ensures.kept st reached (with_log c.in-Ok.ensures.held st keeps)

@@ -13,20 +13,20 @@ returns-in_err-insert-clause-err g c = rw (← c.self.view_is) (on_err c.from_re
 pub invariant_of-self-then-is_done : goal.invariant_of-self-then-is_done
 invariant_of-self-then-is_done g c =
     agree_done (set_to (get c.self.inside.read 0) 0) (get c.self.inside.read 0) 0 (sets (get c.self.inside.read 0) 0)
-      c.self.inside.read c.self.inside.lasting _ _ true c.copy_if-lasts.result (c.copy_if-lasts.ensures.same ∙ sym (set_same c.self.inside.read 0)) c.copy_if-lasts.ensures.copied
-      (contains nat_cmp c.self.inside.doubts) (contains nat_cmp c.insert.new.self) (contains nat_cmp c.remove.new.self)
-      refl (c.is_done.ensures.lasts c.if-is_done.true) c.in_ok-insert.ensures.updates.0 c.remove.ensures.updates.0 c.self.invariant
+    c.self.inside.read c.self.inside.lasting _ _ true c.copy_if-lasts.result (c.copy_if-lasts.ensures.same ∙ sym (set_same c.self.inside.read 0)) c.copy_if-lasts.ensures.copied
+    (contains nat_cmp c.self.inside.doubts) (contains nat_cmp c.insert.new.self) (contains nat_cmp c.remove.new.self)
+    refl (c.is_done.ensures.lasts c.if-is_done.true) c.in_ok-insert.ensures.updates.0 c.remove.ensures.updates.0 c.self.invariant
 
 pub returns-then-is_done-clause-ok : goal.returns-then-is_done-clause-ok
 returns-then-is_done-clause-ok g c =
     rw (← c.self.view_is) (λ lasts. ap Some (copied lasts c.self.inside.read c.self.inside.lasting _ _ 0 c.copy_if-lasts.ensures.same
-      (c.copy_if-lasts.ensures.copied ∙ ap (λ b. cond b (set_to (get c.self.inside.read 0) 0 c.self.inside.lasting) c.self.inside.lasting) (c.is_done.ensures.lasts c.if-is_done.true))))
+    (c.copy_if-lasts.ensures.copied ∙ ap (λ b. cond b (set_to (get c.self.inside.read 0) 0 c.self.inside.lasting) c.self.inside.lasting) (c.is_done.ensures.lasts c.if-is_done.true))))
 
 pub invariant_of-self-2 : goal.invariant_of-self-2
 invariant_of-self-2 g c =
     agree_still (set_to (get c.self.inside.read 0) 0) (get c.self.inside.read 0) 0 (sets (get c.self.inside.read 0) 0)
-      c.self.inside.read c.self.inside.lasting _ _ true c.copy_if-lasts.result (c.copy_if-lasts.ensures.same ∙ sym (set_same c.self.inside.read 0)) c.copy_if-lasts.ensures.copied
-      (contains nat_cmp c.self.inside.doubts) (contains nat_cmp c.insert.new.self) c.in_ok-insert.ensures.updates.0 c.self.invariant
+    c.self.inside.read c.self.inside.lasting _ _ true c.copy_if-lasts.result (c.copy_if-lasts.ensures.same ∙ sym (set_same c.self.inside.read 0)) c.copy_if-lasts.ensures.copied
+    (contains nat_cmp c.self.inside.doubts) (contains nat_cmp c.insert.new.self) c.in_ok-insert.ensures.updates.0 c.self.invariant
 
 pub returns-clause-err : goal.returns-clause-err
 returns-clause-err g c =

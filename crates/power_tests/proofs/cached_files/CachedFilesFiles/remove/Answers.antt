@@ -1,31 +1,31 @@
-use Rattle.std.specs.FinMap.{insert, remove}
+use Rattle.std.specs.FinMap.{remove}
 use Rattle.std.specs.BTreeSet.{contains}
 use Rattle.std.specs.Ordering.{nat_cmp}
 use Rattle.std.proofs.Common.{ap}
 use Rattle.std.specs.Prelude.{Some, None}
-use Rattle.power_tests.proofs.Mixed.{agree_done, agree_still, changed_well, may_change, others_stay, puts, removes}
+use Rattle.power_tests.proofs.Mixed.{agree_done, agree_still, changed_well, may_change, removes}
 use Rattle.power_tests.proofs.cached_files.CachedFilesFiles.remove.Goals as goal
 
 pub invariant_of-self-then-is_done : goal.invariant_of-self-then-is_done
 invariant_of-self-then-is_done g c =
     agree_done (λ m. remove m c.args.name) None c.args.name (removes c.args.name)
-      c.self.inside.read c.self.inside.lasting _ _ c.remove_if-is_read.result c.remove_if-lasts.result c.remove_if-is_read.ensures.removed c.remove_if-lasts.ensures.removed
-      (contains nat_cmp c.self.inside.doubts) (contains nat_cmp c.insert.new.self) (contains nat_cmp c.remove.new.self)
-      (c.is_done.ensures.read c.if-is_done.true) (c.is_done.ensures.lasts c.if-is_done.true) c.in_ok-insert.ensures.updates.0 c.remove.ensures.updates.0 c.self.invariant
+    c.self.inside.read c.self.inside.lasting _ _ c.remove_if-is_read.result c.remove_if-lasts.result c.remove_if-is_read.ensures.removed c.remove_if-lasts.ensures.removed
+    (contains nat_cmp c.self.inside.doubts) (contains nat_cmp c.insert.new.self) (contains nat_cmp c.remove.new.self)
+    (c.is_done.ensures.read c.if-is_done.true) (c.is_done.ensures.lasts c.if-is_done.true) c.in_ok-insert.ensures.updates.0 c.remove.ensures.updates.0 c.self.invariant
 
 pub invariant_of-self-2 : goal.invariant_of-self-2
 invariant_of-self-2 g c =
     agree_still (λ m. remove m c.args.name) None c.args.name (removes c.args.name)
-      c.self.inside.read c.self.inside.lasting _ _ c.remove_if-is_read.result c.remove_if-lasts.result c.remove_if-is_read.ensures.removed c.remove_if-lasts.ensures.removed
-      (contains nat_cmp c.self.inside.doubts) (contains nat_cmp c.insert.new.self) c.in_ok-insert.ensures.updates.0 c.self.invariant
+    c.self.inside.read c.self.inside.lasting _ _ c.remove_if-is_read.result c.remove_if-lasts.result c.remove_if-is_read.ensures.removed c.remove_if-lasts.ensures.removed
+    (contains nat_cmp c.self.inside.doubts) (contains nat_cmp c.insert.new.self) c.in_ok-insert.ensures.updates.0 c.self.invariant
 
 pub returns-then-is_done-clause-ok : goal.returns-then-is_done-clause-ok
 returns-then-is_done-clause-ok g c =
     rw (← c.self.view_is) (ap Some (changed_well (λ m. remove m c.args.name) None c.args.name (removes c.args.name)
-      c.self.inside.read c.self.inside.lasting _ _ c.remove_if-is_read.result c.remove_if-lasts.result c.remove_if-is_read.ensures.removed c.remove_if-lasts.ensures.removed
-      g.V.Choice.meant.of_file (c.is_done.ensures.read c.if-is_done.true) (c.is_done.ensures.lasts c.if-is_done.true)))
+    c.self.inside.read c.self.inside.lasting _ _ c.remove_if-is_read.result c.remove_if-lasts.result c.remove_if-is_read.ensures.removed c.remove_if-lasts.ensures.removed
+    g.V.Choice.meant.of_file (c.is_done.ensures.read c.if-is_done.true) (c.is_done.ensures.lasts c.if-is_done.true)))
 
 pub returns-clause-err : goal.returns-clause-err
 returns-clause-err g c =
     rw (← c.self.view_is) (may_change (λ m. remove m c.args.name) None c.args.name (removes c.args.name)
-      c.self.inside.read c.self.inside.lasting _ _ c.remove_if-is_read.result c.remove_if-lasts.result c.remove_if-is_read.ensures.removed c.remove_if-lasts.ensures.removed g.V.Choice.meant.of_file)
+    c.self.inside.read c.self.inside.lasting _ _ c.remove_if-is_read.result c.remove_if-lasts.result c.remove_if-is_read.ensures.removed c.remove_if-lasts.ensures.removed g.V.Choice.meant.of_file)

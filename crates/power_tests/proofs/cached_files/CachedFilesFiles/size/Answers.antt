@@ -6,4 +6,4 @@ use Rattle.power_tests.proofs.cached_files.CachedFilesFiles.size.Goals as goal
 pub returns-clause-ok : goal.returns-clause-ok
 returns-clause-ok g c =
     rw (← c.self.view_is, c.size.ensures.size)
-      (ap (option_map length) (sym (get-mixed-sure g.V.Choice.meant.of_file c.self.inside.read c.self.inside.lasting c.args.name (c.self.invariant c.args.name (sym c.contains.ensures ∙ c.if-contains.false)))))
+    (ap (option_map length) (sym (get-mixed-sure g.V.Choice.meant.of_file c.self.inside.read c.self.inside.lasting c.args.name (c.self.invariant c.args.name (sym c.contains.ensures ∙ c.if-contains.false)))))
