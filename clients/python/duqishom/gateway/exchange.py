@@ -26,6 +26,7 @@ from duqishom.gateway.turned_away import TurnedAway
 from duqishom.gateway.turns import Turns
 from duqishom.gateway.upstream import Run, Upstream
 from duqishom.gateway.users import CONNECTION, Peer, User
+from duqishom.gateway.watches import Watches
 from duqishom.program import ProgramEnded
 from duqishom.recording import Recording
 
@@ -84,6 +85,7 @@ class Exchange:
         self.household = Household(self.upstream, self.turns, self.things, self.table, self.shares.administrator, rules.has_log)
         self.heirs = Heirs(self.household, self.things)
         self.keeper = Keeper(self.household, rules.is_durable)
+        self.watches = Watches(self.table, self.things, self.keeper.hold)
         self.backups = Backups(folder, self.keeper, self._copied)
         self.idle = Idle(self, rules.idle_session, rules.idle_client)
         self._ended = ended
@@ -184,8 +186,9 @@ class Exchange:
 
     def note(self, client: Client, run: Run, reply: bytes) -> None:
         """Records the effects of a reply, before the client gets it."""
-        self.things.note(run.passage, run.name, reply, client, self.upstream.sent)
         self.keeper.note(client, run, reply)
+        self.watches.note(run.name, reply)
+        self.things.note(run.passage, run.name, reply, client, self.upstream.sent)
         if reply == MEMTABLE_FULL and self.rules.has_admin and not client.is_admin:
             self.need_room.add(client)
             self._relief = self._relief or begin(self._make_room())
@@ -210,6 +213,7 @@ class Exchange:
         """Removes a client, if that isn't done."""
         if client in self.clients:
             self.clients.remove(client)
+            self.watches.end(client)
             client.user.add(CONNECTION, -1)
 
     def bequeath(self, client: Client) -> None:
