@@ -13,11 +13,13 @@ from duqishom.gateway.bounds import Bounds
 from duqishom.gateway.exchange import Rules
 from duqishom.gateway.failure import tell
 from duqishom.gateway.service import Places, Service
-from duqishom.gateway.sockets import NoSocket
+from duqishom.gateway.sockets import NoSocket, Served
+from duqishom.gateway.standby import Stopped, is_in_use, wait_for
 from duqishom.program import default_program
 
-# The status if the words are refused, which is the parser's own, or if the gateway can't start.
-REFUSED = 2
+# The status if the words are refused, which is the parser's own, or if the gateway can't start; and that of a program
+# that can't have its folder.
+REFUSED, NOT_OPENED = 2, 4
 
 PORTS = 65_536
 
@@ -91,6 +93,7 @@ def parser() -> argparse.ArgumentParser:
     words.add_argument("--flush-bytes", metavar="B", help="bytes of a memtable's entries before it is compacted too")
     words.add_argument("--merge", metavar="M", help="files of a tablet before newest ones are merged")
     words.add_argument("--cache", metavar="C", help="blocks of each file that stay in memory")
+    words.add_argument("--standby", action="store_true", help="wait until no other program has the folder, and serve it then")
     words.add_argument("--durable", action="store_true", help="answer a commit once the folder has it: the log, or a checkpoint")
     words.add_argument("--checkpoint", metavar="SECONDS", type=float, default=0, help="the time between two checkpoints (none)")
     words.add_argument("--leave", action="store_true", help="leave what a dead client had open as it is")
@@ -159,15 +162,33 @@ def main(words: Sequence[str]) -> int:
     has failed, and the program's status if the program has ended."""
     parsing = parser()
     options = parsing.parse_args(words)
-    for word in ("durable", "log"):
+    for word in ("durable", "log", "standby"):
         if getattr(options, word) and options.dir is None:
             parsing.error(f"--{word} needs --dir")
+    if options.standby and options.socket is None and options.tcp is None:
+        parsing.error("--standby needs --socket or --tcp, at which it listens once it serves")
     if options.group is not None and options.socket is None:
         parsing.error("--group needs --socket")
     if options.allow_uid is not None and options.tcp is not None:
         parsing.error("--allow-uid excludes --tcp, over which no user is known")
     try:
-        return service_of(options).run()
+        service = service_of(options)
+        return stood_by(options) if options.standby else service.run()
     except (OSError, NoSocket) as failure:
         tell(str(failure))
         return REFUSED
+
+
+def stood_by(options: argparse.Namespace) -> int:
+    """Serves once no other program has the folder, and returns the status, 0 if a signal comes first. It waits on if
+    another standby is faster, or if the gateway that had the folder still has its socket."""
+    while True:
+        try:
+            wait_for(options.dir)
+            status = service_of(options).run()
+        except Served:
+            continue
+        except Stopped:
+            return 0
+        if status != NOT_OPENED or not is_in_use(options.dir):
+            return status
