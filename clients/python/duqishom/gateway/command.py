@@ -6,9 +6,10 @@ import argparse
 import grp
 import math
 import pwd
+import shlex
 from collections.abc import Callable, Sequence
 
-from duqishom.folders import has_log, log_words
+from duqishom.folders import has_log, log_words, tuned
 from duqishom.gateway.bounds import Bounds
 from duqishom.gateway.exchange import Rules
 from duqishom.gateway.failure import tell
@@ -23,7 +24,17 @@ REFUSED, NOT_OPENED = 2, 4
 
 PORTS = 65_536
 
-DESCRIPTION = "Serves one store to many clients, with the frames of tabletd."
+DESCRIPTION = "Serves one store to many clients, with the frames of tabletd. @FILE stands for the words of a file."
+
+
+class Parser(argparse.ArgumentParser):
+    """A parser that also takes the words of files, several in a line, with comments behind #."""
+
+    def convert_arg_line_to_args(self, arg_line: str) -> list[str]:
+        try:
+            return shlex.split(arg_line, comments=True)
+        except ValueError as why:
+            self.error(f"{arg_line}: {why}")
 
 
 def octal(text: str) -> int:
@@ -67,7 +78,7 @@ def seconds(text: str) -> float:
 
 def parser() -> argparse.ArgumentParser:
     """The parser of the command line."""
-    words = argparse.ArgumentParser(prog="duqishom serve", description=DESCRIPTION)
+    words = Parser(prog="duqishom serve", description=DESCRIPTION, fromfile_prefix_chars="@")
     words.add_argument("--socket", metavar="PATH", help="the Unix socket for clients")
     words.add_argument("--mode", type=octal, help="the mode of the clients' socket (600, or 660 with --group)")
     words.add_argument("--group", metavar="GROUP", type=group, help="the group of the clients' socket, by number or name")
@@ -132,10 +143,9 @@ def parser() -> argparse.ArgumentParser:
 def service_of(options: argparse.Namespace) -> Service:
     """The gateway that the words ask for."""
     command = [options.program or default_program()]
-    for word in ("dir", "log-bytes", "flush", "flush-bytes", "merge", "cache"):
-        given = getattr(options, word.replace("-", "_"))
-        command += [] if given is None else [f"--{word}", given]
-    command += [] if options.dir is None else log_words(options.dir, options.log)
+    command += [] if options.dir is None else ["--dir", options.dir, *log_words(options.dir, options.log)]
+    given = ((word, getattr(options, word.replace("-", "_"))) for word in ("log-bytes", "flush", "flush-bytes", "merge", "cache"))
+    command += tuned([part for word, value in given if value is not None for part in (f"--{word}", value)], options.dir is not None)
     is_logged = options.dir is not None and ("--log" in command or has_log(options.dir))
     rules = Rules(
         has_folder=options.dir is not None,
