@@ -346,7 +346,7 @@ class Client(asyncio.BufferedProtocol):
         elif run.passage.code != NO_OPERATION:
             exchange.counts.note(frames)
         if self.kept is None or len(self._kept_times) == MOST_KEPT_TIMES:
-            exchange.latencies.note(run.passage.code, run.since, count)
+            self._note_time(run.passage.code, run.since, count)
         else:
             self._kept_times.append((run.passage.code, run.since, count))
         self._reply(frames)
@@ -354,6 +354,12 @@ class Client(asyncio.BufferedProtocol):
             self._bequeath()
         elif self.waiting or self._has_ended:
             exchange.turns.add(self)
+
+    def _note_time(self, code: int, since: float, count: int) -> None:
+        """Counts the time of requests that were there since then, and tells of it if it is long."""
+        seconds = self.exchange.latencies.note(code, since, count)
+        if seconds >= self.exchange.slow.seconds:
+            self.exchange.slow.note(self, code, seconds, self.exchange.latencies.now)
 
     def _reply(self, frames: bytes) -> None:
         if not self.is_alive:
@@ -380,7 +386,7 @@ class Client(asyncio.BufferedProtocol):
         """Releases the replies that were held back."""
         kept, self.kept = self.kept, None
         for code, since, count in self._kept_times:
-            self.exchange.latencies.note(code, since, count)
+            self._note_time(code, since, count)
         self._kept_times.clear()
         self.exchange.bounds.replies -= self.kept_size
         self.kept_size = 0

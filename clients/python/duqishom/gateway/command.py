@@ -128,6 +128,13 @@ def parser() -> argparse.ArgumentParser:
         default=0,
         help="close a client without a session that has been idle for this long (never)",
     )
+    words.add_argument(
+        "--slow",
+        metavar="SECONDS",
+        type=seconds,
+        default=0,
+        help="tell on the standard error of requests that took so long (none)",
+    )
     words.add_argument("--collectors", metavar="N", type=int, default=4, help="open collectors of a connection (4)")
     words.add_argument("--record", metavar="FOLDER", help="keep all frames there for tablet_audit")
     words.add_argument(
@@ -156,6 +163,7 @@ def service_of(options: argparse.Namespace) -> Service:
         allowed=None if options.allow_uid is None else frozenset(options.allow_uid),
         idle_session=options.idle_session,
         idle_client=options.idle_client,
+        slow=options.slow,
         grace=options.grace,
     )
     mode = options.mode if options.mode is not None else 0o600 if options.group is None else 0o660

@@ -21,6 +21,7 @@ from duqishom.gateway.keeper import CHECKPOINT_MADE, Keeper
 from duqishom.gateway.latencies import Latencies
 from duqishom.gateway.passages import BAD_REQUEST, CHECKPOINT, MEMTABLE_FULL, STOP, SWEEP, TOO_MANY, Kind, frame, passages
 from duqishom.gateway.shares import Shares
+from duqishom.gateway.slow import Slow
 from duqishom.gateway.things import Things
 from duqishom.gateway.turned_away import TurnedAway
 from duqishom.gateway.turns import Turns
@@ -38,8 +39,8 @@ class Rules:
     """How clients are served: whether the store is in a folder and whether that has a log, whether replies wait for
     checkpoints, whether a dead client's sessions, cleaners and collectors are left open, whether clients may use each
     other's, whether the administrator has a socket, the users that may connect (all where it is None), the seconds
-    after which idle sessions and idle clients are ended (0 for never), and the seconds that a client may take for its
-    last replies."""
+    after which idle sessions and idle clients are ended (0 for never), those from which on a request is told as slow (0
+    for none), and those that a client may take for its last replies."""
 
     has_folder: bool = False
     has_log: bool = False
@@ -50,6 +51,7 @@ class Rules:
     allowed: frozenset[int] | None = None
     idle_session: float = 0
     idle_client: float = 0
+    slow: float = 0
     grace: float = 5
 
     def allow(self, peer: Peer) -> bool:
@@ -75,6 +77,7 @@ class Exchange:
         self.outs: list[Client] = []
         self.counts = Counts()
         self.latencies = Latencies(OPERATIONS, OTHER)
+        self.slow = Slow(rules.slow)
         self.things = Things()
         self.table = passages(notes_reads=rules.is_durable)
         self.is_closing = False
