@@ -46,8 +46,8 @@ class Watch:
     code: ClassVar[int] = 0x74
 
     def fields(self) -> bytes:
-        family = [] if self.family is None else [("family", self.family)]
-        return counted_argument("prefix", self.prefix) + optional_arguments(*family)
+        prefix = counted_argument("prefix", self.prefix)
+        return prefix + (optional_arguments() if self.family is None else optional_arguments(("family", self.family)))
 
     def read(self, fields: FieldReader) -> Change:
         tag, _ = fields.number(1), fields.number(8)

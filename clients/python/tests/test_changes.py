@@ -9,15 +9,21 @@ import subprocess
 import sys
 import threading
 import unittest
-from collections.abc import Callable
+from collections.abc import Iterable
 
-from duqishom import BadColumn, BadRow, Cell, Change, ConnectionLost, Store, TooManySessions, aio
+from duqishom import BadColumn, BadRow, Cell, Change, ConnectionLost, Store, TooManySessions, Transaction, aio
 from duqishom.changes import Changes
 from tests.folders import said
 from tests.gateways import PACKAGE, PATIENCE, Gateway, folder_of, until
 
 FAMILY = b"c"
+LAST = b"last"
 WRITERS, EACH = 4, 25
+
+
+def put_all(t: Transaction, rows: Iterable[bytes], value: bytes) -> None:
+    for row in rows:
+        t.put(row, FAMILY, value)
 
 
 class Told(unittest.TestCase):
@@ -110,29 +116,35 @@ class Told(unittest.TestCase):
             with Store(socket=gateway.path) as own:
                 for count in range(EACH):
                     rows = {b"r%d" % (number * count % 7), b"r%d" % (count % 5)}
-                    own.run(lambda t: [t.put(row, FAMILY, b"%d %d" % (number, count)) for row in rows], attempts=1000)
+                    own.run(lambda t: put_all(t, rows, b"%d %d" % (number, count)), attempts=1000)
 
-        def follow(until_is: Callable[[], bool]) -> None:
-            for change in store.watch(b"r"):
-                with store.snapshot() as snapshot:
-                    if change.cells is None:
-                        copy.clear()
-                        copy.update((row, value) for row, _, value in snapshot.scan(prefix=b"r"))
-                    for row, family in change.cells or ():
-                        self.assertGreater(snapshot.start, change.commit_stamp)
-                        copy[row] = snapshot.get(row, family) or b""
-                if until_is():
-                    return
+        def end() -> None:
+            for writer in writers:
+                writer.join()
+            store.put(b"r", FAMILY, LAST)
 
         writers = [threading.Thread(target=write, args=(number,)) for number in range(WRITERS)]
-        for writer in writers:
-            writer.start()
-        last = threading.Thread(target=lambda: [*(writer.join() for writer in writers), store.put(b"r", FAMILY, b"last")])
-        last.start()
-        follow(lambda: copy.get(b"r") == b"last")
-        last.join()
+        threads = [*writers, threading.Thread(target=end)]
+        for thread in threads:
+            thread.start()
+        with store.watch(b"r") as changes:
+            while copy.get(b"r") != LAST:
+                change = changes.wait(PATIENCE)
+                assert change is not None
+                self.read_changed(store, change, copy)
+        threads[-1].join()
         self.assertEqual(copy, {row: value for row, _, value in store.scan(prefix=b"r")})
         self.assertGreater(len(copy), 5)
+
+    def read_changed(self, store: Store, change: Change, copy: dict[bytes, bytes]) -> None:
+        """Reads what has changed into a copy."""
+        with store.snapshot() as snapshot:
+            if change.cells is None:
+                copy.clear()
+                copy.update((row, value) for row, _, value in snapshot.scan(prefix=b"r"))
+            for row, family in change.cells or ():
+                self.assertGreater(snapshot.start, change.commit_stamp or 0)
+                copy[row] = snapshot.get(row, family) or b""
 
 
 class Twin(unittest.TestCase):
@@ -143,7 +155,7 @@ class Twin(unittest.TestCase):
 
         async def main() -> None:
             async with aio.connect(gateway.path) as store:
-                told = []
+                told = list[Change]()
                 async for change in store.watch(b"todo/", timeout=PATIENCE):
                     told.append(change)
                     if len(told) == 3:

@@ -5,9 +5,11 @@ from __future__ import annotations
 import socket
 import unittest
 from pathlib import Path
+from unittest import mock
 
+from duqishom.gateway import watches as gateway_watches
 from duqishom.gateway.bounds import CELL_SIZE, CHANGE_SIZE, CHANGES_OF_CLIENT, WATCHES_OF_CLIENT, WRITTEN_OF_ALL
-from duqishom.gateway.passages import Kind
+from duqishom.gateway.passages import Kind, passages
 from duqishom.gateway.things import Thing, Things
 from duqishom.gateway.users import User
 from tests.gateways import (
@@ -147,6 +149,16 @@ class Watches(unittest.TestCase):
         self.told(watcher, changed(1, committed, (b"a", COLUMN)))
         self.assertEqual(other.ask(set_(number(8, 77), b"a", b"v")), b"\xff\1")
 
+    def test_a_session_that_is_not_known_any_more(self) -> None:
+        """The gateway has taken it from its user, but its Step was on its way."""
+        client, told = mock.Mock(watches=[], takes_changes=lambda: True), list[bytes]()
+        client.tell = told.append
+        watches = gateway_watches.Watches(passages(notes_reads=False), Things(), lambda client: None)
+        for prefix in (b"a", b"b"):
+            watches.begin(client, watch(prefix)[4:])
+        watches.note(bytes(8), frame(COMMITTED + bytes(8)))
+        self.assertEqual(told, [frame(unnamed(1)), frame(unnamed(2))])
+
     def test_clients_that_are_gone(self) -> None:
         """Whatever they had sent: it is told if it is committed, and not else."""
         gateway = Gateway(self)
@@ -198,8 +210,8 @@ class Bounds(unittest.TestCase):
 
     def test_of_a_client(self) -> None:
         wire = Gateway(self).wire()
-        for number in range(WATCHES_OF_CLIENT):
-            self.assertEqual(wire.ask(watch(b"a" * 4000, b"c" * 64)), begun(number + 1))
+        for name in range(1, WATCHES_OF_CLIENT + 1):
+            self.assertEqual(wire.ask(watch(ROW, b"c" * 64)), begun(name))
         self.assertEqual(wire.ask(watch(b"")), TOO_MANY)
 
     def test_what_is_no_watch(self) -> None:
@@ -233,7 +245,7 @@ class Bounds(unittest.TestCase):
         watcher, wire = gateway.wire(), gateway.wire()
         watcher.ask(watch(b"a")), watcher.ask(watch(ROW))
         count = CHANGE_SIZE // len(ROW) + 1
-        rows = [ROW[:-1] + b"%x" % number for number in range(count - 1)] + [ROW]
+        rows = [ROW[:-1] + b"%x" % place for place in range(count - 1)] + [ROW]
         start = wire.begin()
         wire.send(b"".join(set_(start, row, b"v") for row in rows) + (count + 2) * step(start))
         committed = [wire.reply() for _ in range(2 * count + 2)][-1]

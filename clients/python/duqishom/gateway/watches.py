@@ -98,7 +98,7 @@ class Watches:
             return
         session = self._things.by_name[Kind.SESSION].get(name)
         cells: dict[Watch, list[Cell]] = {}
-        for cell in (session.written or ()) if session is not None else ():
+        for cell in (None if session is None else session.written) or {}:
             for watch in self._watching(cell):
                 cells.setdefault(watch, []).append(cell)
         for watch in self._unsure(session):
