@@ -38,6 +38,7 @@ from duqishom.answers import (
     Version,
 )
 from duqishom.cells import Cell
+from duqishom.changes import Change
 from duqishom.columns import BadForm, Kind, Lock, Record, read_lock, read_record
 from duqishom.connection import RequestTimedOut
 from duqishom.copies import NotCopied
@@ -97,6 +98,7 @@ __all__ = [
     "BadValue",
     "Blocked",
     "Cell",
+    "Change",
     "Cleaned",
     "Cleaner",
     "Collected",

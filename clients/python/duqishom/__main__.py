@@ -8,7 +8,7 @@ import sys
 from collections.abc import Sequence
 from contextlib import nullcontext
 
-from duqishom import backups, dumps, inspection, statistics, web
+from duqishom import backups, dumps, inspection, statistics, watch_command, web
 from duqishom.gateway import command as gateway
 from duqishom.program import ProgramEnded
 from duqishom.refusals import Refused
@@ -30,6 +30,7 @@ COMMANDS = {
     "inspect": inspection.main,
     "serve": gateway.main,
     "stats": statistics.main,
+    "watch": watch_command.main,
     "web": web.main,
     "verify": backups.verify_main,
     "restore": backups.restore_main,
@@ -42,6 +43,7 @@ SHOWN = (
     ("inspect FOLDER", "looks into a folder, without a program"),
     ("serve --socket PATH", "serves a store to many clients"),
     ("stats --socket PATH", "what such a gateway counts"),
+    ("watch --socket PATH", "the commits to rows with a prefix, as they come"),
     ("web --socket PATH", "a web page that says how a store is"),
     ("verify FOLDER", "reads all of a folder, or of a backup"),
     ("restore BACKUP FOLDER", "copies a backup back"),

@@ -37,6 +37,7 @@ from duqishom.answers import (
 from duqishom.autocommit import cell_of, is_of_session
 from duqishom.batches import Batch, answers_of, request_frame, request_frames
 from duqishom.cells import Cell, CellRange, range_of
+from duqishom.changes import watch_of
 from duqishom.fields import MalformedReply
 from duqishom.operations import (
     MOST_CELLS,
@@ -83,6 +84,7 @@ from duqishom.refusals import Refused, TooManySessions, UnknownSession
 from duqishom.remote import Address, ConnectionLost, Fate, address_of
 from duqishom.sessions import Entry, RangeScan, Session
 from duqishom.streams import FrameStream
+from duqishom.watching import Changes
 
 MOST_VISITS = 1000
 
@@ -588,6 +590,11 @@ class Store:
             raise lost
         session.commit_stamp = fate.commit if isinstance(fate, Committed) else None
         return isinstance(fate, Committed)
+
+    def watch(self, prefix: bytes = b"", family: bytes | None = None, timeout: float | None = None) -> Changes:
+        """Tells of the commits that write cells in rows with a prefix, in one family if it is given, for `async for`: as
+        `Store.watch` of the other twin does."""
+        return Changes(self._address, watch_of(prefix, family), timeout, self._reconnect)
 
     async def backup(self, path: str | PathLike[str], progress: Report = unreported) -> None:
         """Has the gateway make a copy of the store's folder at a path, as `Store.backup` of the other twin does. A task that is

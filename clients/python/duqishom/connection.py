@@ -105,6 +105,16 @@ class Frames:
         assert self._trip is not None
         return self._replies(self._trip, time.monotonic() + timeout)
 
+    def hear(self, pieces: list[bytes], timeout: float | None = None) -> None:
+        """Waits for bytes that the other side sends without being asked, and appends them. StreamEnded and RequestTimedOut
+        as before."""
+        deadline = None if timeout is None else time.monotonic() + timeout
+        trip = Trip(b"", 0)
+        trip.pieces = pieces
+        before = len(pieces)
+        while len(pieces) == before:
+            self._read(trip, deadline)
+
     def _replies(self, trip: Trip, deadline: float | None) -> bytes:
         """Completes a trip, and returns the frames of its own replies."""
         replies = self._finish(trip, deadline)

@@ -30,6 +30,7 @@ from duqishom.answers import (
 from duqishom.autocommit import AutoCommit
 from duqishom.batches import Batch, answers_of, request_frame, request_frames
 from duqishom.cells import Cell
+from duqishom.changes import Changes, watch_of
 from duqishom.connection import Connection
 from duqishom.copies import NotCopied, copy_checkpoint
 from duqishom.folders import Unsaved, has_log, started
@@ -443,6 +444,20 @@ class Store(AutoCommit):
             raise lost
         session.commit_stamp = fate.commit if isinstance(fate, Committed) else None
         return isinstance(fate, Committed)
+
+    def watch(self, prefix: bytes = b"", family: bytes | None = None, timeout: float | None = None) -> Changes:
+        """Tells of the commits that write cells in rows with a prefix, in one family if it is given:
+
+            for change in store.watch(b"todo/"):
+                work(store)
+
+        The first `Change` has no cells, and comes at once; each later commit is told. With a timeout the loop ends when
+        none has come for so many seconds. ValueError if no gateway serves the store, for only a gateway tells of
+        commits, and of those alone that it has passed on. BadRow or BadColumn as the store would refuse it.
+        """
+        if self._socket is None:
+            raise ValueError("a gateway tells of commits, and none serves this store")
+        return Changes(self._socket, watch_of(prefix, family), timeout, self._reconnect)
 
     def backup(self, path: str | PathLike[str], progress: Report = unreported) -> None:
         """Makes a copy of the store's folder at a path, which must be an empty folder or not exist: the state of a

@@ -217,17 +217,34 @@ class Begins(unittest.TestCase):
         again = run_again(path)
         self.assertEqual((again.returncode, again.stderr), (2, f"duqishom: {path} is there, and is no socket\n"))
 
-    def test_over_a_folder_that_is_not_there(self) -> None:
-        gateway = Gateway(self, ["--dir", "/no/such/folder"])
-        self.assertEqual(gateway.first, "tabletd: device failed at open")
-        self.assertEqual(gateway.process.wait(60), 4)
-        self.assertEqual(gateway.line(), "duqishom: the program has ended with status 4: a device failed, at open or under the log")
-        self.assertFalse(os.path.exists(gateway.path))
+    def test_over_a_folder_that_can_not_be_opened(self) -> None:
+        damaged, used = folder_of(self), folder_of(self)
+        Path(damaged, "oracle.mark").write_bytes(b"mark")
+        Gateway(self, ["--dir", used])
+        for folder, why in (
+            ("/no/such/folder", "there is no folder /no/such/folder"),
+            (damaged, rf"{damaged}/oracle.mark is no mark: it has 4 bytes, 6d 61 72 6b"),
+            (used, rf"{used} is in use by process \d+ \(.*\), which process \d+ has started"),
+        ):
+            gateway = Gateway(self, ["--dir", folder])
+            self.assertEqual(gateway.first, "tabletd: device failed at open")
+            self.assertEqual(gateway.process.wait(60), 4)
+            self.assertRegex(gateway.line(), rf"^duqishom: the store isn't opened \(status 4\): {why}$")
+            self.assertFalse(os.path.exists(gateway.path))
 
     def test_nowhere(self) -> None:
         ran = subprocess.run(command_of("")[:-2], cwd=PACKAGE, capture_output=True, text=True, timeout=60)
         self.assertEqual(ran.returncode, 2)
         self.assertEqual(ran.stderr, "duqishom: there is nowhere to listen: name a --socket or a --tcp\n")
+
+    def test_words_in_a_file(self) -> None:
+        folder = folder_of(self)
+        file = Path(folder, "words")
+        file.write_text(f"# A store\n--dir '{folder}'  # in a folder\n\n--checkpoint 3600 --no-log\n")
+        gateway = Gateway(self, [f"@{file}"])
+        self.assertEqual(gateway.wire().ask(CHECKPOINT), b"\x92")
+        self.assertTrue(Path(folder, "lock").exists())
+        self.assertEqual(Gateway(self, ["@/no/such/file"]).process.wait(60), 2)
 
     def test_durable_or_a_log_without_a_folder(self) -> None:
         for word in ("--durable", "--log"):

@@ -2,6 +2,7 @@
 
 from __future__ import annotations
 
+import os
 import re
 import time
 import unittest
@@ -10,6 +11,7 @@ from typing import Any
 
 from duqishom.gateway.counts import CONFLICTS, REFUSAL, REFUSALS, Counts
 from duqishom.gateway.latencies import BOUNDS, SPAN, SPANS, Latencies
+from duqishom.gateway.slow import PAUSE
 from duqishom.statistics import prometheus, statistics
 from tests.gateways import BEGIN, CHECKPOINT, Gateway, clean_step, folder_of, frame, get, raw, set_, stand_in, step, until
 
@@ -159,6 +161,28 @@ class Gateways(unittest.TestCase):
         file.touch()
         self.assertEqual(wire.reply()[:2], b"\x84\4")
         self.assertGreater(gateway.statistics()["latency_seconds"]["Step"]["greatest"], LONG)
+
+    def test_slow_requests(self) -> None:
+        """Each is told, but one line a second at most: the next one says how many there were besides."""
+        gateway, file = self.held(["--slow", str(LONG)])
+        heavy, light = gateway.wire(), gateway.wire()
+        heavy.send(HEAVY)
+        self.assertTrue(until(lambda: self.number(gateway, "held", "asked") == 1))
+        light.send(3 * (raw(b"r", 1) + BEGIN))
+        self.assertTrue(until(lambda: self.number(gateway, "held", "requests") > len(raw(b"r", 1))))
+        time.sleep(LONG)
+        file.touch()
+        heavy.reply()
+        for _ in range(6):
+            light.reply()
+        process = os.getpid()
+        self.assertRegex(gateway.line(), rf"^duqishom: OracleRestart of client 1, process {process}, took \d+\.\d{{3}} s$")
+        file.unlink()
+        time.sleep(PAUSE)
+        heavy.send(HEAVY)
+        time.sleep(LONG)
+        file.touch()
+        self.assertRegex(gateway.line(), rf"^duqishom: OracleRestart of client 1, .* took .* s, and \d+ more were slow$")
 
     def test_refusals_and_conflicts(self) -> None:
         """Those of the program and the gateway's own. An empty body, by which a client finds out whether the program

@@ -7,6 +7,7 @@ cleaners and collectors with their owners; a `client` is a connection, and the `
 requests; `verdicts` decides which requests the gateway answers itself, `turns` schedules askers, and the `upstream` is
 the program. `users` are at the other end of connections, and `shares` has their limits. `heirs` ends the sessions,
 cleaners and collectors of a dead client, `idle` looks for idle sessions and clients, and the `keeper` holds replies
-back until a checkpoint. `backups` are copies of the folder that clients ask for. `turned_away` is a connection for
-which there is no place, a `failure` ends everything at once, and `service` starts and ends the gateway.
+back until a checkpoint. `watches` tell clients of commits. `backups` are copies of the folder that clients ask for.
+`turned_away` is a connection for which there is no place, a `failure` ends everything at once, `service` starts and
+ends the gateway, and a `standby` waits until it may.
 """

@@ -13,6 +13,17 @@ READ_AHEAD = 32_768
 REPLIES_OF_CLIENT = 4 << 20
 REPLIES_OF_ALL = 128 << 20
 
+# The most watches of a client. A client that has left so many bytes of replies and messages untaken gets only one more
+# message on each watch, and a message has at most so many bytes of cells.
+WATCHES_OF_CLIENT = 16
+CHANGES_OF_CLIENT = 32_768
+CHANGE_SIZE = 32_768
+
+# The bytes of watched cells that all open sessions together have written, each with so many bytes beside its name.
+# Beyond this limit a session's cells aren't recorded.
+WRITTEN_OF_ALL = 16 << 20
+CELL_SIZE = 256
+
 # The bytes of waiting or incomplete requests of all clients. Beyond this limit the client with the most is closed.
 REQUESTS_OF_ALL = 128 << 20
 

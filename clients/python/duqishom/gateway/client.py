@@ -10,7 +10,7 @@ from time import monotonic
 from typing import TYPE_CHECKING, cast
 
 from duqishom.connection import LONGEST_BODY
-from duqishom.gateway.bounds import READ_AHEAD, READ_SIZE, REPLIES_OF_ALL, REPLIES_OF_CLIENT
+from duqishom.gateway.bounds import CHANGES_OF_CLIENT, READ_AHEAD, READ_SIZE, REPLIES_OF_ALL, REPLIES_OF_CLIENT
 from duqishom.gateway.passages import (
     BACKUP,
     BACKUP_REPLY,
@@ -32,6 +32,7 @@ from duqishom.gateway.verdicts import BACK_UP, LATER, administered, reply_of, ve
 
 if TYPE_CHECKING:
     from duqishom.gateway.exchange import Exchange
+    from duqishom.gateway.watches import Watch
 
 # The read buffer shared by all connections.
 READ_BUFFER = memoryview(bytearray(READ_SIZE))
@@ -41,7 +42,7 @@ MOST_KEPT_TIMES = 256
 
 
 class Client(asyncio.BufferedProtocol):
-    """One connection, with its open sessions, cleaners and collectors.
+    """One connection, with its open sessions, cleaners and collectors, and its watches.
 
     A request that the gateway answers itself is answered when all before it are, so replies keep their order.
     """
@@ -56,6 +57,7 @@ class Client(asyncio.BufferedProtocol):
         self.idle_looks: int = 0
         self.things: set[Thing] = set()
         self.counts: list[int] = [0, 0, 0]
+        self.watches: list[Watch] = []
         self.is_queued = self.needs_idle = False
         self.waiting: bytearray = bytearray()
         self.in_flight = 0
@@ -151,11 +153,11 @@ class Client(asyncio.BufferedProtocol):
 
     def is_active(self, heard: int) -> bool:
         """Whether the client has sent anything since so many bytes had come from all clients, or has taken any of its
-        replies since the last call, or waits for the gateway."""
+        replies since the last call, or waits for the gateway, or for changes."""
         taken = self._written - self.transport.get_write_buffer_size()
         takes, self._taken = taken > self._taken, taken
         is_owed = self.in_flight > 0 or self.kept is not None or (self.untaken == 0 and self.has_whole_frame())
-        return self.heard > heard or takes or is_owed
+        return self.heard > heard or takes or is_owed or bool(self.watches)
 
     def waits_with(self, name: bytes) -> bool:
         """Whether the client waits for the gateway, and a request with this name may be among its waiting ones."""
@@ -344,7 +346,7 @@ class Client(asyncio.BufferedProtocol):
         elif run.passage.code != NO_OPERATION:
             exchange.counts.note(frames)
         if self.kept is None or len(self._kept_times) == MOST_KEPT_TIMES:
-            exchange.latencies.note(run.passage.code, run.since, count)
+            self._note_time(run.passage.code, run.since, count)
         else:
             self._kept_times.append((run.passage.code, run.since, count))
         self._reply(frames)
@@ -352,6 +354,12 @@ class Client(asyncio.BufferedProtocol):
             self._bequeath()
         elif self.waiting or self._has_ended:
             exchange.turns.add(self)
+
+    def _note_time(self, code: int, since: float, count: int) -> None:
+        """Counts the time of requests that were there since then, and tells of it if it is long."""
+        seconds = self.exchange.latencies.note(code, since, count)
+        if seconds >= self.exchange.slow.seconds:
+            self.exchange.slow.note(self, code, seconds, self.exchange.latencies.now)
 
     def _reply(self, frames: bytes) -> None:
         if not self.is_alive:
@@ -378,7 +386,7 @@ class Client(asyncio.BufferedProtocol):
         """Releases the replies that were held back."""
         kept, self.kept = self.kept, None
         for code, since, count in self._kept_times:
-            self.exchange.latencies.note(code, since, count)
+            self._note_time(code, since, count)
         self._kept_times.clear()
         self.exchange.bounds.replies -= self.kept_size
         self.kept_size = 0
@@ -398,6 +406,7 @@ class Client(asyncio.BufferedProtocol):
             self.transport.write(frames)
             self._measure(self.transport.get_write_buffer_size())
             self._end_where_done()
+            self._catch_up()
 
     def replies_held(self) -> int:
         """The bytes of replies that wait for the client, or for a checkpoint."""
@@ -408,8 +417,24 @@ class Client(asyncio.BufferedProtocol):
         self.exchange.bounds.replies += untaken - self.untaken
         self.untaken = untaken
 
+    def takes_changes(self) -> bool:
+        """Whether it may be told of changes now: it has taken nearly all of its replies."""
+        held = self.replies_held()
+        return held == 0 or (held < CHANGES_OF_CLIENT and self.exchange.bounds.replies < REPLIES_OF_ALL)
+
+    def tell(self, message: bytes) -> None:
+        """Sends a message that answers no request, with the next flush."""
+        self._reply(message)
+
+    def _catch_up(self) -> None:
+        """Is told of changes that it took too little for before."""
+        if any(watch.is_behind for watch in self.watches):
+            self.exchange.watches.catch_up(self)
+            self.exchange.turns.call()
+
     def resume_writing(self) -> None:
         self._measure(0)
+        self._catch_up()
         self.exchange.turns.add(self)
 
     # Its end.

@@ -6,22 +6,35 @@ import argparse
 import grp
 import math
 import pwd
+import shlex
 from collections.abc import Callable, Sequence
 
-from duqishom.folders import has_log, log_words
+from duqishom.folders import has_log, log_words, tuned
 from duqishom.gateway.bounds import Bounds
 from duqishom.gateway.exchange import Rules
 from duqishom.gateway.failure import tell
 from duqishom.gateway.service import Places, Service
-from duqishom.gateway.sockets import NoSocket
+from duqishom.gateway.sockets import NoSocket, Served
+from duqishom.gateway.standby import Stopped, is_in_use, wait_for
 from duqishom.program import default_program
 
-# The status if the words are refused, which is the parser's own, or if the gateway can't start.
-REFUSED = 2
+# The status if the words are refused, which is the parser's own, or if the gateway can't start; and that of a program
+# that can't have its folder.
+REFUSED, NOT_OPENED = 2, 4
 
 PORTS = 65_536
 
-DESCRIPTION = "Serves one store to many clients, with the frames of tabletd."
+DESCRIPTION = "Serves one store to many clients, with the frames of tabletd. @FILE stands for the words of a file."
+
+
+class Parser(argparse.ArgumentParser):
+    """A parser that also takes the words of files, several in a line, with comments behind #."""
+
+    def convert_arg_line_to_args(self, arg_line: str) -> list[str]:
+        try:
+            return shlex.split(arg_line, comments=True)
+        except ValueError as why:
+            self.error(f"{arg_line}: {why}")
 
 
 def octal(text: str) -> int:
@@ -65,7 +78,7 @@ def seconds(text: str) -> float:
 
 def parser() -> argparse.ArgumentParser:
     """The parser of the command line."""
-    words = argparse.ArgumentParser(prog="duqishom serve", description=DESCRIPTION)
+    words = Parser(prog="duqishom serve", description=DESCRIPTION, fromfile_prefix_chars="@")
     words.add_argument("--socket", metavar="PATH", help="the Unix socket for clients")
     words.add_argument("--mode", type=octal, help="the mode of the clients' socket (600, or 660 with --group)")
     words.add_argument("--group", metavar="GROUP", type=group, help="the group of the clients' socket, by number or name")
@@ -91,6 +104,7 @@ def parser() -> argparse.ArgumentParser:
     words.add_argument("--flush-bytes", metavar="B", help="bytes of a memtable's entries before it is compacted too")
     words.add_argument("--merge", metavar="M", help="files of a tablet before newest ones are merged")
     words.add_argument("--cache", metavar="C", help="blocks of each file that stay in memory")
+    words.add_argument("--standby", action="store_true", help="wait until no other program has the folder, and serve it then")
     words.add_argument("--durable", action="store_true", help="answer a commit once the folder has it: the log, or a checkpoint")
     words.add_argument("--checkpoint", metavar="SECONDS", type=float, default=0, help="the time between two checkpoints (none)")
     words.add_argument("--leave", action="store_true", help="leave what a dead client had open as it is")
@@ -114,6 +128,13 @@ def parser() -> argparse.ArgumentParser:
         default=0,
         help="close a client without a session that has been idle for this long (never)",
     )
+    words.add_argument(
+        "--slow",
+        metavar="SECONDS",
+        type=seconds,
+        default=0,
+        help="tell on the standard error of requests that took so long (none)",
+    )
     words.add_argument("--collectors", metavar="N", type=int, default=4, help="open collectors of a connection (4)")
     words.add_argument("--record", metavar="FOLDER", help="keep all frames there for tablet_audit")
     words.add_argument(
@@ -129,10 +150,9 @@ def parser() -> argparse.ArgumentParser:
 def service_of(options: argparse.Namespace) -> Service:
     """The gateway that the words ask for."""
     command = [options.program or default_program()]
-    for word in ("dir", "log-bytes", "flush", "flush-bytes", "merge", "cache"):
-        given = getattr(options, word.replace("-", "_"))
-        command += [] if given is None else [f"--{word}", given]
-    command += [] if options.dir is None else log_words(options.dir, options.log)
+    command += [] if options.dir is None else ["--dir", options.dir, *log_words(options.dir, options.log)]
+    given = ((word, getattr(options, word.replace("-", "_"))) for word in ("log-bytes", "flush", "flush-bytes", "merge", "cache"))
+    command += tuned([part for word, value in given if value is not None for part in (f"--{word}", value)], options.dir is not None)
     is_logged = options.dir is not None and ("--log" in command or has_log(options.dir))
     rules = Rules(
         has_folder=options.dir is not None,
@@ -143,6 +163,7 @@ def service_of(options: argparse.Namespace) -> Service:
         allowed=None if options.allow_uid is None else frozenset(options.allow_uid),
         idle_session=options.idle_session,
         idle_client=options.idle_client,
+        slow=options.slow,
         grace=options.grace,
     )
     mode = options.mode if options.mode is not None else 0o600 if options.group is None else 0o660
@@ -159,15 +180,33 @@ def main(words: Sequence[str]) -> int:
     has failed, and the program's status if the program has ended."""
     parsing = parser()
     options = parsing.parse_args(words)
-    for word in ("durable", "log"):
+    for word in ("durable", "log", "standby"):
         if getattr(options, word) and options.dir is None:
             parsing.error(f"--{word} needs --dir")
+    if options.standby and options.socket is None and options.tcp is None:
+        parsing.error("--standby needs --socket or --tcp, at which it listens once it serves")
     if options.group is not None and options.socket is None:
         parsing.error("--group needs --socket")
     if options.allow_uid is not None and options.tcp is not None:
         parsing.error("--allow-uid excludes --tcp, over which no user is known")
     try:
-        return service_of(options).run()
+        service = service_of(options)
+        return stood_by(options) if options.standby else service.run()
     except (OSError, NoSocket) as failure:
         tell(str(failure))
         return REFUSED
+
+
+def stood_by(options: argparse.Namespace) -> int:
+    """Serves once no other program has the folder, and returns the status, 0 if a signal comes first. It waits on if
+    another standby is faster, or if the gateway that had the folder still has its socket."""
+    while True:
+        try:
+            wait_for(options.dir)
+            status = service_of(options).run()
+        except Served:
+            continue
+        except Stopped:
+            return 0
+        if status != NOT_OPENED or not is_in_use(options.dir):
+            return status

@@ -10,7 +10,19 @@ from collections.abc import Mapping
 from pathlib import Path
 from typing import TYPE_CHECKING
 
-from duqishom.gateway.passages import BACKUP, CLIENTS, HEAD, KILL, LENGTH, SCAN, STATISTICS, STATISTICS_REPLY, Kind, frame
+from duqishom.gateway.passages import (
+    BACKUP,
+    CLIENTS,
+    HEAD,
+    KILL,
+    LENGTH,
+    SCAN,
+    STATISTICS,
+    STATISTICS_REPLY,
+    WATCH,
+    Kind,
+    frame,
+)
 from duqishom.gateway.things import CODE, CONFLICT, FIELDS, LOST, REFUSED, STEP_REPLY
 from duqishom.gateway.users import CONNECTION
 from duqishom.refusals import BY_NUMBER
@@ -42,7 +54,7 @@ NAMES = (
 
 # The operations by their first bytes, and the name of everything else.
 OPERATIONS = {code: name for code, name in enumerate(NAMES, start=1)}
-OPERATIONS |= {SCAN: "Scan", STATISTICS: "Statistics", BACKUP: "Backup", CLIENTS: "Clients", KILL: "Kill"}
+OPERATIONS |= {SCAN: "Scan", STATISTICS: "Statistics", BACKUP: "Backup", CLIENTS: "Clients", KILL: "Kill", WATCH: "Watch"}
 OTHER = "other"
 
 # How the frame of a refusal begins, and the most bytes that are searched for one.
@@ -159,6 +171,11 @@ def statistics(exchange: Exchange, is_trusted: bool) -> bytes:
             "taken_clients": counts.taken_clients,
             "taken_sessions": counts.taken_sessions,
             "killed_clients": counts.killed_clients,
+        },
+        "watches": {
+            "open": len(exchange.watches.by_number),
+            "changes": exchange.watches.changes,
+            "unnamed": exchange.watches.unnamed,
         },
         "open": {"sessions": sessions, "cleaners": cleaners, "collectors": collectors},
         "oldest_session_seconds": exchange.things.seconds_of_oldest_session(),

@@ -21,11 +21,13 @@ from duqishom.gateway.keeper import CHECKPOINT_MADE, Keeper
 from duqishom.gateway.latencies import Latencies
 from duqishom.gateway.passages import BAD_REQUEST, CHECKPOINT, MEMTABLE_FULL, STOP, SWEEP, TOO_MANY, Kind, frame, passages
 from duqishom.gateway.shares import Shares
+from duqishom.gateway.slow import Slow
 from duqishom.gateway.things import Things
 from duqishom.gateway.turned_away import TurnedAway
 from duqishom.gateway.turns import Turns
 from duqishom.gateway.upstream import Run, Upstream
 from duqishom.gateway.users import CONNECTION, Peer, User
+from duqishom.gateway.watches import Watches
 from duqishom.program import ProgramEnded
 from duqishom.recording import Recording
 
@@ -37,8 +39,8 @@ class Rules:
     """How clients are served: whether the store is in a folder and whether that has a log, whether replies wait for
     checkpoints, whether a dead client's sessions, cleaners and collectors are left open, whether clients may use each
     other's, whether the administrator has a socket, the users that may connect (all where it is None), the seconds
-    after which idle sessions and idle clients are ended (0 for never), and the seconds that a client may take for its
-    last replies."""
+    after which idle sessions and idle clients are ended (0 for never), those from which on a request is told as slow (0
+    for none), and those that a client may take for its last replies."""
 
     has_folder: bool = False
     has_log: bool = False
@@ -49,6 +51,7 @@ class Rules:
     allowed: frozenset[int] | None = None
     idle_session: float = 0
     idle_client: float = 0
+    slow: float = 0
     grace: float = 5
 
     def allow(self, peer: Peer) -> bool:
@@ -74,6 +77,7 @@ class Exchange:
         self.outs: list[Client] = []
         self.counts = Counts()
         self.latencies = Latencies(OPERATIONS, OTHER)
+        self.slow = Slow(rules.slow)
         self.things = Things()
         self.table = passages(notes_reads=rules.is_durable)
         self.is_closing = False
@@ -84,6 +88,7 @@ class Exchange:
         self.household = Household(self.upstream, self.turns, self.things, self.table, self.shares.administrator, rules.has_log)
         self.heirs = Heirs(self.household, self.things)
         self.keeper = Keeper(self.household, rules.is_durable)
+        self.watches = Watches(self.table, self.things, self.keeper.hold)
         self.backups = Backups(folder, self.keeper, self._copied)
         self.idle = Idle(self, rules.idle_session, rules.idle_client)
         self._ended = ended
@@ -184,8 +189,9 @@ class Exchange:
 
     def note(self, client: Client, run: Run, reply: bytes) -> None:
         """Records the effects of a reply, before the client gets it."""
-        self.things.note(run.passage, run.name, reply, client, self.upstream.sent)
         self.keeper.note(client, run, reply)
+        self.watches.note(run.name, reply)
+        self.things.note(run.passage, run.name, reply, client, self.upstream.sent)
         if reply == MEMTABLE_FULL and self.rules.has_admin and not client.is_admin:
             self.need_room.add(client)
             self._relief = self._relief or begin(self._make_room())
@@ -210,6 +216,7 @@ class Exchange:
         """Removes a client, if that isn't done."""
         if client in self.clients:
             self.clients.remove(client)
+            self.watches.end(client)
             client.user.add(CONNECTION, -1)
 
     def bequeath(self, client: Client) -> None:

@@ -48,7 +48,12 @@ class Keeper:
         """Records a reply, and holds the client's replies back from this one on if it shows a commit that isn't
         durable."""
         self._see(reply)
-        if self._is_durable and self._shows(run, reply) and client.hold():
+        if self._is_durable and self._shows(run, reply):
+            self.hold(client)
+
+    def hold(self, client: Client) -> None:
+        """Holds a client's replies back from now on, if answers are durable and there are commits that aren't."""
+        if self._is_durable and self.unkept is not None and client.hold():
             self._holding.append(client)
             if self._work is None:
                 self._work = begin(self._keep())

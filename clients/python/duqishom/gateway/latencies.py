@@ -87,13 +87,14 @@ class Latencies:
                 histogram.end_span()
         self._due = self.now + SPAN
 
-    def note(self, code: int, since: float, count: int) -> None:
-        """Counts requests of one operation that are answered now, and were there since then."""
+    def note(self, code: int, since: float, count: int) -> float:
+        """Counts requests of one operation that are answered now, and were there since then. Returns their time."""
         histogram, seconds = self._by_code[code], self.now - since
         histogram.counts[bisect_left(BOUNDS, seconds)] += count
         histogram.sum += count * seconds
         if seconds > histogram.greatest:
             histogram.greatest = seconds
+        return seconds
 
     def lately(self) -> dict[str, dict[str, float]]:
         """The last minute's times by operation, of those that were asked for in it."""

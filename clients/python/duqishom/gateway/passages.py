@@ -44,6 +44,7 @@ def refusal(number: int) -> bytes:
 
 UNKNOWN_TABLET, TOO_MANY_FILES, MEMTABLE_FULL = refusal(11), refusal(16), refusal(15)
 BAD_REQUEST, TOO_LARGE, TOO_MANY = refusal(22), refusal(23), refusal(7)
+BAD_ROW, BAD_COLUMN = refusal(3), refusal(4)
 
 BEGIN, GET, SET, STEP, STOP, CLEAN_BEGIN, CLEAN_STEP, COLLECT_BEGIN, COLLECT_STEP = range(1, 10)
 MINOR, MERGE, MAJOR, SPLIT, MOVE, SWEEP, ORACLE_RESTART, RAW, CHECKPOINT, DELETE = range(10, 20)
@@ -52,12 +53,13 @@ SCAN = 0x31
 # The byte of an empty body, by which clients find out whether the program answers. That it is refused says nothing.
 NO_OPERATION = 0x00
 
-# The operations whose answers show commits, in sessions and outside them.
+# The operations whose answers show commits, in sessions and outside them, and those that write cells.
 READS = (GET, RAW, SCAN)
+WRITES = (SET, DELETE)
 
 # The requests that the gateway answers itself. The program refuses them as no requests.
-STATISTICS, BACKUP, CLIENTS, KILL = range(0x70, 0x74)
-STATISTICS_REPLY, BACKUP_REPLY, CLIENTS_REPLY, KILL_REPLY = (code | 0x80 for code in (STATISTICS, BACKUP, CLIENTS, KILL))
+STATISTICS, BACKUP, CLIENTS, KILL, WATCH = range(0x70, 0x75)
+STATISTICS_REPLY, BACKUP_REPLY, CLIENTS_REPLY, KILL_REPLY, WATCH_REPLY = range(0xF0, 0xF5)
 
 
 class Kind(IntEnum):
@@ -163,6 +165,7 @@ KNOWN = (
     Passage(COLLECT_STEP, names=Kind.COLLECTOR, tail=4, weight_each=VISIT_WEIGHT, room=BLOCKED_ROOM, is_noted=True),
     Passage(RAW, room=READ_ROOM),
     Passage(BACKUP, is_for_admin=True),
+    Passage(WATCH, counted=1, options=(1,)),
     *(of_files(code) for code in (MINOR, MERGE, MAJOR, SPLIT, MOVE, SWEEP, ORACLE_RESTART, CHECKPOINT)),
 )
 
@@ -174,6 +177,6 @@ def passages(notes_reads: bool) -> tuple[Passage, ...]:
         is_noted = passage.is_noted or (notes_reads and passage.code in READS)
         is_judged = passage.names is not None or passage.opens is not None or passage.is_for_admin
         table[passage.code] = replace(passage, is_noted=is_noted, is_judged=is_judged)
-    for code in (STATISTICS, CLIENTS, KILL):
+    for code in (STATISTICS, CLIENTS, KILL, WATCH):
         table[code] = replace(table[code], is_judged=True)
     return tuple(table)

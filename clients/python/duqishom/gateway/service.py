@@ -11,6 +11,7 @@ from collections.abc import Sequence
 from contextlib import ExitStack
 from dataclasses import dataclass, replace
 
+from duqishom.folders import NotOpened, why_no_folder, why_not_opened
 from duqishom.gateway.bounds import Bounds
 from duqishom.gateway.client import Client
 from duqishom.gateway.exchange import Exchange, Rules
@@ -83,7 +84,7 @@ class Service:
         try:
             await exchange.start(self.command)
         except ProgramEnded as early:
-            return await self._end(exchange, early)
+            return await self._end(exchange, self._explained(early))
         servers = [await accept(exchange, each, is_admin) for each, is_admin in listening]
         tell("ready")
         notify(os.environ, "READY=1")
@@ -92,6 +93,13 @@ class Service:
         for server in servers:
             server.close()
         return await self._end(exchange, ended)
+
+    def _explained(self, early: ProgramEnded) -> ProgramEnded:
+        """The end of a program that couldn't open the store, with the reason as far as the folder shows it."""
+        if self.folder is None:
+            return early
+        why = why_no_folder(self.folder) or why_not_opened(self.folder, early.status)
+        return NotOpened(early.status, why) if why else early
 
     def _listen(self, stack: ExitStack) -> list[tuple[socket.socket, bool]]:
         """The listening sockets, each with whether it is the administrator's. Sockets created here are closed with the

@@ -28,15 +28,22 @@ class NoSocket(Exception):
     none is named."""
 
 
+class Served(NoSocket):
+    """Another gateway serves at the path."""
+
+    def __init__(self, path: str) -> None:
+        super().__init__(f"another gateway serves {path}")
+
+
 def lock_beside(path: str) -> BufferedWriter:
     """The lock of a socket's path: a file beside it, which is never removed, and which one gateway at a time holds
-    locked while it has it open. NoSocket if another gateway holds it."""
+    locked while it has it open. Served if another gateway holds it."""
     file = private(path + LOCK)
     try:
         fcntl.flock(file, fcntl.LOCK_EX | fcntl.LOCK_NB)
     except BlockingIOError:
         file.close()
-        raise NoSocket(f"another gateway serves {path}") from None
+        raise Served(path) from None
     return file
 
 
@@ -66,7 +73,7 @@ def unix_socket(path: str, mode: int, group: int | None = None) -> socket.socket
 
 
 def remove_stale(path: str) -> None:
-    """Removes a socket at which nobody answers. NoSocket if somebody does, or if it isn't a socket."""
+    """Removes a socket at which nobody answers. Served if somebody does, and NoSocket if it isn't a socket."""
     try:
         if not stat.S_ISSOCK(os.lstat(path).st_mode):
             raise NoSocket(f"{path} is there, and is no socket")
@@ -79,7 +86,7 @@ def remove_stale(path: str) -> None:
             with suppress(FileNotFoundError):
                 os.unlink(path)
             return
-    raise NoSocket(f"another gateway serves {path}")
+    raise Served(path)
 
 
 def tcp_socket(port: int) -> socket.socket:

@@ -5,6 +5,7 @@ from __future__ import annotations
 from time import monotonic
 from typing import Protocol
 
+from duqishom.gateway.bounds import CELL_SIZE, WRITTEN_OF_ALL
 from duqishom.gateway.passages import HEAD, NAME, PLACES, STEP, STOP, Kind, Passage
 from duqishom.gateway.users import User
 
@@ -28,9 +29,10 @@ class Owner(Protocol):
 class Thing:
     """An open session, cleaner or collector. Its user stays the same if its owner changes. `asked` is how many requests
     the program had got before the last one that names it, and `began` when it was opened. Of a session: how many cells
-    it writes, once one is held, whether it has committed, and in how many looks in a row it was idle."""
+    it writes, once one is held, whether it has committed, in how many looks in a row it was idle, and the watched cells
+    that it has written, or None if they aren't recorded."""
 
-    __slots__ = ("kind", "name", "owner", "user", "asked", "began", "cells", "has_committed", "idle_looks")
+    __slots__ = ("kind", "name", "owner", "user", "asked", "began", "cells", "has_committed", "idle_looks", "written")
 
     def __init__(self, kind: Kind, name: bytes, owner: Owner, asked: int) -> None:
         self.kind = kind
@@ -42,13 +44,15 @@ class Thing:
         self.cells = 0
         self.has_committed = False
         self.idle_looks = 0
+        self.written: dict[tuple[bytes, bytes], None] | None = {}
 
 
 class Things:
-    """All things open in the program."""
+    """All things open in the program, and the size of the watched cells that the sessions among them have written."""
 
     def __init__(self) -> None:
         self.by_name: tuple[dict[bytes, Thing], ...] = ({}, {}, {})
+        self.written = 0
 
     def seconds_of_oldest_session(self) -> float:
         """The seconds since the oldest open session began, 0 if there is none."""
@@ -94,6 +98,20 @@ class Things:
         thing.owner.things.discard(thing)
         thing.owner.counts[thing.kind] -= 1
         thing.user.add(thing.kind, -1)
+        self._forget_writes(thing)
+
+    def note_write(self, session: Thing, cell: tuple[bytes, bytes]) -> None:
+        """Records a watched cell that a session writes. If there are too many, none of the session are recorded."""
+        if session.written is not None and cell not in session.written:
+            session.written[cell] = None
+            self.written += size_of(cell)
+            if self.written > WRITTEN_OF_ALL:
+                self._forget_writes(session)
+
+    def _forget_writes(self, session: Thing) -> None:
+        if session.written:
+            self.written -= sum(map(size_of, session.written))
+            session.written = None
 
     def _has_ended(self, thing: Thing, passage: Passage, reply: bytes) -> bool:
         if reply[CODE] == REFUSED:
@@ -103,6 +121,12 @@ class Things:
         if thing.kind == Kind.COLLECTOR:
             return reply[TAG] == COLLECTED
         return passage.code == STOP or (passage.code == STEP and has_ended_by_step(thing, reply))
+
+
+def size_of(cell: tuple[bytes, bytes]) -> int:
+    """The size of a recorded cell."""
+    row, family = cell
+    return len(row) + len(family) + CELL_SIZE
 
 
 def opened(kind: Kind, reply: bytes) -> bytes | None:

@@ -19,17 +19,21 @@ from duqishom.gateway.passages import (
     SWEEP,
     TOO_MANY,
     UNKNOWN,
+    WATCH,
+    WRITES,
     Kind,
     Passage,
     frame,
 )
+from duqishom.gateway.things import Thing
 
 if TYPE_CHECKING:
     from duqishom.gateway.client import Client
 
 # Placeholders for the answer to a request that must wait, for that to a request for a copy, which comes after the copy,
 # and for those that are made when all requests before have their replies.
-LATER, BACK_UP, TELL_STATISTICS, TELL_CLIENTS, KILL_CLIENT = b"", b"copy", b"statistics", b"clients", b"kill"
+LATER, BACK_UP, TELL_STATISTICS, TELL_CLIENTS = b"", b"copy", b"statistics", b"clients"
+KILL_CLIENT, TELL_CHANGES = b"kill", b"watch"
 
 
 def verdict_on(client: Client, passage: Passage, at: int, end: int) -> bytes | None:
@@ -39,8 +43,12 @@ def verdict_on(client: Client, passage: Passage, at: int, end: int) -> bytes | N
     """
     exchange = client.exchange
     if passage.names is not None:
-        is_unknown = not has(client, passage.names, at) and not exchange.rules.is_shared
-        return UNKNOWN[passage.names] if is_unknown and passage.has_form(client.body(at, end)) else None
+        thing = named(client, passage.names, at)
+        if thing is None:
+            return UNKNOWN[passage.names] if passage.has_form(client.body(at, end)) else None
+        if exchange.watches.by_number and passage.code in WRITES:
+            exchange.watches.note_write(thing, passage, client.body(at, end))
+        return None
     if passage.opens is not None:
         return TOO_MANY if passage.has_form(client.body(at, end)) and not may_open(client, passage.opens) else None
     if passage.is_for_admin and exchange.rules.has_admin and not client.is_admin:
@@ -63,7 +71,7 @@ def administered(client: Client, passage: Passage, length: int) -> bytes | None:
         return TELL_CLIENTS if client.is_trusted else BAD_REQUEST
     if passage.code == KILL and length == NAME_END:
         return KILL_CLIENT if client.is_admin else BAD_REQUEST
-    return None
+    return TELL_CHANGES if passage.code == WATCH else None
 
 
 def reply_of(client: Client, verdict: bytes, body: bytes) -> bytes:
@@ -74,17 +82,19 @@ def reply_of(client: Client, verdict: bytes, body: bytes) -> bytes:
         return clients(client.exchange)
     if verdict is KILL_CLIENT:
         return frame(bytes((KILL_REPLY, client.exchange.kill(int.from_bytes(body[1:], "big"), client))))
+    if verdict is TELL_CHANGES:
+        return client.exchange.watches.begin(client, body)
     return verdict
 
 
-def has(client: Client, kind: Kind, at: int) -> bool:
-    """Whether a client may use the thing that a request names, by the offset of its frame, and does so now."""
+def named(client: Client, kind: Kind, at: int) -> Thing | None:
+    """The thing that a request names, by the offset of its frame, if the client may use it. Then it does so now."""
     exchange, name_at = client.exchange, at + HEAD + NAME_END - NAME
     thing = exchange.things.by_name[kind].get(bytes(client.waiting[name_at : name_at + NAME]))
     if thing is None or not (thing.owner is client or exchange.rules.is_shared):
-        return False
+        return None
     thing.asked = exchange.upstream.sent
-    return True
+    return thing
 
 
 def may_open(client: Client, kind: Kind) -> bool:
