@@ -21,6 +21,9 @@ CALLS = "write,pwrite64,writev,fdatasync,fsync,rename,renameat,renameat2,openat,
 # The file that a mark is written to.
 NEW_MARK = "oracle.new"
 
+# The file of the root.
+ROOT = "t0000000000000000.tab"
+
 # A call on an open file, and a call on a file by its path.
 ON_FILE = re.compile(r"(write|pwrite64|writev|ftruncate|fdatasync|fsync)\((\d+)<([^>]*)>.* = \d+$")
 BY_PATH = re.compile(r'(rename|renameat|renameat2|unlink|unlinkat)\((?:AT_FDCWD[^,]*, )?"([^"]*)"(?:, (?:AT_FDCWD[^,]*, )?"([^"]*)")?.* = 0$')
@@ -117,11 +120,11 @@ class Order(FolderTest):
         self.assertGreater(disk.replies, 5)
 
     @unittest.skipUnless(shutil.which("strace"), "strace isn't here; Debian has it in the package strace")
-    def test_log_and_mark_are_written_anew_before_the_first_reply_after_a_kill(self) -> None:
+    def test_log_root_and_mark_are_written_anew_before_the_first_reply_after_a_kill(self) -> None:
         self.traced(self.commit_twice)
         trace = self.traced(self.commit)
         first = next(number for number, line in enumerate(trace) if "write(1<" in line)
-        self.assertLessEqual({"commit.log", "oracle.mark"}, judged(self.folder, trace[:first]).renewed)
+        self.assertLessEqual({"commit.log", "oracle.mark", ROOT}, judged(self.folder, trace[:first]).renewed)
         self.assertEqual(judged(self.folder, trace).wrong, [])
 
     @unittest.skipUnless(shutil.which("strace"), "strace isn't here; Debian has it in the package strace")

@@ -3,14 +3,14 @@
 //! in a folder, with or without a log.
 #![tactic(auto)]
 
-ghost use Rattle.std.specs.Prelude.{◌≡◌, ◌≤◌, IfErr, IfOk, IfSome};
+ghost use Rattle.std.specs.Prelude.{◌≡◌, ◌≤◌, IfErr, IfOk, IfSome, OnOk};
 
 use cell_key::Refusal;
 use clap::error::ErrorKind;
 use command_line::{Options, options};
 use commit_log::{DirLog, Log, LogFault, OpenLog, make_log, open_log};
 use durable::{LastingServer, ROOT_NAME, WholeFiles};
-use file_store::{DirFiles, FileFault, Files, MemFiles};
+use file_store::{DirFiles, FileFault, Files, MemFiles, read_whole};
 use oracle::{DirMark, MarkStore, MemMark};
 use server_loop::{Config, FlushLimits, Server, end_status, open_status};
 use std::alloc::{AllocError, Global};
@@ -113,6 +113,17 @@ fn lacks_root<F: Files, M: MarkStore>(
         Ok(mark) => Ok(mark > 0),
         Err(_) => Err(LogFault::Device),
     }
+}
+
+/// Puts the root again, if there is one: the root that is read may not last if a sync of it failed before a kill. The
+/// files are unchanged.
+fn renew_root<F: Files>(alloc: Global, files: &mut F) -> Result<(), FileFault>
+    ensures same { OnOk result (F.contents files.new ≡ F.contents files.old) }
+{
+    let Some(root) = read_whole(alloc, files, ROOT_NAME)? else {
+        return Ok(());
+    };
+    files.put(ROOT_NAME, &root)
 }
 
 /// Writes the oracle's mark anew, if there is one: the mark that is read may not last if a sync of it failed before a
@@ -272,6 +283,9 @@ fn serve_folder<R: AllocGlobal + Input + Print + Eprint + Folders<File = File> +
     let alloc = rt.alloc();
     match log_of(rt, folder, options.log, &mut files, &mut marks) {
         Ok(Some(log)) => {
+            if let Err(fault) = renew_root(alloc, &mut files) {
+                return Ok(log_status(&fault_of_files(fault)));
+            }
             if let Err(refusal) = renew_mark(&mut marks) {
                 return Ok(open_status(&refusal));
             }
