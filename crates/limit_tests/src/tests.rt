@@ -13,8 +13,8 @@ use testing::FILE_LIMIT;
 
 type MemServer = Server<MemFiles, MemMark>;
 
-/// A server over files in memory, each of `file_limit` bytes at most.
-fn new_server(alloc: Global, file_limit: u64) -> Result<MemServer, Refusal> {
+/// A server over files in memory, each of `file_limit` bytes at most. In its box it is dropped by one call.
+fn new_server(alloc: Global, file_limit: u64) -> Result<Box<MemServer>, Refusal> {
     if file_limit < 48 || file_limit > FILE_LIMIT {
         return Err(Refusal::FileTooLarge);
     }
@@ -24,7 +24,7 @@ fn new_server(alloc: Global, file_limit: u64) -> Result<MemServer, Refusal> {
     };
     let config = Config { flush, file_limit };
     match Server::new(alloc, MemFiles::new(alloc), MemMark::new(), config) {
-        Ok(server) => Ok(server),
+        Ok(server) => Ok(Box::new(alloc, server)?),
         Err((refusal, _, _)) => Err(refusal),
     }
 }

@@ -66,14 +66,14 @@ impl From<Refusal> for Trouble {
 /// A server, and the audit of its replies.
 #[derive(Drop)]
 struct Audited {
-    server: MemServer,
-    audit: Audit,
+    server: Box<MemServer>,
+    audit: Box<Audit>,
 }
 
 impl Audited {
     fn new(alloc: Global) -> Result<Audited, Refusal> {
         let server = new_server(alloc, FILE_LIMIT)?;
-        let audit = Audit::new(alloc)?;
+        let audit = Box::new(alloc, Audit::new(alloc)?)?;
         Ok(Audited { server, audit })
     }
 
@@ -208,26 +208,42 @@ impl Audited {
     }
 }
 
+impl Audited {
+    /// Begins the client's transfer, up to its first step; a client without steps stops at once.
+    fn begin(&mut self, client: Client) -> Result<(), Trouble> {
+        for (body, _) in &TRANSFER[..FIRST_WRITE] {
+            self.ask(body)?;
+        }
+        self.ask(client.write)?;
+        if client.steps == 0 {
+            self.ask(STOP)?;
+        }
+        Ok(())
+    }
+
+    /// Takes all turns in this order, and cleans both cells. Returns whether the client has committed.
+    fn finish(&mut self, client: Client, order: u32) -> Result<bool, Trouble> {
+        let committed = self.take_turns(client, order)?;
+        self.clean(CLEAN_BOB)?;
+        self.clean(CLEAN_JOE)?;
+        Ok(committed)
+    }
+
+    /// Whether a new session reads these values of Bob's and Joe's cells.
+    fn has_balances(&mut self, bob: &[u8], joe: &[u8]) -> Result<bool, Trouble> {
+        let (first, second) = self.balances()?;
+        Ok(value_of(&first) == bob && value_of(&second) == joe)
+    }
+}
+
 /// Whether the balances after an order are the new ones if the transfer has committed, and the old ones if it hasn't.
 fn is_right(alloc: Global, client: Client, order: u32) -> Result<bool, Trouble> {
     let mut run = Audited::new(alloc)?;
-    for (body, _) in &TRANSFER[..FIRST_WRITE] {
-        run.ask(body)?;
+    run.begin(client)?;
+    if run.finish(client, order)? {
+        return run.has_balances(b"3", client.joe);
     }
-    run.ask(client.write)?;
-    if client.steps == 0 {
-        run.ask(STOP)?;
-    }
-    let committed = run.take_turns(client, order)?;
-    run.clean(CLEAN_BOB)?;
-    run.clean(CLEAN_JOE)?;
-    let (bob, joe) = run.balances()?;
-    let wanted: (&[u8], &[u8]) = if committed {
-        (b"3", client.joe)
-    } else {
-        (b"10", b"2")
-    };
-    Ok(value_of(&bob) == wanted.0 && value_of(&joe) == wanted.1)
+    run.has_balances(b"10", b"2")
 }
 
 /// The number of orders with this client, if all of them are right.

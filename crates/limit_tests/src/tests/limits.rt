@@ -374,7 +374,8 @@ fn files_that_are_too_large(rt: HostRuntime) -> Result<(), Fail> {
             (Request::Major { tablet: 1 }, number),
             (Request::Split { row: b"r" }, number),
         ];
-        assert!(rt; are_answered(&mut new_server(rt.alloc(), 153)?, &table));
+        let mut server = new_server(rt.alloc(), 153)?;
+        assert!(rt; are_answered(&mut server, &table));
     }
     Ok(())
 }

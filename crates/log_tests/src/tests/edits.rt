@@ -55,53 +55,83 @@ fn copies_of(alloc: Global, records: &[&[u8]]) -> Result<Vec<Vec<u8>>, AllocErro
     Ok(copies)
 }
 
+/// Records of a root, a put, another root and an erasure.
+fn four_records(alloc: Global) -> Result<Vec<Vec<u8>>, AllocError> {
+    let mut records = copies_of(alloc, &RECORDS[..1])?;
+    push_record(&mut records, &EDITS[..32])?;
+    records.push(Vec::from_slice(alloc, RECORDS[2])?)?;
+    push_record(&mut records, &EDITS[32..])?;
+    Ok(records)
+}
+
+/// Whether edits are of these keys, in this order.
+fn have_keys(edits: &[Edit], wanted: &[Edit]) -> bool {
+    for (found, wanted) in edits.iter().zip(wanted.iter()) {
+        if edited_key(found) != edited_key(wanted) {
+            return false;
+        }
+    }
+    edits.len() == wanted.len()
+}
+
 #[test]
 fn edits_of_records(rt: HostRuntime) -> Result<(), Fail> {
-    let mut records = copies_of(rt.alloc(), &RECORDS[..1])?;
-    push_record(&mut records, &EDITS[..32])?;
-    records.extend(copies_of(rt.alloc(), &RECORDS[2..])?)?;
-    push_record(&mut records, &EDITS[32..])?;
     let (_, written) = two_edits(rt.alloc())?;
-    let read = edits_in(rt.alloc(), &records)?;
-    assert!(rt; read.len() == written.len());
-    for (found, wanted) in read.iter().zip(written.iter()) {
-        assert!(rt; edited_key(found) == edited_key(wanted));
-    }
+    let read = edits_in(rt.alloc(), &four_records(rt.alloc())?)?;
+    assert!(rt; have_keys(&read, &written));
     Ok(())
+}
+
+/// Whether a record of these bytes of edits can be read.
+fn is_read(alloc: Global, edits: &[u8]) -> Result<bool, AllocError> {
+    let mut records = Vec::new(alloc);
+    push_record(&mut records, edits)?;
+    Ok(edits_in(alloc, &records).is_ok())
 }
 
 #[test]
 fn edits_of_torn_records(rt: HostRuntime) -> Result<(), Fail> {
     for len in 0..EDITS.len() {
-        let mut records = Vec::new(rt.alloc());
-        push_record(&mut records, &EDITS[..len])?;
         let is_whole = len == 0 || len == 32;
-        assert!(rt;
-            edits_in(rt.alloc(), &records).is_ok() == is_whole,
-            "at {len}"
-        );
+        assert!(rt; is_read(rt.alloc(), &EDITS[..len])? == is_whole, "at {len}");
     }
     let records = copies_of(rt.alloc(), &[b"\x01\0\0\0\0\0\0\0\x09\x01"])?;
     assert!(rt; matches!(edits_in(rt.alloc(), &records), Err(Refusal::Damaged)));
     Ok(())
 }
 
+/// Whether these records name the root of a stamp and a sum.
+fn is_named(alloc: Global, records: &[&[u8]], top: u64, sum: u32) -> Result<bool, AllocError> {
+    Ok(names_root(&copies_of(alloc, records)?, top, sum))
+}
+
 #[test]
 fn roots_of_records(rt: HostRuntime) -> Result<(), Fail> {
-    let all = copies_of(rt.alloc(), &RECORDS)?;
-    let edits = copies_of(rt.alloc(), &RECORDS[1..2])?;
-    let root = copies_of(rt.alloc(), &RECORDS[2..])?;
     assert!(rt; root_sum_bytes(0x0102_0304) == [1, 2, 3, 4]);
-    for (records, top, sum, is_named) in [
-        (all.as_slice(), 8, 5, true),
-        (edits.as_slice(), 8, 5, false),
-        (root.as_slice(), 9, 0x0102_0304, true),
-        (root.as_slice(), 9, 0x0102_0305, false),
-        (root.as_slice(), 8, 0x0102_0304, false),
+    for (records, top, sum, wanted) in [
+        (&RECORDS[..], 8, 5, true),
+        (&RECORDS[1..2], 8, 5, false),
+        (&RECORDS[2..], 9, 0x0102_0304, true),
+        (&RECORDS[2..], 9, 0x0102_0305, false),
+        (&RECORDS[2..], 8, 0x0102_0304, false),
     ] {
-        assert!(rt; names_root(records, top, sum) == is_named, "{top} {sum}");
+        assert!(rt;
+            is_named(rt.alloc(), records, top, sum)? == wanted,
+            "{top} {sum}"
+        );
     }
-    assert!(rt; greatest_stamp(0, &all) == 9 && greatest_stamp(10, &all) == 10);
-    assert!(rt; greatest_stamp(0, &edits) == 7);
+    Ok(())
+}
+
+/// The greatest of a stamp and those of these records.
+fn greatest(alloc: Global, stamp: u64, records: &[&[u8]]) -> Result<u64, AllocError> {
+    Ok(greatest_stamp(stamp, &copies_of(alloc, records)?))
+}
+
+#[test]
+fn stamps_of_records(rt: HostRuntime) -> Result<(), Fail> {
+    assert!(rt; greatest(rt.alloc(), 0, &RECORDS)? == 9);
+    assert!(rt; greatest(rt.alloc(), 10, &RECORDS)? == 10);
+    assert!(rt; greatest(rt.alloc(), 0, &RECORDS[1..2])? == 7);
     Ok(())
 }

@@ -155,17 +155,33 @@ fn a_file_that_fails(rt: HostRuntime) -> Result<(), Fail> {
     Ok(())
 }
 
-#[test]
-fn a_log_that_is_renewed(rt: HostRuntime) -> Result<(), Fail> {
-    let mut log = opened(rt.alloc(), &LOG[..ENDS[2]], 2, 0)?;
+/// A log of two records over a file that fails after two calls: it is renewed, and a record is appended.
+fn renewed(alloc: Global) -> Result<FileLog<FakeFile>, LogFault> {
+    let mut log = opened(alloc, &LOG[..ENDS[2]], 2, 0)?;
     log.renew(RecordKind::Root, 9, b"\x01\x02\x03\x04")?;
     log.append(RecordKind::Edits, 9, b"b")?;
-    assert!(rt; log.renew(RecordKind::AnyRoot, 0, b"") == Err(LogFault::Device));
-    assert!(rt; log.append(RecordKind::Edits, 9, b"c") == Err(LogFault::Device));
-    assert!(rt; log.faults() == 2 && log.records()?.len() == 2);
+    Ok(log)
+}
+
+/// Whether a log answers the next calls with this fault.
+fn are_faults<L: Log>(log: &mut L, fault: LogFault) -> bool {
+    let renewed = log.renew(RecordKind::Edits, 0, b"a");
+    let appended = log.append(RecordKind::Edits, 9, b"c");
+    renewed == Err(fault) && appended == Err(fault)
+}
+
+/// How many records a log has.
+fn count_of<L: Log>(log: &mut L) -> Result<usize, LogFault> {
+    Ok(log.records()?.len())
+}
+
+#[test]
+fn a_log_that_is_renewed(rt: HostRuntime) -> Result<(), Fail> {
+    let mut log = renewed(rt.alloc())?;
+    assert!(rt; are_faults(&mut log, LogFault::Device));
+    assert!(rt; log.faults() == 2 && count_of(&mut log)? == 2);
     let bytes = log.into_file().bytes;
-    assert!(rt; bytes.get(..ENDS[0]) == LOG.get(..ENDS[0]));
-    assert!(rt; bytes.get(ENDS[0]..45) == LOG.get(ENDS[2]..));
+    assert!(rt; bytes.get(..16) == LOG.get(..16) && bytes.get(16..45) == LOG.get(67..));
     Ok(())
 }
 
@@ -215,9 +231,7 @@ fn records_that_contain_a_frame(rt: HostRuntime) -> Result<(), Fail> {
 fn a_log_without_numbers(rt: HostRuntime) -> Result<(), Fail> {
     let last = new_log(rt.alloc(), STORE, u64::MAX / 2)?;
     let mut log = opened(rt.alloc(), &last, u64::MAX, 0)?;
-    assert!(rt; log.append(RecordKind::Edits, 0, b"a") == Err(LogFault::Refused));
-    assert!(rt; log.renew(RecordKind::Edits, 0, b"a") == Err(LogFault::Refused));
-    assert!(rt; log.records()?.len() == 1);
+    assert!(rt; are_faults(&mut log, LogFault::Refused) && count_of(&mut log)? == 1);
     Ok(())
 }
 

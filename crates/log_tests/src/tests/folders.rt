@@ -2,6 +2,7 @@
 
 use super::{LOG, TWO};
 use commit_log::{Log, LogFault, RecordKind, make_log, open_log};
+use std::alloc::{AllocError, Global};
 use std::test::Fail;
 use std::{fs, io, process};
 use testing::folders::new_folder;
@@ -56,56 +57,73 @@ const FOUND: [(&[u8], &[u8], (usize, usize)); 8] = [
     (&TWO, &SIGN, (0, 0)),
 ];
 
-#[test]
-fn logs_that_a_folder_has(rt: HostRuntime) -> Result<(), Fail> {
-    let folder = new_folder(&rt, process::id(rt.process()), "logs")?;
-    for (at, (log, sign, wanted)) in FOUND.iter().enumerate() {
-        put_file(&rt, &folder, FILE, log)?;
-        put_file(&rt, &folder, "commit.id", sign)?;
-        assert!(rt; opened(&rt, &folder)? == *wanted, "{at}");
+/// Whether these logs are found in a folder as they are.
+fn are_found(rt: &HostRuntime, folder: &str) -> Result<bool, Fail> {
+    for (log, sign, wanted) in FOUND {
+        put_file(rt, folder, FILE, log)?;
+        put_file(rt, folder, "commit.id", sign)?;
+        if opened(rt, folder)? != wanted {
+            return Ok(false);
+        }
     }
-    fs::remove_dir_all(&rt, folder.as_str())?;
-    Ok(())
+    Ok(true)
 }
 
-/// Makes a log in a folder, with a root's record and one of edits, and room behind them.
-fn fill(rt: &HostRuntime, folder: &str) -> Result<(), Fail> {
+/// Writes a root's record and one of edits into a new log, and room behind them.
+fn fill_log<L: Log>(log: &mut L) -> Result<(), LogFault> {
+    log.append(RecordKind::Edits, 7, b"a")?;
+    log.renew(RecordKind::Root, 9, b"\x01\x02\x03\x04")?;
+    log.reserve(100)?;
+    log.append(RecordKind::Edits, 9, b"b\0\0")
+}
+
+/// Makes such a log in a folder.
+fn fill(rt: &HostRuntime, folder: &str) -> Result<(), LogFault> {
     make_log(rt, folder)?;
-    let Some(mut found) = open_log(rt, folder)? else {
-        return Err(Fail::from(LogFault::Damaged));
-    };
-    found.log.append(RecordKind::Edits, 7, b"a")?;
-    found.log.renew(RecordKind::Root, 9, b"\x01\x02\x03\x04")?;
-    found.log.reserve(100)?;
-    found.log.append(RecordKind::Edits, 9, b"b\0\0")?;
-    Ok(())
+    match open_log(rt, folder)? {
+        Some(mut found) => fill_log(&mut found.log),
+        None => Err(LogFault::Damaged),
+    }
 }
 
-#[test]
-fn a_log_in_a_folder(rt: HostRuntime) -> Result<(), Fail> {
-    let folder = new_folder(&rt, process::id(rt.process()), "log")?;
-    assert!(rt; open_log(&rt, folder.as_str())?.is_none());
-    fill(&rt, &folder)?;
+/// Whether a log that is made in a folder has its records, and no bytes were cut.
+fn is_made(rt: &HostRuntime, folder: &str) -> Result<bool, Fail> {
+    fill(rt, folder)?;
     // The root's record ends at 45, the edits' one at 73, and a piece of room was written behind the first
-    assert!(rt; bytes_of(&rt, &folder, FILE)?.len() == 45 + 131_072);
-    assert!(rt; opened(&rt, &folder)? == (2, 0));
-    assert!(rt; bytes_of(&rt, &folder, CUT).is_err());
-    put_file(&rt, &folder, FILE, b"")?;
-    assert!(rt; opened(&rt, &folder)? == (0, 0));
-    fs::remove_dir_all(&rt, folder.as_str())?;
-    Ok(())
+    let len = bytes_of(rt, folder, FILE)?.len();
+    let found = opened(rt, folder)?;
+    Ok(len == 45 + 131_072 && found == (2, 0) && bytes_of(rt, folder, CUT).is_err())
+}
+
+/// The first 70 bytes of a log, and zeros up to 200.
+fn torn(alloc: Global, log: &[u8]) -> Result<Vec<u8>, AllocError> {
+    let mut torn = Vec::from_slice(alloc, log.get(..70).unwrap_or_default())?;
+    torn.resize(200, 0)?;
+    Ok(torn)
+}
+
+/// Whether a torn log has its first record, and its other bytes are kept apart.
+fn is_cut(rt: &HostRuntime, folder: &str) -> Result<bool, Fail> {
+    let made = bytes_of(rt, folder, FILE)?;
+    put_file(rt, folder, FILE, &torn(rt.alloc(), &made)?)?;
+    let found = opened(rt, folder)?;
+    let cut = bytes_of(rt, folder, CUT)?;
+    Ok(found == (1, 25) && made.get(45..70) == Some(cut.as_slice()))
+}
+
+/// Whether a log without its file is damaged.
+fn is_lost(rt: &HostRuntime, folder: &str) -> Result<bool, Fail> {
+    put_file(rt, folder, FILE, b"")?;
+    Ok(opened(rt, folder)? == (0, 0))
 }
 
 #[test]
-fn a_torn_log_in_a_folder(rt: HostRuntime) -> Result<(), Fail> {
-    let folder = new_folder(&rt, process::id(rt.process()), "torn")?;
-    fill(&rt, &folder)?;
-    let made = bytes_of(&rt, &folder, FILE)?;
-    let mut torn = Vec::from_slice(rt.alloc(), made.get(..70).unwrap_or_default())?;
-    torn.resize(200, 0)?;
-    put_file(&rt, &folder, FILE, &torn)?;
-    assert!(rt; opened(&rt, &folder)? == (1, 25));
-    assert!(rt; made.get(45..70) == Some(bytes_of(&rt, &folder, CUT)?.as_slice()));
-    fs::remove_dir_all(&rt, folder.as_str())?;
+fn logs_in_a_folder(rt: HostRuntime) -> Result<(), Fail> {
+    let folder = new_folder(&rt, process::id(rt.process()), "log")?;
+    let path = folder.as_str();
+    assert!(rt; open_log(&rt, path)?.is_none());
+    assert!(rt; is_made(&rt, path)? && is_cut(&rt, path)?);
+    assert!(rt; is_lost(&rt, path)? && are_found(&rt, path)?);
+    fs::remove_dir_all(&rt, path)?;
     Ok(())
 }

@@ -1,12 +1,10 @@
 //! The bytes of logs: checksums, both formats, torn and damaged logs.
 
 use super::files::opened;
-use super::{ENDS, FIRST, LOG, STORE, TWO, are_first};
+use super::{FIRST, LOG, STORE, TWO, are_first};
 use commit_log::{Log, LogFault, crc32, frame_of, read_log, upgrade_log};
+use std::alloc::Global;
 use std::test::Fail;
-
-/// The offsets where the header, the first frame and the second of `TWO` end.
-const TWO_ENDS: [usize; 3] = [8, 17, 27];
 
 /// `TWO` in format 2.
 const UPGRADED: [u8; 94] = *b"TABLOG02\x01\x02\x03\x04\x05\x06\x07\x08\
@@ -22,25 +20,42 @@ fn the_check_value_of_the_checksum(rt: HostRuntime) -> Result<(), Fail> {
     Ok(())
 }
 
+/// The header of format 1, and the frames of `a` and `ab`.
+fn framed(alloc: Global) -> Result<Vec<u8>, LogFault> {
+    let mut bytes = Vec::from_slice(alloc, b"TABLOG01")?;
+    bytes.extend_from_slice(&frame_of(alloc, b"a")?)?;
+    bytes.extend_from_slice(&frame_of(alloc, b"ab")?)?;
+    Ok(bytes)
+}
+
 #[test]
 fn a_log_of_format_1(rt: HostRuntime) -> Result<(), Fail> {
-    let mut bytes = Vec::from_slice(rt.alloc(), b"TABLOG01")?;
-    bytes.extend_from_slice(&frame_of(rt.alloc(), b"a")?)?;
-    bytes.extend_from_slice(&frame_of(rt.alloc(), b"ab")?)?;
-    assert!(rt; bytes.as_slice() == TWO.as_slice());
+    assert!(rt; framed(rt.alloc())?.as_slice() == TWO.as_slice());
     Ok(())
+}
+
+/// Where the whole frames of a log of format 1 end.
+fn end_of(alloc: Global, bytes: &[u8]) -> Result<usize, LogFault> {
+    Ok(read_log(alloc, bytes)?.end)
+}
+
+/// The same of the first `len` bytes of `TWO`, by the offsets where its header and its frames end.
+fn torn_end(len: usize) -> Result<usize, LogFault> {
+    match len {
+        0..=7 => Err(LogFault::Damaged),
+        8..=16 => Ok(8),
+        17..=26 => Ok(17),
+        _ => Ok(27),
+    }
 }
 
 #[test]
 fn torn_logs_of_format_1(rt: HostRuntime) -> Result<(), Fail> {
     for len in 0..=TWO.len() {
-        let read = read_log(rt.alloc(), &TWO[..len]);
-        if len < TWO_ENDS[0] {
-            assert!(rt; matches!(&read, Err(LogFault::Damaged)), "at {len}");
-            continue;
-        }
-        let count = TWO_ENDS[1..].iter().filter(|end| **end <= len).count();
-        assert!(rt; TWO_ENDS.get(count) == Some(&read?.end), "at {len}");
+        assert!(rt;
+            end_of(rt.alloc(), &TWO[..len]) == torn_end(len),
+            "at {len}"
+        );
     }
     Ok(())
 }
@@ -54,38 +69,62 @@ fn an_upgraded_log(rt: HostRuntime) -> Result<(), Fail> {
     Ok(())
 }
 
+/// How many records the log of these bytes has, if they are the first ones of `LOG`, and the length of its file.
+fn sizes(alloc: Global, bytes: &[u8]) -> Result<(usize, usize), LogFault> {
+    let mut log = opened(alloc, bytes, u64::MAX, 0)?;
+    let records = log.records()?;
+    if !are_first(&records, records.len()) {
+        return Err(LogFault::Refused);
+    }
+    Ok((records.len(), log.into_file().bytes.len()))
+}
+
+/// The same of the first `len` bytes of `LOG`, by the offsets where its frames end.
+fn torn_sizes(len: usize) -> Result<(usize, usize), LogFault> {
+    match len {
+        0..=40 => Err(LogFault::Damaged),
+        41..=66 => Ok((1, 41)),
+        67..=95 => Ok((2, 67)),
+        _ => Ok((3, 96)),
+    }
+}
+
 #[test]
 fn torn_logs_of_every_length(rt: HostRuntime) -> Result<(), Fail> {
     for len in 0..=LOG.len() {
-        let read = opened(rt.alloc(), &LOG[..len], u64::MAX, 0);
-        if len < ENDS[1] {
-            assert!(rt; matches!(&read, Err(LogFault::Damaged)), "at {len}");
-            continue;
-        }
-        let count = ENDS[1..].iter().filter(|end| **end <= len).count();
-        let mut log = read?;
-        assert!(rt; are_first(&log.records()?, count), "at {len}");
         assert!(rt;
-            ENDS.get(count) == Some(&log.into_file().bytes.len()),
+            sizes(rt.alloc(), &LOG[..len]) == torn_sizes(len),
             "at {len}"
         );
     }
     Ok(())
 }
 
+/// How many records `LOG` has once the byte at an offset has changed.
+fn changed_count(alloc: Global, at: usize) -> Result<usize, LogFault> {
+    let mut bytes = LOG;
+    if let Some(byte) = bytes.get_mut(at) {
+        *byte ^= 0x20;
+    }
+    Ok(sizes(alloc, &bytes)?.0)
+}
+
+/// The store's number is no part of a record, and the last record is taken for torn.
+fn damaged_count(at: usize) -> Result<usize, LogFault> {
+    match at {
+        8..=15 => Ok(3),
+        0..=66 => Err(LogFault::Damaged),
+        _ => Ok(2),
+    }
+}
+
 #[test]
 fn damaged_logs(rt: HostRuntime) -> Result<(), Fail> {
     for at in 0..LOG.len() {
-        let mut bytes = Vec::from_slice(rt.alloc(), LOG.as_slice())?;
-        bytes[at] ^= 0x20;
-        let read = opened(rt.alloc(), &bytes, u64::MAX, 0);
-        let is_store = ENDS[0] - 8 <= at && at < ENDS[0];
-        if !is_store && at < ENDS[2] {
-            assert!(rt; matches!(&read, Err(LogFault::Damaged)), "at {at}");
-            continue;
-        }
-        let count = if is_store { 3 } else { 2 };
-        assert!(rt; are_first(&read?.records()?, count), "at {at}");
+        assert!(rt;
+            changed_count(rt.alloc(), at) == damaged_count(at),
+            "at {at}"
+        );
     }
     Ok(())
 }
