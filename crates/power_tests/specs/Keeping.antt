@@ -4,7 +4,8 @@ use Rattle.commit_log.specs.Held.{IsKept}
 use Rattle.durable.specs.Devices.{LastsOn}
 use Rattle.si_model.specs.Machine.{State}
 use Rattle.power_tests.specs.Meant.{Meant, all_last, with_root_read}
-use Rattle.power_tests.specs.Views.{FilesView, LogView, MarkView, meant_files, meant_log, meant_mark}
+use Rattle.power_tests.specs.Views.{FilesView, LogView, MarkView}
+use Rattle.power_tests.specs.Views.{meant_files, meant_log, meant_mark}
 
 -- Files, a mark and a log's file keep a state, in the contents that are meant.
 abbrev pub KeepsBy : Meant → FilesView → MarkView → LogView → State → Type 0

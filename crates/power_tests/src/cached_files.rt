@@ -44,7 +44,8 @@ impl<V: Choice> Model for CachedFiles<V> {
       faults = files.faults;
     } };
 
-    ghost invariant = { λ files. AgreeBut (contains nat_cmp files.doubts) files.read files.lasting };
+    ghost invariant = { λ files.
+        AgreeBut (contains nat_cmp files.doubts) files.read files.lasting };
 }
 
 /// Puts a file if `goes`; answers whether it was put.

@@ -104,8 +104,8 @@ pub fn open<V: Choice>(
 }
 
 impl<V: Choice> CachedDevices<V> {
-    /// An opening after a kill: root, mark and log are written again as they are read. Then each choice of contents keeps
-    /// what was read of these three kept. If that fails, each keeps what some choice kept.
+    /// An opening after a kill: root, mark and log are written again as they are read. Then each choice of contents
+    /// keeps what was kept of these three as they are read. If that fails, each keeps what some choice kept.
     ///
     /// # Errors
     ///

@@ -1,4 +1,4 @@
-//! Servers of which a device's call fails, and that are killed or lose power then: each commit that was answered is there.
+//! Servers of which a device's call fails, and that are then killed or lose power: each answered commit is there.
 
 use crate::cached_files::CachedFiles;
 use crate::cached_log::CachedLogFile;
