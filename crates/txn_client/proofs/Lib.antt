@@ -1,5 +1,6 @@
 pub mod Advance
 pub mod CellReads
+pub mod CommitShown
 pub mod Exact
 pub mod GatheredItems
 pub mod OrderedCells

@@ -2,22 +2,23 @@
 
 ghost use Rattle.std.specs.Prelude.{◌≡◌, ◌≢◌, ◌+◌, ◌<◌, ◌≤◌, ◌^◌, length, None, IfErr, IfOk, IsErrOf, OnErr};
 ghost use Rattle.rows.specs.Calls.{AreReadableFrom, OnlyReads};
-ghost use Rattle.si_model.specs.Answers.{cells_named, read_answer, result_answer};
+ghost use Rattle.si_model.specs.Answers.{cells_named, commit_answer, read_answer, result_answer, writes_named};
 ghost use Rattle.si_model.specs.Machine.{IsReached, State};
 ghost use Rattle.si_model.specs.ShowsCells.{ShowsCells};
-ghost use Rattle.si_model.specs.Transactions.{IsReadCount, Read};
+ghost use Rattle.si_model.specs.Transactions.{Commit, IsReadCount, Read};
 ghost use Rattle.txn_client.specs.CellReads.{AreRead, said_in};
 ghost use Rattle.txn_client.specs.Refusals.{HasOneReason, StepLeaves};
 ghost use Rattle.txn_client.specs.Shows.{IsCrowded, IsInactive, SameClients, ShowsClients};
-ghost use Rattle.txn_client.specs.Transactions.{GoesAs, HasSession, IsReadRequestRefusal, IsSessionRefusal};
+ghost use Rattle.txn_client.specs.Transactions.{GoesAs, HasSession, IsCommitRefusal, IsReadRequestRefusal, IsSessionRefusal};
 
-use crate::cell_reads;
 use crate::session::Phase;
 use crate::sessions::{Clients, MOST_SESSIONS};
+use crate::writes::Writes;
+use crate::{cell_reads, puts, takings};
 use cell_key::{MOST_STAMP, Moment, Refusal, Stamp};
 use oracle::{MarkStore, Oracle};
 use rows::Rows;
-use si_model::{CellName, ReadReply};
+use si_model::{CellName, CellWrite, CommitReply, ReadReply};
 
 /// The most cells of a read.
 const MOST_READ: usize = 256;
@@ -116,5 +117,42 @@ impl Clients {
         // The session is active, so this isn't refused.
         let _ = self.stop(session);
         Ok(reply)
+    }
+
+    /// Commits these writes in a new session, with nothing between.
+    fn commit_new<R: Rows, M: MarkStore>(
+        &mut self,
+        rows: &mut R,
+        oracle: &mut Oracle<M>,
+        asked: &[CellWrite<'_>],
+    ) -> Result<CommitReply, Refusal>
+        ensures step { R.seen.holds rows.old → GoesAs
+            (R.seen.cells rows.old) self.old oracle.old.last
+            (Commit 0 (writes_named asked.now)) (result_answer commit_answer result)
+            (R.seen.cells rows.new) self.new oracle.new.last }
+        ensures same { OnErr result (SameClients self.old self.new) }
+        ensures reads { OnErr result (OnlyReads R.seen rows.old rows.new) }
+        ensures stays { OnErr result (oracle.new.last ≡ oracle.old.last) }
+        ensures refusal { IfErr result IsCommitRefusal }
+    {
+        if self.sessions.len() >= MOST_SESSIONS {
+            return Err(Refusal::TooManySessions);
+        }
+        let start = Moment::after(oracle.last())?;
+        let writes = takings::take_all(self.alloc, Writes::new(self.alloc), asked)?;
+        if writes.len() == 0 {
+            return Err(Refusal::EmptyCommit);
+        }
+        if let Some(place) = takings::first_taken(rows, writes.as_slice(), start.stamp())? {
+            self.top = oracle.draw()?;
+            return Ok(CommitReply::Conflict(place));
+        }
+        let commit = Moment::after(start.stamp())?;
+        let changes = puts::putting_all(self.alloc, writes.as_slice(), start, commit)?;
+        oracle.ready(2)?;
+        rows.apply_all(changes)?;
+        oracle.serve(2);
+        self.top = commit.stamp();
+        Ok(CommitReply::Committed(start.stamp(), commit.stamp()))
     }
 }
