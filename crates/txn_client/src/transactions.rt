@@ -1,7 +1,9 @@
 //! Requests that stand for several of a session, in one call each.
 
-ghost use Rattle.std.specs.Prelude.{◌≡◌, ◌≢◌, ◌+◌, ◌<◌, ◌≤◌, ◌^◌, length, None, IfErr, IfOk, IsErrOf, OnErr};
-ghost use Rattle.rows.specs.Calls.{AreReadableFrom, OnlyReads};
+ghost use Rattle.std.specs.Prelude.{◌≡◌, ◌≢◌, ◌+◌, ◌<◌, ◌≤◌, ◌^◌, ◌⊎◌, length, None, IfErr, IfOk, IsErrOf, OnErr};
+ghost use Rattle.oracle.specs.Marks.{MayHold};
+ghost use Rattle.oracle.specs.Ranges.{next_range_end};
+ghost use Rattle.rows.specs.Calls.{AreReadableFrom, KeepsBelow, OnlyReads};
 ghost use Rattle.si_model.specs.Answers.{cells_named, commit_answer, read_answer, result_answer, writes_named};
 ghost use Rattle.si_model.specs.Machine.{IsReached, State};
 ghost use Rattle.si_model.specs.ShowsCells.{ShowsCells};
@@ -119,8 +121,18 @@ impl Clients {
         Ok(reply)
     }
 
-    /// Commits these writes in a new session, with nothing between.
-    fn commit_new<R: Rows, M: MarkStore>(
+    /// Commits writes in a new session, with nothing between: data and record of each write are put at once, in any
+    /// rows, and no lock. Returns the start of the session and its commit stamp, or the place of the first cell that is
+    /// locked or was written at the start or later; nothing is put or held then, and the session has ended too.
+    ///
+    /// # Errors
+    ///
+    /// In this order: `TooManySessions` if 1,024 are active, `Exhausted` after the greatest stamp; for each write in
+    /// turn `BadRow`, `BadColumn`, `BadValue` above 65,536 bytes, `TooManyWrites` at a 257th cell, `NoMemory`;
+    /// `EmptyCommit` without a write; `Device`, `NoMemory`, or `Damaged` if bytes that were read are malformed;
+    /// `Exhausted`, `Device` if the oracle's mark could not be stored; `MemtableFull` if the rows have no room for the
+    /// edits, `NoMemory`. Nothing is committed or held then, and no stamp is drawn.
+    pub fn commit_new<R: Rows, M: MarkStore>(
         &mut self,
         rows: &mut R,
         oracle: &mut Oracle<M>,
@@ -133,7 +145,17 @@ impl Clients {
         ensures same { OnErr result (SameClients self.old self.new) }
         ensures reads { OnErr result (OnlyReads R.seen rows.old rows.new) }
         ensures stays { OnErr result (oracle.new.last ≡ oracle.old.last) }
+        // A refusal leaves the range and the mark unchanged, or the next range has begun.
+        ensures range { OnErr result ((oracle.new.range_end ≡ oracle.old.range_end)
+            ⊎ (oracle.new.range_end ≡ next_range_end oracle.old.range_end)) }
+        ensures mark { OnErr result (MayHold (next_range_end oracle.old.range_end)
+            (M.mark oracle.old.marks) (M.mark oracle.new.marks)) }
+        ensures below { KeepsBelow R.seen rows.old rows.new }
         ensures refusal { IfErr result IsCommitRefusal }
+        ensures crowded { (st : State) → ShowsClients self.old st → IsCrowded st
+            → IsErrOf result Refusal.TooManySessions }
+        ensures reason { HasOneReason (R.faults rows.old) (R.faults rows.new)
+            (M.faults oracle.old.marks) (M.faults oracle.new.marks) result }
     {
         if self.sessions.len() >= MOST_SESSIONS {
             return Err(Refusal::TooManySessions);
