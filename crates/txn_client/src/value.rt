@@ -50,13 +50,4 @@ impl Value {
         let bytes = self.bytes.clone()?;
         Ok(bytes)
     }
-
-    /// A copy.
-    pub(crate) fn copy(&self) -> Result<Value, Refusal>
-        ensures copy { IfOk result (λ copy. copy ≡ self.now) }
-        ensures refusal { IfErr result (λ refusal. refusal ≡ Refusal.NoMemory) }
-    {
-        let bytes = self.bytes.clone()?;
-        Ok(Value { bytes })
-    }
 }

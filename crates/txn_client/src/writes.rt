@@ -40,37 +40,6 @@ pub(crate) struct Writes {
     order: Vec<u16>,
 }
 
-impl Write {
-    /// A copy. Answers `NoMemory` if allocation fails.
-    fn copy(&self) -> Result<Write, Refusal>
-        ensures copy { IfOk result (λ copy. copy ≡ self.now) }
-        ensures refusal { IfErr result (λ refusal. refusal ≡ Refusal.NoMemory) }
-    {
-        let cell = Cell {
-            row: self.cell.row.clone()?,
-            family: self.cell.family.clone()?,
-        };
-        let value = match &self.value {
-            Some(value) => Some(value.copy()?),
-            None => None,
-        };
-        Ok(Write { cell, value })
-    }
-}
-
-/// A copy of each of the writes. Answers `NoMemory` if allocation fails.
-fn copy_all(alloc: Global, writes: &[Write]) -> Result<Vec<Write>, Refusal>
-    ensures copies { IfOk result (λ copies. copies.items ≡ writes.now) }
-    ensures refusal { IfErr result (λ refusal. refusal ≡ Refusal.NoMemory) }
-{
-    let mut copies = Vec::with_capacity(alloc, writes.len())?;
-    for write in writes.iter() {
-        let copy = write.copy()?;
-        copies.push(copy)?;
-    }
-    Ok(copies)
-}
-
 impl Model for Writes {
     ghost use Rattle.std.specs.Prelude.{List, length, ◌≤◌};
     ghost use Rattle.txn_client.specs.CellOrder.{IsOrder};
@@ -145,16 +114,6 @@ impl Writes {
             entries: Vec::new(alloc),
             order: Vec::new(alloc),
         }
-    }
-
-    /// A copy. Answers `NoMemory` if allocation fails.
-    pub(crate) fn copy(&self, alloc: Global) -> Result<Writes, Refusal>
-        ensures copy { IfOk result (λ copy. copy ≡ self.now) }
-        ensures refusal { IfErr result (λ refusal. refusal ≡ Refusal.NoMemory) }
-    {
-        let entries = copy_all(alloc, &self.entries)?;
-        let order = self.order.clone()?;
-        Ok(Writes { entries, order })
     }
 
     /// The writes in their order.
