@@ -1,7 +1,7 @@
 -- Requests for several cells as the machine's, and their answers.
 use Rattle.std.specs.Prelude.{ℕ, List, Result, Ok, Err, map, option_map}
 use Rattle.cell_key.specs.declared.refusals.Refusal.{Refusal}
-use Rattle.si_model.specs.Machine.{Change, Refused}
+use Rattle.si_model.specs.Machine.{Change, Refused, Writes}
 use Rattle.si_model.specs.Reads.{cell_of}
 use Rattle.si_model.specs.Replies.{found_item}
 use Rattle.si_model.specs.Transactions.{Answer, Said, CommitDone, CommitConflict, ReadDone}
@@ -20,6 +20,9 @@ cells_named names = map cell_named names
 
 abbrev pub write_named : CellWrite → Cell × Change
 write_named write = (cell_named write.cell, option_map (λ value. value.now) write.value)
+
+abbrev pub writes_named : List CellWrite → Writes
+writes_named writes = map write_named writes
 
 -- Read
 abbrev pub read_answer : ReadReply → Answer

@@ -31,7 +31,7 @@ module _ (cells : Cells) (st : State) (reached : IsReached st) (shown : ShowsCel
   made : (a : Commit) → a ∈ st.commits → a.start < a.stamp
   made a i = ((reached_sound reached).fair a i).later
 
-  taken_clash : (x : Cell) (t : ℕ) (ws : Writes) → Wrote st t ws → IsTaken cells x t → Clashes st x t
+  pub taken_clash : (x : Cell) (t : ℕ) (ws : Writes) → Wrote st t ws → IsTaken cells x t → Clashes st x t
   taken_clash x t ws w (inl (u, lock)) = inl (u, shown.locks x u lock.0 lock.1)
   taken_clash x t ws w (inr (c, le, r)) =
       let k = shown.records x c r.0 r.1 in

@@ -28,7 +28,7 @@ lengths_more : (said : List (Option Item)) (one : Option Item) → told_lengths 
 lengths_more [] one = omega arith
 lengths_more (r ∷ rs) one = let more = lengths_more rs one in omega (arith, more)
 
-next_taken : {X : Type 0} (xs : List X) (i : ℕ) (d : X) → i < length xs → (take (i + 1) xs ≡ take i xs ++ get_or xs i d ∷ []) × (xs ≡ take i xs ++ get_or xs i d ∷ drop (i + 1) xs)
+pub next_taken : {X : Type 0} (xs : List X) (i : ℕ) (d : X) → i < length xs → (take (i + 1) xs ≡ take i xs ++ get_or xs i d ∷ []) × (xs ≡ take i xs ++ get_or xs i d ∷ drop (i + 1) xs)
 next_taken xs i d less =
     let r = next_of xs i (get_or xs i d) (slice_get-get_or xs i d less) in
     let more : suc i ≡ i + 1 = omega arith in

@@ -1,9 +1,11 @@
 pub mod Advance
 pub mod CellReads
+pub mod CommitShown
 pub mod Exact
 pub mod GatheredItems
 pub mod OrderedCells
 pub mod Passed
+pub mod PutTogether
 pub mod ShownReads
 pub mod ReadCells
 pub mod ReadsShown
@@ -13,4 +15,5 @@ pub mod ScanSteps
 pub mod Scanned
 pub mod SessionSteps
 pub mod Table
+pub mod TakenWrites
 pub mod WriteIndexes

@@ -1,12 +1,14 @@
 pub mod CellOrder
 pub mod CellReads
 pub mod Gathering
+pub mod Puts
 pub mod Ranges
 pub mod Reads
 pub mod Refusals
 pub mod Room
 pub mod Scans
 pub mod Shows
+pub mod Takings
 pub mod Transactions
 pub mod Writes
 pub use Rattle.si_model.specs.Machine

@@ -4,7 +4,7 @@ use Rattle.std.specs.Ordering.{nat_cmp}
 use Rattle.std.specs.BTreeMap as btree
 use Rattle.cell_key.specs.Cells.{Cells}
 use Rattle.cell_key.specs.declared.refusals.Refusal.{Refusal}
-use Rattle.cell_key.specs.declared.refusals.Refusal.TheVariants.{UnknownSession, WrongPhase, BadRow, BadColumn, TooManySessions, BadCount, Exhausted, Device, NoMemory, Damaged}
+use Rattle.cell_key.specs.declared.refusals.Refusal.TheVariants.{UnknownSession, WrongPhase, BadRow, BadColumn, BadValue, TooManyWrites, TooManySessions, EmptyCommit, BadCount, MemtableFull, Exhausted, Device, NoMemory, Damaged}
 use Rattle.si_model.specs.Machine.{State, IsReached}
 use Rattle.si_model.specs.Transactions.{Answer, Asked, Goes}
 use Rattle.txn_client.specs.Shows.{IsLate, IsOpenSession, Shows}
@@ -46,3 +46,19 @@ IsReadRequestRefusal Device = ⊤
 IsReadRequestRefusal NoMemory = ⊤
 IsReadRequestRefusal Damaged = ⊤
 IsReadRequestRefusal _ = ⊥
+
+abbrev pub IsCommitRefusal : Refusal → Type 0
+IsCommitRefusal UnknownSession = ⊤
+IsCommitRefusal WrongPhase = ⊤
+IsCommitRefusal BadRow = ⊤
+IsCommitRefusal BadColumn = ⊤
+IsCommitRefusal BadValue = ⊤
+IsCommitRefusal TooManyWrites = ⊤
+IsCommitRefusal TooManySessions = ⊤
+IsCommitRefusal EmptyCommit = ⊤
+IsCommitRefusal MemtableFull = ⊤
+IsCommitRefusal Exhausted = ⊤
+IsCommitRefusal Device = ⊤
+IsCommitRefusal NoMemory = ⊤
+IsCommitRefusal Damaged = ⊤
+IsCommitRefusal _ = ⊥

@@ -1,23 +1,26 @@
 //! Requests that stand for several of a session, in one call each.
 
-ghost use Rattle.std.specs.Prelude.{◌≡◌, ◌≢◌, ◌+◌, ◌<◌, ◌≤◌, ◌^◌, length, None, IfErr, IfOk, IsErrOf, OnErr};
-ghost use Rattle.rows.specs.Calls.{AreReadableFrom, OnlyReads};
-ghost use Rattle.si_model.specs.Answers.{cells_named, read_answer, result_answer};
+ghost use Rattle.std.specs.Prelude.{◌≡◌, ◌≢◌, ◌+◌, ◌<◌, ◌≤◌, ◌^◌, ◌⊎◌, length, None, IfErr, IfOk, IsErrOf, OnErr};
+ghost use Rattle.oracle.specs.Marks.{MayHold};
+ghost use Rattle.oracle.specs.Ranges.{next_range_end};
+ghost use Rattle.rows.specs.Calls.{AreReadableFrom, KeepsBelow, OnlyReads};
+ghost use Rattle.si_model.specs.Answers.{cells_named, commit_answer, read_answer, result_answer, writes_named};
 ghost use Rattle.si_model.specs.Machine.{IsReached, State};
 ghost use Rattle.si_model.specs.ShowsCells.{ShowsCells};
-ghost use Rattle.si_model.specs.Transactions.{IsReadCount, Read};
+ghost use Rattle.si_model.specs.Transactions.{Commit, IsReadCount, Read};
 ghost use Rattle.txn_client.specs.CellReads.{AreRead, said_in};
 ghost use Rattle.txn_client.specs.Refusals.{HasOneReason, StepLeaves};
 ghost use Rattle.txn_client.specs.Shows.{IsCrowded, IsInactive, SameClients, ShowsClients};
-ghost use Rattle.txn_client.specs.Transactions.{GoesAs, HasSession, IsReadRequestRefusal, IsSessionRefusal};
+ghost use Rattle.txn_client.specs.Transactions.{GoesAs, HasSession, IsCommitRefusal, IsReadRequestRefusal, IsSessionRefusal};
 
-use crate::cell_reads;
 use crate::session::Phase;
 use crate::sessions::{Clients, MOST_SESSIONS};
+use crate::writes::Writes;
+use crate::{cell_reads, puts, takings};
 use cell_key::{MOST_STAMP, Moment, Refusal, Stamp};
 use oracle::{MarkStore, Oracle};
 use rows::Rows;
-use si_model::{CellName, ReadReply};
+use si_model::{CellName, CellWrite, CommitReply, ReadReply};
 
 /// The most cells of a read.
 const MOST_READ: usize = 256;
@@ -116,5 +119,62 @@ impl Clients {
         // The session is active, so this isn't refused.
         let _ = self.stop(session);
         Ok(reply)
+    }
+
+    /// Commits writes in a new session, with nothing between: data and record of each write are put at once, in any
+    /// rows, and no lock. Returns the start of the session and its commit stamp, or the place of the first cell that is
+    /// locked or was written at the start or later; nothing is put or held then, and the session has ended too.
+    ///
+    /// # Errors
+    ///
+    /// In this order: `TooManySessions` if 1,024 are active, `Exhausted` after the greatest stamp; for each write in
+    /// turn `BadRow`, `BadColumn`, `BadValue` above 65,536 bytes, `TooManyWrites` at a 257th cell, `NoMemory`;
+    /// `EmptyCommit` without a write; `Device`, `NoMemory`, or `Damaged` if bytes that were read are malformed;
+    /// `Exhausted`, `Device` if the oracle's mark could not be stored; `MemtableFull` if the rows have no room for the
+    /// edits, `NoMemory`. Nothing is committed or held then, and no stamp is drawn.
+    pub fn commit_new<R: Rows, M: MarkStore>(
+        &mut self,
+        rows: &mut R,
+        oracle: &mut Oracle<M>,
+        asked: &[CellWrite<'_>],
+    ) -> Result<CommitReply, Refusal>
+        ensures step { R.seen.holds rows.old → GoesAs
+            (R.seen.cells rows.old) self.old oracle.old.last
+            (Commit 0 (writes_named asked.now)) (result_answer commit_answer result)
+            (R.seen.cells rows.new) self.new oracle.new.last }
+        ensures same { OnErr result (SameClients self.old self.new) }
+        ensures reads { OnErr result (OnlyReads R.seen rows.old rows.new) }
+        ensures stays { OnErr result (oracle.new.last ≡ oracle.old.last) }
+        // A refusal leaves the range and the mark unchanged, or the next range has begun.
+        ensures range { OnErr result ((oracle.new.range_end ≡ oracle.old.range_end)
+            ⊎ (oracle.new.range_end ≡ next_range_end oracle.old.range_end)) }
+        ensures mark { OnErr result (MayHold (next_range_end oracle.old.range_end)
+            (M.mark oracle.old.marks) (M.mark oracle.new.marks)) }
+        ensures below { KeepsBelow R.seen rows.old rows.new }
+        ensures refusal { IfErr result IsCommitRefusal }
+        ensures crowded { (st : State) → ShowsClients self.old st → IsCrowded st
+            → IsErrOf result Refusal.TooManySessions }
+        ensures reason { HasOneReason (R.faults rows.old) (R.faults rows.new)
+            (M.faults oracle.old.marks) (M.faults oracle.new.marks) result }
+    {
+        if self.sessions.len() >= MOST_SESSIONS {
+            return Err(Refusal::TooManySessions);
+        }
+        let start = Moment::after(oracle.last())?;
+        let writes = takings::take_all(self.alloc, Writes::new(self.alloc), asked)?;
+        if writes.len() == 0 {
+            return Err(Refusal::EmptyCommit);
+        }
+        if let Some(place) = takings::first_taken(rows, writes.as_slice(), start.stamp())? {
+            self.top = oracle.draw()?;
+            return Ok(CommitReply::Conflict(place));
+        }
+        let commit = Moment::after(start.stamp())?;
+        let changes = puts::putting_all(self.alloc, writes.as_slice(), start, commit)?;
+        oracle.ready(2)?;
+        rows.apply_all(changes)?;
+        oracle.serve(2);
+        self.top = commit.stamp();
+        Ok(CommitReply::Committed(start.stamp(), commit.stamp()))
     }
 }

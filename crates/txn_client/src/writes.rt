@@ -116,6 +116,14 @@ impl Writes {
         }
     }
 
+    /// The writes in their order.
+    pub(crate) fn as_slice(&self) -> &[Write]
+        ensures writes { result.now ≡ self.now }
+        ensures few { length self.now ≤ 256 }
+    {
+        self.entries.as_slice()
+    }
+
     /// The number of writes.
     pub(crate) fn len(&self) -> u16
         ensures len { result ≡ length self.now }

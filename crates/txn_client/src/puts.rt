@@ -1,0 +1,143 @@
+//! The edits of a transaction that is committed at once: data and record of each write, and no lock.
+
+ghost use Rattle.std.specs.Prelude.{◌≡◌, ◌≤◌, ℕ, List, length, map, Some, None, IfOk, IfErr, OnOk};
+ghost use Rattle.std.specs.List.{AllByRecursion};
+ghost use Rattle.cell_key.specs.Cells.{Cells, IsEditOf, after_edits};
+ghost use Rattle.cell_key.specs.Columns.{record_text};
+ghost use Rattle.cell_key.specs.LockEdits.{IsPut};
+ghost use Rattle.cell_key.specs.declared.keys.Qualifier.TheVariants as qualifier;
+ghost use Rattle.rows.specs.RowEdits.{AreOfTheirRow, all_edits};
+ghost use Rattle.si_model.specs.PutCells.{all_put_cells};
+ghost use Rattle.si_model.specs.ShowsCells.{key_of};
+ghost use Rattle.txn_client.specs.Puts.{IsPutting};
+ghost use Rattle.txn_client.specs.Writes.{write_of};
+
+use crate::writes::Write;
+use cell_key::{CellKey, Edit, Moment, Qualifier, Record, Refusal, WriteKind};
+use rows::RowEdits;
+use si_model::Cell;
+use std::alloc::Global;
+
+/// The edit that puts the record of a write at its commit stamp.
+fn recording(
+    alloc: Global,
+    cell: &Cell,
+    start: Moment,
+    commit: Moment,
+    kind: WriteKind,
+) -> Result<Edit, Refusal>
+    ensures put { IfOk result (λ edit.
+        IsPut edit (key_of cell.now qualifier.Write commit) (record_text start kind)) }
+    ensures under { IfOk result (λ edit. IsEditOf cell.now.row edit) }
+    ensures refusal { IfErr result (λ refusal. refusal ≡ Refusal.NoMemory) }
+{
+    let start = start.stamp();
+    let commit = commit.stamp();
+    let key = CellKey::new(&cell.row, &cell.family, Qualifier::Write, commit)?;
+    let text = Record { start, kind }.encode(alloc)?;
+    Ok(Edit::Put(key, text))
+}
+
+/// The two edits that put a value with its record.
+fn putting_value(
+    alloc: Global,
+    cell: &Cell,
+    start: Moment,
+    commit: Moment,
+    value: Vec<u8>,
+) -> Result<Vec<Edit>, Refusal>
+    requires value { length value.items ≤ 65536 }
+    ensures putting { IfOk result (λ edits.
+        IsPutting cell.now start commit (Some value.items) edits.items) }
+    ensures under { IfOk result (λ edits. AllByRecursion (IsEditOf cell.now.row) edits.items) }
+    ensures refusal { IfErr result (λ refusal. refusal ≡ Refusal.NoMemory) }
+{
+    let mut edits = Vec::with_capacity(alloc, 2)?;
+    let stamp = start.stamp();
+    let key = CellKey::new(&cell.row, &cell.family, Qualifier::Data, stamp)?;
+    let record = recording(alloc, cell, start, commit, WriteKind::Set)?;
+    edits.push(Edit::Put(key, value))?;
+    edits.push(record)?;
+    Ok(edits)
+}
+
+/// The edit that puts the record of a deletion.
+fn putting_deletion(
+    alloc: Global,
+    cell: &Cell,
+    start: Moment,
+    commit: Moment,
+) -> Result<Vec<Edit>, Refusal>
+    ensures putting { IfOk result (λ edits.
+        IsPutting cell.now start commit None edits.items) }
+    ensures under { IfOk result (λ edits. AllByRecursion (IsEditOf cell.now.row) edits.items) }
+    ensures refusal { IfErr result (λ refusal. refusal ≡ Refusal.NoMemory) }
+{
+    let mut edits = Vec::with_capacity(alloc, 1)?;
+    let record = recording(alloc, cell, start, commit, WriteKind::Delete)?;
+    edits.push(record)?;
+    Ok(edits)
+}
+
+/// The edits that put a write with its record: its data, if it has a value, and the record.
+fn putting(
+    alloc: Global,
+    write: &Write,
+    start: Moment,
+    commit: Moment,
+) -> Result<Vec<Edit>, Refusal>
+    ensures putting { IfOk result (λ edits.
+        IsPutting write.now.cell start commit write.now.value edits.items) }
+    ensures under { IfOk result (λ edits.
+        AllByRecursion (IsEditOf write.now.cell.row) edits.items) }
+    ensures refusal { IfErr result (λ refusal. refusal ≡ Refusal.NoMemory) }
+{
+    match &write.value {
+        Some(value) => {
+            let value = value.to_vec()?;
+            putting_value(alloc, &write.cell, start, commit, value)
+        }
+        None => putting_deletion(alloc, &write.cell, start, commit),
+    }
+}
+
+/// The edits of a write, with their row.
+fn putting_row(
+    alloc: Global,
+    write: &Write,
+    start: Moment,
+    commit: Moment,
+) -> Result<RowEdits, Refusal>
+    ensures putting { IfOk result (λ change.
+        IsPutting write.now.cell start commit write.now.value change.edits.items) }
+    ensures under { IfOk result AreOfTheirRow }
+    ensures row { IfOk result (λ change. change.row ≡ write.now.cell.row) }
+    ensures refusal { IfErr result (λ refusal. refusal ≡ Refusal.NoMemory) }
+{
+    let edits = putting(alloc, write, start, commit)?;
+    let row = write.cell.row.clone()?;
+    Ok(RowEdits { row, edits })
+}
+
+/// The edits of all writes, in their order. Answers `NoMemory` if allocation fails.
+pub(crate) fn putting_all(
+    alloc: Global,
+    writes: &[Write],
+    start: Moment,
+    commit: Moment,
+) -> Result<Vec<RowEdits>, Refusal>
+    ensures made { IfOk result (λ changes. (cells : Cells)
+        → after_edits cells (all_edits changes.items)
+        ≡ all_put_cells cells (map write_of writes.now) start commit) }
+    ensures under { IfOk result (λ changes. AllByRecursion AreOfTheirRow changes.items) }
+    ensures rows { IfOk result (λ changes. map (λ change. change.row) changes.items
+        ≡ map (λ write. write.cell.row) writes.now) }
+    ensures refusal { IfErr result (λ refusal. refusal ≡ Refusal.NoMemory) }
+{
+    let mut changes = Vec::with_capacity(alloc, writes.len())?;
+    for write in writes.iter() {
+        let change = putting_row(alloc, write, start, commit)?;
+        changes.push(change)?;
+    }
+    Ok(changes)
+}
