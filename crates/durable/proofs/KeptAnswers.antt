@@ -12,12 +12,12 @@ use Rattle.request_codec.specs.Stream.{frame, frames, BeginsNoFrame, IsPartial}
 use Rattle.durable.specs.Lasting.{FailsToSettle, GoesOn, IsAllWritten, IsSettled, KeepsBeginning, ServesLasting, Settles, SettlesAnswers, StaysSettled}
 use Rattle.server_loop.specs.Batches.{over_at, AnswersAll, Answered, Cuts, Delivers, IsAnswered, ServesOn, SettlesAll}
 use Rattle.server_loop.specs.Runs.{Taken, Body, Oversize, Answers, RunsAs, RunOver, SaysAll, SaysOf}
-use Rattle.server_loop.specs.Serve.{as_write, written_of, EndsBy, Handles, TakesBodies, WritesReplies}
+use Rattle.server_loop.specs.Serve.{as_write, written_of, EndsBy, TakesBodies, WritesReplies}
 use Rattle.server_loop.specs.declared.statuses.End.{End}
 use Rattle.server_loop.specs.declared.statuses.ServeFault.{ServeFault}
 use Rattle.server_loop.specs.declared.statuses.ServeFault.TheVariants as faults
 use Rattle.server_loop.proofs.ReachedRuns.{reached_step, RunOver-append}
-use Rattle.server_loop.proofs.Replied.{handled, length-replies, no_rest, Replies, Replies-append, replies_of, RunsAs-kept, taken-at, taken-over, taken-partial, written_of-join}
+use Rattle.server_loop.proofs.Replied.{length-replies, no_rest, Replies, Replies-append, replies_of, RunsAs-kept, taken-at, taken-over, taken-partial, written_of-join}
 use Rattle.server_loop.proofs.ServingLemmas.{Answered-joins, Answered-then, frame-long, taken-join}
 use Rattle.server_loop.proofs.StreamReads.{ended_so}
 
@@ -222,7 +222,19 @@ module _ {S : Type 0} (shows : S → State → Type 0) (says : S → Lent → Co
           consumed = consumed;
           rest = rest;
           open_rest = open_rest;
-          handled = handled shows says between (as_write result) a e read rest over p.replies (Some []) (Some (written_of q.0)) p.answered takes q (written_of q.0) (writes q.0) refl;
+          handled = record {
+            bodies = p.answered.bodies;
+            whole = p.answered.whole;
+            each = p.answered.each;
+            taken = ts;
+            takes = takes;
+            replies = q.0;
+            run = q.2;
+            said = q.3;
+            written = written_of q.0;
+            writes = writes q.0;
+            appended = refl;
+          };
           ending = ending;
         };
         framed = refl;
@@ -235,11 +247,11 @@ module _ {S : Type 0} (shows : S → State → Type 0) (says : S → Lent → Co
       }
 
   -- a batch was cut
-  cut_lasting : Laws → (most : ℕ) (fault : ServeFault) (result : Result End ServeFault) (a e : S) (read rest : List ℕ) (l m h i : Option (List ℕ)) (r : ℕ) → as_write result ≡ Err faults.Write → ((xs : List ℕ) → IsAllWritten result xs) → Consumes l m read → EndsBy (Err faults.Write) r read rest m h i
+  cut_lasting : Laws → (most : ℕ) (fault : ServeFault) (a e : S) (read rest : List ℕ) (l m h i : Option (List ℕ)) (r : ℕ) → Consumes l m read → EndsBy (Err faults.Write) r read rest m h i
       → (c : Cuts Answer Sets Breaks most fault a e read rest h i) → Sets c.last e ⊎ Breaks c.last e
       → ((now : State) → IsReached now → shows c.last now → logs c.last → (st : State) → lasts c.last st → ((c.written ≡ []) × lasts e st) ⊎ lasts e now)
-      → ServesLasting shows says between lasts logs a e l m h i r result
-  cut_lasting laws most fault result a e read rest l m h i r write all consumed within c is err =
+      → ServesLasting shows says between lasts logs a e l m h i r (Err faults.Write)
+  cut_lasting laws most fault a e read rest l m h i r consumed within c is err =
       let fr = c.front.answered in
       let ts = map Body c.batch.bodies ++ c.over in
       let one = replies_of shows says between a c.mid (map Body fr.bodies ++ []) c.front.replies fr.said in
@@ -259,16 +271,27 @@ module _ {S : Type 0} (shows : S → State → Type 0) (says : S → Lent → Co
           read = read;
           consumed = consumed;
           rest = rest;
-          open_rest = λ other. absurd (other write);
-          handled = subst (λ (x : Result End ServeFault). Handles shows says between x a e read rest (Some []) (Some (written_of (one.0 ++ two.0)))) (sym write)
-              (handled shows says between (Err faults.Write) a e read rest c.over (c.front.replies ++ c.replies) (Some []) (Some (written_of (one.0 ++ two.0))) p (taken-over p.bodies rest c.over c.is_over) q (written_of (one.0 ++ two.0)) (inl refl) refl);
-          ending = subst (λ (x : Result End ServeFault). EndsBy x r read rest m (Some []) (Some (written_of (one.0 ++ two.0)))) (sym write) within;
+          open_rest = λ other. absurd (other refl);
+          handled = record {
+            bodies = p.bodies;
+            whole = p.whole;
+            each = p.each;
+            taken = map Body p.bodies ++ c.over;
+            takes = taken-over p.bodies rest c.over c.is_over;
+            replies = one.0 ++ two.0;
+            run = q.2;
+            said = q.3;
+            written = written_of (one.0 ++ two.0);
+            writes = inl refl;
+            appended = refl;
+          };
+          ending = within;
         };
         framed = refl;
         written = written_of one.0 ++ c.written;
         more = c.more;
         parts = written_of-join one.0 two.0 ∙ (ap (λ (w : List ℕ). written_of one.0 ++ w) parts ∙ sym (append_assoc (written_of one.0) c.written c.more));
-        whole = all c.more;
+        whole = tt;
         appended = Appends-trans h c.sent i (written_of one.0) c.written (subst (λ (w : List (List ℕ)). Appends h c.sent (frames w)) one.1 c.front.appended) c.appended;
         kept = λ settled before reached shows_before.
             let first = one.2 before reached shows_before in
@@ -284,6 +307,10 @@ module _ {S : Type 0} (shows : S → State → Type 0) (says : S → Lent → Co
             (kept_after e before first.after (map Body fr.bodies ++ []) ts one.0 two.0 c.written first.run later);
       }
 
+  -- the log failed
+  logged_so : (a e : S) (l m h i : Option (List ℕ)) (r : ℕ) → ServesLasting shows says between lasts logs a e l m h i r (Err faults.Write) → ServesLasting shows says between lasts logs a e l m h i r (Err faults.Log)
+  logged_so a e l m h i r p = record { buffer = p.buffer; served = p.served; framed = p.framed; written = p.written; more = p.more; parts = p.parts; whole = tt; appended = p.appended; kept = p.kept }
+
   pub serves_lasting : Laws → (most : ℕ) (a e : S) (l m h i : Option (List ℕ)) (r : ℕ) (result : Result End ServeFault) → ServesOn Answer Sets Breaks most [] a e l m h i r result → ServesLasting shows says between lasts logs a e l m h i r result
   serves_lasting laws most a e l m h i r (Ok end) p =
       all_written laws (Ok end) (over_at end) a e p.read p.rest l m h i r p.consumed p.open_rest p.outcome (taken-at end p.outcome.answered.bodies r p.read p.rest m h i p.ending) (λ rs. refl)
@@ -297,9 +324,9 @@ module _ {S : Type 0} (shows : S → State → Type 0) (says : S → Lent → Co
       (p.ending.0, ap written_of (none_replied d.answered.bodies p.read p.rest q.0 d.answered.whole p.ending.0 (sym (length-said says between a e (map Body d.answered.bodies ++ []) q.0 q.3)))) refl
   serves_lasting laws most a e l m h i r (Err faults.Write) p = elim p.outcome [
     | inl (over, is_over, d) ↦ all_written laws (Err faults.Write) over a e p.read p.rest l m h i r p.consumed p.open_rest d (taken-over d.answered.bodies p.rest over is_over) (λ rs. inl refl) p.ending tt
-    | inr c ↦ cut_lasting laws most faults.Write (Err faults.Write) a e p.read p.rest l m h i r refl (λ xs. tt) p.consumed p.ending c (inl c.cut.0) (λ now reached shown logged st lasting. inr ((c.cut.0.settled now reached shown logged).1 now (c.cut.0.shown now shown)))
+    | inr c ↦ cut_lasting laws most faults.Write a e p.read p.rest l m h i r p.consumed p.ending c (inl c.cut.0) (λ now reached shown logged st lasting. inr ((c.cut.0.settled now reached shown logged).1 now (c.cut.0.shown now shown)))
   ]
   serves_lasting laws most a e l m h i r (Err faults.Log) p =
       let c = p.outcome in
-      cut_lasting laws most faults.Log (Err faults.Log) a e p.read p.rest l m h i r refl (λ xs. tt) p.consumed p.ending c (inr c.cut.0)
-      (λ now reached shown logged st lasting. elim (c.cut.0.kept now reached shown logged st lasting) [ inl k ↦ inl (c.cut.1, k) | inr k ↦ inr k ])
+      logged_so a e l m h i r (cut_lasting laws most faults.Log a e p.read p.rest l m h i r p.consumed p.ending c (inr c.cut.0)
+      (λ now reached shown logged st lasting. elim (c.cut.0.kept now reached shown logged st lasting) [ inl k ↦ inl (c.cut.1, k) | inr k ↦ inr k ]))
