@@ -43,7 +43,8 @@ pub type DirLog<R> = FileLog<DirFile<R>>;
 
 /// The file of a folder's log. Written bytes are forced to the disk before the call returns. Behind them it has room:
 /// zeros, over which the next bytes are written, so that the file's length stays.
-/// After a failed write or renewal it takes no more bytes: the system may have dropped bytes that it could not write.
+/// After a failed write or renewal it takes no more bytes and isn't read: the system may have dropped bytes that it could
+/// not write.
 #[derive(Drop)]
 pub struct DirFile<R> {
     rt: R,
@@ -429,7 +430,11 @@ impl<R: Folders<File = File> + AllocGlobal + Drop> LogFile for DirFile<R> {
     ghost faults = { λ file. file.faults };
 
     fn read(&mut self, alloc: Global) -> Result<Vec<u8>, LogFault> {
-        let called = read_front(alloc, &mut self.file, self.end);
+        let called = if self.is_stopped {
+            Err(io::Error::from(ErrorKind::Other))
+        } else {
+            read_front(alloc, &mut self.file, self.end)
+        };
         self.count_fault(called)
     }
 

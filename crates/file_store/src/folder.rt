@@ -8,6 +8,7 @@ use crate::files::{FileFault, Files};
 use crate::open_files::OpenFiles;
 use disk::{OWNER_ALONE, fill, if_there, look_at, open_regular, replace_file, sync_folder};
 use std::alloc::{Allocator, Global};
+use std::collections::BTreeSet;
 use std::fs::{DirEntry, File, Metadata, OpenOptions};
 use std::io::{ErrorKind, Read, Seek, SeekFrom};
 use std::os::unix::fs::OpenOptionsExt;
@@ -26,6 +27,9 @@ const DIGITS: usize = 16;
 /// folder is forced to the disk: after a crash in between there are the old bytes or the new ones. If the write fails,
 /// the temporary file is removed.
 ///
+/// After a failed put the system may show bytes that won't last over a loss of power. So the name is in doubt: reads of
+/// it fail until it is put well or removed, or the folder is opened again.
+///
 /// Only the owner may read and write the files. What has a file's name and is no regular file isn't opened.
 #[derive(Drop)]
 pub struct DirFiles<R> {
@@ -34,6 +38,8 @@ pub struct DirFiles<R> {
     folder: String,
     _lock: File,
     open_files: OpenFiles,
+    /// The names in doubt.
+    doubts: BTreeSet<u64>,
     faults: u64,
 }
 
@@ -282,6 +288,7 @@ fn open_folder<R: Folders<File = File> + AllocGlobal + Clone + Drop>(
         folder,
         _lock: lock,
         open_files,
+        doubts: BTreeSet::new(alloc),
         faults: 0,
     })
 }
@@ -294,17 +301,26 @@ impl<R: Folders<File = File> + AllocGlobal + Clone + Drop> Files for DirFiles<R>
     ghost replaces = { ⊤ };
 
     fn put(&mut self, name: u64, bytes: &[u8]) -> Result<(), FileFault> {
+        let _ = self.doubts.insert(name)?;
         self.open_files.close(name);
         let called = write_file(&self.rt, self.alloc, self.folder.as_str(), name, bytes);
-        self.count_fault(called)
+        self.count_fault(called)?;
+        let _ = self.doubts.remove(&name);
+        Ok(())
     }
 
     fn size(&mut self, name: u64) -> Result<Option<u64>, FileFault> {
+        if self.doubts.contains(&name) {
+            return self.count_fault(Err(io::Error::from(ErrorKind::Other)));
+        }
         let called = size_of(&self.rt, self.alloc, self.folder.as_str(), name);
         self.count_fault(called)
     }
 
     fn read_at(&mut self, name: u64, offset: u64, out: &mut [u8]) -> Result<usize, FileFault> {
+        if self.doubts.contains(&name) {
+            return self.count_fault(Err(io::Error::from(ErrorKind::Other)));
+        }
         let called = read_from(
             &self.rt,
             self.alloc,
@@ -327,7 +343,9 @@ impl<R: Folders<File = File> + AllocGlobal + Clone + Drop> Files for DirFiles<R>
     fn remove(&mut self, name: u64) -> Result<(), FileFault> {
         self.open_files.close(name);
         let called = remove_file(&self.rt, self.alloc, self.folder.as_str(), name);
-        self.count_fault(called)
+        self.count_fault(called)?;
+        let _ = self.doubts.remove(&name);
+        Ok(())
     }
 
     fn faults(&self) -> u64 {
