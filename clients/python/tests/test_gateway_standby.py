@@ -6,13 +6,13 @@ import os
 import signal
 import unittest
 from argparse import Namespace
-from pathlib import Path
+from contextlib import suppress
 from unittest import mock
 
 from duqishom import Store
 from duqishom.gateway.command import stood_by
 from duqishom.gateway.sockets import Served
-from tests.gateways import Gateway, Wire, folder_of, until
+from tests.gateways import BEGIN, Gateway, Wire, folder_of, until
 
 VALUE = b"\x82\x01\0\0\0\x01v"
 FAMILY = b"c"
@@ -23,8 +23,17 @@ def kill(gateway: Gateway) -> None:
     """Kills a gateway and its program, as the end of their machine does."""
     program = gateway.program()
     gateway.process.kill()
-    os.kill(program, signal.SIGKILL)
+    with suppress(ProcessLookupError):
+        os.kill(program, signal.SIGKILL)
     gateway.process.wait()
+
+
+def serves(gateway: Gateway) -> bool:
+    """Whether a gateway answers. One that waits closes its socket again, if it has opened it."""
+    try:
+        return gateway.wire().ask(BEGIN)[0] == 0x81
+    except (OSError, EOFError):
+        return False
 
 
 class Standby(unittest.TestCase):
@@ -79,13 +88,12 @@ class Standby(unittest.TestCase):
         first = Gateway(self, ["--dir", folder])
         both = [self.standby(folder), self.standby(folder)]
         kill(first)
-        self.assertTrue(until(lambda: any(Path(each.path).exists() for each in both)))
-        serving, waiting = sorted(both, key=lambda each: not Path(each.path).exists())
-        self.assertEqual(serving.line(), READY)
+        self.assertTrue(until(lambda: any(map(serves, both))))
+        serving, waiting = sorted(both, key=serves, reverse=True)
         self.assertEqual(serving.wire().commit(b"r", b"v")[:2], b"\x84\4")
-        self.assertIsNone(waiting.process.poll())
+        self.assertEqual((serves(waiting), waiting.process.poll()), (False, None))
         kill(serving)
-        self.assertTrue(until(lambda: Path(waiting.path).exists()))
+        self.assertTrue(until(lambda: serves(waiting)))
         self.assertEqual(waiting.wire().read(b"r"), VALUE)
 
     def test_what_it_waits_for(self) -> None:

@@ -7,6 +7,7 @@ import unittest
 from pathlib import Path
 from unittest import mock
 
+from duqishom import Store
 from duqishom.gateway import watches as gateway_watches
 from duqishom.gateway.bounds import CELL_SIZE, CHANGE_SIZE, CHANGES_OF_CLIENT, WATCHES_OF_CLIENT, WRITTEN_OF_ALL
 from duqishom.gateway.passages import Kind, passages
@@ -201,8 +202,9 @@ class Watches(unittest.TestCase):
         gateway = Gateway(self, ["--idle-client", "0.1"])
         watcher, silent = self.watching(gateway, watch(b"")), gateway.wire()
         self.assertRaises((EOFError, ConnectionError), silent.reply)
-        committed = gateway.wire().commit(b"r", b"v")
-        self.assertEqual(watcher.reply(), changed(1, committed, (b"r", COLUMN)))
+        with Store(socket=gateway.path) as store:
+            store.put(b"r", COLUMN, b"v")
+        self.assertEqual(watcher.reply()[:10], b"\xf4\1" + number(8, 1))
 
 
 class Bounds(unittest.TestCase):

@@ -180,6 +180,7 @@ class Gateways(unittest.TestCase):
         file.unlink()
         time.sleep(PAUSE)
         heavy.send(HEAVY)
+        self.assertTrue(until(lambda: self.number(gateway, "held", "asked") == 1))
         time.sleep(LONG)
         file.touch()
         self.assertRegex(gateway.line(), rf"^duqishom: OracleRestart of client 1, .* took .* s, and \d+ more were slow$")
