@@ -135,8 +135,8 @@ impl<M: MarkStore> Oracle<M> {
     }
 
     /// Makes sure that the next `count` stamps can be served: if the range has fewer left, the next one begins, and its
-    /// end is stored as the mark. Refused with `Exhausted` if fewer are left up to the greatest stamp, and with `Device`
-    /// if the end could not be stored.
+    /// end is stored as the mark. Refused with `Exhausted` if fewer are left up to the greatest stamp, and with
+    /// `Device` if the end could not be stored.
     pub fn ready(&mut self, count: Stamp) -> Result<(), Refusal>
         requires { count ≤ 1000 }
         ensures left { OnOk result (self.old.last + count ≤ self.new.range_end) }

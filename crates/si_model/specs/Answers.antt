@@ -26,7 +26,8 @@ writes_named writes = map write_named writes
 
 -- Read
 abbrev pub read_answer : ReadReply → Answer
-read_answer reply = ReadDone reply.start (map (λ found. option_map found_item found) reply.found.items)
+read_answer reply =
+    ReadDone reply.start (map (λ found. option_map found_item found) reply.found.items)
 
 -- Commit
 abbrev pub commit_answer : CommitReply → Answer

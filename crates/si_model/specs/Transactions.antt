@@ -179,4 +179,5 @@ pub data Goes (st : State) : Asked → Answer → State → Type 0 where
   transacts : {start : ℕ} {ws : Writes} {a : Answer} {next : State}
       → Transacts st start ws a next → Goes st (Commit start ws) a next
   reads_together : {start : ℕ} {cells : List Cell} {stays_open : Bool} {a : Answer} {next : State}
-      → ReadsTogether st start cells stays_open a next → Goes st (Read start cells stays_open) a next
+      → ReadsTogether st start cells stays_open a next
+      → Goes st (Read start cells stays_open) a next

@@ -226,7 +226,8 @@ pub fn make_cells()
         → MakeCells cells x t edits }
 {}
 
-/// A request that stands for several leads from a reached state to a reached state, so the machine's laws hold after it.
+/// A request that stands for several leads from a reached state to a reached state, so the machine's laws hold after
+/// it.
 pub fn stays_reached()
     ensures { StaysReached }
 {}

@@ -53,7 +53,8 @@ IsReadingRefusal x Damaged = ⊤
 IsReadingRefusal x _ = ⊥
 
 -- one of the cells is refused, and those before it are read
-pub record IsRefusedAmong (cells : Cells) (s : ℕ) (xs : List Cell) (refusal : Refusal) : Type 0 where
+pub record IsRefusedAmong (cells : Cells) (s : ℕ) (xs : List Cell)
+    (refusal : Refusal) : Type 0 where
   pub before : List Cell
   pub cell : Cell
   pub after : List Cell

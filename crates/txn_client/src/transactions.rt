@@ -59,8 +59,8 @@ impl Clients {
     /// In this order: `BadCount` without a cell or above 256; `UnknownSession`, `WrongPhase` after the first step of
     /// the session that is named; for a new one `TooManySessions` if 1,024 are active, `Exhausted` after the greatest
     /// stamp; for each cell in turn `BadRow`, `BadColumn`, and as long as cells are read `Device`, `NoMemory`, or
-    /// `Damaged` if bytes that were read are malformed; then, for a new session, `Device` if the oracle's mark could not
-    /// be stored, `NoMemory`. All cells are read before a start is drawn: no session has begun then, and none has
+    /// `Damaged` if bytes that were read are malformed; then, for a new session, `Device` if the oracle's mark could
+    /// not be stored, `NoMemory`. All cells are read before a start is drawn: no session has begun then, and none has
     /// ended.
     pub fn read<R: Rows, M: MarkStore>(
         &mut self,
