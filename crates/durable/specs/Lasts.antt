@@ -285,7 +285,8 @@ pub record IsLastingTended {S M L : Type 0} (shows : S → State → Type 0)
     (old new : LastingServer S M L) : Type 0 where
   pub mid : S
   pub tended : between old.server mid
-  pub rooted : (IsRootDue old (size mid) × TriesRoot mark_faults same roots sweeps (size mid) mid old new)
+  pub rooted : (IsRootDue old (size mid)
+      × TriesRoot mark_faults same roots sweeps (size mid) mid old new)
       ⊎ ((¬ IsRootDue old (size mid)) × same mid new.server × (new.tried_bytes ≡ old.tried_bytes))
   pub root_bytes : new.root_bytes ≡ old.root_bytes
   pub upkeep : new.upkeep ≡ old.upkeep

@@ -19,7 +19,8 @@ use Rattle.row_atomic.specs.Sweeps.{IsSwept, IsSweptInPart, is_kept_beside}
 -- the places of a root file; none without one
 abbrev pub AreRootPlaces : Option (List ℕ) → Option (List PlaceView) → Type 0
 AreRootPlaces None named = named ≡ None
-AreRootPlaces (Some image) named = (root : RootView) × IsRoot root image × (named ≡ Some root.places)
+AreRootPlaces (Some image) named =
+    (root : RootView) × IsRoot root image × (named ≡ Some root.places)
 
 -- the places of the root in these files, if their bytes are known
 abbrev pub AreNamedIn : Option Contents → Option (List PlaceView) → Type 0
