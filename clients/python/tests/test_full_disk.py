@@ -12,6 +12,7 @@ from pathlib import Path
 from duqishom import Committed, Device, Qualifier, Store, Value
 from duqishom.files import log_of
 from duqishom.program import default_program
+from duqishom.protocol import Sweep
 from tests.folders import FolderTest
 
 FAMILY = b"c"
@@ -66,10 +67,14 @@ class FullDisk(FolderTest):
         return self.fail("no step was refused")
 
     def goes_on(self, fill: Callable[[], None], free: Callable[[], None]) -> None:
-        """Commits are refused once `fill` was called and the room is used up, sessions begin, and commits are answered
-        again after `free`."""
+        """Commits are refused once `fill` was called and the room is used up, sessions begin, files that nothing needs
+        are removed, and commits are answered again after `free`."""
         with self.opened() as store:
             self.put(store, 0)
+            store.minor(1)
+            self.put(store, 0)
+            store.minor(1)
+            store.merge(1, 2)
             fill()
             count, start = self.fill(store)
             self.assertGreater(count, 0)
@@ -80,6 +85,7 @@ class FullDisk(FolderTest):
             for _ in range(STAMPS):
                 store.stop(store.begin())
             self.assertEqual(store.get(store.begin(), b"000", FAMILY), Value(bytes(60_000)))
+            self.assertEqual(store.ask(Sweep()), 2)
             free()
             self.commit(store, start)
             self.put(store, count + 1)
