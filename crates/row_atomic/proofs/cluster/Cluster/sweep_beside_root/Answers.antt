@@ -21,7 +21,7 @@ returns g c =
     let refusal = fault_reads c.remove_unkept.result c.remove_unkept.ensures.refusal in
     rw (← c.self.view_is) (sweeps_so g.F.Files.contents g.F.Files.faults _ _
     (λ order. let kept = swept_order places c.self.inside.tablets.items c.len.ensures.table c.self.invariant.0.placed c.self.invariant.0.as_many c.unnamed_may_go.ensures told now c.self.inside.next_name
-        (lacks_fewer (is_kept_beside given places) (is_kept places) (beside_kept given places) told now lacks) order in (kept.order, kept.same))
+    (lacks_fewer (is_kept_beside given places) (is_kept places) (beside_kept given places) told now lacks) order in (kept.order, kept.same))
     refl given c.remove_unkept.result
     (subst (Names told) (sym c.places_of.ensures) (names_so c.one_root.ensures told c.in_ok-root.root c.in_ok-root.ensures.finds))
     (on_ok c.remove_unkept.result (λ e. e ∙ ap (without_files (unkept (is_kept_beside given places) names)) same ∙ swept_is (is_kept_beside given places) told names keyed) c.remove_unkept.ensures.removed)
