@@ -76,9 +76,11 @@ class Folders(FolderTest):
         command = [sys.executable, "-c", code % self.folder]
         self.assertEqual(subprocess.run(command, cwd=TOP / "clients" / "python").returncode, 0)
         self.assertEqual(self.counter(), b"7")
+        # An opening with a log has put the root again
         root = self.path / "t0000000000000000.tab"
+        store = Store(folder=self.folder)
         was = root.stat().st_ino
-        Store(folder=self.folder).close()
+        store.close()
         self.assertEqual(root.stat().st_ino, was)
 
     def limitable(self) -> str:

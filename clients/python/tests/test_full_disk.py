@@ -71,9 +71,9 @@ class FullDisk(FolderTest):
         are removed, and commits are answered again after `free`."""
         with self.opened() as store:
             self.put(store, 0)
-            store.minor(1)
-            self.put(store, 0)
-            store.minor(1)
+            for value in (b"1", b"2"):
+                store.run(lambda t, value=value: t.set(b"small", FAMILY, value))
+                store.minor(1)
             store.merge(1, 2)
             fill()
             count, start = self.fill(store)

@@ -14,7 +14,7 @@ from contextlib import suppress
 from pathlib import Path
 
 from duqishom import BadRequest, NotCopied, Patience, Store, Transaction, TransactionFailed, aio
-from duqishom.files import LOG_FILE, ROOT_FILE, file_name
+from duqishom.files import ROOT_FILE, file_name
 from tests.folders import FolderTest, said
 from tests.gateways import BEGIN, CHECKPOINT, SWEEP, Gateway, Wire, frame, raw, stand_in, until
 
@@ -216,7 +216,7 @@ class Refusals(FolderTest):
         with Store(socket=gateway.path) as store:
             store.run(lambda t: t.set(b"r", FAMILY, b"v"))
             resource.prlimit(gateway.process.pid, resource.RLIMIT_FSIZE, (30, resource.RLIM_INFINITY))
-            self.assertRaisesRegex(NotCopied, f"File too large.*copy/{LOG_FILE}", store.backup, self.path / "copy")
+            self.assertRaisesRegex(NotCopied, f"File too large.*copy/{FILE}", store.backup, self.path / "copy")
             self.assertFalse((self.path / "copy" / ROOT_FILE).exists())
             self.assertEqual(store.sweep(), 0)
             resource.prlimit(gateway.process.pid, resource.RLIMIT_FSIZE, (resource.RLIM_INFINITY, resource.RLIM_INFINITY))
