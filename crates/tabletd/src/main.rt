@@ -116,13 +116,17 @@ fn lacks_root<F: Files, M: MarkStore>(
 }
 
 /// Puts the root again, if there is one: the root that is read may not last if a sync of it failed before a kill. The
-/// files are unchanged.
+/// files are unchanged. A file that is gone when it is read is read as empty, so an empty root is a device's fault:
+/// nothing is put.
 fn renew_root<F: Files>(alloc: Global, files: &mut F) -> Result<(), FileFault>
     ensures same { OnOk result (F.contents files.new ≡ F.contents files.old) }
 {
     let Some(root) = read_whole(alloc, files, ROOT_NAME)? else {
         return Ok(());
     };
+    if root.is_empty() {
+        return Err(FileFault::Device);
+    }
     files.put(ROOT_NAME, &root)
 }
 
