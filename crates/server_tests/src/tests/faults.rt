@@ -15,8 +15,8 @@ use std::test::Fail;
 /// after the oracle restarts.
 const MARK_CALLS: u64 = 4;
 
-/// Whether the server compacts by itself, and the numbers of the script's file calls: by requests, and between two
-/// requests.
+/// Whether the server compacts by itself, and the numbers of the script's file calls: by requests, and by compactions
+/// between two answers.
 const FILE_CALLS: [(bool, u64, u64); 2] = [(false, 32, 0), (true, 48, 37)];
 
 /// An upper bound of the number of calls.
@@ -79,14 +79,14 @@ fn room(alloc: Global, by_itself: bool) -> Result<Room, Refusal> {
     Room::new(alloc)
 }
 
-/// The outcome of the script if the file call with this number, counted from 1, fails in this way; and whether a
-/// request's call failed, and whether one between two requests did.
+/// The outcome of the script if the file call with this number, counted from 1, fails in this way; and whether there is
+/// such a call.
 fn came_of_files(
     alloc: Global,
     by_itself: bool,
     at: u64,
     how: file_store::Fail,
-) -> Result<(Came, (bool, bool)), Refusal> {
+) -> Result<(Came, bool), Refusal> {
     let watch = Watch::new();
     let run = Run {
         refusal: Refusal::Device,
@@ -97,10 +97,10 @@ fn came_of_files(
         watch: &watch,
     };
     let came = played_over(alloc, files, MemMark::new(), run, room(alloc, by_itself)?)?;
-    Ok((came, watch.failed()))
+    Ok((came, watch.has_failed()))
 }
 
-/// The number of calls by requests, each of which reports its fault, and of calls between two requests, whose faults
+/// The number of calls by requests, each of which reports its fault, and of calls between two answers, whose faults
 /// nothing reports. `None` if a fault has another outcome.
 fn calls_of_files(
     alloc: Global,
@@ -110,9 +110,9 @@ fn calls_of_files(
     let (mut asked, mut between) = (0u64, 0u64);
     for at in 1..=MOST_CALLS {
         match came_of_files(alloc, by_itself, at, how)? {
-            (Came::AnsweredLater, (true, false)) => asked = asked.saturating_add(1),
-            (Came::Answered, (false, true)) => between = between.saturating_add(1),
-            (Came::Answered, (false, false)) => return Ok(Some((asked, between))),
+            (Came::AnsweredLater, true) => asked = asked.saturating_add(1),
+            (Came::Answered, true) => between = between.saturating_add(1),
+            (Came::Answered, false) => return Ok(Some((asked, between))),
             _ => return Ok(None),
         }
     }

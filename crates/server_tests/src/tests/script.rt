@@ -87,36 +87,29 @@ pub enum Came {
     WrongAnswer,
 }
 
-/// A record of which of the server's file calls failed: those of a request, or those between two requests.
+/// A record of whether one of the server's file calls failed.
 #[derive(Drop)]
 pub struct Watch {
-    is_answering: Cell<bool>,
-    in_request: Cell<bool>,
-    between: Cell<bool>,
+    has_failed: Cell<bool>,
 }
 
 impl Watch {
     pub fn new() -> Watch {
         Watch {
-            is_answering: Cell::new(true),
-            in_request: Cell::new(false),
-            between: Cell::new(false),
+            has_failed: Cell::new(false),
         }
     }
 
     /// Records whether a call failed.
     pub fn note(&self, has_failed: bool) {
-        if has_failed && self.is_answering.get() {
-            self.in_request.set(true);
-        }
-        if has_failed && !self.is_answering.get() {
-            self.between.set(true);
+        if has_failed {
+            self.has_failed.set(true);
         }
     }
 
-    /// Whether a call of a request failed, and whether one between two requests did.
-    pub fn failed(&self) -> (bool, bool) {
-        (self.in_request.get(), self.between.get())
+    /// Whether a call failed.
+    pub fn has_failed(&self) -> bool {
+        self.has_failed.get()
     }
 }
 
@@ -133,7 +126,6 @@ struct Frames<'a> {
     last: &'a [u8],
     rest: &'a [u8],
     is_refused: &'a Cell<bool>,
-    watch: &'a Watch,
 }
 
 impl Read for Frames<'_> {
@@ -150,7 +142,6 @@ impl Read for Frames<'_> {
         buf[..count].copy_from_slice(&self.rest[..count]);
         self.last = self.rest;
         self.rest = &self.rest[count..];
-        self.watch.is_answering.set(true);
         Ok(count)
     }
 }
@@ -161,7 +152,6 @@ struct Replies<'a> {
     written: Vec<u8>,
     refusal: Refusal,
     is_refused: &'a Cell<bool>,
-    watch: &'a Watch,
 }
 
 impl Write for Replies<'_> {
@@ -169,7 +159,6 @@ impl Write for Replies<'_> {
         self.written.extend_from_slice(buf)?;
         let refused = frame_of(self.refusal);
         self.is_refused.set(self.written.ends_with(&refused));
-        self.watch.is_answering.set(false);
         Ok(buf.len())
     }
 
@@ -191,13 +180,11 @@ pub fn served<F: Files + Drop, M: MarkStore + Drop>(
         last: frames,
         rest: frames,
         is_refused: &is_refused,
-        watch: run.watch,
     };
     let mut writer = Replies {
         written,
         refusal: run.refusal,
         is_refused: &is_refused,
-        watch: run.watch,
     };
     let ended = server.serve(&mut reader, &mut writer, u64::MAX);
     let left = reader.last.len();
@@ -364,7 +351,7 @@ impl<'a, F: Files + Drop, M: MarkStore + Drop> Play<'a, F, M> {
             let (_, rest) = frames.split_at(frames.len().saturating_sub(left));
             (written, left) = served(&mut self.server, self.run, rest, written);
         }
-        let is_disturbed = !matches!(self.came, Came::Answered) || self.run.watch.between.get();
+        let is_disturbed = !matches!(self.came, Came::Answered) || self.run.watch.has_failed();
         if left > 0 || !streams.are_met(&written, is_disturbed) {
             self.came = Came::WrongAnswer;
         }
