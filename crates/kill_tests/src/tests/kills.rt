@@ -429,19 +429,19 @@ fn calls_of(alloc: Global, upkeep: Upkeep) -> Result<Vec<Result<u64, u64>>, Refu
 /// The numbers of calls.
 type Calls = [Result<u64, u64>; 7];
 
-const ASKED_CALLS: Calls = [Ok(79), Ok(77), Ok(87), Ok(87), Ok(87), Ok(29), Ok(29)];
+const ASKED_CALLS: Calls = [Ok(68), Ok(66), Ok(77), Ok(77), Ok(77), Ok(23), Ok(23)];
 
 const CHECKPOINT_CALLS: Calls = [
-    Ok(489),
-    Ok(488),
-    Ok(490),
-    Ok(490),
-    Ok(490),
+    Ok(473),
+    Ok(472),
+    Ok(474),
+    Ok(474),
+    Ok(474),
     Ok(101),
     Ok(101),
 ];
 
-const OWN_CALLS: Calls = [Ok(193), Ok(192), Ok(199), Ok(199), Ok(199), Ok(17), Ok(17)];
+const OWN_CALLS: Calls = [Ok(191), Ok(190), Ok(198), Ok(198), Ok(198), Ok(17), Ok(17)];
 
 #[test]
 fn a_server_is_killed(rt: HostRuntime) -> Result<(), Fail> {
