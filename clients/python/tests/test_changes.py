@@ -187,6 +187,11 @@ class Twin(unittest.TestCase):
         asyncio.run(main())
 
 
+def default_interrupt() -> None:
+    """Has an interrupt end the process: what a shell runs in the background ignores it."""
+    signal.signal(signal.SIGINT, signal.SIG_DFL)
+
+
 class Command(unittest.TestCase):
     """`duqishom watch`."""
 
@@ -197,7 +202,9 @@ class Command(unittest.TestCase):
         data = [{"commit": None, "cells": None}, {"commit": 4, "cells": cells}]
         for form, told in (((), lines), (("--json",), [json.dumps(each) for each in data])):
             words = [sys.executable, "-m", "duqishom", "watch", "--socket", gateway.path, "--family", "c", *form, "B"]
-            with subprocess.Popen(words, cwd=PACKAGE, stdout=subprocess.PIPE, text=True) as watch:
+            with subprocess.Popen(
+                words, cwd=PACKAGE, stdout=subprocess.PIPE, text=True, preexec_fn=default_interrupt
+            ) as watch:
                 assert watch.stdout is not None
                 self.assertEqual(watch.stdout.readline(), told[0] + "\n")
                 with Store(socket=gateway.path) as store, store.transaction() as t:
