@@ -116,18 +116,18 @@ fn lacks_root<F: Files, M: MarkStore>(
 }
 
 /// Puts the root again, if there is one: the root that is read may not last if a sync of it failed before a kill. The
-/// files are unchanged. A file that is gone when it is read is read as empty, so an empty root is a device's fault:
-/// nothing is put.
-fn renew_root<F: Files>(alloc: Global, files: &mut F) -> Result<(), FileFault>
+/// files are unchanged. Returns whether it isn't empty, as a file is read that is gone by then: an empty one isn't put.
+fn renew_root<F: Files>(alloc: Global, files: &mut F) -> Result<bool, FileFault>
     ensures same { OnOk result (F.contents files.new ≡ F.contents files.old) }
 {
     let Some(root) = read_whole(alloc, files, ROOT_NAME)? else {
-        return Ok(());
+        return Ok(true);
     };
     if root.is_empty() {
-        return Err(FileFault::Device);
+        return Ok(false);
     }
-    files.put(ROOT_NAME, &root)
+    files.put(ROOT_NAME, &root)?;
+    Ok(true)
 }
 
 /// Writes the oracle's mark anew, if there is one: the mark that is read may not last if a sync of it failed before a
@@ -287,8 +287,10 @@ fn serve_folder<R: AllocGlobal + Input + Print + Eprint + Folders<File = File> +
     let alloc = rt.alloc();
     match log_of(rt, folder, options.log, &mut files, &mut marks) {
         Ok(Some(log)) => {
-            if let Err(fault) = renew_root(alloc, &mut files) {
-                return Ok(log_status(&fault_of_files(fault)));
+            match renew_root(alloc, &mut files) {
+                Ok(true) => {}
+                Ok(false) => return Ok(log_status(&LogFault::Damaged)),
+                Err(fault) => return Ok(log_status(&fault_of_files(fault))),
             }
             if let Err(refusal) = renew_mark(&mut marks) {
                 return Ok(open_status(&refusal));

@@ -1,5 +1,5 @@
 use Rattle.std.proofs.Common.{◌≡◌, ℕ, List, Bool, true, false, T, cond, refl, sym, ap, subst, ◌∙◌}
-use Rattle.std.specs.Prelude.{Option, Some, None, IfSome, Result, Ok, Err, OnOk, option_map}
+use Rattle.std.specs.Prelude.{Option, Some, None, IfSome, option_map}
 use Rattle.std.specs.Cmp.{nat_cmp_total}
 use Rattle.std.specs.Ordering.{nat_cmp, eq_by_cmp, is_eq}
 use Rattle.std.specs.declared.cmp.Ordering.{Ordering}
@@ -27,18 +27,13 @@ again : (old : Option Contents) (n : ℕ) (bytes : List ℕ) → IfSome old (λ 
 again None n bytes has = refl
 again (Some m) n bytes has = ap Some (put_again m n bytes (sym has))
 
-on_ok : {U E P Q : Type 0} (r : Result U E) → (P → Q) → OnOk r P → OnOk r Q
-on_ok (Ok x) f p = f p
-on_ok (Err x) f p = p
-
 pub returns : goal.returns
 returns g c =
     let old : Option Contents = g.F.Files.contents c.args.files.now in
     let has : IfSome old (λ m. Some c.in-Some.root.items ≡ get m 0) =
     subst (λ found. IfSome old (λ m. option_map (λ v. v.items) found ≡ get m 0)) c.in-Some.is c.in_ok-root.ensures.ok in
     record {
-      same = on_ok c.put.result
-          (λ put. put ∙ ap (λ bytes. with_file 0 bytes (g.F.Files.contents c.read_whole.new.files)) c.deref.ensures.value
-          ∙ ap (with_file 0 c.in-Some.root.items) c.read_whole.ensures.same ∙ again old 0 c.in-Some.root.items has)
-          c.put.ensures.ok;
+      same = c.in_ok-put.ensures.ok
+          ∙ ap (λ bytes. with_file 0 bytes (g.F.Files.contents c.read_whole.new.files)) c.deref.ensures.value
+          ∙ ap (with_file 0 c.in-Some.root.items) c.read_whole.ensures.same ∙ again old 0 c.in-Some.root.items has;
     }
