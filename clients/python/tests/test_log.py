@@ -196,6 +196,7 @@ class Logs(FolderTest):
         table: tuple[tuple[str, bytes | Path | None, int, str], ...] = (
             (ROOT, root, 5, f"{ROOT}: the log is over another root"),
             (ROOT, None, 5, f"{ROOT}: the log has edits, and there is no root"),
+            (ROOT, b"", 5, f"{ROOT}: the root ends inside a field, at byte 0"),
             (MARK, None, 5, f"{MARK}: the mark 0 is below the root's greatest stamp"),
             (SIGN, other / SIGN, 5, f"{LOG}: the log is of the store [0-9a-f]+, and {SIGN} of"),
             (SIGN, b"TABSTORE", 5, f"{SIGN}: this is no sign of a store, at byte 8"),
