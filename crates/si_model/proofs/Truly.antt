@@ -62,6 +62,7 @@ conflict {next = next} (transacts.conflicts {s = s} {written = written} opens bu
 refused : {st next : State} {start : ℕ} {ws : Writes} {n : Refusal} → Transacts st start ws (Said (Refused n)) next → next ≡ st
 refused (transacts.is_unknown some none) = refl
 refused (transacts.is_late some h late) = refl
+refused (transacts.gives_up storage) = refl
 refused (transacts.refuses comes why) = refl
 
 pub answers_truly : AnswersTruly

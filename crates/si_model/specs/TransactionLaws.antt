@@ -7,14 +7,14 @@ use Rattle.si_model.specs.Machine.{State, Item, Change, Writes, Wrote, Gives, Cl
 use Rattle.si_model.specs.PutCells.{all_put_cells}
 use Rattle.si_model.specs.Scans.{IsSaid}
 use Rattle.si_model.specs.ShowsCells.{ShowsCells}
-use Rattle.si_model.specs.Transactions.{Answer, Said, CommitDone, CommitConflict, Opens, Buffers, ReadsAll, Transacts, Goes, Asked}
+use Rattle.si_model.specs.Transactions.{Answer, Said, CommitDone, CommitConflict, Opens, Buffers, ReadsAll, Transacts, Goes, Operation}
 use Rattle.si_model.specs.declared.replies.Cell.{Cell}
 
 -- a request leads from a reached state to a reached state
 abbrev pub StaysReached : Type 0
 StaysReached =
-    (st next : State) (asked : Asked) (answer : Answer) → IsReached st → Goes st asked answer next
-    → IsReached next
+    (st next : State) (operation : Operation) (answer : Answer) → IsReached st
+    → Goes st operation answer next → IsReached next
 
 -- each of the cells is said this of
 abbrev pub EachSaid : (Cell → Option Item → Type 0) → List Cell → List (Option Item) → Type 0

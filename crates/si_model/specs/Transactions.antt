@@ -4,7 +4,7 @@ use Rattle.std.specs.FinMap.{get}
 use Rattle.cell_key.specs.declared.refusals.Refusal.{Refusal}
 use Rattle.cell_key.specs.declared.refusals.Refusal.TheVariants.{UnknownSession, WrongPhase, BadCount}
 use Rattle.si_model.specs.Sets.{◌∈◌}
-use Rattle.si_model.specs.Machine.{State, Value, Change, Writes, Phase, Open, Request, Begin, Get, Set, Delete, Advance, Stop, Item, Valued, Locked, Unsent, Reply, Begun, Answered, Pending, SetDone, DeleteDone, StopDone, Refused, InPhase, Wrote, Puts, Clashes, Refuses, Step}
+use Rattle.si_model.specs.Machine.{State, Value, Change, Writes, Phase, Open, Request, Begin, Get, Set, Delete, Advance, Stop, Item, Valued, Locked, Unsent, Reply, Begun, Answered, Pending, SetDone, DeleteDone, StopDone, Refused, InPhase, Wrote, Puts, Clashes, IsStorageRefusal, Refuses, Step}
 use Rattle.si_model.specs.Replies.{progress_reply}
 use Rattle.si_model.specs.Scans.{found_length}
 use Rattle.si_model.specs.declared.replies.Cell.{Cell}
@@ -13,13 +13,13 @@ use Rattle.si_model.specs.declared.replies.Progress.TheVariants as progress
 
 -- ---- requests and answers
 
-pub data Asked : Type 0 where
+pub data Operation : Type 0 where
   -- one request of the machine
-  One : (request : Request) → Asked
+  One : (request : Request) → Operation
   -- a transaction: these writes and a commit, in the session of a start, or in a new one if the start is 0
-  Commit : (start : ℕ) (writes : Writes) → Asked
+  Commit : (start : ℕ) (writes : Writes) → Operation
   -- reads of these cells in such a session, which then stays open or ends
-  Read : (start : ℕ) (cells : List Cell) (stays_open : Bool) → Asked
+  Read : (start : ℕ) (cells : List Cell) (stays_open : Bool) → Operation
 
 pub data Answer : Type 0 where
   -- the reply to the one request, or a refusal
@@ -101,6 +101,8 @@ pub data Transacts (st : State) (start : ℕ) (ws : Writes) : Answer → State �
       → Transacts st start ws (Said (Refused UnknownSession)) st
   is_late : {p : Phase} → start ≢ 0 → InPhase st start p → p ≢ Open
       → Transacts st start ws (Said (Refused WrongPhase)) st
+  -- a refusal of the store may come at any time: all is as before
+  gives_up : {n : Refusal} → IsStorageRefusal n → Transacts st start ws (Said (Refused n)) st
   -- one of its requests is refused: all is as before
   refuses : {q : Request} {far : State} {n : Refusal} → ComesTo st start ws far q
       → Refuses far q n → Transacts st start ws (Said (Refused n)) st
@@ -111,9 +113,10 @@ pub data Transacts (st : State) (start : ℕ) (ws : Writes) : Answer → State �
 abbrev pub most_read : ℕ
 most_read = 256
 
--- the most bytes of what it says of its cells
+-- Behind this many bytes of what it says of its cells no value is sent. The marks of 255 more cells and the reply's
+-- other fields then fit into 1,048,576 bytes.
 abbrev pub most_told : ℕ
-most_told = 1048576
+most_told = 1046268
 
 -- the bytes of what it says of a cell: one for the kind, and the content
 abbrev pub told_length : Option Item → ℕ
@@ -152,6 +155,9 @@ pub data ReadsTogether (st : State) (start : ℕ) (cells : List Cell) (stays_ope
   -- the number of its cells is looked at first
   miscounts : ¬ IsReadCount (length cells)
       → ReadsTogether st start cells stays_open (Said (Refused BadCount)) st
+  -- a refusal of the store may come at any time: all is as before
+  gives_up_reads : {n : Refusal} → IsStorageRefusal n
+      → ReadsTogether st start cells stays_open (Said (Refused n)) st
   reads : {s : ℕ} {said : List (Option Item)} {mid read next : State} → IsReadCount (length cells)
       → Opens st start s mid → ReadsAll s 0 mid cells said read
       → StaysOrEnds stays_open read s next
@@ -173,7 +179,7 @@ pub data ReadsTogether (st : State) (start : ℕ) (cells : List Cell) (stays_ope
 -- ---- all requests
 
 -- From st a request may be answered so, and leads to a state.
-pub data Goes (st : State) : Asked → Answer → State → Type 0 where
+pub data Goes (st : State) : Operation → Answer → State → Type 0 where
   steps : {q : Request} {r : Reply} {next : State} → Step st q r next
       → Goes st (One q) (Said r) next
   transacts : {start : ℕ} {ws : Writes} {a : Answer} {next : State}

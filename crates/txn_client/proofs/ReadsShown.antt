@@ -16,7 +16,7 @@ use Rattle.si_model.specs.Refusing.Refuses.{applies_first, gives_up}
 use Rattle.si_model.specs.Answers.{cells_named}
 use Rattle.si_model.specs.Replies.{found_reply, result_reply}
 use Rattle.si_model.specs.ShowsCells.{ShowsCells}
-use Rattle.si_model.specs.Transactions.{Asked, Read, Answer, Said, ReadDone, Opens, is_open, begins, ReadsAll, all_read, finds, IsReadCount, StaysOrEnds, ReadsTogether, reads, refuses_begin, refuses_read, names_unknown, names_late, miscounts, told_length, Goes, reads_together}
+use Rattle.si_model.specs.Transactions.{Operation, Read, Answer, Said, ReadDone, Opens, is_open, begins, ReadsAll, all_read, finds, IsReadCount, StaysOrEnds, ReadsTogether, reads, refuses_begin, refuses_read, names_unknown, names_late, miscounts, told_length, Goes, reads_together}
 use Rattle.si_model.specs.declared.replies.Cell.{Cell}
 use Rattle.si_model.specs.declared.replies.Found.{Found}
 use Rattle.si_model.specs.declared.replies.Found.TheVariants.{Value, Nothing, Pending}

@@ -6,16 +6,16 @@ use Rattle.cell_key.specs.Cells.{Cells}
 use Rattle.cell_key.specs.declared.refusals.Refusal.{Refusal}
 use Rattle.cell_key.specs.declared.refusals.Refusal.TheVariants.{UnknownSession, WrongPhase, BadRow, BadColumn, BadValue, TooManyWrites, TooManySessions, EmptyCommit, BadCount, MemtableFull, Exhausted, Device, NoMemory, Damaged}
 use Rattle.si_model.specs.Machine.{State, IsReached}
-use Rattle.si_model.specs.Transactions.{Answer, Asked, Goes}
+use Rattle.si_model.specs.Transactions.{Answer, Operation, Goes}
 use Rattle.txn_client.specs.Shows.{IsLate, IsOpenSession, Shows}
 use Rattle.txn_client.specs.declared.sessions.Clients.{Clients}
 
 -- From each reached state that is shown before, the request may be answered so, and leads to a state that is shown
 -- after.
-abbrev pub GoesAs : Cells → Clients → ℕ → Asked → Answer → Cells → Clients → ℕ → Type 0
-GoesAs cells clients last asked answer cells' clients' last' =
+abbrev pub GoesAs : Cells → Clients → ℕ → Operation → Answer → Cells → Clients → ℕ → Type 0
+GoesAs cells clients last operation answer cells' clients' last' =
     (st : State) → IsReached st → Shows cells clients last st
-    → (next : State) × Goes st asked answer next × Shows cells' clients' last' next
+    → (next : State) × Goes st operation answer next × Shows cells' clients' last' next
 
 -- the session of a request: the one that is named, which is open, or one that may begin with the next stamp
 pub record HasSession (clients : Clients) (last start s : ℕ) : Type 0 where

@@ -19,7 +19,7 @@ use si_model::{Cell, CellName, Found, ScanFound};
 use std::alloc::Global;
 
 /// The most bytes of what is said of the cells of one request.
-const MOST_TOLD: usize = 1_048_576;
+const MOST_TOLD: usize = 1_046_268;
 
 /// What has been said of the cells so far, and its bytes.
 #[derive(Drop)]
@@ -46,7 +46,7 @@ fn said_after(bytes: usize, found: Found) -> Option<ScanFound>
     requires few { bytes < 2 ^ 32 }
     requires short { IsShort found }
     ensures told { IsTold bytes (found_reply found) (option_map found_item result) }
-    ensures few { (bytes + told_length (option_map found_item result) ≤ 1048576)
+    ensures few { (bytes + told_length (option_map found_item result) ≤ 1046268)
         ⊎ (told_length (option_map found_item result) ≤ 9) }
 {
     match found {
@@ -70,9 +70,9 @@ impl Told {
         start: Stamp,
         name: CellName<'_>,
     ) -> Result<(), Refusal>
-        requires few { self.old.bytes ≤ 1048576 + 9 * length self.old.found.items }
+        requires few { self.old.bytes ≤ 1046268 + 9 * length self.old.found.items }
         requires count { length self.old.found.items < 256 }
-        ensures few { OnOk result (self.new.bytes ≤ 1048576 + 9 * length self.new.found.items) }
+        ensures few { OnOk result (self.new.bytes ≤ 1046268 + 9 * length self.new.found.items) }
         ensures count { OnOk result (length self.new.found.items
             ≡ length self.old.found.items + 1) }
         ensures named { OnOk result (IsNamed (cell_named name.entry)) }

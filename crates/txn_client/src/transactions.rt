@@ -51,7 +51,7 @@ impl Clients {
 
     /// Reads cells in one session, with nothing between: that of the start, or a new one if the start is 0. The session
     /// then stays open or ends. Returns its start, and for each cell what a Get of the session would find. A value is
-    /// left out (`Unsent`) if with it the answers take more than 1,048,576 bytes: a byte for each, a value with its
+    /// left out (`Unsent`) if with it the answers take more than 1,046,268 bytes: a byte for each, a value with its
     /// length in four, and the stamp of a lock in eight.
     ///
     /// # Errors

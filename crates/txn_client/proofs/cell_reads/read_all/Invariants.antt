@@ -7,7 +7,7 @@ use Rattle.txn_client.proofs.cell_reads.read_all.Given as goal
 -- the cells so far are read
 abbrev pub invariant-loop-name : goal.invariant-loop-name
 invariant-loop-name g l = record {
-  few : l.told.bytes ≤ 1048576 + 9 * length l.told.found.items;
+  few : l.told.bytes ≤ 1046268 + 9 * length l.told.found.items;
   count : length l.told.found.items ≡ l.name-index;
   read : AreReadableFrom g.R.Rows.seen l.fn.rows None → AreRead (g.R.Rows.seen.cells l.fn.rows) l.fn.start 0 (cells_named (take l.name-index l.names)) (said_in l.told.found.items);
   bytes : AreReadableFrom g.R.Rows.seen l.fn.rows None → l.told.bytes ≡ told_lengths (said_in l.told.found.items);

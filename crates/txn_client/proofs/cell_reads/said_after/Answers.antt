@@ -10,7 +10,7 @@ returns-then-bytes-len-gt-MOST_TOLD-clause-told c =
     let is = c.in-Value.is in
     let count = c.len.ensures in
     let many = c.if-bytes-len-gt-MOST_TOLD.true in
-    let past : 1048576 < c.args.bytes + (1 + (4 + length c.in-Value.value.items)) = omega (arith, count, many) in
+    let past : 1046268 < c.args.bytes + (1 + (4 + length c.in-Value.value.items)) = omega (arith, count, many) in
     rw is (is_left_out {value = c.in-Value.value.items} past)
 
 pub returns-in-Nothing-clause-told : goal.returns-in-Nothing-clause-told
@@ -24,5 +24,5 @@ returns-else-bytes-len-gt-MOST_TOLD-clause-told c =
     let is = c.in-Value.is in
     let count = c.len.ensures in
     let few = c.if-bytes-len-gt-MOST_TOLD.false in
-    let fits : c.args.bytes + (1 + (4 + length c.in-Value.value.items)) ≤ 1048576 = omega (arith, count, few) in
+    let fits : c.args.bytes + (1 + (4 + length c.in-Value.value.items)) ≤ 1046268 = omega (arith, count, few) in
     rw is (is_sent {value = c.in-Value.value.items} fits)
