@@ -123,6 +123,10 @@ abbrev pub told_length : Option Item → ℕ
 told_length None = 1
 told_length (Some item) = 1 + found_length item
 
+abbrev pub told_lengths : List (Option Item) → ℕ
+told_lengths [] = 0
+told_lengths (said ∷ more) = told_length said + told_lengths more
+
 -- What a Read says for the reply of a Get, after this many bytes: a value that doesn't fit isn't sent.
 pub data IsTold (used : ℕ) : Reply → Option Item → Type 0 where
   has_nothing : IsTold used (Answered None) None

@@ -8,11 +8,11 @@ use Rattle.cell_key.specs.declared.refusals.Refusal.{Refusal}
 use Rattle.si_model.specs.Answers.{cell_named, cells_named}
 use Rattle.si_model.specs.Machine.{Item}
 use Rattle.si_model.specs.Replies.{found_item}
-use Rattle.si_model.specs.Transactions.{told_length}
+use Rattle.si_model.specs.Transactions.{told_length, told_lengths}
 use Rattle.si_model.specs.declared.replies.Cell.{Cell}
 use Rattle.si_model.specs.declared.scans.ScanFound.{ScanFound}
 use Rattle.si_model.specs.declared.transactions.CellName.{CellName}
-use Rattle.txn_client.specs.CellReads.{AreRead, IsReadingRefusal, IsReadSo, IsRefusedAmong, said_in, told_lengths}
+use Rattle.txn_client.specs.CellReads.{AreRead, IsReadingRefusal, IsReadSo, IsRefusedAmong, said_in}
 use Rattle.txn_client.specs.Scans.{IsNamed}
 
 pub said_next : (old new : List (Option ScanFound)) (said : Option ScanFound) → new ≡ old ++ said ∷ [] → said_in new ≡ said_in old ++ option_map found_item said ∷ []

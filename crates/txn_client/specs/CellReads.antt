@@ -31,11 +31,6 @@ AreRead cells s used (x ∷ xs) (said ∷ more) =
 AreRead cells s used [] (said ∷ more) = ⊥
 AreRead cells s used (x ∷ xs) [] = ⊥
 
--- the bytes of what is said of cells
-abbrev pub told_lengths : List (Option Item) → ℕ
-told_lengths [] = 0
-told_lengths (said ∷ more) = told_length said + told_lengths more
-
 -- x is read next, and what is said of it comes last
 pub record ReadsNext (cells : Cells) (s : ℕ) (x : Cell) (old new : Told) : Type 0 where
   pub said : Option Item

@@ -1,7 +1,8 @@
 use Rattle.std.proofs.Common.{◌≡◌, ◌+◌, ◌*◌, ◌≤◌, None, length, take}
 use Rattle.rows.specs.Calls.{AreReadableFrom, OnlyReads}
 use Rattle.si_model.specs.Answers.{cells_named}
-use Rattle.txn_client.specs.CellReads.{AreRead, said_in, told_lengths}
+use Rattle.si_model.specs.Transactions.{told_lengths}
+use Rattle.txn_client.specs.CellReads.{AreRead, said_in}
 use Rattle.txn_client.proofs.cell_reads.read_all.Given as goal
 
 -- the cells so far are read
