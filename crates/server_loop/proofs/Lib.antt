@@ -1,3 +1,4 @@
+mod AtOnce
 mod Causes
 mod CellChanges
 mod CleanSteps
@@ -19,6 +20,7 @@ pub mod SessionSteps
 mod SplitSteps
 pub mod StreamReads
 mod Tended
+mod Unread
 mod UpkeepRefusals
 mod UpkeepSteps
 mod Whole

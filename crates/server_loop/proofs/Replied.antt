@@ -4,12 +4,13 @@ use Rattle.std.specs.Io.KnownBytes.{Appends}
 use Rattle.std.proofs.KnownBytes.{Appends-trans}
 use Rattle.std.proofs.lemmas.List.{take-append-le}
 use Rattle.std.proofs.Math.Seq.{take-length}
-use Rattle.si_model.specs.Machine.{State, Reply, Refused}
+use Rattle.si_model.specs.Machine.{State, Refused}
+use Rattle.si_model.specs.Transactions.{Answer, Said}
 use Rattle.cell_key.specs.declared.refusals.Refusal.TheVariants.{FrameTooLarge}
 use Rattle.std.proofs.lemmas.Bool.Decides.{nat_tests}
-use Rattle.request_codec.specs.Replies.{reply_body}
-use Rattle.request_codec.specs.declared.replies.Reply.{Reply as CodecReply}
-use Rattle.request_codec.specs.declared.requests.Request.{Request as Lent}
+use Rattle.request_codec.specs.Answers.{answer_body}
+use Rattle.request_codec.specs.declared.answers.Answer.{Answer as CodecAnswer}
+use Rattle.request_codec.specs.declared.operations.Operation.{Operation as Lent}
 use Rattle.request_codec.specs.Stream.{frame, frames, IsPartial, IsTooLong}
 use Rattle.server_loop.specs.Runs.{Taken, Body, Oversize, RunsAs, SaysAll}
 use Rattle.server_loop.specs.Batches.{over_at, AnswersAll, Answered, Cuts, Delivers, IsAnswered, IsBatch, IsOver, Outcome, ServesOn}
@@ -28,7 +29,7 @@ module _ {S : Type 0} (shows : S → State → Type 0) where
   pub RunsAs-none : (a : S) → RunsAs shows a a [] []
   RunsAs-none a = λ before reached shown. record { after = before; run = refl; reached = reached; laws = laws_of before reached; shows = shown }
 
-  pub RunsAs-append : (a b c : S) (ts us : List Taken) (rs qs : List Reply) → RunsAs shows a b ts rs → RunsAs shows b c us qs → RunsAs shows a c (ts ++ us) (rs ++ qs)
+  pub RunsAs-append : (a b c : S) (ts us : List Taken) (rs qs : List Answer) → RunsAs shows a b ts rs → RunsAs shows b c us qs → RunsAs shows a c (ts ++ us) (rs ++ qs)
   RunsAs-append a b c ts us rs qs first second = λ before reached shown.
       let one = first before reached shown in
       let two = second one.after one.reached one.shows in
@@ -41,13 +42,13 @@ module _ {S : Type 0} (shows : S → State → Type 0) where
       }
 
   -- a shown state is still shown
-  pub RunsAs-kept : (a b c : S) (ts : List Taken) (rs : List Reply) → RunsAs shows a b ts rs → ((st : State) → shows b st → shows c st) → RunsAs shows a c ts rs
+  pub RunsAs-kept : (a b c : S) (ts : List Taken) (rs : List Answer) → RunsAs shows a b ts rs → ((st : State) → shows b st → shows c st) → RunsAs shows a c ts rs
   RunsAs-kept a b c ts rs first keeps = λ before reached shown.
       let one = first before reached shown in
       record { after = one.after; run = one.run; reached = one.reached; laws = one.laws; shows = keeps one.after one.shows }
 
   -- a length past the limit
-  pub RunsAs-oversize : (a : S) → RunsAs shows a a (Oversize ∷ []) (Refused FrameTooLarge ∷ [])
+  pub RunsAs-oversize : (a : S) → RunsAs shows a a (Oversize ∷ []) (Said (Refused FrameTooLarge) ∷ [])
   RunsAs-oversize a = λ before reached shown. record { after = before; run = (before, (refl, refl), refl); reached = reached; laws = laws_of before reached; shows = shown }
 
 -- ---- the inputs taken
@@ -82,23 +83,23 @@ no_rest bodies bytes rest whole none =
     let zero : length bytes ≡ 0 = ap length none in
     subst IsPartial (sym (none_long rest (omega (arith, size, zero, length-append (frames bodies) rest)))) IsPartial-nil
 
-pub written_of-join : (rs qs : List Reply) → written_of (rs ++ qs) ≡ written_of rs ++ written_of qs
-written_of-join rs qs = ap frames (map-join reply_body rs qs) ∙ frames-join (map reply_body rs) (map reply_body qs)
+pub written_of-join : (rs qs : List Answer) → written_of (rs ++ qs) ≡ written_of rs ++ written_of qs
+written_of-join rs qs = ap frames (map-join answer_body rs qs) ∙ frames-join (map answer_body rs) (map answer_body qs)
 
-pub length-replies : (bodies : List (List ℕ)) (rs : List Reply) → bodies ≡ map reply_body rs → length bodies ≡ length rs
-length-replies bodies rs are = ap length are ∙ length-map reply_body rs
+pub length-replies : (bodies : List (List ℕ)) (rs : List Answer) → bodies ≡ map answer_body rs → length bodies ≡ length rs
+length-replies bodies rs are = ap length are ∙ length-map answer_body rs
 
-one_reply : (last : List ℕ) (rs : List Reply) → last ∷ [] ≡ map reply_body rs → (reply : Reply) × (rs ≡ reply ∷ [])
+one_reply : (last : List ℕ) (rs : List Answer) → last ∷ [] ≡ map answer_body rs → (reply : Answer) × (rs ≡ reply ∷ [])
 one_reply last [] is = absurd (let size : length (last ∷ []) ≡ 0 = ap length is in omega (arith, size))
 one_reply last (reply ∷ []) is = (reply, refl)
-one_reply last (reply ∷ other ∷ more) is = absurd (let size : length (last ∷ []) ≡ length (reply_body reply ∷ reply_body other ∷ map reply_body more) = ap length is in omega (arith, size))
+one_reply last (reply ∷ other ∷ more) is = absurd (let size : length (last ∷ []) ≡ length (answer_body reply ∷ answer_body other ∷ map answer_body more) = ap length is in omega (arith, size))
 
 -- ---- answers of the machine
 
-module _ {S : Type 0} (shows : S → State → Type 0) (says : S → Lent → CodecReply → S → Type 0) (between : S → S → Type 0) where
+module _ {S : Type 0} (shows : S → State → Type 0) (says : S → Lent → CodecAnswer → S → Type 0) (between : S → S → Type 0) where
   -- the replies with these bodies
   abbrev pub Replies : S → List Taken → List (List ℕ) → S → Type 0
-  Replies a ts bodies e = (replies : List Reply) × (bodies ≡ map reply_body replies) × RunsAs shows a e ts replies × SaysAll says between a ts replies e
+  Replies a ts bodies e = (replies : List Answer) × (bodies ≡ map answer_body replies) × RunsAs shows a e ts replies × SaysAll says between a ts replies e
 
   pub replies_of : (a e : S) (ts : List Taken) (bodies : List (List ℕ)) → AnswersAll (IsAnswered shows says between) a ts bodies e → Replies a ts bodies e
   replies_of a e [] [] p = ([], refl, subst (λ (s : S). RunsAs shows a s [] []) (sym p) (RunsAs-none shows a), p)
@@ -106,7 +107,7 @@ module _ {S : Type 0} (shows : S → State → Type 0) (says : S → Lent → Co
       let one = p.1 in
       let more = replies_of p.0 e ts bodies p.2 in (
         one.reply ∷ more.0,
-        ap (λ l. l ∷ bodies) one.is_body ∙ ap (λ l. reply_body one.reply ∷ l) more.1,
+        ap (λ l. l ∷ bodies) one.is_body ∙ ap (λ l. answer_body one.reply ∷ l) more.1,
         RunsAs-append shows a p.0 e (t ∷ []) ts (one.reply ∷ []) more.0 (RunsAs-kept shows a one.mid p.0 (t ∷ []) (one.reply ∷ []) one.run one.shown) more.2,
         (one.mid, p.0, one.said, one.tended, more.3),
       )
@@ -117,7 +118,7 @@ module _ {S : Type 0} (shows : S → State → Type 0) (says : S → Lent → Co
   abbrev pub Replies-append : (a b c : S) (ts us : List Taken) (rs qs : List (List ℕ)) → Replies a ts rs b → Replies b us qs c → Replies a (ts ++ us) (rs ++ qs) c
   Replies-append a b c ts us rs qs p q = (
     p.0 ++ q.0,
-    ap (λ l. l ++ qs) p.1 ∙ ap (λ l. map reply_body p.0 ++ l) q.1 ∙ sym (map-join reply_body p.0 q.0),
+    ap (λ l. l ++ qs) p.1 ∙ ap (λ l. map answer_body p.0 ++ l) q.1 ∙ sym (map-join answer_body p.0 q.0),
     RunsAs-append shows a b c ts us p.0 q.0 p.2 q.2,
     SaysAll-append says between a b c ts us p.0 q.0 p.3 q.3,
   )
@@ -141,7 +142,7 @@ module _ {S : Type 0} (shows : S → State → Type 0) (says : S → Lent → Co
 
 -- ---- a server whose answers need no settling
 
-module _ {S : Type 0} (shows : S → State → Type 0) (says : S → Lent → CodecReply → S → Type 0) (between : S → S → Type 0) where
+module _ {S : Type 0} (shows : S → State → Type 0) (says : S → Lent → CodecAnswer → S → Type 0) (between : S → S → Type 0) where
   abbrev Same : S → S → Type 0
   Same old new = new ≡ old
 
@@ -153,13 +154,13 @@ module _ {S : Type 0} (shows : S → State → Type 0) (says : S → Lent → Co
   joins first mid new taken body is (inr none) = absurd none
 
   all_handled : (result : Result End ServeFault) (a e : S) (bytes rest : List ℕ) (over : List Taken) (h i : Option (List ℕ)) (p : Delivers (IsAnswered shows says between) Same Never a e bytes rest over h i) → TakesBodies result p.answered.bodies rest (map Body p.answered.bodies ++ over)
-      → ((rs : List Reply) → WritesReplies result rs (written_of rs)) → Handles shows says between result a e bytes rest h i
+      → ((rs : List Answer) → WritesReplies result rs (written_of rs)) → Handles shows says between result a e bytes rest h i
   all_handled result a e bytes rest over h i p takes writes =
       let m = replies_of shows says between a e (map Body p.answered.bodies ++ over) p.replies p.answered.said in
       handled shows says between result a e bytes rest over p.replies h i p.answered takes m (written_of m.0) (writes m.0) (subst (λ (l : List (List ℕ)). Appends h i (frames l)) m.1 p.appended)
 
   -- a reply was cut short
-  cut_short : (earlier replies : List Reply) (bodies sent : List (List ℕ)) (written more : List ℕ) → IsBatch 1 bodies → 0 < length bodies → bodies ≡ map reply_body replies → sent ≡ map reply_body earlier → frames bodies ≡ written ++ more → 0 < length more
+  cut_short : (earlier replies : List Answer) (bodies sent : List (List ℕ)) (written more : List ℕ) → IsBatch 1 bodies → 0 < length bodies → bodies ≡ map answer_body replies → sent ≡ map answer_body earlier → frames bodies ≡ written ++ more → 0 < length more
       → IsCutShort (earlier ++ replies) (frames sent ++ written)
   cut_short earlier replies bodies sent written more (inl none) some are are_sent parts left = absurd (let size : length bodies ≡ 0 = ap length none in omega (arith, some, size))
   cut_short earlier replies bodies sent written more (inr (first, last, is, few)) some are are_sent parts left =
@@ -167,9 +168,9 @@ module _ {S : Type 0} (shows : S → State → Type 0) (says : S → Lent → Co
       let one : bodies ≡ last ∷ [] = is ∙ ap (λ l. l ++ last ∷ []) alone in
       let found = one_reply last replies (sym one ∙ are) in
       let reply = found.0 in
-      let whole : frame (reply_body reply) ≡ written ++ more =
-      sym (append-nil (frame (reply_body reply))) ∙ (ap (λ l. frames (map reply_body l)) (sym found.1) ∙ (ap frames (sym are) ∙ parts)) in
-      let size : length (frame (reply_body reply)) ≡ length (written ++ more) = ap length whole in
+      let whole : frame (answer_body reply) ≡ written ++ more =
+      sym (append-nil (frame (answer_body reply))) ∙ (ap (λ l. frames (map answer_body l)) (sym found.1) ∙ (ap frames (sym are) ∙ parts)) in
+      let size : length (frame (answer_body reply)) ≡ length (written ++ more) = ap length whole in
       record {
         earlier = earlier;
         reply = reply;

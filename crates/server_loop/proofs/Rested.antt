@@ -1,5 +1,5 @@
 -- The state at which a server rests after an answer, and between two requests.
-use Rattle.std.proofs.Common.{◌≡◌, ◌≢◌, ◌≤◌, ◌⊎◌, inl, inr, ℕ, Bool, true, false, Option, None, Some, refl, ap, subst, sym, arith}
+use Rattle.std.proofs.Common.{◌≡◌, ◌≢◌, ◌≤◌, ◌⊎◌, inl, inr, ℕ, Bool, true, false, List, Option, None, Some, Result, Ok, Err, refl, ap, subst, sym, arith}
 use Rattle.std.specs.Prelude.{IsSome, IsSomeAnd}
 use Rattle.cell_key.specs.Cells.{Cells}
 use Rattle.cell_key.specs.declared.refusals.Refusal.{Refusal}
@@ -10,6 +10,7 @@ use Rattle.metadata_table.specs.Roots.{RootView}
 use Rattle.oracle.specs.Marks.{IsWithinMark, MayHold}
 use Rattle.oracle.specs.Ranges.{OracleState}
 use Rattle.request_codec.specs.Requests.{asked}
+use Rattle.request_codec.specs.declared.answers.Answer.{Answer as CodecAnswer}
 use Rattle.request_codec.specs.declared.replies.Reply.{Reply as CodecReply}
 use Rattle.request_codec.specs.declared.replies.Reply.TheVariants as codec
 use Rattle.request_codec.specs.declared.requests.Request.{Request as Lent}
@@ -19,15 +20,24 @@ use Rattle.row_atomic.specs.Roots.{KeepsRoot, RootIsStored, RootOutlastsFlushes,
 use Rattle.row_atomic.specs.declared.commands.Command.{Command}
 use Rattle.row_atomic.specs.declared.commands.Outcome.TheVariants as outcome
 use Rattle.si_model.specs.Machine as machine
-use Rattle.si_model.specs.Machine.{Acts, CheckpointDone, IsReached, Refused, State, Step, accepts, refuses, reopened, tells}
+use Rattle.si_model.specs.Machine.{Acts, CheckpointDone, IsReached, Refused, State, Step, Writes, accepts, refuses, reopened, tells}
 use Rattle.si_model.specs.ShowsCells.{ShowsCells}
+use Rattle.si_model.specs.Transactions.{Operation, Commit, Read, Said, Goes, steps, transacts, reads_together, is_unknown, is_late, gives_up, refuses as refuses_commit, miscounts, gives_up_reads, names_unknown, names_late, refuses_begin, refuses_read}
+use Rattle.si_model.specs.declared.replies.Cell.{Cell}
+use Rattle.si_model.specs.declared.transactions.CommitReply.{CommitReply}
+use Rattle.si_model.specs.declared.transactions.ReadReply.{ReadReply}
+use Rattle.txn_client.specs.Transactions.{IsCommitRefusal, IsReadRequestRefusal}
 use Rattle.server_loop.specs.Answer.{IsPlainAnswer, TendsTablets}
 use Rattle.server_loop.specs.Commands.{HasOutcome, command_of}
+use Rattle.server_loop.specs.OperationLaws.{StandsForSeveral}
+use Rattle.server_loop.specs.Operations.{AnswersAtOnce, IsCommitAnswer, IsPlainCommit, IsPlainRead, IsReadAnswer, LeavesAll, LeavesOthers, StaysAtRest, commit_given, read_given}
 use Rattle.server_loop.specs.Resting.{IsSparing, KeepsResting, RestingIsKept, RestsAt, RestsBetween, StoresState, TellsState}
+use Rattle.server_loop.specs.Runs.{GoesFrom}
 use Rattle.server_loop.specs.Server.{Shows, cluster_of, last_of, marks_of}
 use Rattle.server_loop.specs.Sessions.{KeepsOracle, LeavesOracle}
 use Rattle.server_loop.specs.Tending.{MergesWhere}
 use Rattle.server_loop.specs.declared.server.Server.{Server}
+use Rattle.server_loop.proofs.AtOnce.{commit_told}
 
 -- ---- the machine's state is unchanged
 
@@ -37,6 +47,19 @@ no_refusal st next q e (tells t) = elim t [ ]
 refused_same : (st next : State) (q : machine.Request) (e : Refusal) → Step st q (Refused e) next → next ≡ st
 refused_same st next q e (refuses n) = refl
 refused_same st next q e (accepts ok acts) = absurd (no_refusal st next q e acts)
+
+refused_goes : (st next : State) (operation : Operation) (e : Refusal) → StandsForSeveral operation → Goes st operation (Said (Refused e)) next → next ≡ st
+refused_goes st next operation e several (steps step) = absurd several
+refused_goes st next operation e several (transacts (is_unknown some none)) = refl
+refused_goes st next operation e several (transacts (is_late some h late)) = refl
+refused_goes st next operation e several (transacts (gives_up storage)) = refl
+refused_goes st next operation e several (transacts (refuses_commit comes refused)) = refl
+refused_goes st next operation e several (reads_together (miscounts many)) = refl
+refused_goes st next operation e several (reads_together (gives_up_reads storage)) = refl
+refused_goes st next operation e several (reads_together (names_unknown few some none)) = refl
+refused_goes st next operation e several (reads_together (names_late few some h late)) = refl
+refused_goes st next operation e several (reads_together (refuses_begin few none refused)) = refl
+refused_goes st next operation e several (reads_together (refuses_read after few is opens all refused)) = refl
 
 checkpoint_same : (st next : State) → Step st machine.Checkpoint CheckpointDone next → next ≡ st
 checkpoint_same st next (accepts ok (tells t)) = refl
@@ -112,7 +135,7 @@ module _ {F M : Type 0} (files : Files F) (store : MarkStore M) where
     spared_root (lent.Raw row family qualifier lo hi) reply old new is (inr none) keeps = subst (λ (state : ClusterState F). KeepsRoot files.contents root cells state) (sym none.1) keeps
     spared_root request reply old new is tends keeps = absurd is
 
-  module _ (reopens : (cells : Cells) (st : State) → ShowsCells cells st → ShowsCells cells (reopened st)) (stored : RootIsStored files.contents) (stays : RootStays files.contents files.faults) (old new : Server F M) (within : IsWithinMark (last_of new) (store.mark (marks_of new))) where
+  module _ (old new : Server F M) (within : IsWithinMark (last_of new) (store.mark (marks_of new))) where
     -- it rests at the same root
     rests_on : (st : State) → Shows files.contents new st → (rests : RestsAt files.contents store.mark old st) → KeepsRoot files.contents rests.root rests.cells (cluster_of new) → IsSome (store.mark (marks_of new)) → RestsAt files.contents store.mark new st
     rests_on st shown rests keeps told = record {
@@ -130,17 +153,49 @@ module _ {F M : Type 0} (files : Files F) (store : MarkStore M) where
       };
     }
 
+    -- after a refusal of a Commit or a Read
+    pub rests_at_once : RootIsStored files.contents → (operation : Operation) (e : Refusal) → StandsForSeveral operation → GoesFrom (Shows files.contents) old new operation (Said (Refused e)) → LeavesOthers files.contents old new → LeavesAll files.contents store.mark old new
+        → (st : State) → IsReached st → RestsAt files.contents store.mark old st → RestsAt files.contents store.mark new st
+    rests_at_once stored operation e several goes others left st reached rests =
+        let (next, gone, after, whole) = goes st reached rests.shows in
+        let shown : Shows files.contents new st = subst (λ (s : State). Shows files.contents new s) (refused_goes _ _ operation e several gone) after in
+        rests_on st shown rests ((stored rests.root rests.cells (cluster_of old) (cluster_of new) others.storage).1 rests.keeps) (may_told _ _ _ left.mark (some_told _ _ rests.tells.marked))
+
+    commit_rests : RootIsStored files.contents → (start : ℕ) (writes : Writes) (result : Result CommitReply Refusal) → AnswersAtOnce files store (Commit start writes) IsCommitRefusal old (commit_given result) new → StaysAtRest files.contents store.mark (commit_given result) old new
+    commit_rests stored start writes (Ok reply) at_once = commit_told _ reply
+    commit_rests stored start writes (Err e) at_once = rests_at_once stored (Commit start writes) e tt at_once.goes at_once.others at_once.refused
+
+    pub commit_stays : RootIsStored files.contents → (start : ℕ) (writes : Writes) (answer : CodecAnswer) → IsPlainCommit files store old start writes answer new → IsCommitAnswer files store old start writes answer new
+    commit_stays stored start writes answer plain = record {
+      plain = plain;
+      rested = subst (λ (a : CodecAnswer). StaysAtRest files.contents store.mark a old new) (sym plain.gives)
+          (commit_rests stored start writes plain.result (subst (λ (a : CodecAnswer). AnswersAtOnce files store (Commit start writes) IsCommitRefusal old a new) plain.gives plain.at_once));
+    }
+
+    read_rests : RootIsStored files.contents → (start : ℕ) (cells : List Cell) (stays_open : Bool) (result : Result ReadReply Refusal) → AnswersAtOnce files store (Read start cells stays_open) IsReadRequestRefusal old (read_given result) new
+        → StaysAtRest files.contents store.mark (read_given result) old new
+    read_rests stored start cells stays_open (Ok reply) at_once = tt
+    read_rests stored start cells stays_open (Err e) at_once = rests_at_once stored (Read start cells stays_open) e tt at_once.goes at_once.others at_once.refused
+
+    pub read_stays : RootIsStored files.contents → (start : ℕ) (cells : List Cell) (stays_open : Bool) (answer : CodecAnswer) → IsPlainRead files store old start cells stays_open answer new → IsReadAnswer files store old start cells stays_open answer new
+    read_stays stored start cells stays_open answer plain = record {
+      plain = plain;
+      rested = subst (λ (a : CodecAnswer). StaysAtRest files.contents store.mark a old new) (sym plain.gives)
+          (read_rests stored start cells stays_open plain.result (subst (λ (a : CodecAnswer). AnswersAtOnce files store (Read start cells stays_open) IsReadRequestRefusal old a new) plain.gives plain.at_once));
+    }
+
+  module _ (reopens : (cells : Cells) (st : State) → ShowsCells cells st → ShowsCells cells (reopened st)) (stored : RootIsStored files.contents) (stays : RootStays files.contents files.faults) (old new : Server F M) (within : IsWithinMark (last_of new) (store.mark (marks_of new))) where
     rests_refused : (request : Lent) (e : Refusal) → request ≢ lent.Checkpoint → IsPlainAnswer files store old request (codec.Refused e) new → (st : State) → IsReached st → RestsAt files.contents store.mark old st → RestsAt files.contents store.mark new st
     rests_refused request e other plain st reached rests =
         let (next, step, after, whole) = plain.step.step st reached rests.shows in
         let shown : Shows files.contents new st = subst (λ (s : State). Shows files.contents new s) (refused_same _ _ _ _ step) after in
-        rests_on st shown rests (tends_root stored stays rests.root rests.cells request e old new other plain.tablets rests.keeps) (told_mark request e old new plain.sessions.oracle (some_told _ _ rests.tells.marked))
+        rests_on old new within st shown rests (tends_root stored stays rests.root rests.cells request e old new other plain.tablets rests.keeps) (told_mark request e old new plain.sessions.oracle (some_told _ _ rests.tells.marked))
 
     rests_spared : (request : Lent) (reply : CodecReply) → IsSparing request → IsPlainAnswer files store old request reply new → (st : State) → IsReached st → RestsAt files.contents store.mark old st → RestsAt files.contents store.mark new st
     rests_spared request reply is plain st reached rests =
         let (next, step, after, whole) = plain.step.step st reached rests.shows in
         let shown : Shows files.contents new st = subst (λ (s : State). Shows files.contents new s) (spared_same _ _ request _ is step) after in
-        rests_on st shown rests (spared_root stored stays rests.root rests.cells request reply old new is plain.tablets rests.keeps) (told_spared request reply old new is plain.sessions.oracle (some_told _ _ rests.tells.marked))
+        rests_on old new within st shown rests (spared_root stored stays rests.root rests.cells request reply old new is plain.tablets rests.keeps) (told_spared request reply old new is plain.sessions.oracle (some_told _ _ rests.tells.marked))
 
     rests_done : IsPlainAnswer files store old lent.Checkpoint codec.Checkpoint new → (st : State) → IsReached st → Shows files.contents old st → IsSome (store.mark (marks_of old)) → RestsAt files.contents store.mark new st
     rests_done plain st reached shown told =

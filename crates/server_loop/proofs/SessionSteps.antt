@@ -12,11 +12,12 @@ use Rattle.si_model.specs.Kinds.{OfSessions, kind_of}
 use Rattle.si_model.specs.ShowsCells.{ShowsCells}
 use Rattle.si_model.specs.Refusing.{Refuses, gives_up}
 use Rattle.si_model.specs.Replies.{found_reply, progress_reply, scan_reply}
+use Rattle.si_model.specs.Transactions.{Answer, One, Said, steps}
 use Rattle.si_model.specs.declared.scans.ScanReply.{ScanReply}
 use Rattle.si_model.specs.declared.replies.Found.{Found}
 use Rattle.si_model.specs.declared.replies.Found.TheVariants as founds
 use Rattle.si_model.specs.declared.replies.Progress.{Progress}
-use Rattle.si_model.specs.declared.replies.Progress.TheVariants as steps
+use Rattle.si_model.specs.declared.replies.Progress.TheVariants as progresses
 use Rattle.file_store.specs.Store.{Contents}
 use Rattle.row_atomic.specs.Recorded.{seen_recorded}
 use Rattle.row_atomic.specs.Clusters.{cells_in}
@@ -31,7 +32,7 @@ use Rattle.request_codec.specs.declared.replies.Reply.TheVariants as codec
 use Rattle.server_loop.specs.declared.server.Server.{Server}
 use Rattle.server_loop.specs.Server.{HoldsIn, Shows, server_cells}
 use Rattle.server_loop.specs.Sessions.{LeavesMark, LeavesOracle}
-use Rattle.server_loop.specs.Runs.{KeepsToLimits, StampsGoOn, StepsAs, IfRefused}
+use Rattle.server_loop.specs.Runs.{GoesFrom, KeepsToLimits, StampsGoOn, StepsAs, IfRefused}
 use Rattle.server_loop.proofs.CleanSteps.{spots_in}
 use Rattle.server_loop.proofs.OthersShown.{cleaners_stay, collectors_stay, not_kind, sessions_not_cleaners, sessions_not_collectors}
 use Rattle.server_loop.proofs.SamePlaces.{KeepsPlaces}
@@ -56,6 +57,15 @@ module _ {F M : Type 0} (contents : F → Option Contents) (old new : Server F M
         next = still_next before next request reply taken keeps shown.next;
       } in
       (next, taken, after, whole before reached shown.in_order shown.shows)
+
+-- a step of the machine is an answer to one request
+pub goes_one : {S : Type 0} {shows : S → State → Type 0} {old new : S} {request : Request} {reply : Reply} → StepsAs shows old new request reply → GoesFrom shows old new (One request) (Said reply)
+goes_one steps_to before reached shown =
+    let (after, step, shows, whole) = steps_to before reached shown in
+    (after, steps step, shows, λ is. whole (ap said_of is)) where
+  abbrev said_of : Answer → Reply
+  said_of (Said reply) = reply
+  said_of answer = SetDone
 
 -- nothing was drawn for a begin, by the reason of its refusal
 abbrev pub Undrawn : Refusal → Type 0
@@ -118,21 +128,21 @@ pub scan_undamaged : (reply : ScanReply) → scan_reply reply ≡ Refused Damage
 scan_undamaged reply = λ e. cc
 
 pub progress_undamaged : (progress : Progress) → progress_reply progress ≡ Refused Damaged → ⊥
-progress_undamaged (steps.Held place count) = λ e. cc
-progress_undamaged (steps.Conflict place) = λ e. cc
-progress_undamaged (steps.Stamped stamp) = λ e. cc
-progress_undamaged (steps.Committed stamp) = λ e. cc
-progress_undamaged steps.Lost = λ e. cc
-progress_undamaged (steps.Finished place count) = λ e. cc
+progress_undamaged (progresses.Held place count) = λ e. cc
+progress_undamaged (progresses.Conflict place) = λ e. cc
+progress_undamaged (progresses.Stamped stamp) = λ e. cc
+progress_undamaged (progresses.Committed stamp) = λ e. cc
+progress_undamaged progresses.Lost = λ e. cc
+progress_undamaged (progresses.Finished place count) = λ e. cc
 
 -- an accepted step is no refusal
 pub progress_told : (P : Refusal → Type 0) (progress : Progress) → IfRefused P (progress_reply progress)
-progress_told P (steps.Held place count) = tt
-progress_told P (steps.Conflict place) = tt
-progress_told P (steps.Stamped stamp) = tt
-progress_told P (steps.Committed stamp) = tt
-progress_told P steps.Lost = tt
-progress_told P (steps.Finished place count) = tt
+progress_told P (progresses.Held place count) = tt
+progress_told P (progresses.Conflict place) = tt
+progress_told P (progresses.Stamped stamp) = tt
+progress_told P (progresses.Committed stamp) = tt
+progress_told P progresses.Lost = tt
+progress_told P (progresses.Finished place count) = tt
 
 module _ {F M : Type 0} (contents : F → Option Contents) (old new : Server F M) where
   -- a restart of the oracle, after which the server shows the same
@@ -154,12 +164,12 @@ never P reply refusal told none is = none (subst (λ (r : CodecReply). IfRefused
 
 -- a step's stamp is the oracle's next one
 pub progress_goes : (progress : Progress) (old new : ℕ) → DrawsNext old progress → new ≡ top_after old progress → StampsGoOn (progress_reply progress) old new
-progress_goes (steps.Held place count) old new draws last = last
-progress_goes (steps.Conflict place) old new draws last = last
-progress_goes (steps.Stamped stamp) old new draws last = (draws, last)
-progress_goes (steps.Committed stamp) old new draws last = last
-progress_goes steps.Lost old new draws last = last
-progress_goes (steps.Finished place count) old new draws last = last
+progress_goes (progresses.Held place count) old new draws last = last
+progress_goes (progresses.Conflict place) old new draws last = last
+progress_goes (progresses.Stamped stamp) old new draws last = (draws, last)
+progress_goes (progresses.Committed stamp) old new draws last = last
+progress_goes progresses.Lost old new draws last = last
+progress_goes (progresses.Finished place count) old new draws last = last
 
 -- the result of a read is no refusal and draws no stamp
 pub found_told : (P : Refusal → Type 0) (found : Found) → IfRefused P (found_reply found)

@@ -4,8 +4,8 @@ use Rattle.std.specs.Io.KnownBytes.{Appends}
 use Rattle.si_model.specs.Machine.{State}
 use Rattle.server_loop.specs.Runs.{Taken, AnswersAs}
 use Rattle.request_codec.specs.Stream.{frames}
-use Rattle.request_codec.specs.declared.replies.Reply.{Reply as CodecReply}
-use Rattle.request_codec.specs.declared.requests.Request.{Request as Lent}
+use Rattle.request_codec.specs.declared.answers.Answer.{Answer as CodecAnswer}
+use Rattle.request_codec.specs.declared.operations.Operation.{Operation as Lent}
 use Rattle.server_loop.specs.Serve.{Serves, ServesStream, RestIs}
 use Rattle.server_loop.specs.declared.statuses.End.{End}
 use Rattle.server_loop.specs.declared.statuses.End.TheVariants as ends
@@ -14,7 +14,7 @@ use Rattle.server_loop.proofs.Replied.{taken-large}
 use Rattle.server_loop.proofs.ServingLemmas.{BeginsNoFrame-from_large}
 use Rattle.server_loop.proofs.FrameHeads.{IsTooLong-more}
 
-module _ {S : Type 0} (shows : S → State → Type 0) (says : S → Lent → CodecReply → S → Type 0) (between : S → S → Type 0) where
+module _ {S : Type 0} (shows : S → State → Type 0) (says : S → Lent → CodecAnswer → S → Type 0) (between : S → S → Type 0) where
   -- the reader was at its end
   at_end : (a b : S) (stream rest' : List ℕ) (h i : Option (List ℕ)) (r : ℕ) (end : End) (p : Serves shows says between a b (Some stream) (Some rest') h i r (Ok end)) → rest' ≡ [] → RestIs end p.rest → ServesStream shows says between a b stream h i end
   at_end a b stream rest' h i r end p none is =

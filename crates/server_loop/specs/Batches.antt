@@ -2,10 +2,11 @@
 use Rattle.std.specs.Prelude.{◌≡◌, ◌≢◌, ◌⊎◌, ℕ, ◌<◌, ◌≤◌, List, [], ◌∷◌, ◌++◌, length, map, Option, None, Some, Result, Ok, Err, ⊤}
 use Rattle.std.specs.List.{AllByRecursion}
 use Rattle.std.specs.Io.KnownBytes.{Consumes, Appends}
-use Rattle.si_model.specs.Machine.{State, Reply}
-use Rattle.request_codec.specs.Replies.{reply_body}
-use Rattle.request_codec.specs.declared.replies.Reply.{Reply as CodecReply}
-use Rattle.request_codec.specs.declared.requests.Request.{Request as Lent}
+use Rattle.si_model.specs.Machine.{State}
+use Rattle.si_model.specs.Transactions.{Answer}
+use Rattle.request_codec.specs.Answers.{answer_body}
+use Rattle.request_codec.specs.declared.answers.Answer.{Answer as CodecAnswer}
+use Rattle.request_codec.specs.declared.operations.Operation.{Operation as Lent}
 use Rattle.request_codec.specs.Stream.{frames, IsTooLong, IsPartial, BeginsNoFrame, IsBody}
 use Rattle.server_loop.specs.Runs.{Taken, Body, Oversize, RunsAs, SaysOf}
 use Rattle.server_loop.specs.Serve.{as_write, EndsBy}
@@ -27,11 +28,11 @@ taken_by heards.TooLarge = Oversize
 -- An answer of the machine, with a reply of this body: it is given by a run, from each reached state that is shown, and
 -- fulfils the contract of an answer. The upkeep follows it, and keeps showing each state that is shown.
 pub record IsAnswered {S : Type 0} (shows : S → State → Type 0)
-    (says : S → Lent → CodecReply → S → Type 0)
+    (says : S → Lent → CodecAnswer → S → Type 0)
     (between : S → S → Type 0) (old : S) (taken : Taken) (body : List ℕ) (new : S) : Type 0 where
   pub mid : S
-  pub reply : Reply
-  pub is_body : body ≡ reply_body reply
+  pub reply : Answer
+  pub is_body : body ≡ answer_body reply
   pub run : RunsAs shows old mid (taken ∷ []) (reply ∷ [])
   pub said : SaysOf says old taken reply mid
   pub tended : between mid new

@@ -9,4 +9,6 @@ pub mod Sessions
 pub mod Resting
 pub mod Opening
 pub mod Answer
+pub mod OperationLaws
+pub mod Operations
 pub mod Tending

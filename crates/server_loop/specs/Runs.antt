@@ -2,15 +2,18 @@
 use Rattle.std.specs.Prelude.{◌≡◌, ℕ, ◌+◌, ◌≤◌, List, [], ◌∷◌, length, map, Some, ◌⊎◌, ⊤}
 use Rattle.cell_key.specs.Names.{IsRow, IsFamily}
 use Rattle.cell_key.specs.declared.refusals.Refusal.{Refusal}
-use Rattle.cell_key.specs.declared.refusals.Refusal.TheVariants.{BadRequest, FrameTooLarge, Damaged}
+use Rattle.cell_key.specs.declared.refusals.Refusal.TheVariants.{BadRequest, FrameTooLarge, NoMemory, Damaged}
 use Rattle.si_model.specs.Machine.{State, Reply, Refused, Step, IsReached}
+use Rattle.si_model.specs.Transactions.{Operation, Answer, Said, Goes}
 use Rattle.si_model.specs.Laws.{IsSettled, FirstCommitterWins, OneFate, OneMark}
 use Rattle.si_model.specs.Replies.{item_of, reach_of}
 use Rattle.si_model.specs.ScanLaws.{ScansSettled}
 use Rattle.txn_client.specs.Scans.{IsInScanLimits}
-use Rattle.request_codec.specs.Replies.{replied}
-use Rattle.request_codec.specs.Requests.{asked, IsRequest, IsMalformed}
-use Rattle.request_codec.specs.declared.requests.Request.{Request as Lent}
+use Rattle.request_codec.specs.Answers.{answer_of, HoldsAnswerWithinLimits}
+use Rattle.request_codec.specs.Operations.{operation_of, IsOperation, IsNoOperation, NamesCells}
+use Rattle.request_codec.specs.declared.answers.Answer.{Answer as CodecAnswer}
+use Rattle.request_codec.specs.declared.answers.Answer.TheVariants as given
+use Rattle.request_codec.specs.declared.operations.Operation.{Operation as Lent}
 use Rattle.si_model.specs.Machine as machine
 use Rattle.si_model.specs.declared.replies.CollectReply.TheVariants.{Blocked}
 use Rattle.si_model.specs.declared.replies.Found.TheVariants.{Value}
@@ -22,19 +25,19 @@ pub data Taken : Type 0 where
   Body : (body : List ℕ) → Taken
   Oversize : Taken
 
--- A body in the grammar is a step of the machine. Any other body is refused, and so is a length past the limit.
-abbrev pub Answers : State → Taken → Reply → State → Type 0
-Answers old (Body body) reply new =
-    ((request : machine.Request) × IsRequest request body × Step old request reply new)
-    ⊎ (IsMalformed body × (reply ≡ Refused BadRequest) × (new ≡ old))
-Answers old Oversize reply new = (reply ≡ Refused FrameTooLarge) × (new ≡ old)
+-- A body in the grammar is answered as the machine goes. Any other body is refused, and so is a length past the limit.
+abbrev pub Answers : State → Taken → Answer → State → Type 0
+Answers old (Body body) answer new =
+    ((operation : Operation) × IsOperation operation body × Goes old operation answer new)
+    ⊎ (IsNoOperation body × (answer ≡ Said (Refused BadRequest)) × (new ≡ old))
+Answers old Oversize answer new = (answer ≡ Said (Refused FrameTooLarge)) × (new ≡ old)
 
 -- one answer after the other
-abbrev pub RunOver : State → List Taken → List Reply → State → Type 0
+abbrev pub RunOver : State → List Taken → List Answer → State → Type 0
 RunOver old [] [] new = new ≡ old
-RunOver old (taken ∷ more) (reply ∷ replies) new =
-    (mid : State) × Answers old taken reply mid × RunOver mid more replies new
-RunOver old [] (reply ∷ replies) new = ⊥
+RunOver old (taken ∷ more) (answer ∷ answers) new =
+    (mid : State) × Answers old taken answer mid × RunOver mid more answers new
+RunOver old [] (answer ∷ answers) new = ⊥
 RunOver old (taken ∷ more) [] new = ⊥
 
 -- the laws of snapshot isolation at a state
@@ -52,46 +55,59 @@ pub record ObeysLaws (st : State) : Type 0 where
 
 -- With these answers the machine went from a state to one that is shown and obeys the laws.
 pub record RunsTo (before : State) (shown : State → Type 0) (taken : List Taken)
-    (replies : List Reply) : Type 0 where
+    (answers : List Answer) : Type 0 where
   pub after : State
-  pub run : RunOver before taken replies after
+  pub run : RunOver before taken answers after
   pub reached : IsReached after
   pub laws : ObeysLaws after
   pub shows : shown after
 
--- A run gives these replies, from each reached state that is shown before to one that is shown after.
-abbrev pub RunsAs : {S : Type 0} → (S → State → Type 0) → S → S → List Taken → List Reply → Type 0
-RunsAs shows old new taken replies =
-    (before : State) → IsReached before → shows old before → RunsTo before (shows new) taken replies
+-- A run gives these answers, from each reached state that is shown before to one that is shown after.
+abbrev pub RunsAs : {S : Type 0} → (S → State → Type 0) → S → S → List Taken → List Answer → Type 0
+RunsAs shows old new taken answers =
+    (before : State) → IsReached before → shows old before → RunsTo before (shows new) taken answers
 
--- A body in the grammar is answered by the contract of its request. Any other body, and a length past the limit, is
+-- A body that isn't read: it is no operation's, or it names cells and there is no memory to list them.
+abbrev pub IsUnread : List ℕ → Answer → Type 0
+IsUnread body answer =
+    (IsNoOperation body × (answer ≡ Said (Refused BadRequest)))
+    ⊎ (NamesCells body × (answer ≡ Said (Refused NoMemory)))
+
+-- A body that is read is answered by the contract of its operation. Any other body, and a length past the limit, is
 -- refused and changes nothing.
-abbrev pub SaysOf : {S : Type 0} → (S → Lent → CodecReply → S → Type 0) → S → Taken → Reply → S
+abbrev pub SaysOf : {S : Type 0} → (S → Lent → CodecAnswer → S → Type 0) → S → Taken → Answer → S
     → Type 0
-SaysOf says old (Body body) reply new =
-    ((request : Lent) × (answer : CodecReply) × IsRequest (asked request) body
-    × (reply ≡ replied answer) × says old request answer new)
-    ⊎ (IsMalformed body × (reply ≡ Refused BadRequest) × (new ≡ old))
-SaysOf says old Oversize reply new = (reply ≡ Refused FrameTooLarge) × (new ≡ old)
+SaysOf says old (Body body) answer new =
+    ((operation : Lent) × (given : CodecAnswer) × IsOperation (operation_of operation) body
+    × (answer ≡ answer_of given) × says old operation given new)
+    ⊎ (IsUnread body answer × (new ≡ old))
+SaysOf says old Oversize answer new = (answer ≡ Said (Refused FrameTooLarge)) × (new ≡ old)
 
-module _ {S : Type 0} (says : S → Lent → CodecReply → S → Type 0) (between : S → S → Type 0) where
+module _ {S : Type 0} (says : S → Lent → CodecAnswer → S → Type 0) (between : S → S → Type 0) where
   -- One answer after the other, each followed by the upkeep before the next.
-  abbrev pub SaysAll : S → List Taken → List Reply → S → Type 0
+  abbrev pub SaysAll : S → List Taken → List Answer → S → Type 0
   SaysAll old [] [] new = new ≡ old
-  SaysAll old (taken ∷ more) (reply ∷ replies) new =
-      (mid next : S) × SaysOf says old taken reply mid × between mid next
-      × SaysAll next more replies new
-  SaysAll old [] (reply ∷ replies) new = ⊥
+  SaysAll old (taken ∷ more) (answer ∷ answers) new =
+      (mid next : S) × SaysOf says old taken answer mid × between mid next
+      × SaysAll next more answers new
+  SaysAll old [] (answer ∷ answers) new = ⊥
   SaysAll old (taken ∷ more) [] new = ⊥
 
--- These replies are given by a run of the machine. Each fulfils the contract of an answer, and is followed by the
+-- These answers are given by a run of the machine. Each fulfils the contract of an answer, and is followed by the
 -- upkeep.
 pub record AnswersAs {S : Type 0} (shows : S → State → Type 0)
-    (says : S → Lent → CodecReply → S → Type 0)
+    (says : S → Lent → CodecAnswer → S → Type 0)
     (between : S → S → Type 0) (old new : S) (taken : List Taken)
-    (replies : List Reply) : Type 0 where
-  pub run : RunsAs shows old new taken replies
-  pub said : SaysAll says between old taken replies new
+    (answers : List Answer) : Type 0 where
+  pub run : RunsAs shows old new taken answers
+  pub said : SaysAll says between old taken answers new
+
+-- The machine may answer so, from each reached state that is shown before to one that is shown after. The answer is
+-- never Damaged.
+abbrev pub GoesFrom : {S : Type 0} → (S → State → Type 0) → S → S → Operation → Answer → Type 0
+GoesFrom shows old new operation answer = (before : State) → IsReached before → shows old before
+    → (after : State) × Goes before operation answer after × shows new after
+    × (answer ≡ Said (Refused Damaged) → ⊥)
 
 -- This reply is a step of the machine, from each reached state that is shown before to one that is shown after. It is
 -- never Damaged.
@@ -114,6 +130,16 @@ KeepsToLimits other = ⊤
 abbrev pub IfRefused : (Refusal → Type 0) → Reply → Type 0
 IfRefused P (Refused refusal) = P refusal
 IfRefused P reply = ⊤
+
+-- the same for an answer of several cells, in the words of its longest frame
+abbrev pub AnswerKeepsToLimits : CodecAnswer → Type 0
+AnswerKeepsToLimits (given.Said reply) = KeepsToLimits reply
+AnswerKeepsToLimits answer = HoldsAnswerWithinLimits (answer_of answer)
+
+-- a property of an answer's refusal, if it is one
+abbrev pub IfAnswerRefused : (Refusal → Type 0) → Answer → Type 0
+IfAnswerRefused P (Said reply) = IfRefused P reply
+IfAnswerRefused P answer = ⊤
 
 -- The oracle's last stamp after a reply: a stamp in the answer is the next one and becomes the last, a restart never
 -- goes back, and any other reply leaves it unchanged.

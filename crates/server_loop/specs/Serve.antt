@@ -2,10 +2,11 @@
 use Rattle.std.specs.Prelude.{◌≡◌, ◌≢◌, ◌⊎◌, ℕ, ◌+◌, ◌<◌, ◌≤◌, List, [], ◌∷◌, ◌++◌, length, take, map, Bool, ◌&&◌, nat_lt, nat_le, if◌then◌else◌, Option, None, Some, Result, Ok, Err, ⊤}
 use Rattle.std.specs.List.{AllByRecursion}
 use Rattle.std.specs.Io.KnownBytes.{Consumes, Appends, IsAtEnd, Keeps}
-use Rattle.si_model.specs.Machine.{State, Reply}
-use Rattle.request_codec.specs.Replies.{reply_body}
-use Rattle.request_codec.specs.declared.replies.Reply.{Reply as CodecReply}
-use Rattle.request_codec.specs.declared.requests.Request.{Request as Lent}
+use Rattle.si_model.specs.Machine.{State}
+use Rattle.si_model.specs.Transactions.{Answer}
+use Rattle.request_codec.specs.Answers.{answer_body}
+use Rattle.request_codec.specs.declared.answers.Answer.{Answer as CodecAnswer}
+use Rattle.request_codec.specs.declared.operations.Operation.{Operation as Lent}
 use Rattle.request_codec.specs.Stream.{longest, frame, frames, announced, IsTooLong, IsPartial, BeginsNoFrame, CutsInto, IsBody}
 use Rattle.server_loop.specs.Runs.{Taken, Body, Oversize, AnswersAs, RunsAs, SaysAll}
 use Rattle.server_loop.specs.declared.statuses.End.{End}
@@ -23,8 +24,8 @@ abbrev pub taken_of : List (List ℕ) → List ℕ → List Taken
 taken_of bodies rest = map Body bodies ++ (if is_too_large rest then Oversize ∷ [] else [])
 
 -- the frames of the replies
-abbrev pub written_of : List Reply → List ℕ
-written_of replies = frames (map reply_body replies)
+abbrev pub written_of : List Answer → List ℕ
+written_of replies = frames (map answer_body replies)
 
 -- The machine took all of the bodies and their rest. If a write failed, a length past the limit may not have been
 -- reached.
@@ -34,16 +35,16 @@ TakesBodies (Err faults.Write) bodies rest taken =
 TakesBodies result bodies rest taken = taken ≡ taken_of bodies rest
 
 -- The last reply was not written completely.
-pub record IsCutShort (replies : List Reply) (written : List ℕ) : Type 0 where
-  pub earlier : List Reply
-  pub reply : Reply
+pub record IsCutShort (replies : List Answer) (written : List ℕ) : Type 0 where
+  pub earlier : List Answer
+  pub reply : Answer
   pub is_replied : replies ≡ earlier ++ reply ∷ []
   pub count : ℕ
-  pub short : count < length (frame (reply_body reply))
-  pub wrote : written ≡ written_of earlier ++ take count (frame (reply_body reply))
+  pub short : count < length (frame (answer_body reply))
+  pub wrote : written ≡ written_of earlier ++ take count (frame (answer_body reply))
 
 -- The bytes written. Only a failed write cuts a reply short; after a failed flush all replies were written.
-abbrev pub WritesReplies : Result End ServeFault → List Reply → List ℕ → Type 0
+abbrev pub WritesReplies : Result End ServeFault → List Answer → List ℕ → Type 0
 WritesReplies (Err faults.Write) replies written =
     (written ≡ written_of replies) ⊎ IsCutShort replies written
 WritesReplies result replies written = written ≡ written_of replies
@@ -84,7 +85,7 @@ EndsBy (Err faults.Log) most_reads read rest left held held' = ⊥
 -- the contract of an answer, and is followed by the upkeep. The replies' frames were written, the last one only in part
 -- if a write failed.
 pub record Handles {S : Type 0} (shows : S → State → Type 0)
-    (says : S → Lent → CodecReply → S → Type 0)
+    (says : S → Lent → CodecAnswer → S → Type 0)
     (between : S → S → Type 0) (result : Result End ServeFault) (old new : S) (bytes rest : List ℕ)
     (held held' : Option (List ℕ)) : Type 0 where
   pub bodies : List (List ℕ)
@@ -92,7 +93,7 @@ pub record Handles {S : Type 0} (shows : S → State → Type 0)
   pub each : AllByRecursion IsBody bodies
   pub taken : List Taken
   pub takes : TakesBodies result bodies rest taken
-  pub replies : List Reply
+  pub replies : List Answer
   pub run : RunsAs shows old new taken replies
   pub said : SaysAll says between old taken replies new
   pub written : List ℕ
@@ -101,7 +102,7 @@ pub record Handles {S : Type 0} (shows : S → State → Type 0)
 
 -- The contract of `serve`: bytes were read, and all of them were handled, with this end.
 pub record Serves {S : Type 0} (shows : S → State → Type 0)
-    (says : S → Lent → CodecReply → S → Type 0)
+    (says : S → Lent → CodecAnswer → S → Type 0)
     (between : S → S → Type 0) (old new : S)
     (left left' held held' : Option (List ℕ)) (most_reads : ℕ)
     (result : Result End ServeFault) : Type 0 where
@@ -121,13 +122,13 @@ RestIs ends.ReadsUsedUp rest = Unit {0}
 
 -- A whole stream was served: its bodies, and its rest as the end says.
 pub record ServesStream {S : Type 0} (shows : S → State → Type 0)
-    (says : S → Lent → CodecReply → S → Type 0) (between : S → S → Type 0) (old new : S)
+    (says : S → Lent → CodecAnswer → S → Type 0) (between : S → S → Type 0) (old new : S)
     (stream : List ℕ)
     (held held' : Option (List ℕ)) (end : End) : Type 0 where
   pub bodies : List (List ℕ)
   pub rest : List ℕ
   pub cut : CutsInto stream bodies rest
   pub rest_is : RestIs end rest
-  pub replies : List Reply
+  pub replies : List Answer
   pub run : AnswersAs shows says between old new (taken_of bodies rest) replies
   pub appended : Appends held held' (written_of replies)

@@ -2,12 +2,12 @@
 
 ghost use Rattle.std.specs.Prelude.{◌≡◌, ℕ, ◌+◌, ◌++◌, ◌<◌, ◌≤◌, length, take, IfErr, IfOk, OnOk, OnErr, vec_capacity};
 ghost use Rattle.std.specs.Io.KnownBytes.{Appends, Keeps};
-ghost use Rattle.request_codec.specs.Replies.{replied, reply_body};
+ghost use Rattle.request_codec.specs.Answers.{answer_body, answer_of};
 ghost use Rattle.request_codec.specs.Stream.{frame};
-ghost use Rattle.server_loop.specs.Runs.{KeepsToLimits};
+ghost use Rattle.server_loop.specs.Runs.{AnswerKeepsToLimits};
 
 use crate::statuses::{End, ServeFault};
-use request_codec::{LONGEST_REPLY, Reply, push_reply, reply_length};
+use request_codec::{Answer, LONGEST_ANSWER, answer_length, push_answer};
 use std::io::Write;
 
 /// A write failed or accepted no byte.
@@ -31,17 +31,17 @@ pub(crate) fn write_whole<W: Write>(writer: &mut W, bytes: &[u8]) -> Result<(), 
     Ok(())
 }
 
-/// Appends the frame of a reply to the buffer.
+/// Appends the frame of an answer to the buffer.
 #[tactic(auto, using(crate::proofs::Lengths::fits_frame), unfolding(request_codec::specs::Stream::frame))]
-pub(crate) fn push_frame(reply: &Reply, out: &mut Vec<u8>)
-    requires room { length out.old.items + LONGEST_REPLY ≤ vec_capacity out.old }
-    requires limits { KeepsToLimits reply.now }
-    ensures items { out.new.items ≡ out.old.items ++ frame (reply_body (replied reply.now)) }
+pub(crate) fn push_frame(answer: &Answer, out: &mut Vec<u8>)
+    requires room { length out.old.items + LONGEST_ANSWER ≤ vec_capacity out.old }
+    requires limits { AnswerKeepsToLimits answer.now }
+    ensures items { out.new.items ≡ out.old.items ++ frame (answer_body (answer_of answer.now)) }
     ensures capacity { vec_capacity out.old ≤ vec_capacity out.new }
 {
-    let length = reply_length(reply) as u32;
+    let length = answer_length(answer) as u32;
     out.extend_from_slice(&length.to_be_bytes()).unwrap();
-    push_reply(reply, out);
+    push_answer(answer, out);
 }
 
 /// Flushes the writer.

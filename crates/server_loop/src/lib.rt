@@ -12,6 +12,7 @@ mod server;
 mod serving;
 mod sessions;
 mod statuses;
+mod transactions;
 mod upkeep;
 
 pub use audit::Audit;

@@ -12,7 +12,7 @@ use cell_key::{MOST_STAMP, Refusal, Stamp};
 use clean_up::Cleaners;
 use file_store::Files;
 use oracle::{MarkStore, Oracle};
-use request_codec::{Reply, Request};
+use request_codec::{Answer, Operation, Reply, Request};
 use row_atomic::{
     Cluster, Command, FlushLimits, Outcome, Recorded, keeps_following, root_is_stored, root_stays,
 };
@@ -60,9 +60,10 @@ pub struct Server<F, M: MarkStore> {
 }
 
 impl<F: Files + Drop, M: MarkStore + Drop> Server<F, M> {
-    ghost use Rattle.server_loop.specs.Answer.{DrawsStamps, IsAnswer, IsMachineStep, IsPlainAnswer, MakesEdits, ServesSessions, TellsCauses, TendsTablets};
+    ghost use Rattle.server_loop.specs.Answer.{DrawsStamps, IsMachineStep, IsPlainAnswer, MakesEdits, ServesSessions, TellsCauses, TendsTablets};
     ghost use Rattle.server_loop.specs.Server.{IsConfig, Shows, ShowsNoSession, cluster_of, rows_of, tending_of, last_of, marks_of};
     ghost use Rattle.row_atomic.specs.Flushes.{KeepsShown};
+    ghost use Rattle.server_loop.specs.Operations.{IsAnswerTo};
     ghost use Rattle.server_loop.specs.Resting.{KeepsResting};
     ghost use Rattle.row_atomic.specs.Commands.{IsOutcome};
     ghost use Rattle.server_loop.specs.Tending.{IsTended, Merges, is_due};
@@ -293,14 +294,14 @@ impl<F: Files + Drop, M: MarkStore + Drop> Server<F, M> {
         writer: &mut O,
         most_reads: u64,
     ) -> Result<End, ServeFault>
-        ensures served { Serves (Shows F.contents) (IsAnswer F.Files M.MarkStore)
+        ensures served { Serves (Shows F.contents) (IsAnswerTo F.Files M.MarkStore)
             (IsTended F.contents F.faults) self.old self.new (I.remaining reader.old)
             (I.remaining reader.new)
             (O.contents writer.old) (O.contents writer.new) most_reads result }
         // If the reader's bytes are known, the end is the whole stream's.
         ensures whole { IfSome (I.remaining reader.old) (λ stream.
             IfOk result (λ end. end ≢ End.ReadsUsedUp
-            → ServesStream (Shows F.contents) (IsAnswer F.Files M.MarkStore)
+            → ServesStream (Shows F.contents) (IsAnswerTo F.Files M.MarkStore)
             (IsTended F.contents F.faults) self.old self.new
             stream (O.contents writer.old) (O.contents writer.new) end)) }
     {
@@ -310,12 +311,12 @@ impl<F: Files + Drop, M: MarkStore + Drop> Server<F, M> {
 
 impl<F: Files + Drop, M: MarkStore + Drop> Hearing for Server<F, M> {
     ghost use Rattle.std.proofs.Common.{◌≡◌, inl, inr, subst, sym};
-    ghost use Rattle.server_loop.specs.Answer.{IsAnswer};
     ghost use Rattle.server_loop.specs.Batches.{IsAnswered};
+    ghost use Rattle.server_loop.specs.Operations.{IsAnswerTo};
     ghost use Rattle.server_loop.specs.Server.{Shows};
     ghost use Rattle.server_loop.specs.Tending.{IsTended};
 
-    ghost answers = { IsAnswered (Shows F.contents) (IsAnswer F.Files M.MarkStore)
+    ghost answers = { IsAnswered (Shows F.contents) (IsAnswerTo F.Files M.MarkStore)
         (IsTended F.contents F.faults) };
 
     ghost settles = { λ old new. new ≡ old };
@@ -323,13 +324,13 @@ impl<F: Files + Drop, M: MarkStore + Drop> Hearing for Server<F, M> {
     ghost fails = { λ old new. ⊥ };
 
     ghost joins = { λ first mid new taken body is after. elim after [
-      | inl same ↦ subst (λ server. IsAnswered (Shows F.contents) (IsAnswer F.Files M.MarkStore)
+      | inl same ↦ subst (λ server. IsAnswered (Shows F.contents) (IsAnswerTo F.Files M.MarkStore)
           (IsTended F.contents F.faults) first taken body server) (sym same) is
       | inr none ↦ absurd none
     ] };
 
     fn answer(&mut self, heard: Heard<'_>, waiting: &mut Vec<u8>) {
-        answer_heard(self, heard, waiting);
+        answer_heard(self.alloc, self, heard, waiting);
     }
 
     /// The answers need no settling.
@@ -339,14 +340,14 @@ impl<F: Files + Drop, M: MarkStore + Drop> Hearing for Server<F, M> {
 }
 
 impl<F: Files + Drop, M: MarkStore + Drop> Answering for Server<F, M> {
-    ghost use Rattle.server_loop.specs.Answer.{IsAnswer};
+    ghost use Rattle.server_loop.specs.Operations.{IsAnswerTo};
     ghost use Rattle.server_loop.specs.Server.{Shows};
     ghost use Rattle.row_atomic.specs.Flushes.{KeepsShown};
     ghost use Rattle.server_loop.specs.Tending.{IsTended, Merges};
 
     ghost shows = { Shows F.contents };
 
-    ghost says = { IsAnswer F.Files M.MarkStore };
+    ghost says = { IsAnswerTo F.Files M.MarkStore };
 
     ghost between = { IsTended F.contents F.faults };
 
@@ -358,6 +359,18 @@ impl<F: Files + Drop, M: MarkStore + Drop> Answering for Server<F, M> {
         // This call shows that the last stamp is within the mark.
         let _last = self.oracle.last();
         reply
+    }
+
+    fn answer_to(&mut self, operation: Operation<'_>) -> Answer {
+        match operation {
+            Operation::One(request) => Answer::Said(self.reply_to(request)),
+            Operation::Commit { start, writes } => self.commit(start, &writes),
+            Operation::Read {
+                start,
+                cells,
+                stays_open,
+            } => self.read(start, &cells, stays_open),
+        }
     }
 
     fn tend(&mut self) {

@@ -3,18 +3,22 @@
 ghost use Rattle.std.specs.Prelude.{◌≡◌, ◌≤◌, ◌<◌, ◌+◌, ◌++◌, ◌∷◌, ◌⊎◌, List, ℕ, [], length, Err, IfErr, IfNone, IfOk, OnErr, OnOk, Some, vec_capacity};
 ghost use Rattle.std.specs.Io.KnownBytes.{Appends};
 ghost use Rattle.si_model.specs.Machine.{State};
+ghost use Rattle.request_codec.specs.Answers.{answer_of};
+ghost use Rattle.request_codec.specs.Operations.{operation_of};
 ghost use Rattle.request_codec.specs.Replies.{replied};
-ghost use Rattle.request_codec.specs.Stream.{frame, frames, IsPartial};
-ghost use Rattle.request_codec.specs.declared.replies.Reply.{Reply as CodecReply};
-ghost use Rattle.request_codec.specs.declared.requests.Request.{Request as Lent};
 ghost use Rattle.request_codec.specs.Requests.{asked};
+ghost use Rattle.request_codec.specs.Stream.{frame, frames, IsPartial};
+ghost use Rattle.request_codec.specs.declared.answers.Answer.{Answer as CodecAnswer};
+ghost use Rattle.request_codec.specs.declared.operations.Operation.{Operation as Lent};
 ghost use Rattle.server_loop.specs.Batches.{Answered, Cuts, Delivers, IsAnswered, IsBatch, IsCutBy, LeavesRest, ReadsOn, ServesOn, over_of, taken_by};
-ghost use Rattle.server_loop.specs.Runs.{Body, StepsAs, RunsAs, SaysOf, Taken, KeepsToLimits};
+ghost use Rattle.server_loop.specs.Runs.{AnswerKeepsToLimits, Body, GoesFrom, KeepsToLimits, RunsAs, SaysOf, StepsAs, Taken};
 
 use crate::frames::{finish, flush, push_frame, write_whole};
 use crate::statuses::{End, ServeFault};
 use cell_key::Refusal;
-use request_codec::{Framer, LONGEST_REPLY, Next, Reply, Request, decode_request, split_frame};
+use request_codec::{
+    Answer, Framer, LONGEST_ANSWER, Next, Operation, Reply, Request, decode_operation, split_frame,
+};
 use std::alloc::{AllocError, Global};
 use std::io::{Read, Write};
 
@@ -45,7 +49,7 @@ pub trait Answering {
     ghost shows: { Self → State → Type 0 };
 
     /// The contract of an answer, from the state before to the state after.
-    ghost says: { Self → Lent → CodecReply → Self → Type 0 };
+    ghost says: { Self → Lent → CodecAnswer → Self → Type 0 };
 
     /// The changes between one answer and the next, from the state before to the state after.
     ghost between: { Self → Self → Type 0 };
@@ -53,8 +57,14 @@ pub trait Answering {
     /// One step of the machine, from each reached state that is shown.
     fn reply_to(&mut self, request: Request<'_>) -> Reply
         ensures step { StepsAs shows self.old self.new (asked request.entry) (replied result) }
-        ensures says { says self.old request.entry result self.new }
+        ensures says { says self.old (Operation.One request.entry) (Answer.Said result) self.new }
         ensures limits { KeepsToLimits result };
+
+    /// Answers as the machine goes, from each reached state that is shown.
+    fn answer_to(&mut self, operation: Operation<'_>) -> Answer
+        ensures goes { GoesFrom shows self.old self.new (operation_of operation) (answer_of result) }
+        ensures says { says self.old operation result self.new }
+        ensures limits { AnswerKeepsToLimits result };
 
     /// Does the upkeep between one answer and the next. It keeps showing each state that it shows.
     fn tend(&mut self)
@@ -75,7 +85,7 @@ pub trait Hearing {
 
     /// Appends the frame of the reply to what is heard to the replies that wait.
     fn answer(&mut self, heard: Heard<'_>, waiting: &mut Vec<u8>)
-        requires room { length waiting.old.items + LONGEST_REPLY ≤ vec_capacity waiting.old }
+        requires room { length waiting.old.items + LONGEST_ANSWER ≤ vec_capacity waiting.old }
         ensures answers { (body : List ℕ) × answers self.old (taken_by heard.entry) body self.new
             × (waiting.new.items ≡ waiting.old.items ++ frame body) }
         ensures capacity { vec_capacity waiting.old ≤ vec_capacity waiting.new };
@@ -99,41 +109,48 @@ fn zeros(alloc: Global, size: usize) -> Result<Vec<u8>, AllocError>
     vec![in alloc; 0u8; size]
 }
 
-/// The reply to a body, well-formed or not.
-fn reply_to_body<A: Answering>(server: &mut A, body: &[u8]) -> Reply
-    ensures run { RunsAs A.shows server.old server.new (Body body.now ∷ []) (replied result ∷ []) }
-    ensures says { SaysOf A.says server.old (Body body.now) (replied result) server.new }
-    ensures limits { KeepsToLimits result }
+/// The answer to a body, well-formed or not.
+fn answer_to_body<A: Answering>(alloc: Global, server: &mut A, body: &[u8]) -> Answer
+    ensures run { RunsAs A.shows server.old server.new (Body body.now ∷ [])
+        (answer_of result ∷ []) }
+    ensures says { SaysOf A.says server.old (Body body.now) (answer_of result) server.new }
+    ensures limits { AnswerKeepsToLimits result }
 {
-    let Some(request) = decode_request(body) else {
-        return Reply::Refused(Refusal::BadRequest);
-    };
-    server.reply_to(request)
-}
-
-/// The reply to what is heard.
-fn reply_to_heard<A: Answering>(server: &mut A, heard: Heard<'_>) -> Reply
-    ensures run { RunsAs A.shows server.old server.new (taken_by heard.entry ∷ [])
-        (replied result ∷ []) }
-    ensures says { SaysOf A.says server.old (taken_by heard.entry) (replied result) server.new }
-    ensures limits { KeepsToLimits result }
-{
-    match heard {
-        Heard::Body(body) => reply_to_body(server, body),
-        Heard::TooLarge => Reply::Refused(Refusal::FrameTooLarge),
+    match decode_operation(alloc, body) {
+        Ok(Some(operation)) => server.answer_to(operation),
+        Ok(None) => Answer::Said(Reply::Refused(Refusal::BadRequest)),
+        Err(refusal) => Answer::Said(Reply::Refused(refusal)),
     }
 }
 
-/// Appends the frame of the machine's reply to those that wait, and lets the server do its upkeep.
-pub fn answer_heard<A: Answering>(server: &mut A, heard: Heard<'_>, waiting: &mut Vec<u8>)
-    requires room { length waiting.old.items + LONGEST_REPLY ≤ vec_capacity waiting.old }
+/// The answer to what is heard.
+fn answer_to_heard<A: Answering>(alloc: Global, server: &mut A, heard: Heard<'_>) -> Answer
+    ensures run { RunsAs A.shows server.old server.new (taken_by heard.entry ∷ [])
+        (answer_of result ∷ []) }
+    ensures says { SaysOf A.says server.old (taken_by heard.entry) (answer_of result) server.new }
+    ensures limits { AnswerKeepsToLimits result }
+{
+    match heard {
+        Heard::Body(body) => answer_to_body(alloc, server, body),
+        Heard::TooLarge => Answer::Said(Reply::Refused(Refusal::FrameTooLarge)),
+    }
+}
+
+/// Appends the frame of the machine's answer to those that wait, and lets the server do its upkeep.
+pub fn answer_heard<A: Answering>(
+    alloc: Global,
+    server: &mut A,
+    heard: Heard<'_>,
+    waiting: &mut Vec<u8>,
+)
+    requires room { length waiting.old.items + LONGEST_ANSWER ≤ vec_capacity waiting.old }
     ensures answers { (body : List ℕ) × IsAnswered A.shows A.says A.between server.old
         (taken_by heard.entry) body server.new
         × (waiting.new.items ≡ waiting.old.items ++ frame body) }
     ensures capacity { vec_capacity waiting.old ≤ vec_capacity waiting.new }
 {
-    let reply = reply_to_heard(server, heard);
-    push_frame(&reply, waiting);
+    let answer = answer_to_heard(alloc, server, heard);
+    push_frame(&answer, waiting);
     server.tend();
 }
 
@@ -145,7 +162,7 @@ fn answer_held<'p, H: Hearing>(
     piece: &'p [u8],
     waiting: &mut Vec<u8>,
 ) -> (Option<Rest>, &'p [u8])
-    requires room { length waiting.old.items + LONGEST_REPLY ≤ vec_capacity waiting.old }
+    requires room { length waiting.old.items + LONGEST_ANSWER ≤ vec_capacity waiting.old }
     ensures answered { (replies : List (List ℕ)) × (length replies ≤ 1)
         × (waiting.new.items ≡ waiting.old.items ++ frames replies)
         × Answered H.answers server.old server.new (framer.old ++ piece.now)
@@ -186,7 +203,7 @@ fn answer_next<'p, H: Hearing>(
     piece: &'p [u8],
     waiting: &mut Vec<u8>,
 ) -> (Option<Rest>, &'p [u8])
-    requires room { length waiting.old.items + LONGEST_REPLY ≤ vec_capacity waiting.old }
+    requires room { length waiting.old.items + LONGEST_ANSWER ≤ vec_capacity waiting.old }
     ensures answered { (replies : List (List ℕ)) × (length replies ≤ 1)
         × (waiting.new.items ≡ waiting.old.items ++ frames replies)
         × Answered H.answers server.old server.new (framer.old ++ piece.now)
@@ -216,7 +233,7 @@ fn fill<'p, H: Hearing>(
 ) -> (Option<Rest>, &'p [u8])
     requires none { waiting.old.items ≡ [] }
     requires most { 0 < most }
-    requires room { most + LONGEST_REPLY ≤ vec_capacity waiting.old }
+    requires room { most + LONGEST_ANSWER ≤ vec_capacity waiting.old }
     ensures answered { (replies : List (List ℕ)) × IsBatch most replies
         × (waiting.new.items ≡ frames replies)
         × Answered H.answers server.old server.new (framer.old ++ piece.now)
@@ -273,7 +290,7 @@ fn answer_batch<'p, H: Hearing, W: Write>(
 ) -> Result<(Option<Rest>, &'p [u8]), ServeFault>
     requires none { waiting.old.items ≡ [] }
     requires most { 0 < most }
-    requires room { most + LONGEST_REPLY ≤ vec_capacity waiting.old }
+    requires room { most + LONGEST_ANSWER ≤ vec_capacity waiting.old }
     ensures delivers { IfOk result (λ ended. Delivers H.answers H.settles H.fails server.old
         server.new (framer.old ++ piece.now) (framer.new ++ ended.1.now) (over_of ended.0)
         (W.contents writer.old) (W.contents writer.new)) }
@@ -307,7 +324,7 @@ fn serve_piece<H: Hearing, W: Write>(
 ) -> Result<Rest, ServeFault>
     requires none { waiting.old.items ≡ [] }
     requires most { 0 < most }
-    requires room { most + LONGEST_REPLY ≤ vec_capacity waiting.old }
+    requires room { most + LONGEST_ANSWER ≤ vec_capacity waiting.old }
     ensures delivers { IfOk result (λ ended. (behind : List ℕ)
         × LeavesRest (Some ended) (framer.new ++ behind) behind
         × Delivers H.answers H.settles H.fails server.old server.new (framer.old ++ piece.now)
@@ -341,7 +358,7 @@ fn serve_read<H: Hearing, R: Read, W: Write>(
 ) -> Result<Option<End>, ServeFault>
     requires none { waiting.old.items ≡ [] }
     requires most { 0 < most }
-    requires room { most + LONGEST_REPLY ≤ vec_capacity waiting.old }
+    requires room { most + LONGEST_ANSWER ≤ vec_capacity waiting.old }
     requires piece { 0 < length piece.old }
     requires within { length piece.old ≤ LONGEST_PIECE }
     requires partial { IsPartial framer.old }
@@ -387,7 +404,7 @@ pub fn serve_all<H: Hearing, R: Read, W: Write>(
     let Ok(mut piece) = zeros(alloc, LONGEST_PIECE) else {
         return Err(ServeFault::NoMemory);
     };
-    let Ok(mut waiting) = Vec::with_capacity(alloc, most + LONGEST_REPLY) else {
+    let Ok(mut waiting) = Vec::with_capacity(alloc, most + LONGEST_ANSWER) else {
         return Err(ServeFault::NoMemory);
     };
     let mut reads_left = most_reads;
