@@ -3,11 +3,13 @@ use Rattle.std.proofs.Common.{◌≡◌, ◌≢◌, ℕ, suc, ◌+◌, ◌<◌, 
 use Rattle.std.proofs.Math.Seq.{take-append-add, take-length}
 use Rattle.std.specs.Io.KnownBytes.{Appends, Consumes}
 use Rattle.std.proofs.KnownBytes.{Appends-trans}
-use Rattle.si_model.specs.Machine.{State, Step, Reply, IsReached}
-use Rattle.request_codec.specs.Replies.{replied, reply_body}
-use Rattle.request_codec.specs.Requests.{asked}
-use Rattle.request_codec.specs.declared.replies.Reply.{Reply as CodecReply}
-use Rattle.request_codec.specs.declared.requests.Request.{Request as Lent}
+use Rattle.si_model.specs.Machine.{State, IsReached}
+use Rattle.si_model.specs.Transactions.{Answer as MachineAnswer, Goes}
+use Rattle.si_model.proofs.Reached.{stays_reached}
+use Rattle.request_codec.specs.Answers.{answer_of}
+use Rattle.request_codec.specs.Operations.{operation_of}
+use Rattle.request_codec.specs.declared.answers.Answer.{Answer as CodecAnswer}
+use Rattle.request_codec.specs.declared.operations.Operation.{Operation as Lent}
 use Rattle.request_codec.specs.Stream.{frame, frames, BeginsNoFrame, IsPartial}
 use Rattle.durable.specs.Lasting.{FailsToSettle, GoesOn, IsAllWritten, IsSettled, KeepsBeginning, ServesLasting, Settles, SettlesAnswers, StaysSettled}
 use Rattle.server_loop.specs.Batches.{over_at, AnswersAll, Answered, Cuts, Delivers, IsAnswered, ServesOn, SettlesAll}
@@ -16,21 +18,22 @@ use Rattle.server_loop.specs.Serve.{as_write, written_of, EndsBy, TakesBodies, W
 use Rattle.server_loop.specs.declared.statuses.End.{End}
 use Rattle.server_loop.specs.declared.statuses.ServeFault.{ServeFault}
 use Rattle.server_loop.specs.declared.statuses.ServeFault.TheVariants as faults
-use Rattle.server_loop.proofs.ReachedRuns.{reached_step, RunOver-append}
+use Rattle.server_loop.proofs.ReachedRuns.{RunOver-append}
 use Rattle.server_loop.proofs.Replied.{length-replies, no_rest, Replies, Replies-append, replies_of, RunsAs-kept, taken-at, taken-over, taken-partial, written_of-join}
 use Rattle.server_loop.proofs.ServingLemmas.{Answered-joins, Answered-then, frame-long, taken-join}
 use Rattle.server_loop.proofs.StreamReads.{ended_so}
+use Rattle.server_loop.proofs.Unread.{unread}
 
 -- ---- lengths
 
-length-run : (a e : State) (ts : List Taken) (rs : List Reply) → RunOver a ts rs e → length ts ≡ length rs
+length-run : (a e : State) (ts : List Taken) (rs : List MachineAnswer) → RunOver a ts rs e → length ts ≡ length rs
 length-run a e [] [] p = refl
 length-run a e (t ∷ ts) (r ∷ rs) p = let more : length ts ≡ length rs = length-run p.0 e ts rs p.2 in omega (arith, more)
 length-run a e [] (r ∷ rs) p = absurd p
 length-run a e (t ∷ ts) [] p = absurd p
 
 -- without bytes there are no replies
-none_replied : (bodies : List (List ℕ)) (bytes rest : List ℕ) (rs : List Reply) → bytes ≡ frames bodies ++ rest → bytes ≡ [] → length rs ≡ length (map Body bodies ++ []) → rs ≡ []
+none_replied : (bodies : List (List ℕ)) (bytes rest : List ℕ) (rs : List MachineAnswer) → bytes ≡ frames bodies ++ rest → bytes ≡ [] → length rs ≡ length (map Body bodies ++ []) → rs ≡ []
 none_replied [] bytes rest [] whole none as_many = refl
 none_replied [] bytes rest (r ∷ rs) whole none as_many = absurd (omega (arith, as_many))
 none_replied (b ∷ bodies) bytes rest rs whole none as_many =
@@ -40,15 +43,15 @@ none_replied (b ∷ bodies) bytes rest rs whole none as_many =
 
 -- ---- chains of answers
 
-module _ {S : Type 0} (says : S → Lent → CodecReply → S → Type 0) (between : S → S → Type 0) where
-  length-said : (a e : S) (ts : List Taken) (rs : List Reply) → SaysAll says between a ts rs e → length ts ≡ length rs
+module _ {S : Type 0} (says : S → Lent → CodecAnswer → S → Type 0) (between : S → S → Type 0) where
+  length-said : (a e : S) (ts : List Taken) (rs : List MachineAnswer) → SaysAll says between a ts rs e → length ts ≡ length rs
   length-said a e [] [] p = refl
   length-said a e (t ∷ ts) (r ∷ rs) p = let more : length ts ≡ length rs = length-said p.1 e ts rs p.4 in omega (arith, more)
   length-said a e [] (r ∷ rs) p = absurd p
   length-said a e (t ∷ ts) [] p = absurd p
 
   -- upkeep after the last reply may continue
-  SaysAll-settles : (m e : S) → ((first : S) → between first m → between first e) → (a : S) (ts : List Taken) (rs : List Reply) → 0 < length rs → SaysAll says between a ts rs m → SaysAll says between a ts rs e
+  SaysAll-settles : (m e : S) → ((first : S) → between first m → between first e) → (a : S) (ts : List Taken) (rs : List MachineAnswer) → 0 < length rs → SaysAll says between a ts rs m → SaysAll says between a ts rs e
   SaysAll-settles m e joins a [] [] some p = absurd (omega (arith, some))
   SaysAll-settles m e joins a [] (r ∷ rs) some p = absurd p
   SaysAll-settles m e joins a (t ∷ ts) [] some p = absurd p
@@ -59,42 +62,42 @@ module _ {S : Type 0} (says : S → Lent → CodecReply → S → Type 0) (betwe
 
 -- ---- the states that last
 
-module _ {S : Type 0} (shows : S → State → Type 0) (says : S → Lent → CodecReply → S → Type 0) (between : S → S → Type 0) (lasts : S → State → Type 0) (logs : S → Type 0) where
+module _ {S : Type 0} (shows : S → State → Type 0) (says : S → Lent → CodecAnswer → S → Type 0) (between : S → S → Type 0) (lasts : S → State → Type 0) (logs : S → Type 0) where
   abbrev Settled : S → Type 0
   Settled s = IsSettled shows lasts logs s
 
   -- a state of a run lasts
-  abbrev KeptIn : S → State → List Taken → List Reply → Type 0
+  abbrev KeptIn : S → State → List Taken → List MachineAnswer → Type 0
   KeptIn s before ts rs = (count : ℕ) × (after : State) × RunOver before (take count ts) (take count rs) after × IsReached after × lasts s after
 
   abbrev Laws : Type 0
   Laws =
-      ((old new : S) (request : Lent) (reply : CodecReply) → says old request reply new → GoesOn shows lasts logs (asked request) (replied reply) old new)
+      ((old new : S) (operation : Lent) (answer : CodecAnswer) → says old operation answer new → GoesOn shows lasts logs (operation_of operation) (answer_of answer) old new)
       × ((old new : S) → between old new → Settles shows lasts logs old new)
 
   module _ (laws : Laws) where
     -- one answer: the machine goes on, and the old state lasts or the shown one
-    abbrev One : S → S → Taken → Reply → State → State → Type 0
+    abbrev One : S → S → Taken → MachineAnswer → State → State → Type 0
     One a b t r now st = (next : State) × Answers now t r next × IsReached next × shows b next × logs b × (lasts b st ⊎ (lasts b now ⊎ lasts b next))
 
-    of_same : (a b : S) (t : Taken) (r : Reply) (now st : State) → b ≡ a → Answers now t r now → IsReached now → shows a now → logs a → lasts a st → One a b t r now st
+    of_same : (a b : S) (t : Taken) (r : MachineAnswer) (now st : State) → b ≡ a → Answers now t r now → IsReached now → shows a now → logs a → lasts a st → One a b t r now st
     of_same a b t r now st same answers reached shown logged lasting = (now, answers, reached, subst (λ (s : S). shows s now) (sym same) shown, subst logs (sym same) logged, inl (subst (λ (s : S). lasts s st) (sym same) lasting))
 
-    one_said : (a b : S) (t : Taken) (r : Reply) (now st : State) → SaysOf says a t r b → IsReached now → shows a now → logs a → lasts a st → One a b t r now st
+    one_said : (a b : S) (t : Taken) (r : MachineAnswer) (now st : State) → SaysOf says a t r b → IsReached now → shows a now → logs a → lasts a st → One a b t r now st
     one_said a b (Body body) r now st (inl p) reached shown logged lasting =
         let on = laws.0 a b p.0 p.1 p.4 now reached shown in (
           on.next,
-          inl (asked p.0, p.2, subst (λ (q : Reply). Step now (asked p.0) q on.next) (sym p.3) on.step),
-          reached_step now on.next (asked p.0) (replied p.1) reached on.step,
+          inl (operation_of p.0, p.2, subst (λ (q : MachineAnswer). Goes now (operation_of p.0) q on.next) (sym p.3) on.goes),
+          stays_reached now on.next (operation_of p.0) (answer_of p.1) reached on.goes,
           on.shown,
           on.logged logged,
           on.lasting logged st lasting,
         )
-    one_said a b (Body body) r now st (inr p) reached shown logged lasting = of_same a b (Body body) r now st p.2 (inr (p.0, p.1, refl)) reached shown logged lasting
+    one_said a b (Body body) r now st (inr p) reached shown logged lasting = of_same a b (Body body) r now st p.1 (unread now body r p.0) reached shown logged lasting
     one_said a b Oversize r now st p reached shown logged lasting = of_same a b Oversize r now st p.1 (p.0, refl) reached shown logged lasting
 
     -- and the upkeep after it
-    then_tends : (a b c : S) (t : Taken) (r : Reply) (now st : State) → between b c → One a b t r now st → One a c t r now st
+    then_tends : (a b c : S) (t : Taken) (r : MachineAnswer) (now st : State) → between b c → One a b t r now st → One a c t r now st
     then_tends a b c t r now st tends p =
         let law = laws.1 b c tends in
         let (next, answers, reached, shown, logged, lasting) = p in
@@ -117,7 +120,7 @@ module _ {S : Type 0} (shows : S → State → Type 0) (says : S → Lent → Co
     abbrev Ends : S → Type 0
     Ends e = (end : State) × IsReached end × shows e end × logs e
 
-    chain_keeps : (a e : S) (ts : List Taken) (rs : List Reply) (now st : State) → SaysAll says between a ts rs e → IsReached now → shows a now → logs a → lasts a st → Ends e × (lasts e st ⊎ KeptIn e now ts rs)
+    chain_keeps : (a e : S) (ts : List Taken) (rs : List MachineAnswer) (now st : State) → SaysAll says between a ts rs e → IsReached now → shows a now → logs a → lasts a st → Ends e × (lasts e st ⊎ KeptIn e now ts rs)
     chain_keeps a e [] [] now st p reached shown logged lasting =
         ((now, reached, subst (λ (s : S). shows s now) (sym p) shown, subst logs (sym p) logged), inl (subst (λ (s : S). lasts s st) (sym p) lasting))
     chain_keeps a e [] (r ∷ rs) now st p reached shown logged lasting = absurd p
@@ -134,29 +137,29 @@ module _ {S : Type 0} (shows : S → State → Type 0) (says : S → Lent → Co
           ]
         ]
 
-    pub chain_ends : (a e : S) (ts : List Taken) (rs : List Reply) → SaysAll says between a ts rs e → IsSettled shows lasts logs a → (before : State) → IsReached before → shows a before → Ends e
+    pub chain_ends : (a e : S) (ts : List Taken) (rs : List MachineAnswer) → SaysAll says between a ts rs e → IsSettled shows lasts logs a → (before : State) → IsReached before → shows a before → Ends e
     chain_ends a e ts rs said settled before reached shown = (chain_keeps a e ts rs before before said reached shown settled.0 (settled.1 before shown)).0
 
-    pub chain_kept : (a e : S) (ts : List Taken) (rs : List Reply) → SaysAll says between a ts rs e → IsSettled shows lasts logs a → (before : State) → IsReached before → shows a before → KeptIn e before ts rs
+    pub chain_kept : (a e : S) (ts : List Taken) (rs : List MachineAnswer) → SaysAll says between a ts rs e → IsSettled shows lasts logs a → (before : State) → IsReached before → shows a before → KeptIn e before ts rs
     chain_kept a e ts rs said settled before reached shown =
         elim (chain_keeps a e ts rs before before said reached shown settled.0 (settled.1 before shown)).1 [ inl same ↦ (0, before, refl, reached, same) | inr k ↦ k ]
 
   -- all of a run lasts
-  whole_kept : (e : S) (before after : State) (ts : List Taken) (rs : List Reply) (written : List ℕ) → RunOver before ts rs after → IsReached after → lasts e after → length written ≤ length (written_of rs) → KeepsBeginning (lasts e) before ts rs written
+  whole_kept : (e : S) (before after : State) (ts : List Taken) (rs : List MachineAnswer) (written : List ℕ) → RunOver before ts rs after → IsReached after → lasts e after → length written ≤ length (written_of rs) → KeepsBeginning (lasts e) before ts rs written
   whole_kept e before after ts rs written run reached lasting few =
       let as_many : length ts ≡ length rs = length-run before after ts rs run in
       let all_taken : take (length rs) ts ≡ ts = ap (λ (n : ℕ). take n ts) (sym as_many) ∙ take-length ts in
       record {
         count = length rs;
         after = after;
-        run = subst (λ (us : List Taken). RunOver before us (take (length rs) rs) after) (sym all_taken) (subst (λ (qs : List Reply). RunOver before ts qs after) (sym (take-length rs)) run);
+        run = subst (λ (us : List Taken). RunOver before us (take (length rs) rs) after) (sym all_taken) (subst (λ (qs : List MachineAnswer). RunOver before ts qs after) (sym (take-length rs)) run);
         reached = reached;
         lasting = lasting;
-        replied = subst (λ (qs : List Reply). length written ≤ length (written_of qs)) (sym (take-length rs)) few;
+        replied = subst (λ (qs : List MachineAnswer). length written ≤ length (written_of qs)) (sym (take-length rs)) few;
       }
 
   -- after earlier requests
-  kept_after : (e : S) (before mid : State) (ts us : List Taken) (rs qs : List Reply) (written : List ℕ) → RunOver before ts rs mid → KeepsBeginning (lasts e) mid us qs written → KeepsBeginning (lasts e) before (ts ++ us) (rs ++ qs) (written_of rs ++ written)
+  kept_after : (e : S) (before mid : State) (ts us : List Taken) (rs qs : List MachineAnswer) (written : List ℕ) → RunOver before ts rs mid → KeepsBeginning (lasts e) mid us qs written → KeepsBeginning (lasts e) before (ts ++ us) (rs ++ qs) (written_of rs ++ written)
   kept_after e before mid ts us rs qs written run k =
       let as_many : length ts ≡ length rs = length-run before mid ts rs run in
       let taken : take (length rs + k.count) (ts ++ us) ≡ ts ++ take k.count us = ap (λ (n : ℕ). take (n + k.count) (ts ++ us)) (sym as_many) ∙ take-append-add ts us k.count in
@@ -167,10 +170,10 @@ module _ {S : Type 0} (shows : S → State → Type 0) (says : S → Lent → Co
         count = length rs + k.count;
         after = k.after;
         run = subst (λ (vs : List Taken). RunOver before vs (take (length rs + k.count) (rs ++ qs)) k.after) (sym taken)
-            (subst (λ (vs : List Reply). RunOver before (ts ++ take k.count us) vs k.after) (sym replied) (RunOver-append before mid k.after ts (take k.count us) rs (take k.count qs) run k.run));
+            (subst (λ (vs : List MachineAnswer). RunOver before (ts ++ take k.count us) vs k.after) (sym replied) (RunOver-append before mid k.after ts (take k.count us) rs (take k.count qs) run k.run));
         reached = k.reached;
         lasting = k.lasting;
-        replied = subst (λ (vs : List Reply). length (written_of rs ++ written) ≤ length (written_of vs)) (sym replied) few;
+        replied = subst (λ (vs : List MachineAnswer). length (written_of rs ++ written) ≤ length (written_of vs)) (sym replied) few;
       }
 
   few_first : (xs ys zs : List ℕ) → xs ≡ ys ++ zs → length ys ≤ length xs
@@ -180,7 +183,7 @@ module _ {S : Type 0} (shows : S → State → Type 0) (says : S → Lent → Co
   few_none xs n is = let size : length xs ≡ 0 = ap length is in omega (arith, size)
 
   -- the state after all answers lasts
-  all_kept : (a e : S) (ts : List Taken) (rs : List Reply) (written : List ℕ) → RunsAs shows a e ts rs → StaysSettled shows lasts logs a e → length written ≤ length (written_of rs) → Settled a → (before : State) → IsReached before → shows a before → KeepsBeginning (lasts e) before ts rs written
+  all_kept : (a e : S) (ts : List Taken) (rs : List MachineAnswer) (written : List ℕ) → RunsAs shows a e ts rs → StaysSettled shows lasts logs a e → length written ≤ length (written_of rs) → Settled a → (before : State) → IsReached before → shows a before → KeepsBeginning (lasts e) before ts rs written
   all_kept a e ts rs written run stays few settled before reached shown =
       let r = run before reached shown in
       whole_kept e before r.after ts rs written r.run r.reached ((stays before reached shown settled).1 r.after r.shows) few
@@ -209,7 +212,7 @@ module _ {S : Type 0} (shows : S → State → Type 0) (says : S → Lent → Co
 
   -- all was settled and written
   all_written : Laws → (result : Result End ServeFault) (over : List Taken) (a e : S) (read rest : List ℕ) (l m h i : Option (List ℕ)) (r : ℕ) → Consumes l m read → (as_write result ≢ Err faults.Write → BeginsNoFrame rest) → (p : Delivers Answer Sets Breaks a e read rest over h i)
-      → TakesBodies (as_write result) p.answered.bodies rest (map Body p.answered.bodies ++ over) → ((rs : List Reply) → WritesReplies (as_write result) rs (written_of rs))
+      → TakesBodies (as_write result) p.answered.bodies rest (map Body p.answered.bodies ++ over) → ((rs : List MachineAnswer) → WritesReplies (as_write result) rs (written_of rs))
       → EndsBy (as_write result) r read rest m (Some []) (Some (written_of (replies_of shows says between a e (map Body p.answered.bodies ++ over) p.replies p.answered.said).0)) → IsAllWritten result []
       → ServesLasting shows says between lasts logs a e l m h i r result
   all_written laws result over a e read rest l m h i r consumed open_rest p takes writes ending all =

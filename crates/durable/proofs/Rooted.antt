@@ -1,28 +1,36 @@
 -- What checkpoints and answers leave over a kill, one after the other.
-use Rattle.std.proofs.Common.{◌≡◌, ◌⊎◌, ℕ, Bool, true, false, inl, inr, sym, subst, ap}
+use Rattle.std.proofs.Common.{◌≡◌, ◌⊎◌, ℕ, Bool, true, false, inl, inr, refl, sym, subst, ap}
 use Rattle.std.specs.Prelude.{Result, Ok, Err, IfErr, IsErrOf}
 use Rattle.cell_key.specs.declared.refusals.Refusal.{Refusal}
 use Rattle.cell_key.specs.declared.refusals.Refusal.TheVariants.{Damaged, Device, NoMemory}
 use Rattle.request_codec.specs.Replies.{replied}
+use Rattle.request_codec.specs.declared.answers.Answer.{Answer}
+use Rattle.request_codec.specs.declared.answers.Answer.TheVariants as given
+use Rattle.request_codec.specs.declared.operations.Operation.{Operation}
+use Rattle.request_codec.specs.declared.operations.Operation.TheVariants as lent
 use Rattle.request_codec.specs.declared.replies.Reply.{Reply}
 use Rattle.request_codec.specs.declared.replies.Reply.TheVariants as codec
 use Rattle.request_codec.specs.declared.requests.Request.{Request}
 use Rattle.request_codec.specs.declared.requests.Request.TheVariants.{Begin, Step, CleanStep, CollectStep, Split, Move, Sweep, Checkpoint}
+use Rattle.cell_key.specs.Faults.{HasRisen}
+use Rattle.request_codec.specs.Operations.{operation_of}
 use Rattle.server_loop.specs.Commands.{checkpointed}
+use Rattle.server_loop.specs.OperationLaws.{StandsForSeveral}
 use Rattle.server_loop.specs.Runs.{StepsAs}
-use Rattle.si_model.specs.Machine.{IsStorageRefusal, Refused, Reply as MachineReply, Request as MachineRequest, State, Checkpoint as CheckpointAsked, refuses}
+use Rattle.si_model.specs.Machine.{IsStorageRefusal, Refused, Reply as MachineReply, Request as MachineRequest, State, Step, Checkpoint as CheckpointAsked, refuses}
+use Rattle.si_model.specs.Transactions.{Answer as MachineAnswer, Operation as MachineOperation, One, Commit, Read, Said, Goes, steps, transacts, reads_together, gives_up as gives_up_commit, gives_up_reads}
 use Rattle.si_model.specs.Refusing.{gives_up}
-use Rattle.durable.specs.Lasting.{GoesOn, Settles}
-use Rattle.durable.specs.Lasts.{AnswersInRoom, AnswersLasting, AnswersRooted, Checkpoints, MovesTablets, NeedsRoom, ActsOnRoots, PutsRoot, SweepsAfter}
+use Rattle.durable.specs.Lasting.{GoesOn, Settles, StepsOn}
+use Rattle.durable.specs.Lasts.{AnswersInRoom, AnswersLasting, AnswersRooted, Checkpoints, MovesTablets, NeedsLogRoom, NeedsRoom, ActsOnRoots, PutsRoot, SweepsAfter, TouchesRoots}
 use Rattle.durable.specs.Lasts.PutsRoot.{answered, failed, unmarked, unnamed}
 
-module _ {S : Type 0} (same : S → S → Type 0) (checkpoints : S → Reply → S → Type 0) (says : S → Request → Reply → S → Type 0) (sweeps : S → Result ℕ Refusal → S → Type 0) (stopped risen : Type 0) (before now : ℕ) where
-  pub moves_rooted : (old new : S) (request : Request) (reply : Reply) → MovesTablets request → AnswersRooted same checkpoints (λ a r b. says a request r b) stopped risen old reply new → AnswersLasting same checkpoints says sweeps stopped risen before now old request reply new
+module _ {S : Type 0} (same : S → S → Type 0) (checkpoints : S → Reply → S → Type 0) (says : S → Operation → Answer → S → Type 0) (sweeps : S → Result ℕ Refusal → S → Type 0) (stopped risen : Type 0) (before now : ℕ) where
+  pub moves_rooted : (old new : S) (request : Request) (reply : Reply) → MovesTablets request → AnswersRooted same checkpoints (λ a r b. says a (lent.One request) (given.Said r) b) stopped risen old reply new → AnswersLasting same checkpoints says sweeps stopped risen before now old (lent.One request) (given.Said reply) new
   moves_rooted old new (Split row) reply of p = p
   moves_rooted old new (Move tablet server) reply of p = p
   moves_rooted old new request reply of p = absurd of
 
-  pub plain_lasting : (old new : S) (request : Request) (reply : Reply) → ¬ ActsOnRoots request → ¬ NeedsRoom request → says old request reply new → AnswersLasting same checkpoints says sweeps stopped risen before now old request reply new
+  pub plain_lasting : (old new : S) (request : Request) (reply : Reply) → ¬ ActsOnRoots request → ¬ NeedsRoom request → says old (lent.One request) (given.Said reply) new → AnswersLasting same checkpoints says sweeps stopped risen before now old (lent.One request) (given.Said reply) new
   plain_lasting old new (Split row) reply other plain p = absurd (other tt)
   plain_lasting old new (Move tablet server) reply other plain p = absurd (other tt)
   plain_lasting old new Sweep reply other plain p = absurd (other tt)
@@ -33,7 +41,7 @@ module _ {S : Type 0} (same : S → S → Type 0) (checkpoints : S → Reply →
   plain_lasting old new (CollectStep collector visits) reply other plain p = absurd (plain tt)
   plain_lasting old new request reply other plain p = p
 
-  pub room_lasting : (old new : S) (request : Request) (reply : Reply) → NeedsRoom request → AnswersInRoom same checkpoints (says old request reply new) before now old reply new → AnswersLasting same checkpoints says sweeps stopped risen before now old request reply new
+  pub room_lasting : (old new : S) (request : Request) (reply : Reply) → NeedsRoom request → AnswersInRoom same checkpoints (says old (lent.One request) (given.Said reply) new) (λ n. reply ≡ codec.Refused n) before now old new → AnswersLasting same checkpoints says sweeps stopped risen before now old (lent.One request) (given.Said reply) new
   room_lasting old new Begin reply needs p = p
   room_lasting old new (Step start) reply needs p = p
   room_lasting old new (CleanStep cleaner) reply needs p = p
@@ -46,6 +54,24 @@ rootless (Step start) needs root = root
 rootless (CleanStep cleaner) needs root = root
 rootless (CollectStep collector visits) needs root = root
 rootless request needs root = absurd needs
+
+module _ {S : Type 0} (same : S → S → Type 0) (checkpoints : S → Reply → S → Type 0) (says : S → Operation → Answer → S → Type 0) (sweeps : S → Result ℕ Refusal → S → Type 0) (stopped risen : Type 0) (before now : ℕ) where
+  pub at_once_lasting : (old new : S) (operation : Operation) (answer : Answer) → StandsForSeveral (operation_of operation) → says old operation answer new → now ≡ before → AnswersLasting same checkpoints says sweeps stopped risen before now old operation answer new
+  at_once_lasting old new (lent.One request) answer several p unfailed = absurd several
+  at_once_lasting old new (lent.Commit start writes) answer several p unfailed = inl (p, unfailed)
+  at_once_lasting old new (lent.Read start cells stays_open) answer several p unfailed = inl (p, unfailed)
+
+  pub roomless_lasting : (old : S) (operation : Operation) (refusal : Refusal) → NeedsLogRoom operation → ((refusal ≡ Device) × HasRisen before now) ⊎ (refusal ≡ NoMemory) → AnswersLasting same checkpoints says sweeps stopped risen before now old operation (given.Said (codec.Refused refusal)) old
+  roomless_lasting old (lent.One request) refusal needs why = absurd needs
+  roomless_lasting old (lent.Commit start writes) refusal needs (inl (is, rose)) = inr (refl, inl (ap (λ n. given.Said (codec.Refused n)) is, rose))
+  roomless_lasting old (lent.Commit start writes) refusal needs (inr is) = inr (refl, inr (ap (λ n. given.Said (codec.Refused n)) is))
+  roomless_lasting old (lent.Read start cells stays_open) refusal needs (inl (is, rose)) = inr (refl, inl ((needs, ap (λ n. given.Said (codec.Refused n)) is), rose))
+  roomless_lasting old (lent.Read start cells stays_open) refusal needs (inr is) = inr (refl, inr (needs, ap (λ n. given.Said (codec.Refused n)) is))
+
+pub several_rootless : (operation : Operation) → StandsForSeveral (operation_of operation) → ¬ TouchesRoots operation
+several_rootless (lent.One request) several root = several
+several_rootless (lent.Commit start writes) several root = root
+several_rootless (lent.Read start cells stays_open) several root = root
 
 -- what is stopped, or has risen, may be said of a later moment
 module _ {S : Type 0} (same : S → S → Type 0) (checkpoints : S → Reply → S → Type 0) {stopped stopped' risen risen' : Type 0} (still : stopped → stopped') (rises : risen → risen') where
@@ -93,6 +119,20 @@ module _ {S : Type 0} (shows : S → State → Type 0) where
   steps_named old new (Ok done) c step same = step
   steps_named old new (Err refusal) c step same = λ before reached shown. (before, refuses (gives_up (stored_refusal refusal c)), same before shown, λ e. elim c [ inl is ↦ cc | inr is ↦ cc ])
 
+-- a refusal of the store may come at any time
+stays_refused : (now : State) (operation : MachineOperation) (refusal : Refusal) → IsStorageRefusal refusal → Goes now operation (Said (Refused refusal)) now
+stays_refused now (One request) refusal stores = steps (refuses (gives_up stores))
+stays_refused now (Commit start writes) refusal stores = transacts (gives_up_commit stores)
+stays_refused now (Read start cells stays_open) refusal stores = reads_together (gives_up_reads stores)
+
+stepped : (now next : State) (request : MachineRequest) (reply : MachineReply) → Goes now (One request) (Said reply) next → Step now request reply next
+stepped now next request reply (steps step) = step
+
+-- what the machine answers to one request is a step
+pub step_of : {S : Type 0} {shows lasts : S → State → Type 0} {logs : S → Type 0} {request : MachineRequest} {reply : MachineReply} {old new : S} {now : State} → StepsOn shows lasts logs (One request) (Said reply) old new now
+    → (after : State) × Step now request reply after × shows new after × (reply ≡ Refused Damaged → ⊥)
+step_of on = (on.next, stepped _ _ _ _ on.goes, on.shown, λ is. on.whole (ap Said is))
+
 module _ {S : Type 0} (shows lasts : S → State → Type 0) (logs : S → Type 0) where
   pub settles_then : (a b c : S) → Settles shows lasts logs a b → Settles shows lasts logs b c → Settles shows lasts logs a c
   settles_then a b c first second = record {
@@ -107,12 +147,12 @@ module _ {S : Type 0} (shows lasts : S → State → Type 0) (logs : S → Type 
   }
 
   -- an answer after something that settled
-  pub goes_after : (request : MachineRequest) (reply : MachineReply) (a b c : S) → Settles shows lasts logs a b → GoesOn shows lasts logs request reply b c → GoesOn shows lasts logs request reply a c
-  goes_after request reply a b c first second = λ now reached s.
+  pub goes_after : (operation : MachineOperation) (answer : MachineAnswer) (a b c : S) → Settles shows lasts logs a b → GoesOn shows lasts logs operation answer b c → GoesOn shows lasts logs operation answer a c
+  goes_after operation answer a b c first second = λ now reached s.
       let on = second now reached (first.shown now s) in
       record {
         next = on.next;
-        step = on.step;
+        goes = on.goes;
         shown = on.shown;
         whole = on.whole;
         logged = λ l. on.logged (first.logged now reached s l);
@@ -125,10 +165,10 @@ module _ {S : Type 0} (shows lasts : S → State → Type 0) (logs : S → Type 
       }
 
   -- a refusal, after nothing but something that settled
-  pub goes_nowhere : (request : MachineRequest) (refusal : Refusal) → IsStorageRefusal refusal → ¬ (refusal ≡ Damaged) → (a b : S) → Settles shows lasts logs a b → GoesOn shows lasts logs request (Refused refusal) a b
-  goes_nowhere request refusal stores whole a b settles = λ now reached s. record {
+  pub goes_nowhere : (operation : MachineOperation) (refusal : Refusal) → IsStorageRefusal refusal → ¬ (refusal ≡ Damaged) → (a b : S) → Settles shows lasts logs a b → GoesOn shows lasts logs operation (Said (Refused refusal)) a b
+  goes_nowhere operation refusal stores whole a b settles = λ now reached s. record {
     next = now;
-    step = refuses (gives_up stores);
+    goes = stays_refused now operation refusal stores;
     shown = settles.shown now s;
     whole = λ is. whole cc;
     logged = settles.logged now reached s;

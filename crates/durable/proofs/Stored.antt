@@ -15,6 +15,10 @@ use Rattle.metadata_table.specs.Roots.{IsRoot, OneRoot, RootView}
 use Rattle.oracle.specs.declared.marks.MarkStore.{Ghosts as MarkStore}
 use Rattle.request_codec.specs.Replies.{replied}
 use Rattle.request_codec.specs.Requests.{asked}
+use Rattle.request_codec.specs.declared.answers.Answer.{Answer as CodecAnswer}
+use Rattle.request_codec.specs.declared.answers.Answer.TheVariants as given
+use Rattle.request_codec.specs.declared.operations.Operation.{Operation as LentOperation}
+use Rattle.request_codec.specs.declared.operations.Operation.TheVariants as operations
 use Rattle.request_codec.specs.declared.replies.Reply.{Reply as CodecReply}
 use Rattle.request_codec.specs.declared.requests.Request.{Request as Lent}
 use Rattle.request_codec.specs.declared.requests.Request.TheVariants as lent
@@ -35,8 +39,10 @@ use Rattle.si_model.specs.ShowsCells.{ShowsCells}
 use Rattle.server_loop.specs.Answer.{IsAnswer, IsPlainAnswer, KeepsLogged, TendsTablets}
 use Rattle.server_loop.specs.Commands.{HasOutcome, checkpointed, command_of, outcome_of}
 use Rattle.durable.specs.Lasts as lasts
-use Rattle.durable.specs.Lasts.{HasNewRoot, KeepsRecording, MovesTablets, ActsOnRoots, StaysRooted, StaysStored}
+use Rattle.durable.specs.Lasts.{HasNewRoot, KeepsRecording, MovesTablets, ActsOnRoots, StaysRooted, StaysStored, TouchesRoots}
 use Rattle.server_loop.specs.Sessions.{KeepsOracle}
+use Rattle.rows.specs.Storage.{Storage}
+use Rattle.server_loop.specs.Operations.{IsAnswerTo, LeavesOthers}
 use Rattle.server_loop.specs.Server.{Shows, cluster_of, floor_of, forgets, journal_of, last_of, machine_place, machine_places, next_root, rows_of, top_of}
 use Rattle.durable.specs.Stored.{IsClean, IsRooted, StoresCells}
 use Rattle.server_loop.specs.Tending.{IsTended, MergesWhere}
@@ -172,15 +178,29 @@ module _ {F M : Type 0} (files : Files F) (marks : MarkStore M) (stored : RootIs
   answer_root lent.Checkpoint reply old new first other tends = absurd (first refl)
   answer_root request reply old new first other tends = by_has (command_of request) request reply (cluster_of old) (cluster_of new) other tends
 
-  pub answer_leaves : (old new : Server F M) (request : Lent) (reply : CodecReply) → ¬ ActsOnRoots request → IsAnswer files marks old request reply new → (now : State) → IsReached now → Shows files.contents old now
+  reply_leaves : (old new : Server F M) (request : Lent) (reply : CodecReply) → ¬ ActsOnRoots request → IsAnswer files marks old request reply new → (now : State) → IsReached now → Shows files.contents old now
       → StaysRooted (StoresCells files.contents) (IsRooted files.contents) old new × (logged_of (journal_of new) ≡ logged_of (journal_of old))
-  answer_leaves old new request reply other answer now reached shown =
+  reply_leaves old new request reply other answer now reached shown =
       let plain = answer.plain in
       let (next, step, shows, whole) = plain.step.step now reached shown in
       let places : machine_places (cluster_of new).places ≡ machine_places (cluster_of old).places = shows.places ∙ ((keeps_places now (asked request) (replied reply) next step (plain_keeps request other)).0 ∙ sym shown.places) in (
         stays_rooted files.contents old new (answer_root request reply old new (plain_not_checkpoint request other) (plain_not_sweep request other) plain.tablets) places,
         plain_logged request (journal_of old) (journal_of new) other plain.logged,
       )
+
+  at_once_leaves : (old new : Server F M) → LeavesOthers files.contents old new → StaysRooted (StoresCells files.contents) (IsRooted files.contents) old new × (logged_of (journal_of new) ≡ logged_of (journal_of old))
+  at_once_leaves old new others = (
+    stays_rooted files.contents old new (λ root cells has. (stored root cells (cluster_of old) (cluster_of new) others.storage).0 has) (ap (λ (s : Storage). machine_places s.places) others.storage),
+    others.logged,
+  )
+
+  -- an answer that puts no root and removes no file
+  pub answer_leaves : (old new : Server F M) (operation : LentOperation) (answer : CodecAnswer) → ¬ TouchesRoots operation → IsAnswerTo files marks old operation answer new → (now : State) → IsReached now → Shows files.contents old now
+      → StaysRooted (StoresCells files.contents) (IsRooted files.contents) old new × (logged_of (journal_of new) ≡ logged_of (journal_of old))
+  answer_leaves old new (operations.One request) (given.Said reply) other is now reached shown = reply_leaves old new request reply other is now reached shown
+  answer_leaves old new (operations.One request) answer other is now reached shown = absurd is
+  answer_leaves old new (operations.Commit start writes) answer other is now reached shown = at_once_leaves old new is.plain.at_once.others
+  answer_leaves old new (operations.Read start cells stays_open) answer other is now reached shown = at_once_leaves old new is.plain.at_once.others
 
   pub answer_moves : (old new : Server F M) (request : Lent) (reply : CodecReply) → MovesTablets request → IsAnswer files marks old request reply new
       → StaysStored (StoresCells files.contents) old new × KeepsRecording (λ server. is_some (journal_of server)) (λ server. logged_of (journal_of server)) (λ server. waiting_of (journal_of server)) last_of old new

@@ -2,9 +2,10 @@
 use Rattle.std.specs.Prelude.{◌≡◌, ◌⊎◌, ℕ, ◌≤◌, List, [], ◌++◌, length, take, Option, Some, Result, Err, ⊤}
 use Rattle.std.specs.Io.KnownBytes.{Appends}
 use Rattle.cell_key.specs.declared.refusals.Refusal.TheVariants.{Damaged}
-use Rattle.si_model.specs.Machine.{State, Step, Request, Reply, Refused, IsReached}
-use Rattle.request_codec.specs.declared.replies.Reply.{Reply as CodecReply}
-use Rattle.request_codec.specs.declared.requests.Request.{Request as Lent}
+use Rattle.si_model.specs.Machine.{State, Refused, IsReached}
+use Rattle.si_model.specs.Transactions.{Operation, Answer, Said, Goes}
+use Rattle.request_codec.specs.declared.answers.Answer.{Answer as CodecAnswer}
+use Rattle.request_codec.specs.declared.operations.Operation.{Operation as Lent}
 use Rattle.server_loop.specs.Runs.{Taken, RunOver}
 use Rattle.server_loop.specs.Serve.{as_write, written_of, Serves}
 use Rattle.server_loop.specs.declared.statuses.End.{End}
@@ -14,13 +15,13 @@ use Rattle.server_loop.specs.declared.statuses.ServeFault.TheVariants as faults
 -- The machine's state after a prefix of the requests taken survives a kill. The prefix contains each
 -- request of whose reply a byte was written.
 pub record KeepsBeginning (lasts : State → Type 0) (before : State) (taken : List Taken)
-    (replies : List Reply) (written : List ℕ) : Type 0 where
+    (answers : List Answer) (written : List ℕ) : Type 0 where
   pub count : ℕ
   pub after : State
-  pub run : RunOver before (take count taken) (take count replies) after
+  pub run : RunOver before (take count taken) (take count answers) after
   pub reached : IsReached after
   pub lasting : lasts after
-  pub replied : length written ≤ length (written_of (take count replies))
+  pub replied : length written ≤ length (written_of (take count answers))
 
 -- all replies were written, unless a write or the log failed
 abbrev pub IsAllWritten : Result End ServeFault → List ℕ → Type 0
@@ -38,20 +39,21 @@ module _ {S : Type 0} (shows lasts : S → State → Type 0) (logs : S → Type 
   StaysSettled old new =
       (now : State) → IsReached now → shows old now → IsSettled old → IsSettled new
 
-  -- From a state that is shown the machine steps to one that is shown. If the devices kept a state,
-  -- they keep it, or the state before the step, or the one after it.
-  pub record StepsOn (request : Request) (reply : Reply) (old new : S) (now : State) : Type 0 where
+  -- From a state that is shown the machine goes to one that is shown. If the devices kept a state,
+  -- they keep it, or the state before, or the one after.
+  pub record StepsOn (operation : Operation) (answer : Answer) (old new : S) (now : State)
+      : Type 0 where
     pub next : State
-    pub step : Step now request reply next
+    pub goes : Goes now operation answer next
     pub shown : shows new next
-    pub whole : reply ≡ Refused Damaged → ⊥
+    pub whole : answer ≡ Said (Refused Damaged) → ⊥
     pub logged : logs old → logs new
     pub lasting : logs old → (st : State) → lasts old st
         → lasts new st ⊎ (lasts new now ⊎ lasts new next)
 
-  abbrev pub GoesOn : Request → Reply → S → S → Type 0
-  GoesOn request reply old new =
-      (now : State) → IsReached now → shows old now → StepsOn request reply old new now
+  abbrev pub GoesOn : Operation → Answer → S → S → Type 0
+  GoesOn operation answer old new =
+      (now : State) → IsReached now → shows old now → StepsOn operation answer old new now
 
   -- Each state that was shown still is. If the devices kept a state, they keep it or the shown one.
   pub record Settles (old new : S) : Type 0 where
@@ -76,7 +78,7 @@ module _ {S : Type 0} (shows : S → State → Type 0) (between : S → S → Ty
     pub kept : (now : State) → IsReached now → shows old now → logs old → (st : State)
         → lasts old st → lasts new st ⊎ lasts new now
 
-module _ {S : Type 0} (shows : S → State → Type 0) (says : S → Lent → CodecReply → S → Type 0)
+module _ {S : Type 0} (shows : S → State → Type 0) (says : S → Lent → CodecAnswer → S → Type 0)
     (between : S → S → Type 0) (lasts : S → State → Type 0) (logs : S → Type 0) where
   -- The effect of a call of `serve`: it served as if into a buffer, which holds the frames of the
   -- replies, and wrote a prefix of them. Whatever its result, if the server was settled, a prefix of the

@@ -11,8 +11,12 @@ use Rattle.commit_log.specs.Records.{AreUpTo, HasRecord, any_root, edit_bytes, r
 use Rattle.metadata_table.specs.Roots.{RootView}
 use Rattle.row_atomic.specs.Journals.{HasRoomFor, empty_journal}
 use Rattle.row_atomic.specs.Roots.{root_sum}
-use Rattle.request_codec.specs.Replies.{replied}
-use Rattle.request_codec.specs.Requests.{asked}
+use Rattle.request_codec.specs.Answers.{answer_of}
+use Rattle.request_codec.specs.Operations.{operation_of}
+use Rattle.request_codec.specs.declared.answers.Answer.{Answer}
+use Rattle.request_codec.specs.declared.answers.Answer.TheVariants as given
+use Rattle.request_codec.specs.declared.operations.Operation.{Operation}
+use Rattle.request_codec.specs.declared.operations.Operation.TheVariants as lent
 use Rattle.request_codec.specs.declared.replies.Reply.{Reply}
 use Rattle.request_codec.specs.declared.replies.Reply.TheVariants as codec
 use Rattle.request_codec.specs.declared.requests.Request.{Request}
@@ -40,6 +44,11 @@ ActsOnRoots Sweep = ⊤
 ActsOnRoots Checkpoint = ⊤
 ActsOnRoots request = ⊥
 
+-- operations that put roots or remove files: none of several cells does
+abbrev pub TouchesRoots : Operation → Type 0
+TouchesRoots (lent.One request) = ActsOnRoots request
+TouchesRoots operation = ⊥
+
 -- requests that need room in the log: they may write edits or draw a stamp
 abbrev pub NeedsRoom : Request → Type 0
 NeedsRoom Begin = ⊤
@@ -47,6 +56,12 @@ NeedsRoom (Step start) = ⊤
 NeedsRoom (CleanStep cleaner) = ⊤
 NeedsRoom (CollectStep collector visits) = ⊤
 NeedsRoom request = ⊥
+
+-- operations of several cells that do: those that write edits or draw a stamp
+abbrev pub NeedsLogRoom : Operation → Type 0
+NeedsLogRoom (lent.One request) = ⊥
+NeedsLogRoom (lent.Commit start writes) = ⊤
+NeedsLogRoom (lent.Read start cells stays_open) = start ≡ 0
 
 -- ---- the journal
 
@@ -206,52 +221,70 @@ module _ {S : Type 0} (same : S → S → Type 0) (checkpoints : S → Reply →
 
   -- It was refused since the log got no room, and nothing was changed: a device failed, or memory was
   -- refused.
-  abbrev pub LacksRoom : Type 0 → S → Reply → S → Type 0
-  LacksRoom risen old reply new =
-      (new ≡ old)
-      × (((reply ≡ codec.Refused Device) × risen) ⊎ (reply ≡ codec.Refused NoMemory))
+  abbrev pub LacksRoom : (Refusal → Type 0) → Type 0 → S → S → Type 0
+  LacksRoom is_refused risen old new =
+      (new ≡ old) × ((is_refused Device × risen) ⊎ is_refused NoMemory)
 
   -- It was answered so, and no device of the log failed; or refused since the log got no room.
-  abbrev pub AnswersInRoom : Type 0 → (before now : ℕ) → S → Reply → S → Type 0
-  AnswersInRoom is_said before now old reply new =
-      (is_said × (now ≡ before)) ⊎ LacksRoom (HasRisen before now) old reply new
+  abbrev pub AnswersInRoom : Type 0 → (Refusal → Type 0) → (before now : ℕ) → S → S → Type 0
+  AnswersInRoom is_said is_refused before now old new =
+      (is_said × (now ≡ before)) ⊎ LacksRoom is_refused (HasRisen before now) old new
 
-  -- The answers of a server with a log are those of one without, except that checkpoints come with
+  -- The replies of a server with a log are those of one without, except that checkpoints come with
   -- splits and moves, that a sweep leaves the root's files, and that requests which need room in the log
   -- are refused if it has none.
-  abbrev pub AnswersLasting : (S → Request → Reply → S → Type 0)
+  abbrev pub RepliesLasting : (S → Request → Reply → S → Type 0)
       → (S → Result ℕ Refusal → S → Type 0)
       → (stopped risen : Type 0) → (before now : ℕ) → S → Request → Reply → S → Type 0
-  AnswersLasting says sweeps stopped risen before now old (Split row) reply new =
+  RepliesLasting says sweeps stopped risen before now old (Split row) reply new =
       AnswersRooted (λ a r b. says a (Split row) r b) stopped risen old reply new
-  AnswersLasting says sweeps stopped risen before now old (Move tablet server) reply new =
+  RepliesLasting says sweeps stopped risen before now old (Move tablet server) reply new =
       AnswersRooted (λ a r b. says a (Move tablet server) r b) stopped risen old reply new
-  AnswersLasting says sweeps stopped risen before now old Sweep reply new =
+  RepliesLasting says sweeps stopped risen before now old Sweep reply new =
       (result : Result ℕ Refusal) × (reply ≡ swept result) × SweepsNow sweeps stopped old result new
-  AnswersLasting says sweeps stopped risen before now old Checkpoint reply new =
+  RepliesLasting says sweeps stopped risen before now old Checkpoint reply new =
       PutsRoot stopped risen old reply new
-  AnswersLasting says sweeps stopped risen before now old Begin reply new =
-      AnswersInRoom (says old Begin reply new) before now old reply new
-  AnswersLasting says sweeps stopped risen before now old (Step start) reply new =
-      AnswersInRoom (says old (Step start) reply new) before now old reply new
-  AnswersLasting says sweeps stopped risen before now old (CleanStep cleaner) reply new =
-      AnswersInRoom (says old (CleanStep cleaner) reply new) before now old reply new
-  AnswersLasting says sweeps stopped risen before now old (CollectStep collector n) reply new =
-      AnswersInRoom (says old (CollectStep collector n) reply new) before now old reply new
-  AnswersLasting says sweeps stopped risen before now old request reply new =
+  RepliesLasting says sweeps stopped risen before now old Begin reply new =
+      AnswersInRoom (says old Begin reply new) (λ n. reply ≡ codec.Refused n) before now old new
+  RepliesLasting says sweeps stopped risen before now old (Step start) reply new =
+      AnswersInRoom (says old (Step start) reply new) (λ n. reply ≡ codec.Refused n) before now
+      old new
+  RepliesLasting says sweeps stopped risen before now old (CleanStep cleaner) reply new =
+      AnswersInRoom (says old (CleanStep cleaner) reply new) (λ n. reply ≡ codec.Refused n) before
+      now old new
+  RepliesLasting says sweeps stopped risen before now old (CollectStep collector n) reply new =
+      AnswersInRoom (says old (CollectStep collector n) reply new) (λ n. reply ≡ codec.Refused n)
+      before now old new
+  RepliesLasting says sweeps stopped risen before now old request reply new =
       says old request reply new
+
+  -- The same for operations: a Commit, and a Read that begins a session, need room in the log.
+  abbrev pub AnswersLasting : (S → Operation → Answer → S → Type 0)
+      → (S → Result ℕ Refusal → S → Type 0)
+      → (stopped risen : Type 0) → (before now : ℕ) → S → Operation → Answer → S → Type 0
+  AnswersLasting says sweeps stopped risen before now old (lent.One request) (given.Said reply) new =
+      RepliesLasting (λ a q r b. says a (lent.One q) (given.Said r) b) sweeps stopped risen before
+      now old request reply new
+  AnswersLasting says sweeps stopped risen before now old (lent.One request) answer new = ⊥
+  AnswersLasting says sweeps stopped risen before now old (lent.Commit start writes) answer new =
+      AnswersInRoom (says old (lent.Commit start writes) answer new)
+      (λ n. answer ≡ given.Said (codec.Refused n)) before now old new
+  AnswersLasting says sweeps stopped risen before now old (lent.Read start cells open) answer new =
+      AnswersInRoom (says old (lent.Read start cells open) answer new)
+      (λ n. (start ≡ 0) × (answer ≡ given.Said (codec.Refused n))) before now old new
 
 -- An answer of a server with a log: the contract of the answer, and the devices still keep a state.
 pub record IsLastingAnswer {S M L : Type 0} (shows : S → State → Type 0)
     (lasts : LastingServer S M L → State → Type 0) (logs : LastingServer S M L → Type 0)
     (mark_faults : M → ℕ) (log_faults : L → ℕ)
-    (answers : (stopped risen : Type 0) → (before now : ℕ) → S → Request → Reply → S → Type 0)
-    (old : LastingServer S M L) (request : Request) (reply : Reply) (new : LastingServer S M L)
-    : Type 0 where
+    (answers : (stopped risen : Type 0) → (before now : ℕ) → S → Operation → Answer → S → Type 0)
+    (old : LastingServer S M L) (operation : Operation) (answer : Answer)
+    (new : LastingServer S M L) : Type 0 where
   pub answered : answers (new.is_stopped ≡ true)
       (HasRisen (mark_faults old.marks.marks) (mark_faults new.marks.marks))
-      (log_faults old.log) (log_faults new.log) old.server request reply new.server
-  pub goes_on : GoesOn (shown_by shows) lasts logs (asked request) (replied reply) old new
+      (log_faults old.log) (log_faults new.log) old.server operation answer new.server
+  pub goes_on : GoesOn (shown_by shows) lasts logs (operation_of operation) (answer_of answer)
+      old new
 
 -- with upkeep, a sweep follows a root that was put
 abbrev pub SweepsAfter : {S : Type 0} → (S → Result ℕ Refusal → S → Type 0) → Type 0 → Bool → Reply

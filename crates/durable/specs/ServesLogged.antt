@@ -3,11 +3,11 @@ use Rattle.std.specs.Prelude.{ℕ, List, Option, Result}
 use Rattle.commit_log.specs.declared.logs.Log.{Ghosts as Log}
 use Rattle.file_store.specs.declared.files.Files.{Ghosts as Files}
 use Rattle.oracle.specs.declared.marks.MarkStore.{Ghosts as MarkStore}
-use Rattle.request_codec.specs.declared.replies.Reply.{Reply}
-use Rattle.request_codec.specs.declared.requests.Request.{Request}
+use Rattle.request_codec.specs.declared.answers.Answer.{Answer}
+use Rattle.request_codec.specs.declared.operations.Operation.{Operation}
 use Rattle.row_atomic.specs.Recorded.{logged_of}
 use Rattle.si_model.specs.Machine.{State}
-use Rattle.server_loop.specs.Answer.{IsAnswer}
+use Rattle.server_loop.specs.Operations.{IsAnswerTo}
 use Rattle.durable.specs.Lasting.{IsSettled, ServesLasting}
 use Rattle.durable.specs.Lasts.{AnswersLasting, IsLastingAnswer, IsLastingTended, LastsIn, Logs, PutsRoot, shown_by}
 use Rattle.server_loop.specs.Server.{Shows, journal_of}
@@ -36,12 +36,12 @@ module _ {F N M L : Type 0} (files : Files F) (log : Log L) where
 -- The oracle of the server inside has a mark of its own, in memory.
 module _ {F N M L : Type 0} (files : Files F) (inside : MarkStore N) (marks : MarkStore M)
     (log : Log L) where
-  abbrev pub IsAnswerOver : LastingServer (Server F N) M L → Request → Reply
+  abbrev pub IsAnswerOver : LastingServer (Server F N) M L → Operation → Answer
       → LastingServer (Server F N) M L → Type 0
   IsAnswerOver =
       IsLastingAnswer (Shows files.contents) (LastsOver files log) (LogsOver files log)
       marks.faults log.faults
-      (AnswersLasting IsSame (AnswersCheckpoint files inside) (IsAnswer files inside)
+      (AnswersLasting IsSame (AnswersCheckpoint files inside) (IsAnswerTo files inside)
       (SweepsFiles files.contents files.faults))
 
   abbrev pub IsTendedOver : LastingServer (Server F N) M L → LastingServer (Server F N) M L → Type 0

@@ -1,22 +1,25 @@
 //! A server whose answers survive a kill: their edits and a mark over their stamps are in a log before a reply is
 //! written.
 
-ghost use Rattle.std.specs.Prelude.{◌≡◌, ◌≤◌, ◌<◌, ◌^◌, ◌⊎◌, ◌↔◌, [], true, false, IfErr, IsErrOf, IsTrue, OnErr, OnOk, ℕ, List};
+ghost use Rattle.std.specs.Prelude.{◌≡◌, ◌≤◌, ◌<◌, ◌^◌, ◌⊎◌, ◌↔◌, [], true, false, IfErr, IfNone, IfSome, IsErrOf, IsTrue, OnErr, OnOk, ℕ, List};
 ghost use Rattle.cell_key.specs.Cells.{Cells};
 ghost use Rattle.commit_log.specs.Edits.{LogsEdits};
 ghost use Rattle.cell_key.specs.Faults.{HasRisen};
 ghost use Rattle.commit_log.specs.Held.{Keeps, MayRenew, Renews};
+ghost use Rattle.request_codec.specs.Answers.{answer_of};
+ghost use Rattle.request_codec.specs.Operations.{operation_of};
 ghost use Rattle.request_codec.specs.Replies.{replied};
 ghost use Rattle.request_codec.specs.Requests.{asked};
 ghost use Rattle.request_codec.specs.declared.replies.Reply.{Reply as CodecReply};
-ghost use Rattle.request_codec.specs.declared.requests.Request.{Request as Lent};
 ghost use Rattle.durable.specs.Due.{IsDueAlike, IsRootDue, tried_at};
 ghost use Rattle.durable.specs.Lasting.{GoesOn, IsSettled, Settles};
 ghost use Rattle.server_loop.specs.Commands.{checkpointed};
-ghost use Rattle.durable.specs.Lasts.{AnswersLasting, Checkpoints, HasNewRoot, HoldsLogged, IsLastingAnswer, LastsIn, Logs, MovesTablets, NamesItsRoot, NeedsRoom, ActsOnRoots, PutsRoot, StaysRooted, SweepsAfter, SweepsNow, named, shown_by};
+ghost use Rattle.durable.specs.Lasts.{AnswersLasting, Checkpoints, HasNewRoot, HoldsLogged, IsLastingAnswer, LastsIn, Logs, MovesTablets, NamesItsRoot, NeedsLogRoom, NeedsRoom, ActsOnRoots, PutsRoot, StaysRooted, SweepsAfter, SweepsNow, named, shown_by};
 ghost use Rattle.metadata_table.specs.Roots.{RootView};
-ghost use Rattle.server_loop.specs.Runs.{KeepsToLimits, StepsAs};
+ghost use Rattle.server_loop.specs.Runs.{AnswerKeepsToLimits, KeepsToLimits, StepsAs};
+ghost use Rattle.server_loop.specs.OperationLaws.{StandsForSeveral};
 ghost use Rattle.si_model.specs.Machine.{IsReached, IsStorageRefusal, State, Checkpoint as CheckpointAsked};
+ghost use Rattle.si_model.specs.Transactions.{One, Said};
 
 use crate::lasting_opening::refused_by;
 use crate::recording::Recording;
@@ -25,7 +28,7 @@ use cell_key::{MOST_STAMP, Refusal, Stamp};
 use commit_log::laws::{as_many_edits, logs_edits, names_roots};
 use commit_log::{BEFORE_BODY, Log, LogFault, RecordKind, is_over_any, root_sum_bytes};
 use oracle::MarkStore;
-use request_codec::{Reply, Request};
+use request_codec::{Answer, Operation, Reply, Request};
 use server_loop::{Answering, Heard, Hearing, ServeFault, answer_heard};
 use std::alloc::Global;
 
@@ -393,8 +396,8 @@ impl<S: Recording, M: MarkStore, L: Log> LastingServer<S, M, L> {
         ensures limits { KeepsToLimits result }
         ensures says { IsLastingAnswer S.shows (LastsIn S.stores S.logged L.holds)
             (Logs S.stores S.logged L.holds S.is_rooted) M.faults L.faults
-            (AnswersLasting S.same S.checkpoints S.says S.sweeps) self.old Request.Sweep result
-            self.new }
+            (AnswersLasting S.same S.checkpoints S.says S.sweeps) self.old
+            (Operation.One Request.Sweep) (Answer.Said result) self.new }
     {
         match self.sweep_files() {
             Ok(count) => Reply::Sweep(count),
@@ -408,8 +411,8 @@ impl<S: Recording, M: MarkStore, L: Log> LastingServer<S, M, L> {
         ensures limits { KeepsToLimits result }
         ensures says { IsLastingAnswer S.shows (LastsIn S.stores S.logged L.holds)
             (Logs S.stores S.logged L.holds S.is_rooted) M.faults L.faults
-            (AnswersLasting S.same S.checkpoints S.says S.sweeps) self.old request.entry result
-            self.new }
+            (AnswersLasting S.same S.checkpoints S.says S.sweeps) self.old
+            (Operation.One request.entry) (Answer.Said result) self.new }
     {
         logs_edits();
         names_roots();
@@ -431,8 +434,8 @@ impl<S: Recording, M: MarkStore, L: Log> LastingServer<S, M, L> {
         ensures limits { KeepsToLimits result }
         ensures says { IsLastingAnswer S.shows (LastsIn S.stores S.logged L.holds)
             (Logs S.stores S.logged L.holds S.is_rooted) M.faults L.faults
-            (AnswersLasting S.same S.checkpoints S.says S.sweeps) self.old Request.Checkpoint result
-            self.new }
+            (AnswersLasting S.same S.checkpoints S.says S.sweeps) self.old
+            (Operation.One Request.Checkpoint) (Answer.Said result) self.new }
     {
         match self.root() {
             Ok(()) => Reply::Checkpoint,
@@ -455,11 +458,12 @@ impl<S: Recording, M: MarkStore, L: Log> LastingServer<S, M, L> {
     fn answer_inside(&mut self, request: Request<'_>) -> Reply
         requires { ¬ ActsOnRoots request }
         ensures limits { KeepsToLimits result }
-        ensures says { S.says self.old.server request.entry result self.new.server }
+        ensures says { S.says self.old.server (Operation.One request.entry) (Answer.Said result)
+            self.new.server }
         ensures log { self.new.log ≡ self.old.log }
         ensures goes_on { GoesOn (shown_by S.shows) (LastsIn S.stores S.logged L.holds)
-            (Logs S.stores S.logged L.holds S.is_rooted) (asked request.entry)
-            (replied result) self.old self.new }
+            (Logs S.stores S.logged L.holds S.is_rooted) (One (asked request.entry))
+            (Said (replied result)) self.old self.new }
     {
         logs_edits();
         names_roots();
@@ -484,8 +488,8 @@ impl<S: Recording, M: MarkStore, L: Log> LastingServer<S, M, L> {
         ensures limits { KeepsToLimits result }
         ensures says { IsLastingAnswer S.shows (LastsIn S.stores S.logged L.holds)
             (Logs S.stores S.logged L.holds S.is_rooted) M.faults L.faults
-            (AnswersLasting S.same S.checkpoints S.says S.sweeps) self.old request.entry result
-            self.new }
+            (AnswersLasting S.same S.checkpoints S.says S.sweeps) self.old
+            (Operation.One request.entry) (Answer.Said result) self.new }
     {
         logs_edits();
         names_roots();
@@ -498,6 +502,59 @@ impl<S: Recording, M: MarkStore, L: Log> LastingServer<S, M, L> {
         }
     }
 
+    /// The bytes for which the log must have room before an operation of several cells is answered, if it needs any.
+    fn room_for(&self, operation: &Operation<'_>) -> Option<usize>
+        requires { StandsForSeveral (operation_of operation.now) }
+        ensures needs { IfSome result (λ _. NeedsLogRoom operation.now) }
+        ensures none { IfNone result (¬ NeedsLogRoom operation.now) }
+    {
+        let edits = match operation {
+            Operation::Commit { start, writes } => self.server.commit_bytes(*start, writes),
+            Operation::Read { start: 0, .. } => 0,
+            _ => return None,
+        };
+        let waiting = self.server.waiting().len().saturating_add(edits);
+        Some(waiting.min(MOST_WAITING_EDITS) + 2 * BEFORE_BODY)
+    }
+
+    /// Lets the server inside answer an operation of several cells.
+    fn answer_several(&mut self, operation: Operation<'_>) -> Answer
+        requires { StandsForSeveral (operation_of operation) }
+        ensures limits { AnswerKeepsToLimits result }
+        ensures says { S.says self.old.server operation result self.new.server }
+        ensures log { self.new.log ≡ self.old.log }
+        ensures goes_on { GoesOn (shown_by S.shows) (LastsIn S.stores S.logged L.holds)
+            (Logs S.stores S.logged L.holds S.is_rooted) (operation_of operation)
+            (answer_of result) self.old self.new }
+    {
+        logs_edits();
+        names_roots();
+        S::recording_laws();
+        self.server.answer_to(operation)
+    }
+
+    /// Answers an operation of several cells, if the log has room for what it records.
+    fn answer_at_once(&mut self, operation: Operation<'_>) -> Answer
+        requires { StandsForSeveral (operation_of operation) }
+        ensures limits { AnswerKeepsToLimits result }
+        ensures says { IsLastingAnswer S.shows (LastsIn S.stores S.logged L.holds)
+            (Logs S.stores S.logged L.holds S.is_rooted) M.faults L.faults
+            (AnswersLasting S.same S.checkpoints S.says S.sweeps) self.old operation result
+            self.new }
+    {
+        logs_edits();
+        names_roots();
+        S::recording_laws();
+        let Some(needed) = self.room_for(&operation) else {
+            return self.answer_several(operation);
+        };
+        match self.log.reserve(needed) {
+            Ok(()) => self.answer_several(operation),
+            Err(LogFault::Device) => Answer::Said(Reply::Refused(Refusal::Device)),
+            Err(_) => Answer::Said(Reply::Refused(Refusal::NoMemory)),
+        }
+    }
+
     /// Answers a request that needs no root and no room in the log.
     fn answer_plainly(&mut self, request: Request<'_>) -> Reply
         requires rootless { ¬ ActsOnRoots request }
@@ -505,8 +562,8 @@ impl<S: Recording, M: MarkStore, L: Log> LastingServer<S, M, L> {
         ensures limits { KeepsToLimits result }
         ensures says { IsLastingAnswer S.shows (LastsIn S.stores S.logged L.holds)
             (Logs S.stores S.logged L.holds S.is_rooted) M.faults L.faults
-            (AnswersLasting S.same S.checkpoints S.says S.sweeps) self.old request.entry result
-            self.new }
+            (AnswersLasting S.same S.checkpoints S.says S.sweeps) self.old
+            (Operation.One request.entry) (Answer.Said result) self.new }
     {
         self.answer_inside(request)
     }
@@ -535,6 +592,13 @@ impl<S: Recording, M: MarkStore, L: Log> Answering for LastingServer<S, M, L> {
             | Request::CleanStep { .. }
             | Request::CollectStep { .. } => self.answer_with_room(request),
             _ => self.answer_plainly(request),
+        }
+    }
+
+    fn answer_to(&mut self, operation: Operation<'_>) -> Answer {
+        match &operation {
+            Operation::One(request) => Answer::Said(self.reply_to(*request)),
+            Operation::Commit { .. } | Operation::Read { .. } => self.answer_at_once(operation),
         }
     }
 
@@ -595,7 +659,7 @@ impl<S: Recording, M: MarkStore, L: Log> Hearing for LastingServer<S, M, L> {
     } };
 
     fn answer(&mut self, heard: Heard<'_>, waiting: &mut Vec<u8>) {
-        answer_heard(self, heard, waiting);
+        answer_heard(self.alloc, self, heard, waiting);
     }
 
     fn settle(&mut self) -> Result<(), ServeFault> {

@@ -13,7 +13,7 @@ use row_atomic::{
     root_is_stored, root_outlasts_flushes, root_outlasts_merges, root_outlasts_sweeps, root_stays,
 };
 use server_loop::{RootName, Server};
-use si_model::shows_reopened;
+use si_model::{CellWrite, shows_reopened};
 
 /// The bytes counted for each edit: the journal's upper bound of bytes, 67,108,864, divided by its bound of edits,
 /// 100,000.
@@ -63,6 +63,10 @@ impl<F: WholeFiles + Drop, M: MarkStore + Drop> Recording for Server<F, M> {
 
     fn waiting(&self) -> &[u8] {
         self.waiting()
+    }
+
+    fn commit_bytes(&self, start: Stamp, writes: &[CellWrite<'_>]) -> usize {
+        self.commit_bytes(start, writes)
     }
 
     fn settled(&mut self) {

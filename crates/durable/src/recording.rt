@@ -4,10 +4,14 @@ ghost use Rattle.std.specs.Prelude.{◌≡◌, ◌≢◌, ◌≤◌, ◌⊎◌, 
 ghost use Rattle.cell_key.specs.Cells.{Cells};
 ghost use Rattle.row_atomic.specs.Journals.{IsWithin};
 ghost use Rattle.request_codec.specs.Replies.{replied};
+ghost use Rattle.request_codec.specs.declared.answers.Answer.{Answer as CodecAnswer};
+ghost use Rattle.request_codec.specs.declared.answers.Answer.TheVariants.{Said};
+ghost use Rattle.request_codec.specs.declared.operations.Operation.{Operation as LentOperation};
+ghost use Rattle.request_codec.specs.declared.operations.Operation.TheVariants.{One};
 ghost use Rattle.request_codec.specs.declared.replies.Reply.{Reply as CodecReply};
 ghost use Rattle.request_codec.specs.declared.requests.Request.{Request as Lent};
 ghost use Rattle.metadata_table.specs.Roots.{RootView};
-ghost use Rattle.durable.specs.Lasts.{Follows, HasNewRoot, IsNameOf, KeepsRecording, MovesTablets, ActsOnRoots, StaysRooted, StaysStored};
+ghost use Rattle.durable.specs.Lasts.{Follows, HasNewRoot, IsNameOf, KeepsRecording, MovesTablets, StaysRooted, StaysStored, TouchesRoots};
 ghost use Rattle.server_loop.specs.Commands.{checkpointed};
 ghost use Rattle.server_loop.specs.Runs.{StepsAs};
 ghost use Rattle.si_model.specs.Machine.{IsReached, IsStorageRefusal, Place, State, Checkpoint as CheckpointAsked};
@@ -15,6 +19,7 @@ ghost use Rattle.cell_key.specs.declared.refusals.Refusal.{Refusal};
 
 use cell_key::{Refusal, Stamp};
 use server_loop::{Answering, RootName};
+use si_model::CellWrite;
 
 /// A server with a journal of its edits: those that the log has, and those that wait for the log.
 pub(crate) trait Recording: Answering {
@@ -74,6 +79,9 @@ pub(crate) trait Recording: Answering {
           waiting = waiting self.now;
           count = count self.now;
         }) };
+
+    /// An upper bound of the bytes of the edits that a transaction of these writes makes.
+    fn commit_bytes(&self, start: Stamp, writes: &[CellWrite<'_>]) -> usize;
 
     /// Notes that the log has all edits of the journal.
     fn settled(&mut self)
@@ -142,12 +150,12 @@ pub(crate) trait Recording: Answering {
             st }
         ensures one { (server : Self) (root other : RootView) (base : Cells) (places : List Place)
             → stores server root base places → is_rooted server other → root ≡ other }
-        ensures leaves { (old new : Self) (request : Lent) (reply : CodecReply)
-            → ¬ ActsOnRoots request → Self.says old request reply new
+        ensures leaves { (old new : Self) (operation : LentOperation) (answer : CodecAnswer)
+            → ¬ TouchesRoots operation → Self.says old operation answer new
             → (now : State) → IsReached now → Self.shows old now
             → StaysRooted stores is_rooted old new × (logged new ≡ logged old) }
         ensures moves { (old new : Self) (request : Lent) (reply : CodecReply)
-            → MovesTablets request → Self.says old request reply new
+            → MovesTablets request → Self.says old (One request) (Said reply) new
             → StaysStored stores old new
             × KeepsRecording recording logged waiting last old new }
         ensures tends { (old new : Self) → Self.between old new

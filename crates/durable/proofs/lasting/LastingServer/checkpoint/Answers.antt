@@ -1,14 +1,15 @@
 use Rattle.std.proofs.Common.{inl, inr}
+use Rattle.server_loop.proofs.SessionSteps.{goes_one}
 use Rattle.durable.proofs.lasting.LastingServer.checkpoint.Goals as goal
 
 pub returns-in-Ok-clause-says : goal.returns-in-Ok-clause-says
 returns-in-Ok-clause-says g c = record {
   answered = c.in-Ok.ensures.answered;
   goes_on = λ now reached shown.
-      let (next, step, shows, whole) = c.in-Ok.ensures.step now reached shown in
+      let (next, goes, shows, whole) = goes_one c.in-Ok.ensures.step now reached shown in
       record {
         next = next;
-        step = step;
+        goes = goes;
         shown = shows;
         whole = whole;
         logged = c.root.ensures.settles.logged now reached shown;
@@ -20,10 +21,10 @@ pub returns-in-Err-clause-says : goal.returns-in-Err-clause-says
 returns-in-Err-clause-says g c = record {
   answered = c.in-Err.ensures.answered;
   goes_on = λ now reached shown.
-      let (next, step, shows, whole) = c.in-Err.ensures.step now reached shown in
+      let (next, goes, shows, whole) = goes_one c.in-Err.ensures.step now reached shown in
       record {
         next = next;
-        step = step;
+        goes = goes;
         shown = shows;
         whole = whole;
         logged = c.root.ensures.settles.logged now reached shown;

@@ -1,9 +1,11 @@
 use Rattle.std.proofs.Common.{◌≤◌, ◌∙◌, inl, inr, refl, arith}
 use Rattle.si_model.specs.Machine.{refuses}
 use Rattle.si_model.specs.Refusing.{gives_up}
+use Rattle.si_model.specs.Transactions.{steps}
 use Rattle.request_codec.specs.declared.replies.Reply.TheVariants as codec
 use Rattle.durable.proofs.Logged.{holds_on, still_lasts, true_not_false}
 use Rattle.durable.proofs.Rooted.{moves_rooted, never_unmarked}
+use Rattle.server_loop.proofs.SessionSteps.{goes_one}
 use Rattle.durable.proofs.lasting.LastingServer.rearrange.Goals as goal
 
 pub returns-then-not-self-clause-says : goal.returns-then-not-self-clause-says
@@ -15,10 +17,10 @@ returns-then-not-self-clause-says g c =
           (inr (c.root.new.self.server, c.reply_to-reply.new.self, c.in-Ok.ensures.done, c.reply_to-reply.ensures.says, inr (c.root_moved.ensures.answered.0, never_unmarked g.S.Recording.same g.S.Recording.checkpoints _ _ c.reply_to-reply.new.self c.root_moved.new.self.server c.root_moved.ensures.answered.0 c.root_moved.ensures.answered.1)));
       goes_on = λ now reached shown.
           let mid = c.root.ensures.settles.shown now shown in
-          let (next, step, shows, whole) = c.reply_to-reply.ensures.step now reached mid in
+          let (next, goes, shows, whole) = goes_one c.reply_to-reply.ensures.step now reached mid in
           record {
             next = next;
-            step = step;
+            goes = goes;
             shown = c.root_moved.ensures.shown next shows;
             whole = whole;
             logged = λ logs. elim (c.root.ensures.settles.logged now reached shown logs) [
@@ -40,10 +42,10 @@ returns-else-not-self-clause-says g c =
           (inr (c.root.new.self.server, c.reply_to-reply.new.self, c.in-Ok.ensures.done, c.reply_to-reply.ensures.says, inl (g.met.S.Recording.same_self c.reply_to-reply.new.self)));
       goes_on = λ now reached shown.
           let mid = c.root.ensures.settles.shown now shown in
-          let (next, step, shows, whole) = c.reply_to-reply.ensures.step now reached mid in
+          let (next, goes, shows, whole) = goes_one c.reply_to-reply.ensures.step now reached mid in
           record {
             next = next;
-            step = step;
+            goes = goes;
             shown = shows;
             whole = whole;
             logged = λ logs. inl c.if-not-self.false;
@@ -56,9 +58,9 @@ returns-in-Err-clause-says g c = record {
   answered = moves_rooted g.S.Recording.same g.S.Recording.checkpoints g.S.Answering.says g.S.Recording.sweeps _ _ _ _ c.args.self.now.server c.root.new.self.server c.args.request (codec.Refused c.in-Err.refusal) c.requires (inl (c.in-Err.refusal, refl, c.in-Err.ensures.answered));
   goes_on = λ now reached shown. record {
     next = now;
-    step = refuses (gives_up c.in-Err.ensures.refusal);
+    goes = steps (refuses (gives_up c.in-Err.ensures.refusal));
     shown = c.root.ensures.settles.shown now shown;
-    whole = (c.in-Err.ensures.step now reached shown).3;
+    whole = (goes_one c.in-Err.ensures.step now reached shown).3;
     logged = c.root.ensures.settles.logged now reached shown;
     lasting = λ logs st lasts. elim (c.root.ensures.settles.lasting now reached shown logs st lasts) [ inl same ↦ inl same | inr is ↦ inr (inl is) ];
   };

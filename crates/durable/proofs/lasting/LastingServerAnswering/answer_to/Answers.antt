@@ -1,0 +1,8 @@
+use Rattle.server_loop.proofs.SessionSteps.{goes_one}
+use Rattle.durable.proofs.lasting.LastingServerAnswering.answer_to.Goals as goal
+
+pub returns-in-One-clause-goes : goal.returns-in-One-clause-goes
+returns-in-One-clause-goes g c = rw c.in-One.is (goes_one c.reply_to.ensures.step)
+
+pub returns-in-One-clause-says : goal.returns-in-One-clause-says
+returns-in-One-clause-says g c = rw c.in-One.is c.reply_to.ensures.says
