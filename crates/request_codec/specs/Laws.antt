@@ -2,8 +2,11 @@
 use Rattle.std.specs.Prelude.{◌≡◌, ℕ, List, ◌++◌, ◌<◌, ◌≤◌, length, slice_index, Some}
 use Rattle.std.specs.List.{AllByRecursion}
 use Rattle.si_model.specs.Messages.{Request, Reply, RawFound}
+use Rattle.si_model.specs.Transactions.{Operation, Answer}
 use Rattle.request_codec.specs.Requests.{IsRequest}
 use Rattle.request_codec.specs.Replies.{reply_body, IsReply, HoldsWithinLimits}
+use Rattle.request_codec.specs.Operations.{IsOperation}
+use Rattle.request_codec.specs.Answers.{answer_body, longest_answer, IsAnswerBody, HoldsAnswerWithinLimits}
 use Rattle.request_codec.specs.Stream.{frame, frames, longest_reply, IsBody, CutsInto}
 
 -- a stream can be cut into bodies and a rest in only one way
@@ -46,3 +49,19 @@ abbrev pub RawIsLongest : Type 0
 RawIsLongest =
     (stamp : ℕ) (value : List ℕ) → length value ≡ 65536
     → length (frame (reply_body (RawFound (Some (stamp, value))))) ≡ longest_reply
+
+-- two operations with the same body are equal
+abbrev pub OneOperationABody : Type 0
+OneOperationABody =
+    (a b : Operation) (body : List ℕ) → IsOperation a body → IsOperation b body → a ≡ b
+
+-- two answers with the same body are equal
+abbrev pub OneAnswerABody : Type 0
+OneAnswerABody =
+    (a b : Answer) (body : List ℕ) → IsAnswerBody a body → IsAnswerBody b body → a ≡ b
+
+-- no answer within its limits has a longer frame than this
+abbrev pub AnswersFit : Type 0
+AnswersFit =
+    (answer : Answer) → HoldsAnswerWithinLimits answer
+    → length (frame (answer_body answer)) ≤ longest_answer

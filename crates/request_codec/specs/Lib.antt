@@ -1,8 +1,11 @@
 pub mod Buffers
 pub mod Fields
+pub mod Parts
 pub mod Framing
 pub mod Scans
 pub mod Requests
 pub mod Replies
+pub mod Operations
+pub mod Answers
 pub mod Stream
 pub mod Laws

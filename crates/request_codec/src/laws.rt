@@ -1,9 +1,11 @@
 //! Laws of bodies and streams. Each is the contract of a function that does nothing.
 
-ghost use Rattle.request_codec.specs.Laws.{CutGoesOn, OneCut, HasCut, NoFrameBeginsAnother, OneRequestABody, OneReplyABody, RepliesFit, RawIsLongest};
+ghost use Rattle.request_codec.specs.Answers.{longest_answer};
+ghost use Rattle.request_codec.specs.Laws.{CutGoesOn, OneCut, HasCut, NoFrameBeginsAnother, OneRequestABody, OneReplyABody, OneOperationABody, OneAnswerABody, AnswersFit, RepliesFit, RawIsLongest};
 ghost use Rattle.request_codec.specs.Stream.{longest, longest_reply};
 ghost use Rattle.std.specs.Prelude.{◌≡◌};
 
+use crate::answers::LONGEST_ANSWER;
 use crate::framer::LONGEST_BODY;
 use crate::replies::LONGEST_REPLY;
 
@@ -37,6 +39,21 @@ pub fn one_reply_a_body()
     ensures { OneReplyABody }
 {}
 
+/// Two operations with the same body are equal.
+pub fn one_operation_a_body()
+    ensures { OneOperationABody }
+{}
+
+/// Two answers with the same body are equal.
+pub fn one_answer_a_body()
+    ensures { OneAnswerABody }
+{}
+
+/// No answer within its limits has a longer frame than `LONGEST_ANSWER`.
+pub fn answers_fit()
+    ensures { AnswersFit }
+{}
+
 /// No reply within the limits of rows, families and values has a longer frame than `LONGEST_REPLY`.
 pub fn replies_fit()
     ensures { RepliesFit }
@@ -51,4 +68,5 @@ pub fn raw_is_longest()
 pub fn limits()
     ensures body { LONGEST_BODY ≡ longest }
     ensures reply { LONGEST_REPLY ≡ longest_reply }
+    ensures answer { LONGEST_ANSWER ≡ longest_answer }
 {}

@@ -86,7 +86,7 @@ pub(crate) fn take_reach<'a>(rest: &mut &'a [u8]) -> Option<LentReach<'a>>
 }
 
 /// The result of a scan for a cell.
-fn take_said<'a>(rest: &mut &'a [u8]) -> Option<LentFound<'a>>
+pub(crate) fn take_said<'a>(rest: &mut &'a [u8]) -> Option<LentFound<'a>>
     ensures found { IfSome result (λ said.
         rest.old.now ≡ said_fields (lent_said said) ++ rest.new.now) }
     ensures fits { IfSome result (λ said. SaidFits (lent_said said)) }
@@ -173,7 +173,7 @@ pub(crate) fn own_reach(alloc: Global, reach: LentReach<'_>) -> Result<ScanReach
 }
 
 /// The result for a cell, as an owned copy.
-fn own_found(alloc: Global, found: LentFound<'_>) -> Result<ScanFound, AllocError>
+pub(crate) fn own_found(alloc: Global, found: LentFound<'_>) -> Result<ScanFound, AllocError>
     ensures { IfOk result (λ own. found_item own ≡ lent_said found.entry) }
 {
     match found {

@@ -17,7 +17,7 @@ pub(crate) const LEFT_OUT: u8 = 0x00;
 pub(crate) const KEPT: u8 = 0x01;
 
 /// Whether only keys are asked for.
-fn take_flag(rest: &mut &[u8]) -> Option<bool>
+pub(crate) fn take_flag(rest: &mut &[u8]) -> Option<bool>
     ensures found { IfSome result (λ flag. rest.old.now ≡ flag_number flag ∷ rest.new.now) }
     ensures none { IfNone result ((flag : Bool) (after : List ℕ)
         → rest.old.now ≢ flag_number flag ∷ after) }
@@ -51,7 +51,7 @@ fn take_optional_cell<'a>(rest: &mut &'a [u8]) -> Option<Option<(&'a [u8], &'a [
 }
 
 /// A length and that many bytes, if they are present.
-fn take_optional_bytes<'a>(rest: &mut &'a [u8]) -> Option<Option<&'a [u8]>>
+pub(crate) fn take_optional_bytes<'a>(rest: &mut &'a [u8]) -> Option<Option<&'a [u8]>>
     ensures found { IfSome result (λ bytes. rest.old.now
         ≡ optional field (option_map (λ bytes. bytes.now) bytes) ++ rest.new.now) }
     ensures fits { IfSome result (λ bytes. IfSome bytes (λ bytes. FitsField bytes.now)) }

@@ -287,7 +287,7 @@ pub fn decode_request(body: &[u8]) -> Option<Request<'_>>
 
 /// The length of a request's body in bytes.
 #[tactic(auto, using(crate::proofs::Fields::lengths))]
-fn request_length(request: &Request<'_>) -> usize
+pub(crate) fn request_length(request: &Request<'_>) -> usize
     requires { BytesFit (asked request.now) }
     ensures { result ≡ length (request_body (asked request.now)) }
 {
@@ -485,7 +485,7 @@ fn push_upkeep(request: &Request<'_>, out: &mut Vec<u8>)
 }
 
 /// Appends the body of a request.
-fn push_request(request: &Request<'_>, out: &mut Vec<u8>)
+pub(crate) fn push_request(request: &Request<'_>, out: &mut Vec<u8>)
     requires fits { BytesFit (asked request.now) }
     requires room { HasRoomFor out.old (length (request_body (asked request.now))) }
     ensures { AppendsBytes out.old out.new (request_body (asked request.now)) }

@@ -33,7 +33,7 @@ fn optional_cell_length(cell: Option<(&[u8], &[u8])>) -> usize
 }
 
 /// The length of an optional field of bytes.
-fn optional_length(bytes: Option<&[u8]>) -> usize
+pub(crate) fn optional_length(bytes: Option<&[u8]>) -> usize
     requires { IfSome bytes (λ bytes. FitsField bytes.now) }
     ensures length { result
         ≡ length (optional field (option_map (λ bytes. bytes.now) bytes.entry)) }
@@ -55,7 +55,7 @@ pub(crate) fn range_length(range: ScanRange<'_>) -> usize
 }
 
 /// Appends whether only keys are asked for.
-fn push_flag(out: &mut Vec<u8>, flag: bool)
+pub(crate) fn push_flag(out: &mut Vec<u8>, flag: bool)
     requires { HasRoomFor out.old 1 }
     ensures { AppendsBytes out.old out.new (flag_number flag ∷ []) }
 {
@@ -82,7 +82,7 @@ fn push_optional_cell(out: &mut Vec<u8>, cell: Option<(&[u8], &[u8])>)
 
 /// Appends a length and that many bytes, which may be absent.
 #[tactic(auto, using(crate::proofs::Fields::lengths))]
-fn push_optional(out: &mut Vec<u8>, bytes: Option<&[u8]>)
+pub(crate) fn push_optional(out: &mut Vec<u8>, bytes: Option<&[u8]>)
     requires fits { IfSome bytes (λ bytes. FitsField bytes.now) }
     requires room { HasRoomFor out.old
         (length (optional field (option_map (λ bytes. bytes.now) bytes))) }
@@ -133,8 +133,8 @@ pub(crate) fn push_scan(
 }
 
 /// The length of the result for a cell in bytes.
-fn said_length(found: &ScanFound) -> usize
-    requires { found_length (found_item found.now) ≤ most_items }
+pub(crate) fn said_length(found: &ScanFound) -> usize
+    requires { found_length (found_item found.now) < 2 ^ 32 }
     ensures { result ≡ 1 + found_length (found_item found.now) }
 {
     match found {
@@ -182,8 +182,8 @@ pub(crate) fn scan_length(reply: &ScanReply) -> usize
 
 /// Appends the result for a cell.
 #[tactic(auto, using(crate::proofs::Fields::lengths))]
-fn push_said(out: &mut Vec<u8>, found: &ScanFound)
-    requires few { found_length (found_item found.now) ≤ most_items }
+pub(crate) fn push_said(out: &mut Vec<u8>, found: &ScanFound)
+    requires few { found_length (found_item found.now) < 2 ^ 32 }
     requires room { HasRoomFor out.old (length (said_fields (found_item found.now))) }
     ensures { AppendsBytes out.old out.new (said_fields (found_item found.now)) }
 {
