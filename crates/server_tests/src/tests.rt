@@ -22,7 +22,7 @@ use std::test::Fail;
 use testing::frames::streams_of;
 use testing::rows::Row;
 use testing::streams::{Asking, Holding, Narrow, Pieces, Telling};
-use testing::{FILE_LIMIT, cleaning, collecting, deleting, rows, scanning, upkeep};
+use testing::{FILE_LIMIT, cleaning, collecting, deleting, rows, scanning, transactions, upkeep};
 
 type MemServer = Server<MemFiles, MemMark>;
 
@@ -153,6 +153,17 @@ fn deletions(rt: HostRuntime) -> Result<(), Fail> {
 #[test]
 fn scans(rt: HostRuntime) -> Result<(), Fail> {
     for row in scanning::ROWS {
+        assert!(rt; flushing(rt.alloc(), 10_000, None, &row)?);
+        assert!(rt; flushing(rt.alloc(), 1, Some(2), &row)?);
+    }
+    Ok(())
+}
+
+/// Rows of transactions in one request: without automatic compactions, and with memtables compacted after each reply and
+/// files merged at two.
+#[test]
+fn commits_and_reads(rt: HostRuntime) -> Result<(), Fail> {
+    for row in transactions::ROWS {
         assert!(rt; flushing(rt.alloc(), 10_000, None, &row)?);
         assert!(rt; flushing(rt.alloc(), 1, Some(2), &row)?);
     }

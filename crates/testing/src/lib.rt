@@ -13,6 +13,7 @@ pub mod rows;
 pub mod scanning;
 pub mod script;
 pub mod streams;
+pub mod transactions;
 pub mod upkeep;
 
 /// The maximum size of a sorted file in bytes.
