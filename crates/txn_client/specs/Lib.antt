@@ -1,5 +1,6 @@
 pub mod CellOrder
 pub mod CellReads
+pub mod Commits
 pub mod Gathering
 pub mod Puts
 pub mod Ranges

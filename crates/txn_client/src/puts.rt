@@ -1,20 +1,28 @@
 //! The edits of a transaction that is committed at once: data and record of each write, and no lock.
 
-ghost use Rattle.std.specs.Prelude.{◌≡◌, ◌≤◌, ℕ, List, length, map, Some, None, IfOk, IfErr, OnOk};
+ghost use Rattle.std.specs.Prelude.{◌≡◌, ◌+◌, ◌<◌, ◌≤◌, ◌^◌, ◌⊎◌, ℕ, List, length, map, Some, None, IfOk, IfErr, IsErrOf, OnErr, OnOk};
 ghost use Rattle.std.specs.List.{AllByRecursion};
 ghost use Rattle.cell_key.specs.Cells.{Cells, IsEditOf, after_edits};
 ghost use Rattle.cell_key.specs.Columns.{record_text};
+ghost use Rattle.cell_key.specs.Faults.{HasReason};
 ghost use Rattle.cell_key.specs.LockEdits.{IsPut};
 ghost use Rattle.cell_key.specs.declared.keys.Qualifier.TheVariants as qualifier;
+ghost use Rattle.oracle.specs.Marks.{MayHold};
+ghost use Rattle.oracle.specs.Ranges.{next_range_end};
+ghost use Rattle.rows.specs.Calls.{OnlyReads};
 ghost use Rattle.rows.specs.RowEdits.{AreOfTheirRow, all_edits};
 ghost use Rattle.si_model.specs.PutCells.{all_put_cells};
 ghost use Rattle.si_model.specs.ShowsCells.{key_of};
-ghost use Rattle.txn_client.specs.Puts.{IsPutting};
+ghost use Rattle.txn_client.specs.Commits.{HasNoRoomToPut, PutsWith};
+ghost use Rattle.txn_client.specs.Puts.{ArePuttings, IsPutting, IsPutRefusal};
 ghost use Rattle.txn_client.specs.Writes.{write_of};
 
 use crate::writes::Write;
-use cell_key::{CellKey, Edit, Moment, Qualifier, Record, Refusal, WriteKind};
-use rows::RowEdits;
+use cell_key::{
+    CellKey, Edit, MOST_STAMP, Moment, Qualifier, Record, Refusal, Stamp, WriteKind,
+};
+use oracle::{MarkStore, Oracle};
+use rows::{RowEdits, Rows};
 use si_model::Cell;
 use std::alloc::Global;
 
@@ -130,8 +138,8 @@ pub(crate) fn putting_all(
         → after_edits cells (all_edits changes.items)
         ≡ all_put_cells cells (map write_of writes.now) start commit) }
     ensures under { IfOk result (λ changes. AllByRecursion AreOfTheirRow changes.items) }
-    ensures rows { IfOk result (λ changes. map (λ change. change.row) changes.items
-        ≡ map (λ write. write.cell.row) writes.now) }
+    ensures puttings { IfOk result (λ changes. ArePuttings
+        start commit (map write_of writes.now) changes.items) }
     ensures refusal { IfErr result (λ refusal. refusal ≡ Refusal.NoMemory) }
 {
     let mut changes = Vec::with_capacity(alloc, writes.len())?;
@@ -140,4 +148,43 @@ pub(crate) fn putting_all(
         changes.push(change)?;
     }
     Ok(changes)
+}
+
+/// Puts writes of a session that began at `start`, with their records at the last of the next `count` stamps, which are
+/// served then. Returns that stamp. Refusals: Exhausted, NoMemory, Device, MemtableFull; no stamp is drawn then.
+pub(crate) fn put_at_once<R: Rows, M: MarkStore>(
+    alloc: Global,
+    rows: &mut R,
+    oracle: &mut Oracle<M>,
+    start: Moment,
+    count: Stamp,
+    writes: &[Write],
+) -> Result<Stamp, Refusal>
+    requires some { 1 ≤ count }
+    requires few { count ≤ 2 }
+    requires limit { oracle.old.last + count ≤ 2 ^ 63 }
+    ensures puts { IfOk result (λ commit. PutsWith
+        R.seen (map write_of writes.now) start commit rows.old rows.new) }
+    ensures commit { IfOk result (λ commit. commit ≡ oracle.old.last + count) }
+    ensures served { IfOk result (λ commit. oracle.new.last ≡ commit) }
+    ensures limit { IfOk result (λ commit. commit < 2 ^ 63) }
+    ensures reads { OnErr result (OnlyReads R.seen rows.old rows.new) }
+    ensures stays { OnErr result (oracle.new.last ≡ oracle.old.last) }
+    ensures range { OnErr result ((oracle.new.range_end ≡ oracle.old.range_end)
+        ⊎ (oracle.new.range_end ≡ next_range_end oracle.old.range_end)) }
+    ensures mark { OnErr result (MayHold (next_range_end oracle.old.range_end)
+        (M.mark oracle.old.marks) (M.mark oracle.new.marks)) }
+    ensures refusal { IfErr result IsPutRefusal }
+    ensures exhausted { IsErrOf result Refusal.Exhausted → MOST_STAMP < oracle.old.last + count }
+    ensures full { IsErrOf result Refusal.MemtableFull → HasNoRoomToPut R.seen
+        (map write_of writes.now) start (oracle.old.last + count) rows.old }
+    ensures reason { HasReason (M.faults oracle.old.marks) (M.faults oracle.new.marks) result }
+    ensures untouched { R.faults rows.new ≡ R.faults rows.old }
+{
+    let commit = Moment::after(oracle.last() + (count - 1))?;
+    let changes = putting_all(alloc, writes, start, commit)?;
+    oracle.ready(count)?;
+    rows.apply_all(changes)?;
+    oracle.serve(count);
+    Ok(commit.stamp())
 }

@@ -1,8 +1,8 @@
 //! The writes of a transaction: taken together, and tested before they are put.
 
-ghost use Rattle.std.specs.Prelude.{◌≡◌, ◌≤◌, length, map, option_map, IfErr, IfNone, IfOk, IfSome, OnErr, OnOk};
+ghost use Rattle.std.specs.Prelude.{◌≡◌, ◌≤◌, length, map, option_map, IfErr, IfNone, IfOk, IfSome, IsErrOf, None, OnErr, OnOk};
 ghost use Rattle.cell_key.specs.Faults.{HasReason};
-ghost use Rattle.rows.specs.Calls.{OnlyReads};
+ghost use Rattle.rows.specs.Calls.{AreReadableFrom, OnlyReads};
 ghost use Rattle.rows.specs.Refusals.{IsReadRefusal};
 ghost use Rattle.si_model.specs.Answers.{write_named};
 ghost use Rattle.txn_client.specs.Takings.{AreFree, HasShortValue, IsFirstTaken, IsRefusedWrite, IsValueRefusal, IsWriteRefusal, TakesAll, TakesWrite};
@@ -77,6 +77,8 @@ pub(crate) fn first_taken<R: Rows>(
         (AreFree (R.seen.cells rows.old) start writes.now (length writes.now))) }
     ensures reads { OnlyReads R.seen rows.old rows.new }
     ensures refusal { IfErr result IsReadRefusal }
+    ensures undamaged { AreReadableFrom R.seen rows.old None
+        → ¬ (IsErrOf result Refusal.Damaged) }
     ensures reason { HasReason (R.faults rows.old) (R.faults rows.new) result }
 {
     for (index, write) in writes.iter().enumerate() {

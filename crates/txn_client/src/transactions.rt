@@ -1,14 +1,16 @@
 //! Requests that stand for several of a session, in one call each.
 
 ghost use Rattle.std.specs.Prelude.{◌≡◌, ◌≢◌, ◌+◌, ◌<◌, ◌≤◌, ◌^◌, ◌⊎◌, length, None, IfErr, IfOk, IsErrOf, OnErr};
+ghost use Rattle.cell_key.specs.Faults.{HasReason};
 ghost use Rattle.oracle.specs.Marks.{MayHold};
-ghost use Rattle.oracle.specs.Ranges.{next_range_end};
+ghost use Rattle.oracle.specs.Ranges.{IsDrawRefusal, next_range_end};
 ghost use Rattle.rows.specs.Calls.{AreReadableFrom, KeepsBelow, OnlyReads};
 ghost use Rattle.si_model.specs.Answers.{cells_named, commit_answer, read_answer, result_answer, writes_named};
 ghost use Rattle.si_model.specs.Machine.{IsReached, State};
 ghost use Rattle.si_model.specs.ShowsCells.{ShowsCells};
 ghost use Rattle.si_model.specs.Transactions.{Commit, IsReadCount, Read};
 ghost use Rattle.txn_client.specs.CellReads.{AreRead, said_in};
+ghost use Rattle.txn_client.specs.Commits.{BeganAt, CommitDoes, CommitDraws, CommitsIn, EndsAt, HasNoRoomToCommit, IsCopyRefusal, LacksStamps};
 ghost use Rattle.txn_client.specs.Refusals.{HasOneReason, StepLeaves};
 ghost use Rattle.txn_client.specs.Shows.{IsCrowded, IsInactive, SameClients, ShowsClients};
 ghost use Rattle.txn_client.specs.Transactions.{GoesAs, HasSession, IsCommitRefusal, IsReadRequestRefusal, IsSessionRefusal};
@@ -24,6 +26,47 @@ use si_model::{CellName, CellWrite, CommitReply, ReadReply};
 
 /// The most cells of a read.
 const MOST_READ: usize = 256;
+
+/// A session whose transaction is about to be committed: its start, and a copy of its writes so far.
+#[derive(Drop)]
+struct Committing {
+    start: Moment,
+    writes: Writes,
+}
+
+/// How many stamps a transaction draws: its commit stamp, and before that the start of a new session.
+fn stamps_drawn(start: Stamp) -> Stamp
+    ensures new { start ≡ 0 → result ≡ 2 }
+    ensures named { start ≢ 0 → result ≡ 1 }
+{
+    if start == 0 { 2 } else { 1 }
+}
+
+/// The top after a conflict: the start of a new session, which is drawn, or the top as it was. Refusals: Exhausted,
+/// Device.
+fn top_after_conflict<M: MarkStore>(
+    oracle: &mut Oracle<M>,
+    start: Stamp,
+    top: Stamp,
+) -> Result<Stamp, Refusal>
+    ensures new { start ≡ 0 → IfOk result (λ now.
+        (now ≡ oracle.old.last + 1) × (oracle.new.last ≡ now)) }
+    ensures named { start ≢ 0 → IfOk result (λ now. now ≡ top) }
+    ensures aside { start ≢ 0 → oracle.new ≡ oracle.old }
+    ensures stays { OnErr result (oracle.new.last ≡ oracle.old.last) }
+    ensures range { OnErr result (oracle.new.range_end ≡ oracle.old.range_end) }
+    ensures mark { OnErr result (MayHold (next_range_end oracle.old.range_end)
+        (M.mark oracle.old.marks) (M.mark oracle.new.marks)) }
+    ensures refusal { IfErr result IsDrawRefusal }
+    ensures drawing { OnErr result (start ≡ 0) }
+    ensures exhausted { IsErrOf result Refusal.Exhausted → oracle.old.last ≡ MOST_STAMP }
+    ensures reason { HasReason (M.faults oracle.old.marks) (M.faults oracle.new.marks) result }
+{
+    if start == 0 {
+        return oracle.draw();
+    }
+    Ok(top)
+}
 
 impl Clients {
     /// The start of a request's session: the one that is named, if its session is open, or the stamp after `last` if it
@@ -121,27 +164,75 @@ impl Clients {
         Ok(reply)
     }
 
-    /// Commits writes in a new session, with nothing between: data and record of each write are put at once, in any
-    /// rows, and no lock. Returns the start of the session and its commit stamp, or the place of the first cell that is
-    /// locked or was written at the start or later; nothing is put or held then, and the session has ended too.
+    /// The session of a transaction, with a copy of its writes. Refusals: as of `session_start`, and NoMemory.
+    fn committing(&self, last: Stamp, start: Stamp) -> Result<Committing, Refusal>
+        requires { last < 2 ^ 63 }
+        ensures session { IfOk result (λ found.
+            CommitsIn self.now last start found.start found.writes) }
+        ensures refusal { IfErr result (IsCopyRefusal self.now last start) }
+    {
+        if start == 0 {
+            let next = self.session_start(last, start)?;
+            return Ok(Committing {
+                start: Moment::new(next),
+                writes: Writes::new(self.alloc),
+            });
+        }
+        let Some(session) = self.sessions.get(&start) else {
+            return Err(Refusal::UnknownSession);
+        };
+        match session.phase {
+            Phase::Open => {
+                let writes = session.writes.copy(self.alloc)?;
+                Ok(Committing {
+                    start: session.start,
+                    writes,
+                })
+            }
+            _ => Err(Refusal::WrongPhase),
+        }
+    }
+
+    /// Ends the session that is named, if the start isn't 0, and sets the top.
+    fn end(&mut self, start: Stamp, top: Stamp)
+        ensures { EndsAt self.old self.new start top }
+    {
+        self.top = top;
+        if start != 0 {
+            self.sessions.remove(&start);
+        }
+    }
+
+    /// Commits writes in one session, with nothing between: that of the start, whose own writes come first, or a new
+    /// one if the start is 0. Data and record of each write are put at once, in any rows, and no lock. Returns the start
+    /// of the session and its commit stamp, or the place of the first cell that is locked or was written at the start or
+    /// later; nothing is put or held then. Either way the session has ended.
     ///
     /// # Errors
     ///
-    /// In this order: `TooManySessions` if 1,024 are active, `Exhausted` after the greatest stamp; for each write in
-    /// turn `BadRow`, `BadColumn`, `BadValue` above 65,536 bytes, `TooManyWrites` at a 257th cell, `NoMemory`;
-    /// `EmptyCommit` without a write; `Device`, `NoMemory`, or `Damaged` if bytes that were read are malformed;
-    /// `Exhausted`, `Device` if the oracle's mark could not be stored; `MemtableFull` if the rows have no room for the
-    /// edits, `NoMemory`. Nothing is committed or held then, and no stamp is drawn.
-    pub fn commit_new<R: Rows, M: MarkStore>(
+    /// In this order: `UnknownSession`, `WrongPhase` after the first step of the session that is named; for a new one
+    /// `TooManySessions` if 1,024 are active, `Exhausted` after the greatest stamp; for each write in turn `BadRow`,
+    /// `BadColumn`, `BadValue` above 65,536 bytes, `TooManyWrites` at a 257th cell, `NoMemory`; `EmptyCommit` without a
+    /// write; `Device`, `NoMemory`, or `Damaged` if bytes that were read are malformed; `Exhausted`, `NoMemory`,
+    /// `Device` if the oracle's mark could not be stored; `MemtableFull` if the rows have no room for the edits. Nothing
+    /// is committed or held then, no stamp is drawn, and the session that is named has the writes that it had.
+    pub fn commit<R: Rows, M: MarkStore>(
         &mut self,
         rows: &mut R,
         oracle: &mut Oracle<M>,
+        start: Stamp,
         asked: &[CellWrite<'_>],
     ) -> Result<CommitReply, Refusal>
         ensures step { R.seen.holds rows.old → GoesAs
             (R.seen.cells rows.old) self.old oracle.old.last
-            (Commit 0 (writes_named asked.now)) (result_answer commit_answer result)
+            (Commit start (writes_named asked.now)) (result_answer commit_answer result)
             (R.seen.cells rows.new) self.new oracle.new.last }
+        // It puts all writes and takes the room of their edits and no more, or it only reads.
+        ensures does { IfOk result (CommitDoes R.seen
+            self.old oracle.old.last start (writes_named asked.now) rows.old rows.new) }
+        ensures draws { IfOk result (CommitDraws oracle.old.last oracle.new.last start) }
+        ensures named { start ≢ 0 → (st : State) → ShowsClients self.old st
+            → IfOk result (BeganAt start) }
         ensures same { OnErr result (SameClients self.old self.new) }
         ensures reads { OnErr result (OnlyReads R.seen rows.old rows.new) }
         ensures stays { OnErr result (oracle.new.last ≡ oracle.old.last) }
@@ -152,29 +243,38 @@ impl Clients {
             (M.mark oracle.old.marks) (M.mark oracle.new.marks)) }
         ensures below { KeepsBelow R.seen rows.old rows.new }
         ensures refusal { IfErr result IsCommitRefusal }
-        ensures crowded { (st : State) → ShowsClients self.old st → IsCrowded st
+        ensures unknown { start ≢ 0 → (st : State) → ShowsClients self.old st
+            → IsInactive st start → IsErrOf result Refusal.UnknownSession }
+        ensures crowded { start ≡ 0 → (st : State) → ShowsClients self.old st → IsCrowded st
             → IsErrOf result Refusal.TooManySessions }
+        // Exhausted is answered only if the stamps that it would draw aren't there.
+        ensures exhausted { IsErrOf result Refusal.Exhausted → LacksStamps oracle.old.last start }
+        // MemtableFull comes only if the rows have no room for the edits of all writes.
+        ensures full { IsErrOf result Refusal.MemtableFull → HasNoRoomToCommit R.seen
+            self.old oracle.old.last start (writes_named asked.now) rows.old }
+        // Rows that can be read never give Damaged.
+        ensures undamaged { AreReadableFrom R.seen rows.old None
+            → ¬ (IsErrOf result Refusal.Damaged) }
         ensures reason { HasOneReason (R.faults rows.old) (R.faults rows.new)
             (M.faults oracle.old.marks) (M.faults oracle.new.marks) result }
     {
-        if self.sessions.len() >= MOST_SESSIONS {
-            return Err(Refusal::TooManySessions);
-        }
-        let start = Moment::after(oracle.last())?;
-        let writes = takings::take_all(self.alloc, Writes::new(self.alloc), asked)?;
+        let Committing {
+            start: began,
+            writes,
+        } = self.committing(oracle.last(), start)?;
+        let writes = takings::take_all(self.alloc, writes, asked)?;
         if writes.len() == 0 {
             return Err(Refusal::EmptyCommit);
         }
-        if let Some(place) = takings::first_taken(rows, writes.as_slice(), start.stamp())? {
-            self.top = oracle.draw()?;
+        if let Some(place) = takings::first_taken(rows, writes.as_slice(), began.stamp())? {
+            let top = top_after_conflict(oracle, start, self.top)?;
+            self.end(start, top);
             return Ok(CommitReply::Conflict(place));
         }
-        let commit = Moment::after(start.stamp())?;
-        let changes = puts::putting_all(self.alloc, writes.as_slice(), start, commit)?;
-        oracle.ready(2)?;
-        rows.apply_all(changes)?;
-        oracle.serve(2);
-        self.top = commit.stamp();
-        Ok(CommitReply::Committed(start.stamp(), commit.stamp()))
+        let count = stamps_drawn(start);
+        let commit =
+            puts::put_at_once(self.alloc, rows, oracle, began, count, writes.as_slice())?;
+        self.end(start, commit);
+        Ok(CommitReply::Committed(began.stamp(), commit))
     }
 }

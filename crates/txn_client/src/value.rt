@@ -41,6 +41,15 @@ impl Value {
         Ok(Value { bytes })
     }
 
+    /// A copy.
+    pub(crate) fn copy(&self) -> Result<Value, Refusal>
+        ensures copied { IfOk result (λ value. value ≡ self.now) }
+        ensures refusal { IfErr result (λ refusal. refusal ≡ Refusal.NoMemory) }
+    {
+        let bytes = self.bytes.clone()?;
+        Ok(Value { bytes })
+    }
+
     /// A copy of the bytes.
     pub(crate) fn to_vec(&self) -> Result<Vec<u8>, Refusal>
         ensures bytes { IfOk result (λ bytes. bytes.items ≡ self.now) }

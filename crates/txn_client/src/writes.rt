@@ -30,6 +30,26 @@ impl Write {
             None => WriteKind::Delete,
         }
     }
+
+    /// A copy.
+    fn copy(&self) -> Result<Write, Refusal>
+        ensures copied { IfOk result (λ write. write ≡ self.now) }
+        ensures refusal { IfErr result (λ refusal. refusal ≡ Refusal.NoMemory) }
+    {
+        let row = self.cell.row.clone()?;
+        let family = self.cell.family.clone()?;
+        let cell = Cell { row, family };
+        match &self.value {
+            Some(value) => {
+                let value = value.copy()?;
+                Ok(Write {
+                    cell,
+                    value: Some(value),
+                })
+            }
+            None => Ok(Write { cell, value: None }),
+        }
+    }
 }
 
 /// The writes of a session, in the order in which their cells were first set or deleted: at most 256.
@@ -114,6 +134,20 @@ impl Writes {
             entries: Vec::new(alloc),
             order: Vec::new(alloc),
         }
+    }
+
+    /// A copy.
+    pub(crate) fn copy(&self, alloc: Global) -> Result<Writes, Refusal>
+        ensures copied { IfOk result (λ writes. writes ≡ self.now) }
+        ensures refusal { IfErr result (λ refusal. refusal ≡ Refusal.NoMemory) }
+    {
+        let mut entries = Vec::with_capacity(alloc, self.entries.len())?;
+        for write in self.entries.iter() {
+            let write = write.copy()?;
+            entries.push(write)?;
+        }
+        let order = self.order.clone()?;
+        Ok(Writes { entries, order })
     }
 
     /// The writes in their order.

@@ -1,0 +1,123 @@
+-- Transactions in one call: their session, their writes, the edits that put them, and their stamps.
+use Rattle.std.specs.Prelude.{◌≡◌, ◌≢◌, ⊤, ℕ, ◌+◌, ◌-◌, ◌<◌, ◌^◌, List, [], ◌∷◌, map, Some, None}
+use Rattle.std.specs.List.{AllByRecursion}
+use Rattle.std.specs.Ordering.{nat_cmp}
+use Rattle.std.specs.BTreeMap as btree
+use Rattle.std.specs.BTreeMap.{Updates}
+use Rattle.cell_key.specs.declared.refusals.Refusal.{Refusal}
+use Rattle.cell_key.specs.declared.refusals.Refusal.TheVariants.{NoMemory}
+use Rattle.rows.specs.Calls.{AppliesAll, OnlyReads, View}
+use Rattle.rows.specs.Room.{OverfillsOne}
+use Rattle.rows.specs.declared.row_edits.RowEdits.{RowEdits}
+use Rattle.si_model.specs.Machine.{State, Writes}
+use Rattle.si_model.specs.PutCells.{all_put_cells}
+use Rattle.si_model.specs.declared.transactions.CommitReply.{CommitReply}
+use Rattle.si_model.specs.declared.transactions.CommitReply.TheVariants.{Committed, Conflict}
+use Rattle.txn_client.specs.Puts.{ArePuttings}
+use Rattle.txn_client.specs.Reads.{IsFree}
+use Rattle.txn_client.specs.Takings.{TakesAll}
+use Rattle.txn_client.specs.Transactions.{IsSessionRefusal}
+use Rattle.txn_client.specs.Writes.{write_of}
+use Rattle.txn_client.specs.declared.session.Phase.TheVariants.{Open}
+use Rattle.txn_client.specs.declared.session.Session.{Session}
+use Rattle.txn_client.specs.declared.sessions.Clients.{Clients}
+use Rattle.txn_client.specs.declared.writes.Write.{Write}
+
+-- the session at t is open, began at s, and has these writes
+abbrev pub IsOpenWith : Clients → ℕ → ℕ → List Write → Type 0
+IsOpenWith clients t s ws =
+    (session : Session) × (btree.get nat_cmp clients.sessions t ≡ Some session)
+    × (session.phase ≡ Open) × (s ≡ session.start) × (ws ≡ session.writes)
+
+-- the session of a transaction and its writes so far: the one that is named, which is open, or one that may begin with
+-- the next stamp
+pub record CommitsIn (clients : Clients) (last start s : ℕ) (ws : List Write) : Type 0 where
+  pub is_open : start ≢ 0 → IsOpenWith clients start s ws
+  pub is_new : start ≡ 0 → (s ≡ last + 1) × (s < 2 ^ 63)
+      × (btree.btree_map_len clients.sessions < 1024) × (ws ≡ [])
+
+-- why it has none, or can't be copied
+abbrev pub IsCopyRefusal : Clients → ℕ → ℕ → Refusal → Type 0
+IsCopyRefusal clients last start NoMemory = start ≢ 0
+IsCopyRefusal clients last start refusal = IsSessionRefusal clients last start refusal
+
+-- its commit stamp: the next stamp, or the one after the start of a new session
+pub record IsCommitStamp (last start c : ℕ) : Type 0 where
+  pub named : start ≢ 0 → c ≡ last + 1
+  pub new : start ≡ 0 → c ≡ last + 2
+
+-- the stamps that it would draw aren't there
+pub record LacksStamps (last start : ℕ) : Type 0 where
+  pub named : start ≢ 0 → 2 ^ 63 - 1 < last + 1
+  pub new : start ≡ 0 → 2 ^ 63 - 1 < last + 2
+
+-- its session began at s, and it puts all these writes with records at c by these edits: the session's writes, and then
+-- the ones asked for
+pub record IsTransaction (clients : Clients) (last start : ℕ) (asked : Writes) (s c : ℕ)
+    (all : Writes) (changes : List RowEdits) : Type 0 where
+  pub before : List Write
+  pub session : CommitsIn clients last start s before
+  pub takes : TakesAll (map write_of before) asked all
+  pub stamp : IsCommitStamp last start c
+  pub puts : ArePuttings s c all changes
+
+-- writes of s were put with their records at c
+pub record PutsWith {R : Type 0} (seen : View R) (all : Writes) (s c : ℕ) (old new : R)
+    : Type 0 where
+  pub changes : List RowEdits
+  pub puts : ArePuttings s c all changes
+  pub applied : AppliesAll seen changes old new
+  pub made : seen.holds old → seen.cells new ≡ all_put_cells (seen.cells old) all s c
+
+-- the edits that put them would exceed a limit of the memory
+abbrev pub HasNoRoomToPut : {R : Type 0} → View R → Writes → ℕ → ℕ → R → Type 0
+HasNoRoomToPut seen all s c old =
+    (changes : List RowEdits)
+    × ArePuttings s c all changes × OverfillsOne seen.overfills changes old
+
+-- A transaction is committed: its cells were free, and its edits are made and take their room.
+pub record Commits {R : Type 0} (seen : View R) (clients : Clients) (last start : ℕ)
+    (asked : Writes) (s c : ℕ) (old new : R) : Type 0 where
+  pub all : Writes
+  pub changes : List RowEdits
+  pub transaction : IsTransaction clients last start asked s c all changes
+  pub free : seen.holds old → AllByRecursion (λ w. IsFree (seen.cells old) w.0 s) all
+  pub applied : AppliesAll seen changes old new
+  pub made : seen.holds old → seen.cells new ≡ all_put_cells (seen.cells old) all s c
+
+-- what a transaction that isn't refused does to the rows
+abbrev pub CommitDoes : {R : Type 0}
+    → View R → Clients → ℕ → ℕ → Writes → R → R → CommitReply → Type 0
+CommitDoes seen clients last start asked old new (Committed s c) =
+    Commits seen clients last start asked s c old new
+CommitDoes seen clients last start asked old new (Conflict place) = OnlyReads seen old new
+
+-- the edits of the transaction would exceed a limit of the memory
+pub record HasNoRoomToCommit {R : Type 0} (seen : View R) (clients : Clients) (last start : ℕ)
+    (asked : Writes) (old : R) : Type 0 where
+  pub s : ℕ
+  pub c : ℕ
+  pub all : Writes
+  pub changes : List RowEdits
+  pub transaction : IsTransaction clients last start asked s c all changes
+  pub over : OverfillsOne seen.overfills changes old
+
+-- the stamps that it draws: those of its answer, or with a conflict the start of a new session
+abbrev pub CommitDraws : ℕ → ℕ → ℕ → CommitReply → Type 0
+CommitDraws before now start (Committed s c) =
+    (c ≡ now) × IsCommitStamp before start c × (start ≡ 0 → s ≡ before + 1)
+CommitDraws before now start (Conflict place) =
+    (start ≢ 0 → now ≡ before) × (start ≡ 0 → now ≡ before + 1)
+
+-- a transaction that is committed began at s
+abbrev pub BeganAt : ℕ → CommitReply → Type 0
+BeganAt t (Committed s c) = s ≡ t
+BeganAt t (Conflict place) = ⊤
+
+-- the session that is named has ended, and this is the top; without a name, no session changes
+pub record EndsAt (old new : Clients) (start now : ℕ) : Type 0 where
+  pub top : new.top ≡ now
+  pub new_ends : start ≡ 0 → new ≡ record old { top = now }
+  pub updates : start ≢ 0 → Updates nat_cmp old.sessions new.sessions start None
+  pub len : start ≢ 0 → (session : Session) → btree.get nat_cmp old.sessions start ≡ Some session
+      → btree.btree_map_len new.sessions + 1 ≡ btree.btree_map_len old.sessions
