@@ -3,7 +3,12 @@ mod Fields
 mod FirstFrames
 mod Longest
 mod Names
+mod OneAnswer
+mod OneOperation
 mod OneReply
 mod OneRequest
+mod OperationParts
+mod Parts
 mod ScanBodies
 mod Scans
+mod Told

@@ -169,7 +169,7 @@ fit_and (a ∷ xs) item all fits = (all.0, fit_and xs item all.1 fits)
 
 -- ---- lengths
 
-length-said : (said : Item) → length (said_fields said) ≡ 1 + found_length said
+pub length-said : (said : Item) → length (said_fields said) ≡ 1 + found_length said
 length-said (Valued value) = omega (arith, length-field value)
 length-said (Locked start) = omega (arith, length-number 8 start)
 length-said Unsent = omega arith
@@ -198,7 +198,7 @@ all_fit (item ∷ items) starts names few = (
   all_fit items starts.1 names.1 (omega (arith, few)),
 )
 
-start_of : (said : Item) → SaidFits said → StartFits said
+pub start_of : (said : Item) → SaidFits said → StartFits said
 start_of (Valued value) p = tt
 start_of (Locked start) p = p
 start_of Unsent p = tt

@@ -6,3 +6,6 @@ returns-clause-body c = refl
 
 pub returns-clause-reply : goal.returns-clause-reply
 returns-clause-reply c = refl
+
+pub returns-clause-answer : goal.returns-clause-answer
+returns-clause-answer c = refl
