@@ -75,6 +75,20 @@ def get(start: int, row: bytes, value: bytes | None) -> Exchange:
     return b"\x02" + stamp(start) + cell(row), b"\x82\0" if value is None else b"\x82\x01" + field(value)
 
 
+def commit(named: int, writes: Sequence[Write], start: int, stamped: int) -> Exchange:
+    """Commits writes in the session that is named, or in a new one if that is 0."""
+    written = b"".join(cell(row) + b"\x01" + field(value) for row, value in writes)
+    request = b"\x32" + stamp(named) + struct.pack(">I", len(writes)) + written
+    return request, b"\xb2\x01" + stamp(start) + stamp(stamped)
+
+
+def read(start: int, found: Sequence[Write]) -> Exchange:
+    """Reads cells in a new session, which stays open. They have these values."""
+    request = b"\x33" + stamp(0) + b"\x01" + struct.pack(">I", len(found)) + b"".join(cell(row) for row, _ in found)
+    told = b"".join(b"\x01" + field(value) for _, value in found)
+    return request, b"\xb3" + stamp(start) + struct.pack(">I", len(found)) + told
+
+
 def item(write: Write) -> bytes:
     """A scan's item of a cell with a value."""
     row, value = write

@@ -14,6 +14,7 @@ from benchmark.requests import (
     begin,
     begin_clean,
     begin_collect,
+    commit,
     commit_first,
     committed,
     decide,
@@ -21,6 +22,7 @@ from benchmark.requests import (
     get,
     hold,
     put,
+    read,
     roll_forward,
     scans,
     split,
@@ -116,27 +118,51 @@ def random_commits(count: int) -> Iterator[Exchange]:
     return commits(count, shuffled_rows(count).__getitem__)
 
 
+def whole_commits(count: int) -> Iterator[Exchange]:
+    """Transactions of one cell on 1,000 rows, in one request each, with a Minor every 2,000 of them."""
+    for number in range(count):
+        start, stamped = stamps_of(number)
+        yield commit(0, [(short_row(number), short_value(number))], start, stamped)
+        if number % 2_000 == 1_999:
+            yield MINOR
+
+
 def accounts(size: int) -> Iterator[Exchange]:
     """Puts 1,000 into each of 1,000 accounts, whatever the size."""
     for number in range(1000):
         yield from transaction(number, [(short_row(number), b"1000")])
 
 
-def transfers(count: int) -> Iterator[Exchange]:
-    """Transactions that read two of these accounts, and then move a part of the first into the second."""
+def moves(count: int) -> Iterator[tuple[int, list[Write], list[Write]]]:
+    """What transfers read and write: the number of each, two of these accounts with their balances, and the same after a
+    part of the first was moved into the second."""
     balances = [1000] * 1000
     draws = random.Random(3)
     for number in range(1000, 1000 + count):
-        start, _ = stamps_of(number)
         pair = draws.sample(range(1000), 2)
-        reads = [get(start, short_row(account), b"%d" % balances[account]) for account in pair]
+        before = [(short_row(account), b"%d" % balances[account]) for account in pair]
         amount = draws.randrange(balances[pair[0]] + 1)
         balances[pair[0]] -= amount
         balances[pair[1]] += amount
-        exchanges = transaction(number, [(short_row(account), b"%d" % balances[account]) for account in pair])
+        yield number, before, [(short_row(account), b"%d" % balances[account]) for account in pair]
+
+
+def transfers(count: int) -> Iterator[Exchange]:
+    """Transfers, request by request."""
+    for number, before, after in moves(count):
+        start, _ = stamps_of(number)
+        exchanges = transaction(number, after)
         yield next(exchanges)
-        yield from reads
+        yield from (get(start, row, balance) for row, balance in before)
         yield from exchanges
+
+
+def whole_transfers(count: int) -> Iterator[Exchange]:
+    """The same, in two requests each: a read of both accounts, and a commit of both."""
+    for number, before, after in moves(count):
+        start, stamped = stamps_of(number)
+        yield read(start, before)
+        yield commit(start, after, start, stamped)
 
 
 def first_row(number: int) -> bytes:
@@ -302,6 +328,10 @@ SHAPES = {
     "hot": Shape(15_000, "commits of one hot cell", lambda size: commits(size, hot_row)),
     "transfer": Shape(
         15_000, "transfers between two of 1,000 rows: two Gets and two Sets", transfers, loaded=accounts
+    ),
+    "commit": Shape(100_000, "as rows, with a Commit in the place of five requests", whole_commits),
+    "move": Shape(
+        15_000, "as transfer, with a Read and a Commit in the place of ten requests", whole_transfers, loaded=accounts
     ),
     "files": Shape(
         160_000,
