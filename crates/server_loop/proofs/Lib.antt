@@ -3,12 +3,15 @@ mod Causes
 mod CellChanges
 mod CleanSteps
 mod CollectSteps
+mod CommitsCollected
 pub mod Filled
 mod Following
 pub mod FrameHeads
 mod Lengths
 mod MachinePlaces
 pub mod Opened
+mod OperationSteps
+mod OperationsShown
 mod OthersShown
 mod RawReads
 pub mod ReachedRuns

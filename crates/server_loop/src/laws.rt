@@ -1,5 +1,6 @@
-//! Laws of servers at rest. Each is the contract of a function that does nothing.
+//! Laws of servers at rest, and of Commits and Reads. Each is the contract of a function that does nothing.
 
+ghost use Rattle.server_loop.specs.OperationLaws.{CommitsKeepCollectors, OperationsKeepCollectors, OperationsLeaveOthers};
 ghost use Rattle.server_loop.specs.Resting.{RestingIsKept, RestsBetween};
 
 use file_store::Files;
@@ -17,4 +18,19 @@ pub fn rests_between<F: Files, M: MarkStore>()
 /// The files and the mark of a server that rests at a state keep the state.
 pub fn resting_is_kept<F: Files, M: MarkStore>()
     ensures { RestingIsKept F.contents M.mark }
+{}
+
+/// A Commit or a Read leaves the tablets' places unchanged, and what cleaners show.
+pub fn operations_leave_others()
+    ensures { OperationsLeaveOthers }
+{}
+
+/// It leaves what collectors show unchanged, over the same cells.
+pub fn operations_keep_collectors()
+    ensures { OperationsKeepCollectors }
+{}
+
+/// A Commit leaves it unchanged too, over cells into which data and records of any writes were put.
+pub fn commits_keep_collectors()
+    ensures { CommitsKeepCollectors }
 {}

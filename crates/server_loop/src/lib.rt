@@ -16,7 +16,10 @@ mod transactions;
 mod upkeep;
 
 pub use audit::Audit;
-pub use laws::{resting_is_kept, rests_between};
+pub use laws::{
+    commits_keep_collectors, operations_keep_collectors, operations_leave_others, resting_is_kept,
+    rests_between,
+};
 pub use row_atomic::FlushLimits;
 pub use server::{Config, Server};
 pub use serving::{Answering, Heard, Hearing, Rest, answer_heard, serve_all};
