@@ -1,5 +1,6 @@
 -- Answers to Commits and Reads, from the sessions' calls.
 use Rattle.std.proofs.Common.{◌≡◌, ◌∙◌, ◌+◌, ℕ, List, length, map, Option, Result, Ok, Err, IsErrOf, ap, refl, subst, sym}
+use Rattle.cell_key.specs.Cells.{Cells}
 use Rattle.cell_key.specs.declared.refusals.Refusal.{Refusal}
 use Rattle.cell_key.specs.declared.refusals.Refusal.TheVariants.{Damaged}
 use Rattle.file_store.specs.Store.{Contents}
@@ -97,13 +98,13 @@ module _ {F M : Type 0} (contents : F → Option Contents) (old new : Server F M
   pub reads_collected : (operation : Operation) (answer : Answer) → StandsForSeveral operation → OnlyReads (seen_recorded contents) (rows_of old) (rows_of new)
       → (st next : State) → IsReached st → Shows contents old st → Goes st operation answer next → ShowsCollectors (server_cells contents new) old.collectors next
   reads_collected operation answer several reads st next reached shown goes =
-      rw reads.kept (operations_keep_collectors (server_cells contents old) old.collectors st next operation answer reached several goes shown.collectors)
+      subst (λ (cells : Cells). ShowsCollectors cells old.collectors next) (sym reads.kept) (operations_keep_collectors (server_cells contents old) old.collectors st next operation answer reached several goes shown.collectors)
 
   -- and after a Commit
   pub commits_collected : (start : ℕ) (writes : Writes) (reply : CommitReply) → CommitDoes (seen_recorded contents) old.clients (last_of old) start writes (rows_of old) (rows_of new) reply
       → (st next : State) → IsReached st → Shows contents old st → Goes st (Commit start writes) (commit_answer reply) next → ShowsCollectors (server_cells contents new) old.collectors next
   commits_collected start writes (commits.Committed s c) does st next reached shown goes =
-      rw (does.made shown.in_order) (commits_keep_collectors (server_cells contents old) old.collectors st next start s c writes does.all reached shown.shows.store goes shown.collectors)
+      subst (λ (cells : Cells). ShowsCollectors cells old.collectors next) (sym (does.made shown.in_order)) (commits_keep_collectors (server_cells contents old) old.collectors st next start s c writes does.all reached shown.shows.store goes shown.collectors)
   commits_collected start writes (commits.Conflict place) reads st next reached shown goes = reads_collected (Commit start writes) _ tt reads st next reached shown goes
 
   -- a Commit or a Read, which leaves the tablets' places, the cleaners and the collectors unchanged

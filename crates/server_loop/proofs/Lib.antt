@@ -23,7 +23,7 @@ pub mod SessionSteps
 mod SplitSteps
 pub mod StreamReads
 mod Tended
-mod Unread
+pub mod Unread
 mod UpkeepRefusals
 mod UpkeepSteps
 mod Whole
