@@ -10,6 +10,7 @@ use Rattle.si_model.proofs.ChangedParts.{leaves_others}
 use Rattle.si_model.proofs.LastingMarks.{endures}
 use Rattle.si_model.proofs.Steps.{reached_step}
 use Rattle.server_loop.specs.OperationLaws.{StandsForSeveral}
+use Rattle.server_loop.proofs.OthersShown.{sessions_not_cleaners, sessions_not_collectors}
 
 -- steps of sessions, one after the other
 pub data SessionRun : State → State → Type 0 where
@@ -74,12 +75,6 @@ operation_runs st next operation answer several (transacts t) = run_transacts t
 operation_runs st next operation answer several (reads_together t) = run_together t
 
 -- ---- what such a run keeps
-
-sessions_not_cleaners : OfSessions ≢ OfCleaners
-sessions_not_cleaners is = cc
-
-sessions_not_collectors : OfSessions ≢ OfCollectors
-sessions_not_collectors is = cc
 
 sessions_not_places : OfSessions ≢ OfPlaces
 sessions_not_places is = cc

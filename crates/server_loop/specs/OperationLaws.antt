@@ -17,7 +17,7 @@ StandsForSeveral (Commit start writes) = ⊤
 StandsForSeveral (Read start cells stays_open) = ⊤
 
 -- the same tablets at the same places, and cleaners show the state after it if they showed the one before it
-pub record KeepsOthers (st next : State) : Type 0 where
+pub record KeepsPlacesAndCleaners (st next : State) : Type 0 where
   pub places : next.places ≡ st.places
   pub next_tablet : next.next_tablet ≡ st.next_tablet
   pub cleaners : (cleaners : Cleaners) → ShowsCleaners cleaners st → ShowsCleaners cleaners next
@@ -26,7 +26,7 @@ pub record KeepsOthers (st next : State) : Type 0 where
 abbrev pub OperationsLeaveOthers : Type 0
 OperationsLeaveOthers =
     (st next : State) (operation : Operation) (answer : Answer) → IsReached st
-    → StandsForSeveral operation → Goes st operation answer next → KeepsOthers st next
+    → StandsForSeveral operation → Goes st operation answer next → KeepsPlacesAndCleaners st next
 
 -- collectors show the state after it if they showed the one before it, over the same cells
 abbrev pub OperationsKeepCollectors : Type 0
