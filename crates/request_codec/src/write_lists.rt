@@ -30,11 +30,9 @@ pub(crate) fn writes_length(writes: &[CellWrite<'_>]) -> usize
     requires short { length (flat_map write_fields (writes_named writes.now)) ≤ longest }
     ensures { result ≡ length (flat_map write_fields (writes_named writes.now)) }
 {
-    let mut rest = writes;
     let mut sum = 0;
-    'writes: while let Some((write, after)) = rest.split_first() {
+    for write in writes.iter() {
         sum += write_length(*write);
-        rest = after;
     }
     sum
 }
@@ -44,11 +42,9 @@ pub(crate) fn cells_length(cells: &[CellName<'_>]) -> usize
     requires { length (flat_map cell_fields (cells_named cells.now)) ≤ longest }
     ensures { result ≡ length (flat_map cell_fields (cells_named cells.now)) }
 {
-    let mut rest = cells;
     let mut sum = 0;
-    'cells: while let Some((cell, after)) = rest.split_first() {
+    for cell in cells.iter() {
         sum += 8 + cell.row.len() + cell.family.len();
-        rest = after;
     }
     sum
 }
@@ -70,10 +66,8 @@ fn push_writes(out: &mut Vec<u8>, writes: &[CellWrite<'_>])
     requires room { HasRoomFor out.old (length (flat_map write_fields (writes_named writes.now))) }
     ensures { AppendsBytes out.old out.new (flat_map write_fields (writes_named writes.now)) }
 {
-    let mut rest = writes;
-    'writes: while let Some((write, after)) = rest.split_first() {
+    for write in writes.iter() {
         push_write(out, *write);
-        rest = after;
     }
 }
 
@@ -83,10 +77,8 @@ fn push_cells(out: &mut Vec<u8>, cells: &[CellName<'_>])
     requires room { HasRoomFor out.old (length (flat_map cell_fields (cells_named cells.now))) }
     ensures { AppendsBytes out.old out.new (flat_map cell_fields (cells_named cells.now)) }
 {
-    let mut rest = cells;
-    'cells: while let Some((cell, after)) = rest.split_first() {
+    for cell in cells.iter() {
         push_cell(out, cell.row, cell.family);
-        rest = after;
     }
 }
 
