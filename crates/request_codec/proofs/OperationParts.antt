@@ -25,7 +25,6 @@ same_write a b x y p q e =
     let value = same_optional_bytes a.1 b.1 x y p.value q.value cell.1 in
     (λ i. (cell.0 i, value.0 i), value.1)
 
-
 pub length-write : (write : Cell × Change) → length (write_fields write) ≡ length (cell_fields write.0) + length (optional field write.1)
 unfolding write_fields
 length-write write = length-append (cell_fields write.0) (optional field write.1)
