@@ -2,4 +2,5 @@
 
 mod bodies;
 mod memory;
+mod operations;
 mod recordings;

@@ -165,3 +165,6 @@ short_answer (CommitDone start stamp) p =
     omega (arith, length-frame (answer_body (CommitDone start stamp)), length-append (number 8 start) (number 8 stamp), length-number 8 start, length-number 8 stamp)
 short_answer (CommitConflict place) p = omega (arith, length-frame (answer_body (CommitConflict place)), length-number 2 place)
 short_answer (ReadDone start said) p = let short = p.1 in omega (arith, length-frame (answer_body (ReadDone start said)), length-reads start said, short)
+
+pub read_frame : (start : ℕ) (said : List (Option Item)) → told_lengths said ≡ most_told + 255 * 9 → length (frame (answer_body (ReadDone start said))) ≡ longest_answer
+read_frame start said much = omega (arith, length-frame (answer_body (ReadDone start said)), length-reads start said, much)

@@ -1,8 +1,8 @@
 -- Laws of bodies and streams.
-use Rattle.std.specs.Prelude.{◌≡◌, ℕ, List, ◌++◌, ◌<◌, ◌≤◌, length, slice_index, Some}
+use Rattle.std.specs.Prelude.{◌≡◌, ℕ, List, ◌++◌, ◌+◌, ◌*◌, ◌<◌, ◌≤◌, length, slice_index, Option, Some}
 use Rattle.std.specs.List.{AllByRecursion}
-use Rattle.si_model.specs.Messages.{Request, Reply, RawFound}
-use Rattle.si_model.specs.Transactions.{Operation, Answer}
+use Rattle.si_model.specs.Messages.{Item, Request, Reply, RawFound}
+use Rattle.si_model.specs.Transactions.{Operation, Answer, ReadDone, most_told, told_lengths}
 use Rattle.request_codec.specs.Requests.{IsRequest}
 use Rattle.request_codec.specs.Replies.{reply_body, IsReply, HoldsWithinLimits}
 use Rattle.request_codec.specs.Operations.{IsOperation}
@@ -65,3 +65,9 @@ abbrev pub AnswersFit : Type 0
 AnswersFit =
     (answer : Answer) → HoldsAnswerWithinLimits answer
     → length (frame (answer_body answer)) ≤ longest_answer
+
+-- the answer of a Read that tells as much as it may has the longest frame
+abbrev pub ReadIsLongest : Type 0
+ReadIsLongest =
+    (start : ℕ) (said : List (Option Item)) → told_lengths said ≡ most_told + 255 * 9
+    → length (frame (answer_body (ReadDone start said))) ≡ longest_answer

@@ -11,7 +11,7 @@ use crate::read_bodies::{whole_u16, whole_u64_pair};
 use crate::read_told::{own_told, whole_told};
 use crate::replies::Reply;
 use crate::write_fields::{push_byte, push_u16, push_u64};
-use crate::write_told::{push_read, told_length};
+use crate::write_told::{push_read, read_length};
 use cell_key::Refusal;
 use si_model::{CommitReply, ReadReply};
 use std::alloc::Global;
@@ -46,7 +46,7 @@ pub fn answer_length(answer: &Answer) -> usize
     match answer {
         Answer::Said(reply) => reply_length(reply),
         Answer::Commit(reply) => commit_length(*reply),
-        Answer::Read(reply) => 13 + told_length(&reply.found),
+        Answer::Read(reply) => read_length(reply),
     }
 }
 

@@ -1,7 +1,7 @@
 //! Laws of bodies and streams. Each is the contract of a function that does nothing.
 
 ghost use Rattle.request_codec.specs.Answers.{longest_answer};
-ghost use Rattle.request_codec.specs.Laws.{CutGoesOn, OneCut, HasCut, NoFrameBeginsAnother, OneRequestABody, OneReplyABody, OneOperationABody, OneAnswerABody, AnswersFit, RepliesFit, RawIsLongest};
+ghost use Rattle.request_codec.specs.Laws.{CutGoesOn, OneCut, HasCut, NoFrameBeginsAnother, OneRequestABody, OneReplyABody, OneOperationABody, OneAnswerABody, AnswersFit, ReadIsLongest, RepliesFit, RawIsLongest};
 ghost use Rattle.request_codec.specs.Stream.{longest, longest_reply};
 ghost use Rattle.std.specs.Prelude.{◌≡◌};
 
@@ -52,6 +52,11 @@ pub fn one_answer_a_body()
 /// No answer within its limits has a longer frame than `LONGEST_ANSWER`.
 pub fn answers_fit()
     ensures { AnswersFit }
+{}
+
+/// The answer of a Read that tells as much as it may has a frame of `LONGEST_ANSWER` bytes.
+pub fn read_is_longest()
+    ensures { ReadIsLongest }
 {}
 
 /// No reply within the limits of rows, families and values has a longer frame than `LONGEST_REPLY`.

@@ -31,7 +31,8 @@ pub use framer::{Framer, LONGEST_BODY, Next};
 pub use frames::split_frame;
 pub use laws::{
     answers_fit, cut_goes_on, has_cut, limits, no_frame_begins_another, one_answer_a_body, one_cut,
-    one_operation_a_body, one_reply_a_body, one_request_a_body, raw_is_longest, replies_fit,
+    one_operation_a_body, one_reply_a_body, one_request_a_body, raw_is_longest, read_is_longest,
+    replies_fit,
 };
 pub use operations::{Operation, decode_operation, encode_operation};
 pub use replies::{LONGEST_REPLY, Reply};

@@ -24,31 +24,37 @@ fn write_length(write: CellWrite<'_>) -> usize
     8 + write.cell.row.len() + write.cell.family.len() + optional_length(write.value)
 }
 
+/// The length of the names of a cell in bytes.
+#[tactic(auto, using(crate::proofs::Fields::lengths))]
+fn name_length(name: CellName<'_>) -> usize
+    requires { FitsCell (cell_named name) }
+    ensures { result ≡ length (cell_fields (cell_named name.entry)) }
+{
+    8 + name.row.len() + name.family.len()
+}
+
 /// The length of writes in bytes.
 pub(crate) fn writes_length(writes: &[CellWrite<'_>]) -> usize
     requires fits { AllByRecursion WriteFits (writes_named writes.now) }
     requires short { length (flat_map write_fields (writes_named writes.now)) ≤ longest }
     ensures { result ≡ length (flat_map write_fields (writes_named writes.now)) }
 {
-    let mut rest = writes;
     let mut sum = 0;
-    'writes: while let Some((write, after)) = rest.split_first() {
+    for write in writes.iter() {
         sum += write_length(*write);
-        rest = after;
     }
     sum
 }
 
 /// The length of the names of cells in bytes.
 pub(crate) fn cells_length(cells: &[CellName<'_>]) -> usize
-    requires { length (flat_map cell_fields (cells_named cells.now)) ≤ longest }
+    requires fits { AllByRecursion FitsCell (cells_named cells.now) }
+    requires short { length (flat_map cell_fields (cells_named cells.now)) ≤ longest }
     ensures { result ≡ length (flat_map cell_fields (cells_named cells.now)) }
 {
-    let mut rest = cells;
     let mut sum = 0;
-    'cells: while let Some((cell, after)) = rest.split_first() {
-        sum += 8 + cell.row.len() + cell.family.len();
-        rest = after;
+    for cell in cells.iter() {
+        sum += name_length(*cell);
     }
     sum
 }
@@ -64,16 +70,24 @@ fn push_write(out: &mut Vec<u8>, write: CellWrite<'_>)
     push_optional(out, write.value);
 }
 
+/// Appends the names of a cell.
+#[tactic(auto, using(crate::proofs::Fields::lengths))]
+fn push_name(out: &mut Vec<u8>, name: CellName<'_>)
+    requires fits { FitsCell (cell_named name) }
+    requires room { HasRoomFor out.old (length (cell_fields (cell_named name))) }
+    ensures { AppendsBytes out.old out.new (cell_fields (cell_named name.entry)) }
+{
+    push_cell(out, name.row, name.family);
+}
+
 /// Appends writes.
 fn push_writes(out: &mut Vec<u8>, writes: &[CellWrite<'_>])
     requires fits { AllByRecursion WriteFits (writes_named writes.now) }
     requires room { HasRoomFor out.old (length (flat_map write_fields (writes_named writes.now))) }
     ensures { AppendsBytes out.old out.new (flat_map write_fields (writes_named writes.now)) }
 {
-    let mut rest = writes;
-    'writes: while let Some((write, after)) = rest.split_first() {
+    for write in writes.iter() {
         push_write(out, *write);
-        rest = after;
     }
 }
 
@@ -83,10 +97,8 @@ fn push_cells(out: &mut Vec<u8>, cells: &[CellName<'_>])
     requires room { HasRoomFor out.old (length (flat_map cell_fields (cells_named cells.now))) }
     ensures { AppendsBytes out.old out.new (flat_map cell_fields (cells_named cells.now)) }
 {
-    let mut rest = cells;
-    'cells: while let Some((cell, after)) = rest.split_first() {
-        push_cell(out, cell.row, cell.family);
-        rest = after;
+    for cell in cells.iter() {
+        push_name(out, *cell);
     }
 }
 
@@ -94,7 +106,7 @@ fn push_cells(out: &mut Vec<u8>, cells: &[CellName<'_>])
 #[tactic(auto, using(crate::proofs::Fields::lengths))]
 pub(crate) fn push_commit(out: &mut Vec<u8>, start: Stamp, writes: &[CellWrite<'_>])
     requires fits { AllByRecursion WriteFits (writes_named writes.now) }
-    requires few { length writes.now < 2 ^ 32 }
+    requires short { length (operation_body (Commit start (writes_named writes.now))) ≤ longest }
     requires room { HasRoomFor out.old
         (length (operation_body (Commit start (writes_named writes.now)))) }
     ensures { AppendsBytes out.old out.new (operation_body (Commit start (writes_named writes.now))) }
@@ -109,7 +121,8 @@ pub(crate) fn push_commit(out: &mut Vec<u8>, start: Stamp, writes: &[CellWrite<'
 #[tactic(auto, using(crate::proofs::Fields::lengths))]
 pub(crate) fn push_read(out: &mut Vec<u8>, start: Stamp, cells: &[CellName<'_>], stays_open: bool)
     requires fits { AllByRecursion FitsCell (cells_named cells.now) }
-    requires few { length cells.now < 2 ^ 32 }
+    requires short { length (operation_body (Read start (cells_named cells.now) stays_open))
+        ≤ longest }
     requires room { HasRoomFor out.old
         (length (operation_body (Read start (cells_named cells.now) stays_open))) }
     ensures { AppendsBytes out.old out.new

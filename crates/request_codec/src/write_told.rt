@@ -25,7 +25,7 @@ fn one_length(told: &Option<ScanFound>) -> usize
 }
 
 /// The length of what is told of cells in bytes.
-pub(crate) fn told_length(found: &[Option<ScanFound>]) -> usize
+fn told_length(found: &[Option<ScanFound>]) -> usize
     requires { told_lengths (told_items found.now) ≤ most_told + 255 * 9 }
     ensures { result ≡ told_lengths (told_items found.now) }
 {
@@ -36,6 +36,14 @@ pub(crate) fn told_length(found: &[Option<ScanFound>]) -> usize
         rest = after;
     }
     sum
+}
+
+/// The length of the body of a Read's answer in bytes.
+pub(crate) fn read_length(reply: &ReadReply) -> usize
+    requires { AnswerBytesFit (read_answer reply.now) }
+    ensures { result ≡ length (answer_body (read_answer reply.now)) }
+{
+    13 + told_length(&reply.found)
 }
 
 /// Appends what is told of a cell.

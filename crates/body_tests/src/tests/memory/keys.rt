@@ -1,7 +1,10 @@
 //! Keys, and the bodies of requests and replies.
 
 use cell_key::{CellKey, Family, Lock, Qualifier, Refusal, Row, WriteKind};
-use request_codec::{Reply, decode_reply, decode_request, encode_reply, encode_request};
+use request_codec::{
+    Answer, Operation, Reply, Request, decode_answer, decode_operation, decode_reply,
+    decode_request, encode_answer, encode_operation, encode_reply, encode_request,
+};
 use std::alloc::Global;
 use testing::memory::{Call, Subject, Table};
 
@@ -23,7 +26,13 @@ const GET: &[u8] = b"\x02\0\0\0\0\0\0\0\x01\0\0\0\x01a\0\0\0\x03bal";
 
 const RAW: &[u8] = b"\x91\x01\0\0\0\0\0\0\0\x01\0\0\0\x06m\0\0c\0\0";
 
-const CALLS: [Call; 11] = [
+/// A Commit of one deletion.
+const COMMIT: &[u8] = b"\x32\0\0\0\0\0\0\0\x01\0\0\0\x01\0\0\0\x01m\0\0\0\x01c\0";
+
+/// A Read's answer that tells of one cell, which has nothing.
+const TOLD: &[u8] = b"\xB3\0\0\0\0\0\0\0\x01\0\0\0\x01\0";
+
+const CALLS: [Call; 15] = [
     // Row::new
     (LONG_ROW, b"text"),
     // Family::new
@@ -49,6 +58,14 @@ const CALLS: [Call; 11] = [
     (b"", b"text\x81\0\0\0\0\0\0\0\x07"),
     // decode_reply
     (b"m\0\0c\0\0", b"text"),
+    // decode_operation
+    (b"m", b"text"),
+    // decode_answer
+    (b"", b"text"),
+    // encode_operation
+    (b"", b"text\x01"),
+    // encode_answer
+    (b"", b"text\x81\0\0\0\0\0\0\0\x07"),
 ];
 
 /// Whether the key of a text has this row. If the text is malformed, the wanted row must be empty.
@@ -75,6 +92,23 @@ impl Keys {
                 Some(Reply::Raw(Some((_, value)))) => Ok(value.as_slice() == wanted),
                 _ => Ok(false),
             },
+        }
+    }
+
+    /// Whether a Commit and a Read's answer are read: the row of the one write, or that the one cell has nothing.
+    fn parts(&self, alloc: Global, number: usize, wanted: &[u8]) -> Result<bool, Refusal> {
+        if number == 12 {
+            return Ok(match decode_answer(alloc, TOLD)? {
+                Some(Answer::Read(reply)) => reply.found.len() == 1,
+                _ => false,
+            });
+        }
+        match decode_operation(alloc, COMMIT)? {
+            Some(Operation::Commit { writes, .. }) => match writes.first() {
+                Some(write) => Ok(write.cell.row == wanted),
+                None => Ok(false),
+            },
+            _ => Ok(false),
         }
     }
 
@@ -110,6 +144,9 @@ impl Subject for Keys {
             7 => return is_decoded(alloc, b"a\0", wanted),
             8 => self.write_request()?,
             9 => encode_reply(&Reply::Begin(7), &mut self.text)?,
+            11 | 12 => return self.parts(alloc, number, wanted),
+            13 => encode_operation(&Operation::One(Request::Begin), &mut self.text)?,
+            14 => encode_answer(&Answer::Said(Reply::Begin(7)), &mut self.text)?,
             _ => return self.names(alloc, number, wanted),
         }
         Ok(wanted.is_empty())
