@@ -3,7 +3,7 @@ use Rattle.std.proofs.Common.{◌≡◌, ◌≢◌, ℕ, ◌+◌, ◌*◌, ◌<�
 use Rattle.std.specs.List.{AllByRecursion, flat_map}
 use Rattle.si_model.specs.Messages.{Item, Reply, Begun}
 use Rattle.si_model.specs.Transactions.{Answer, Said, CommitDone, CommitConflict, ReadDone, most_read, most_told, told_lengths}
-use Rattle.request_codec.specs.Answers.{answer_body, told_fields, longest_answer, FitsRead, ToldFits, ToldStartFits, AreTold, IsAnswerBody, AnswerNeedsMemory, HoldsAnswerWithinLimits, HoldsParts}
+use Rattle.request_codec.specs.Answers.{answer_body, told_fields, longest_answer, FitsRead, ToldFits, ToldStartFits, AreTold, IsAnswerBody, AnswerNeedsMemory, HoldsAnswerWithinLimits}
 use Rattle.request_codec.specs.Fields.{number}
 use Rattle.request_codec.specs.Replies.{reply_body, IsReply, NeedsMemory}
 use Rattle.request_codec.specs.Stream.{frame}

@@ -7,7 +7,7 @@ use Rattle.si_model.specs.Messages.{Request, Begin}
 use Rattle.si_model.specs.Transactions.{Operation, One, Commit, Read}
 use Rattle.request_codec.specs.Fields.{number, cell_fields, FitsCell}
 use Rattle.request_codec.specs.Operations.{commit_fields, read_fields, write_fields, IsOperation, NamesCells, WriteFits, AreWrites, AreCells}
-use Rattle.request_codec.specs.Requests.{request_body, IsRequest, IsMalformed}
+use Rattle.request_codec.specs.Requests.{request_body, IsRequest}
 use Rattle.request_codec.specs.Scans.{flag_number}
 use Rattle.request_codec.proofs.Fields.{same_number, past_number, same_cell, first}
 use Rattle.request_codec.proofs.OneRequest.{one_request}

@@ -7,7 +7,7 @@ use Rattle.si_model.specs.Transactions.{Commit, Read}
 use Rattle.si_model.specs.declared.replies.Cell.{Cell}
 use Rattle.si_model.specs.declared.transactions.CellName.{CellName}
 use Rattle.si_model.specs.declared.transactions.CellWrite.{CellWrite}
-use Rattle.request_codec.specs.Fields.{number, field, optional, cell_fields, FitsCell}
+use Rattle.request_codec.specs.Fields.{number, field, optional, cell_fields}
 use Rattle.request_codec.specs.Operations.{operation_body, write_fields, WriteFits}
 use Rattle.request_codec.specs.Scans.{flag_number}
 use Rattle.request_codec.specs.Stream.{longest}

@@ -1,12 +1,12 @@
 -- What a Read's answer tells, and its length.
-use Rattle.std.proofs.Common.{◌≡◌, ◌≢◌, ℕ, ◌+◌, ◌*◌, ◌<◌, ◌≤◌, ◌^◌, List, [], ◌∷◌, ◌++◌, length, drop, Option, Some, None, IfSome, refl, sym, ap, subst, ◌∙◌, length-append, arith}
+use Rattle.std.proofs.Common.{◌≡◌, ℕ, ◌<◌, ◌^◌, List, [], ◌∷◌, ◌++◌, length, drop, Option, Some, None, refl, ap, length-append, arith}
 use Rattle.std.specs.List.{AllByRecursion, flat_map}
 use Rattle.si_model.specs.Messages.{Item, Valued, Locked, Unsent}
 use Rattle.si_model.specs.Scans.{found_length}
 use Rattle.si_model.specs.Transactions.{told_length, told_lengths}
 use Rattle.request_codec.specs.Answers.{told_fields, ToldFits, ToldStartFits}
 use Rattle.request_codec.specs.Scans.{said_fields, StartFits, SaidFits}
-use Rattle.request_codec.proofs.Fields.{first, length-number, length-field}
+use Rattle.request_codec.proofs.Fields.{first}
 use Rattle.request_codec.proofs.Scans.{same_said, length-said, start_of}
 
 -- what is said of a cell doesn't begin with 0

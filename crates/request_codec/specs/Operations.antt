@@ -1,5 +1,5 @@
 -- The bodies of operations: of a request, of a Commit and of a Read.
-use Rattle.std.specs.Prelude.{◌≡◌, ℕ, List, [], ◌∷◌, ◌++◌, ◌<◌, ◌^◌, length, Bool, IfSome}
+use Rattle.std.specs.Prelude.{◌≡◌, ℕ, List, ◌∷◌, ◌++◌, ◌<◌, ◌^◌, length, Bool, IfSome}
 use Rattle.std.specs.List.{AllByRecursion, flat_map}
 use Rattle.si_model.specs.Answers.{cells_named, writes_named}
 use Rattle.si_model.specs.Machine.{Change, Writes}

@@ -1,7 +1,6 @@
 use Rattle.std.proofs.Common.{◌≡◌, ◌-◌, ◌++◌, length}
 use Rattle.std.specs.List.{AllByRecursion, flat_map}
 use Rattle.si_model.specs.Answers.{cells_named}
-use Rattle.si_model.specs.Answers.{cell_named}
 use Rattle.request_codec.specs.Fields.{cell_fields, FitsCell}
 use Rattle.request_codec.specs.Operations.{AreCells}
 use Rattle.request_codec.proofs.read_lists.own_cells.Given as goal

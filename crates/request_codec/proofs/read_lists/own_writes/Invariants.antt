@@ -1,7 +1,6 @@
 use Rattle.std.proofs.Common.{◌≡◌, ◌-◌, ◌++◌, length}
 use Rattle.std.specs.List.{AllByRecursion, flat_map}
 use Rattle.si_model.specs.Answers.{writes_named}
-use Rattle.si_model.specs.Answers.{write_named}
 use Rattle.request_codec.specs.Operations.{write_fields, WriteFits}
 use Rattle.request_codec.specs.Operations.{AreWrites}
 use Rattle.request_codec.proofs.read_lists.own_writes.Given as goal
