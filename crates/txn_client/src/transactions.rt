@@ -258,11 +258,9 @@ impl Clients {
         ensures reason { HasOneReason (R.faults rows.old) (R.faults rows.new)
             (M.faults oracle.old.marks) (M.faults oracle.new.marks) result }
     {
-        let Committing {
-            start: began,
-            writes,
-        } = self.committing(oracle.last(), start)?;
-        let writes = takings::take_all(self.alloc, writes, asked)?;
+        let found = self.committing(oracle.last(), start)?;
+        let began = found.start;
+        let writes = takings::take_all(self.alloc, found.writes, asked)?;
         if writes.len() == 0 {
             return Err(Refusal::EmptyCommit);
         }
