@@ -29,9 +29,9 @@ use Rattle.si_model.proofs.Goes.{goes}
 use Rattle.si_model.proofs.ShownKept.{shows_beside}
 use Rattle.si_model.proofs.Steps.{reached_sound}
 use Rattle.si_model.proofs.Tools.{get_same, get_other, get_removed, get_remains}
-use Rattle.txn_client.specs.Commits.{BeganAt, CommitsIn, EndsAt, IsCommitStamp, IsCopyRefusal}
+use Rattle.txn_client.specs.Commits.{CommitsIn, EndsAt, IsCommitStamp, IsCopyRefusal}
 use Rattle.txn_client.specs.Reads.{IsFree}
-use Rattle.txn_client.specs.Shows.{phase_of, IsCrowded, IsInactive, Shows, ShowsAt, ShowsClients, ShowsSession, writes_of}
+use Rattle.txn_client.specs.Shows.{phase_of, Shows, ShowsAt, ShowsClients, ShowsSession, writes_of}
 use Rattle.txn_client.specs.Takings.{AreFree, IsFirstTaken, IsRefusedWrite, IsWriteRefusal, TakesAll, TakesWrite}
 use Rattle.txn_client.specs.Transactions.{GoesAs, HasSession}
 use Rattle.txn_client.specs.Writes.{write_of}
@@ -39,7 +39,6 @@ use Rattle.txn_client.specs.declared.session.Session.{Session}
 use Rattle.txn_client.specs.declared.sessions.Clients.{Clients}
 use Rattle.txn_client.specs.declared.writes.Write.{Write}
 use Rattle.txn_client.proofs.Advance.{free_open, taken_clash}
-use Rattle.txn_client.proofs.Exact.{is_kept, is_open, not_crowded}
 use Rattle.txn_client.proofs.ReadsShown.{opens_named, opens_new}
 use Rattle.txn_client.proofs.Table.{begun_at, late_phase, shown_none, shown_some, shows_changed}
 
@@ -334,28 +333,14 @@ module _ (cells : Cells) (clients : Clients) (last start : ℕ) (asked : Writes)
   pub session_refused_at : (e : Refusal) → IsCopyRefusal clients last start e → GoesAs cells clients last (Commit start asked) (Said (Refused e)) cells clients last
   session_refused_at e why st reached shown = (st, session_refuses st shown.sessions e why, shown)
 
-  -- a session that isn't active is answered so, and so is a new one, if the most are active
-  pub unknown_only : (e : Refusal) → start ≢ 0 → (st : State) → ShowsClients clients st → IsInactive st start → IsCopyRefusal clients last start e → e ≡ UnknownSession
-  unknown_only UnknownSession ne st shown gone why = refl
-  unknown_only WrongPhase ne st shown gone why = let late = why.1 in absurd (is_kept clients start st shown gone late.0 late.1)
-  unknown_only TooManySessions ne st shown gone why = absurd (ne why.0)
-  unknown_only Exhausted ne st shown gone why = absurd (ne why.0)
-  unknown_only NoMemory ne st shown gone why = absurd (is_open clients start st shown gone why.1)
-  unknown_only _ ne st shown gone why = absurd why
-
-  pub crowded_only : (e : Refusal) → start ≡ 0 → (st : State) → ShowsClients clients st → IsCrowded st → IsCopyRefusal clients last start e → e ≡ TooManySessions
-  crowded_only UnknownSession is0 st shown many why = absurd (why.0 is0)
-  crowded_only WrongPhase is0 st shown many why = absurd (why.0 is0)
-  crowded_only TooManySessions is0 st shown many why = refl
-  crowded_only Exhausted is0 st shown many why = absurd (not_crowded clients st shown why.1 many)
-  crowded_only NoMemory is0 st shown many why = absurd (why.0 is0)
-  crowded_only _ is0 st shown many why = absurd why
-
 -- ---- the same, by what the call has
 
 pub taken_none : (before ws : List Write) (asked : Writes) (n : ℕ) → n ≡ length ws → n ≡ 0 → TakesAll (map write_of before) asked (map write_of ws) → TakesAll (map write_of before) asked []
 taken_none before [] asked n count none h = h
 taken_none before (w ∷ ws) asked n count none h = absurd (omega (arith, count, none))
+
+pub some_writes : (ws : List Write) (n : ℕ) → n ≡ length ws → n ≢ 0 → 1 ≤ length ws
+some_writes ws n count some = omega (arith, count, some)
 
 pub some_at : {X : Type 0} (P : X → Type 0) (o : Option X) (x : X) → o ≡ Some x → IfSome o P → P x
 some_at P o x is h = subst (λ (o : Option _). IfSome o P) is h
