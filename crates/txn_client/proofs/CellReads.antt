@@ -1,5 +1,5 @@
 -- Reads of cells one after the other.
-use Rattle.std.proofs.Common.{◌≡◌, ◌∙◌, ℕ, zero, suc, ◌+◌, [], ◌∷◌, ◌++◌, List, map, take, drop, length, get_or, ◌<◌, Option, Some, option_map, refl, sym, subst, ap, arith}
+use Rattle.std.proofs.Common.{◌≡◌, ◌∙◌, ℕ, zero, suc, ◌+◌, ◌*◌, ◌≤◌, ◌⊎◌, inl, inr, [], ◌∷◌, ◌++◌, List, map, take, drop, length, length-append, get_or, ◌<◌, Option, Some, option_map, refl, sym, subst, ap, arith}
 use Rattle.std.specs.Prelude.{slice_get}
 use Rattle.std.proofs.lemmas.List.{map-append}
 use Rattle.std.proofs.lemmas.Option.{none-some, same_Some, slice_get-get_or}
@@ -12,7 +12,7 @@ use Rattle.si_model.specs.Transactions.{told_length, told_lengths}
 use Rattle.si_model.specs.declared.replies.Cell.{Cell}
 use Rattle.si_model.specs.declared.scans.ScanFound.{ScanFound}
 use Rattle.si_model.specs.declared.transactions.CellName.{CellName}
-use Rattle.txn_client.specs.CellReads.{AreRead, IsReadingRefusal, IsReadSo, IsRefusedAmong, said_in}
+use Rattle.txn_client.specs.CellReads.{AreRead, IsReadingRefusal, IsReadSo, IsRefusedAmong, IsShortAnswer, IsShortOf, said_in}
 use Rattle.txn_client.specs.Scans.{IsNamed}
 
 pub said_next : (old new : List (Option ScanFound)) (said : Option ScanFound) → new ≡ old ++ said ∷ [] → said_in new ≡ said_in old ++ option_map found_item said ∷ []
@@ -68,3 +68,14 @@ module _ (cells : Cells) (s : ℕ) where
 -- the bytes of what is said, after one more cell
 pub lengths_now : (used used' : ℕ) (said new : List (Option Item)) (one : Option Item) → used ≡ told_lengths said → new ≡ said ++ one ∷ [] → used' ≡ used + told_length one → used' ≡ told_lengths new
 lengths_now used used' said new one count is more = more ∙ (ap (λ (n : ℕ). n + told_length one) count ∙ (sym (lengths_more said one) ∙ ap told_lengths (sym is)))
+
+pub short_more : (old new : List (Option ScanFound)) (one : Option ScanFound) (b t b' : ℕ) → new ≡ old ++ one ∷ [] → IsShortOf (length old) b → (b + t ≤ 1046268) ⊎ (t ≤ 9) → b' ≡ b + t → IsShortOf (length new) b'
+short_more old new one b t b' items had which is =
+    let count : length new ≡ length old + 1 = ap (λ (l : List (Option ScanFound)). length l) items ∙ length-append old (one ∷ []) in
+    elim which [
+      | inl fits ↦ inr (omega (arith, fits, is, count))
+      | inr few ↦ elim had [ inl low ↦ inl (omega (arith, low, few, is, count)) | inr low ↦ inr (omega (arith, low, few, is, count)) ]
+    ]
+
+pub short_answer : (found : List (Option ScanFound)) (i n b : ℕ) → length found ≡ i → i ≤ n → n ≤ 256 → b ≡ told_lengths (said_in found) → IsShortOf (length found) b → IsShortAnswer found
+short_answer found i n b count within most sum short = (omega (arith, count, within, most), elim short [ inl low ↦ omega (arith, low, count, within, most, sum) | inr low ↦ omega (arith, low, count, within, most, sum) ])

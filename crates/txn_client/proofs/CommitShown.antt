@@ -1,19 +1,17 @@
 -- A transaction in one call, where cells and sessions show the machine's state.
-use Rattle.std.proofs.Common.{◌≡◌, ◌≢◌, ◌∙◌, ℕ, ◌+◌, ◌<◌, ◌≤◌, ◌^◌, inl, inr, List, [], ◌∷◌, ◌++◌, length, map, Option, Some, None, refl, sym, subst, ap, arith}
-use Rattle.std.specs.Prelude.{slice_get, option_map, IfNone, IfSome}
-use Rattle.std.specs.List.{AllByRecursion}
+use Rattle.std.proofs.Common.{◌≡◌, ◌≢◌, ◌∙◌, ℕ, ◌+◌, ◌-◌, ◌<◌, ◌≤◌, ◌^◌, inl, inr, cond, List, [], ◌∷◌, ◌++◌, length, map, Option, Some, None, refl, sym, subst, ap, arith}
+use Rattle.std.specs.Prelude.{slice_get, option_map, is_some, IfNone, IfSome}
 use Rattle.std.specs.Ordering.{nat_cmp}
 use Rattle.std.specs.Cmp.{nat_cmp_total}
 use Rattle.std.specs.BTreeMap as btree
-use Rattle.std.specs.FinMap.{FinMap, get, insert, remove, len, same_map, nat_cmp-IsAntisymmetric}
+use Rattle.std.specs.FinMap.{FinMap, get, insert, remove, len, len-remove, same_map, nat_cmp-IsAntisymmetric}
 use Rattle.std.proofs.lemmas.Bool.{cases_eq}
 use Rattle.std.proofs.lemmas.List.{length-map}
 use Rattle.std.proofs.lemmas.Option.{none-some, same_Some, slice_get-map, slice_get_within}
 use Rattle.cell_key.specs.Cells.{Cells}
 use Rattle.cell_key.specs.declared.refusals.Refusal.{Refusal}
-use Rattle.cell_key.specs.declared.refusals.Refusal.TheVariants.{BadRow, BadColumn, BadValue, TooManyWrites, TooManySessions, EmptyCommit, MemtableFull, NoMemory}
+use Rattle.cell_key.specs.declared.refusals.Refusal.TheVariants.{UnknownSession, WrongPhase, BadRow, BadColumn, BadValue, TooManyWrites, TooManySessions, EmptyCommit, MemtableFull, Exhausted, Device, NoMemory}
 use Rattle.rows.specs.Refusals.{IsApplyRefusal}
-use Rattle.rows.specs.declared.row_edits.RowEdits.{RowEdits}
 use Rattle.si_model.specs.Sets.{◌∈◌}
 use Rattle.si_model.specs.Machine as machine
 use Rattle.si_model.specs.Machine.{State, Change, Writes, Open, InPhase, Wrote, Puts, Gives, Clashes, IsReached, IsStorageRefusal, Refuses, Refused, StopDone, Step, accepts, sets, deletes, stops}
@@ -21,7 +19,8 @@ use Rattle.si_model.specs.PutCells.{all_put_cells}
 use Rattle.si_model.specs.Refusing.Refuses.{gives_up}
 use Rattle.si_model.specs.ShowsCells.{ShowsCells}
 use Rattle.si_model.specs.TransactionLaws.{committed_state}
-use Rattle.si_model.specs.Transactions.{Answer, Commit, Said, CommitDone, CommitConflict, Opens, Buffers, all_taken, takes, Advances, rests, request_of, reply_of, Transacts, conflicts, refuses, to_begin, to_write, to_step, transacts, ClashesFirst}
+use Rattle.si_model.specs.Transactions.{Answer, Commit, Said, CommitDone, CommitConflict, Opens, Buffers, all_taken, takes, Advances, rests, is_unknown, is_late, request_of, reply_of, Transacts, conflicts, refuses, to_begin, to_write, to_step, transacts, ClashesFirst}
+use Rattle.si_model.specs.Transactions.{gives_up as gives_up_all}
 use Rattle.si_model.specs.declared.replies.Cell.{Cell}
 use Rattle.si_model.proofs.Acceptable.{set_ok, delete_ok, stop_ok}
 use Rattle.si_model.proofs.AtOnce.{Opened, opened, buffered, puts_at_once}
@@ -30,8 +29,9 @@ use Rattle.si_model.proofs.Goes.{goes}
 use Rattle.si_model.proofs.ShownKept.{shows_beside}
 use Rattle.si_model.proofs.Steps.{reached_sound}
 use Rattle.si_model.proofs.Tools.{get_same, get_other, get_removed, get_remains}
+use Rattle.txn_client.specs.Commits.{CommitsIn, EndsAt, IsCommitStamp, IsCopyRefusal}
 use Rattle.txn_client.specs.Reads.{IsFree}
-use Rattle.txn_client.specs.Shows.{phase_of, Shows, ShowsAt, ShowsClients}
+use Rattle.txn_client.specs.Shows.{phase_of, Shows, ShowsAt, ShowsClients, ShowsSession, writes_of}
 use Rattle.txn_client.specs.Takings.{AreFree, IsFirstTaken, IsRefusedWrite, IsWriteRefusal, TakesAll, TakesWrite}
 use Rattle.txn_client.specs.Transactions.{GoesAs, HasSession}
 use Rattle.txn_client.specs.Writes.{write_of}
@@ -39,8 +39,8 @@ use Rattle.txn_client.specs.declared.session.Session.{Session}
 use Rattle.txn_client.specs.declared.sessions.Clients.{Clients}
 use Rattle.txn_client.specs.declared.writes.Write.{Write}
 use Rattle.txn_client.proofs.Advance.{free_open, taken_clash}
-use Rattle.txn_client.proofs.ReadsShown.{opens_new}
-use Rattle.txn_client.proofs.Table.{begun_at}
+use Rattle.txn_client.proofs.ReadsShown.{opens_named, opens_new}
+use Rattle.txn_client.proofs.Table.{begun_at, late_phase, shown_none, shown_some, shows_changed}
 
 -- ---- the session takes its writes
 
@@ -124,7 +124,7 @@ module _ (cells : Cells) (s : ℕ) where
     pub all_free : AreFree cells s ws (length ws) → (y : Cell) (v : Change) → Gives (map write_of ws) y v → ¬ Clashes st y s
     all_free free y v (j, puts) = none_clash (length ws) free j y v (let low = slice_get_within (map write_of ws) j (y, v) puts in let count = length-map ws write_of in omega (arith, low, count)) puts
 
--- ---- a transaction in a new session
+-- ---- the session of a transaction
 
 -- a session that began and has ended leaves the sessions as they were
 gone_again : {X : Type 0} (m : FinMap nat_cmp X) (s : ℕ) (p : X) → get m s ≡ None → remove (insert m s p) s ≡ m
@@ -136,32 +136,29 @@ gone_again m s p none = same_map nat_cmp_total nat_cmp-IsAntisymmetric (remove (
       | inr ne ↦ get_remains (insert m s p) s u ne ∙ get_other m s p u ne
     ]
 
-module _ (cells cells' : Cells) (clients : Clients) (last last' : ℕ) (asked : Writes) where
-  abbrev pub Answers : Answer → Clients → Type 0
-  Answers answer clients' = GoesAs cells clients last (Commit 0 asked) answer cells' clients' last'
+module _ (cells : Cells) (clients : Clients) (last start s : ℕ) (before : List Write) (has : CommitsIn clients last start s before) where
+  pub starts_at : start ≢ 0 → (st : State) → ShowsClients clients st → s ≡ start
+  starts_at ne st shown = let o = has.is_open ne in o.3 ∙ (shown_some clients start st o.0 shown o.1).start
 
-  kept : (st : State) → cells' ≡ cells → last ≤ last' → Shows cells clients last st → Shows cells' clients last' st
-  kept st same le shown = record { store = subst (λ (m : Cells). ShowsCells m st) (sym same) shown.store; sessions = shown.sessions; top = (let t = shown.top in omega (arith, t, le)) }
+  has_session : (st : State) → ShowsClients clients st → HasSession clients last start s
+  has_session st shown = record {
+    is_open = λ ne. let o = has.is_open ne in (starts_at ne st shown, (o.0, o.1, o.2));
+    is_new = λ e. let n = has.is_new e in (n.0, n.1, n.2);
+  }
 
-  pub full_at : cells' ≡ cells → last ≤ last' → 1024 ≤ btree.btree_map_len clients.sessions → Answers (Said (Refused TooManySessions)) clients
-  full_at same le many st reached shown = (st, transacts (refuses to_begin (begin_full_first (let count = shown.sessions.count in omega (arith, many, count)))), kept st same le shown)
+  -- a state in which the session is open and has its writes, and what it leaves when it has ended
+  record Ready (st mid : State) : Type 0 where
+    opens : Opens st start s mid
+    wrote : Wrote mid s (map write_of before)
+    kept : (n : ℕ) → (start ≢ 0 → n ≡ clients.top) → (start ≡ 0 → n ≡ last + 1) → mid.top ≡ n
+    under : (n : ℕ) → (start ≢ 0 → n ≡ last) → (start ≡ 0 → n ≡ last + 1) → mid.top ≤ n
+    below : (n : ℕ) → IsCommitStamp last start n → mid.top < n
+    ends : (written next : State) (all : Writes) → Taken cells s mid written all → next.begun ≡ written.begun → next.active ≡ remove written.active s → (clients' : Clients) → EndsAt clients clients' start next.top → ShowsClients clients' next
 
-  pub storage_at : cells' ≡ cells → last ≤ last' → (e : Refusal) → IsStorageRefusal e → Answers (Said (Refused e)) clients
-  storage_at same le e why st reached shown = (st, transacts (refuses to_begin (gives_up why)), kept st same le shown)
-
-  module _ (s : ℕ) (has : HasSession clients last 0 s) where
-    module _ (st : State) (reached : IsReached st) (shown : Shows cells clients last st) where
-      mid : State
-      mid = begun_at st s
-
-      opens : Opens st 0 s (begun_at st s)
-      opens = opens_new cells clients last 0 st reached shown s refl has
-
-      o : Opened cells s (begun_at st s)
-      o = opened cells s st (begun_at st s) 0 reached shown.store opens
-
-      begun : Wrote (begun_at st s) s []
-      begun = get_same st.begun s []
+  module _ (st : State) (reached : IsReached st) (shown : Shows cells clients last st) where
+    module _ (is0 : start ≡ 0) where
+      next_start : s ≡ last + 1
+      next_start = (has.is_new is0).0
 
       unused : get st.active s ≡ None
       unused = go (get st.active s) refl
@@ -171,17 +168,12 @@ module _ (cells cells' : Cells) (clients : Clients) (last last' : ℕ) (asked : 
           go (Some p) e =
               let b = (reached_sound reached).has_begun s p e in
               let old = (reached_sound reached).start_low s b.0 b.1 in
-              let next = (has.is_new refl).0 in
+              let next = next_start in
               let top = shown.top in
               absurd (omega (arith, old, next, top))
 
-      -- once it has ended, the sessions are those that were kept
-      ended : (written next : State) (all : Writes) → Taken cells s (begun_at st s) written all → next.begun ≡ written.begun → next.active ≡ remove written.active s → ShowsClients (record clients { top = next.top }) next
-      ended written next all taken begun active = record {
-        top = refl;
-        sessions = λ u. at u (btree.get nat_cmp clients.sessions u) (shown.sessions.sessions u);
-        count = ap (λ (m : FinMap nat_cmp machine.Phase). len m) same ∙ shown.sessions.count;
-      }
+      ends_new : (written next : State) (all : Writes) → Taken cells s (begun_at st s) written all → next.begun ≡ written.begun → next.active ≡ remove written.active s → (clients' : Clients) → EndsAt clients clients' start next.top → ShowsClients clients' next
+      ends_new written next all taken begun active clients' ends = subst (λ (k : Clients). ShowsClients k next) (sym (ends.new_ends is0)) now
         where
           same : next.active ≡ st.active
           same = active ∙ (ap (λ (m : FinMap nat_cmp machine.Phase). remove m s) taken.active ∙ gone_again st.active s Open unused)
@@ -197,79 +189,164 @@ module _ (cells cells' : Cells) (clients : Clients) (last last' : ℕ) (asked : 
               other : u ≢ s
               other e = none-some (phase_of session.phase session.commit) (sym unused ∙ subst (λ (u : ℕ). get st.active u ≡ Some (phase_of session.phase session.commit)) e h.phase)
 
-    pub write_refused_at : cells' ≡ cells → last ≤ last' → (e : Refusal) → IsRefusedWrite [] asked e → Answers (Said (Refused e)) clients
+          now : ShowsClients (record clients { top = next.top }) next
+          now = record {
+            top = refl;
+            sessions = λ u. at u (btree.get nat_cmp clients.sessions u) (shown.sessions.sessions u);
+            count = ap (λ (m : FinMap nat_cmp machine.Phase). len m) same ∙ shown.sessions.count;
+          }
+
+      ready_new : Ready st (begun_at st s)
+      ready_new = record {
+        opens = opens_new cells clients last start st reached shown s is0 (has_session st shown.sessions);
+        wrote = subst (λ (ws : List Write). Wrote (begun_at st s) s (map write_of ws)) (sym (has.is_new is0).3) (get_same st.begun s []);
+        kept = λ n named new. next_start ∙ sym (new is0);
+        under = λ n named new. let next = next_start in let is = new is0 in omega (arith, next, is);
+        below = λ n stamp. let next = next_start in let is = stamp.new is0 in omega (arith, next, is);
+        ends = ends_new;
+      }
+
+    module _ (ne : start ≢ 0) where
+      session : Session
+      session = (has.is_open ne).0
+
+      was : btree.get nat_cmp clients.sessions start ≡ Some session
+      was = (has.is_open ne).1
+
+      mine : ShowsSession session start st
+      mine = shown_some clients start st session shown.sessions was
+
+      starts : s ≡ start
+      starts = starts_at ne st shown.sessions
+
+      ends_named : (written next : State) (all : Writes) → Taken cells s st written all → next.begun ≡ written.begun → next.active ≡ remove written.active s → (clients' : Clients) → EndsAt clients clients' start next.top → ShowsClients clients' next
+      ends_named written next all taken begun active clients' ends = record {
+        top = ends.top;
+        sessions = shows_changed st next (btree.get nat_cmp clients.sessions) (btree.get nat_cmp clients'.sessions) start None (ends.updates ne).0 (λ u other. ap (λ (m : FinMap nat_cmp machine.Phase). get m u) same ∙ get_remains st.active start u other)
+            (λ u other. ap (λ (m : FinMap nat_cmp Writes). get m u) begun ∙ taken.others u (λ e. other (e ∙ starts))) shown.sessions.sessions (ap (λ (m : FinMap nat_cmp machine.Phase). get m start) same ∙ get_removed st.active start);
+        count = ap (λ (m : FinMap nat_cmp machine.Phase). len m) same ∙ (len-remove nat_cmp_total st.active start ∙ (ap (λ o. cond (is_some o) (len st.active - 1) (len st.active)) mine.phase ∙ fewer));
+      }
+        where
+          same : next.active ≡ remove st.active start
+          same = active ∙ (ap (λ (m : FinMap nat_cmp machine.Phase). remove m s) taken.active ∙ ap (λ (n : ℕ). remove st.active n) starts)
+
+          fewer : len st.active - 1 ≡ btree.btree_map_len clients'.sessions
+          fewer = let n = shown.sessions.count in let l = ends.len ne session was in omega (arith, n, l)
+
+      ready_named : Ready st st
+      ready_named = record {
+        opens = opens_named cells clients last start st reached shown s ne (has_session st shown.sessions);
+        wrote = subst (λ (p : ℕ × List Write). Wrote st p.0 (map write_of p.1)) (λ j. (sym starts j, sym (has.is_open ne).4 j)) mine.writes;
+        kept = λ n named new. sym shown.sessions.top ∙ sym (named ne);
+        under = λ n named new. let top = shown.top in let is = named ne in omega (arith, top, is);
+        below = λ n stamp. let top = shown.top in let is = stamp.named ne in omega (arith, top, is);
+        ends = ends_named;
+      }
+
+    ready : (mid : State) × Ready st mid
+    ready = elim (cases_eq start 0) [ inl is0 ↦ (begun_at st s, ready_new is0) | inr ne ↦ (st, ready_named ne) ]
+
+-- ---- a transaction
+
+module _ (cells cells' : Cells) (clients : Clients) (last last' start : ℕ) (asked : Writes) where
+  abbrev pub Answers : Answer → Clients → Type 0
+  Answers answer clients' = GoesAs cells clients last (Commit start asked) answer cells' clients' last'
+
+  kept : (st : State) → cells' ≡ cells → last ≤ last' → Shows cells clients last st → Shows cells' clients last' st
+  kept st same le shown = record { store = subst (λ (m : Cells). ShowsCells m st) (sym same) shown.store; sessions = shown.sessions; top = (let t = shown.top in omega (arith, t, le)) }
+
+  pub storage_at : cells' ≡ cells → last ≤ last' → (e : Refusal) → IsStorageRefusal e → Answers (Said (Refused e)) clients
+  storage_at same le e why st reached shown = (st, transacts (gives_up_all why), kept st same le shown)
+
+  module _ (s : ℕ) (before : List Write) (has : CommitsIn clients last start s before) where
+    module _ (st : State) (reached : IsReached st) (shown : Shows cells clients last st) where
+      mid : State
+      mid = (ready cells clients last start s before has st reached shown).0
+
+      on : Ready cells clients last start s before has st mid
+      on = (ready cells clients last start s before has st reached shown).1
+
+      o : Opened cells s mid
+      o = opened cells s st mid start reached shown.store on.opens
+
+    pub write_refused_at : cells' ≡ cells → last ≤ last' → (e : Refusal) → IsRefusedWrite (map write_of before) asked e → Answers (Said (Refused e)) clients
     write_refused_at same le e r st reached shown =
-        let far = take_all cells s r.first (begun_at st s) [] r.mid (o st reached shown) (begun st reached shown) r.taken in
-        (st, transacts (refuses (to_write r.write.0 r.write.1 r.rest r.split (opens st reached shown) far.1) (refuses_write cells s far.0 r.write.0 r.write.1 r.mid e far.2.opened far.2.wrote r.why)), kept st same le shown)
+        let far = take_all cells s r.first (mid st reached shown) (map write_of before) r.mid (o st reached shown) (on st reached shown).wrote r.taken in
+        (st, transacts (refuses (to_write r.write.0 r.write.1 r.rest r.split (on st reached shown).opens far.1) (refuses_write cells s far.0 r.write.0 r.write.1 r.mid e far.2.opened far.2.wrote r.why)), kept st same le shown)
 
-    pub empty_at : cells' ≡ cells → last ≤ last' → TakesAll [] asked [] → Answers (Said (Refused EmptyCommit)) clients
+    pub empty_at : cells' ≡ cells → last ≤ last' → TakesAll (map write_of before) asked [] → Answers (Said (Refused EmptyCommit)) clients
     empty_at same le is_taken st reached shown =
-        let far = take_all cells s asked (begun_at st s) [] [] (o st reached shown) (begun st reached shown) is_taken in
-        (st, transacts (refuses (to_step (opens st reached shown) far.1 rests (λ c i. elim i [ ])) (advance_empty_first Open far.2.opened.active far.2.wrote)), kept st same le shown)
+        let far = take_all cells s asked (mid st reached shown) (map write_of before) [] (o st reached shown) (on st reached shown).wrote is_taken in
+        (st, transacts (refuses (to_step (on st reached shown).opens far.1 rests (λ c i. elim i [ ])) (advance_empty_first Open far.2.opened.active far.2.wrote)), kept st same le shown)
 
-    module _ (ws : List Write) (is_taken : TakesAll [] asked (map write_of ws)) where
-      pub conflict_at : cells' ≡ cells → last' ≡ s → (place : ℕ) → IsFirstTaken cells s ws place → Answers (CommitConflict place) (record clients { top = s })
-      conflict_at same drawn place first st reached shown =
-          let far = take_all cells s asked (begun_at st s) [] (map write_of ws) (o st reached shown) (begun st reached shown) is_taken in
+    module _ (ws : List Write) (is_taken : TakesAll (map write_of before) asked (map write_of ws)) where
+      pub conflict_at : cells' ≡ cells → (clients' : Clients) (now place : ℕ) → EndsAt clients clients' start now → (start ≢ 0 → now ≡ clients.top) → (start ≡ 0 → now ≡ last + 1) → (start ≢ 0 → last' ≡ last) → (start ≡ 0 → last' ≡ last + 1)
+          → IsFirstTaken cells s ws place → Answers (CommitConflict place) clients'
+      conflict_at same clients' now place ended named new stays drawn first st reached shown =
+          let far = take_all cells s asked (mid st reached shown) (map write_of before) (map write_of ws) (o st reached shown) (on st reached shown).wrote is_taken in
           let written = far.0 in
           let next : State = record written { active = remove written.active s } in
           let end : Step written (machine.Stop s) StopDone next = accepts (stop_ok Open far.2.opened.active) (stops far.2.opened.active) in
-          let top : written.top ≡ s = far.2.top in (
+          let top : written.top ≡ now = far.2.top ∙ (on st reached shown).kept now named new in (
             next,
-            transacts (conflicts (opens st reached shown) far.1 (clashes_first cells s written far.2.opened ws far.2.wrote place first) end),
+            transacts (conflicts (on st reached shown).opens far.1 (clashes_first cells s written far.2.opened ws far.2.wrote place first) end),
             record {
               store = subst (λ (m : Cells). ShowsCells m next) (sym same) (shows_beside cells written next (goes far.2.opened.reached end) far.2.opened.shown (λ y u m. m) (λ y u m. m) refl);
-              sessions = subst (λ (n : ℕ). ShowsClients (record clients { top = n }) next) top (ended st reached shown written next (map write_of ws) far.2 refl refl);
-              top = omega (arith, top, drawn);
+              sessions = (on st reached shown).ends written next (map write_of ws) far.2 refl refl clients' (subst (λ (n : ℕ). EndsAt clients clients' start n) (sym top) ended);
+              top = let is = far.2.top in let low = (on st reached shown).under last' stays drawn in omega (arith, is, low);
             },
           )
 
-      pub commit_at : (c : ℕ) → c ≡ s + 1 → c < 2 ^ 63 → last' ≡ c → 1 ≤ length ws → AreFree cells s ws (length ws) → cells' ≡ all_put_cells cells (map write_of ws) s c → Answers (CommitDone s c) (record clients { top = c })
-      commit_at c after limit drawn some free made st reached shown =
+      pub commit_at : (c : ℕ) (clients' : Clients) → IsCommitStamp last start c → c < 2 ^ 63 → last' ≡ c → 1 ≤ length ws → AreFree cells s ws (length ws) → cells' ≡ all_put_cells cells (map write_of ws) s c → EndsAt clients clients' start c → Answers (CommitDone s c) clients'
+      commit_at c clients' stamp limit drawn some free made ended st reached shown =
           let all = map write_of ws in
-          let far = take_all cells s asked (begun_at st s) [] all (o st reached shown) (begun st reached shown) is_taken in
+          let far = take_all cells s asked (mid st reached shown) (map write_of before) all (o st reached shown) (on st reached shown).wrote is_taken in
           let written = far.0 in
           let next : State = committed_state written s c all in
-          let top : written.top ≡ s = far.2.top in
+          let is = far.2.top in
+          let low = (on st reached shown).below c stamp in
           let count = length-map ws write_of in
-          let done = puts_at_once cells st (begun_at st s) written 0 s c asked all reached shown.store (opens st reached shown) far.1 far.2.wrote (omega (arith, some, count)) (all_free cells s written far.2.opened ws far.2.wrote free) (omega (arith, top, after), limit) in (
+          let done = puts_at_once cells st (mid st reached shown) written start s c asked all reached shown.store (on st reached shown).opens far.1 far.2.wrote (omega (arith, some, count)) (all_free cells s written far.2.opened ws far.2.wrote free) (omega (arith, is, low), limit) in (
             next,
             transacts done.0,
             record {
               store = subst (λ (m : Cells). ShowsCells m next) (sym made) done.1;
-              sessions = ended st reached shown written next all far.2 refl refl;
+              sessions = (on st reached shown).ends written next all far.2 refl refl clients' ended;
               top = omega (arith, drawn);
             },
           )
 
--- each row of the edits is readable
-pub each_row : (Readable : List ℕ → Type 0) → ((row : List ℕ) → Readable row) → (changes : List RowEdits) → AllByRecursion (λ (change : RowEdits). Readable change.row) changes
-each_row R each [] = tt
-each_row R each (change ∷ changes) = (each change.row, each_row R each changes)
+-- ---- a session that isn't found, or can't be copied
+
+module _ (cells : Cells) (clients : Clients) (last start : ℕ) (asked : Writes) where
+  session_refuses : (st : State) → ShowsClients clients st → (e : Refusal) → IsCopyRefusal clients last start e → Goes st (Commit start asked) (Said (Refused e)) st
+  session_refuses st shown UnknownSession why = transacts (is_unknown why.0 (shown_none clients start st shown why.1))
+  session_refuses st shown WrongPhase why = let late = why.1 in transacts (is_late why.0 (shown_some clients start st late.0 shown late.1).phase (late_phase late.0.phase late.0.commit late.2))
+  session_refuses st shown TooManySessions why =
+      let many = why.1 in
+      let count = shown.count in
+      subst (λ (n : ℕ). Goes st (Commit n asked) (Said (Refused TooManySessions)) st) (sym why.0) (transacts (refuses to_begin (begin_full_first (omega (arith, many, count)))))
+  session_refuses st shown Exhausted why = transacts (gives_up_all tt)
+  session_refuses st shown NoMemory why = transacts (gives_up_all tt)
+  session_refuses st shown _ why = absurd why
+
+  pub session_refused_at : (e : Refusal) → IsCopyRefusal clients last start e → GoesAs cells clients last (Commit start asked) (Said (Refused e)) cells clients last
+  session_refused_at e why st reached shown = (st, session_refuses st shown.sessions e why, shown)
 
 -- ---- the same, by what the call has
 
-pub new_session : (clients : Clients) (last n s m : ℕ) → n ≡ last → s ≡ n + 1 → n + 1 < 2 ^ 63 → m ≡ btree.btree_map_len clients.sessions → m < 1024 → HasSession clients last 0 s
-new_session clients last n s m is next low count few = record { is_open = λ ne. absurd (ne refl); is_new = λ e. (omega (arith, is, next), omega (arith, next, low), omega (arith, count, few)) }
+pub taken_none : (before ws : List Write) (asked : Writes) (n : ℕ) → n ≡ length ws → n ≡ 0 → TakesAll (map write_of before) asked (map write_of ws) → TakesAll (map write_of before) asked []
+taken_none before [] asked n count none h = h
+taken_none before (w ∷ ws) asked n count none h = absurd (omega (arith, count, none))
 
-pub taken_new : (l : List Write) (asked all : Writes) → l ≡ [] → TakesAll (map write_of l) asked all → TakesAll [] asked all
-taken_new l asked all is h = subst (λ (l : List Write). TakesAll (map write_of l) asked all) is h
-
-pub refused_new : (l : List Write) (asked : Writes) (e : Refusal) → l ≡ [] → IsRefusedWrite (map write_of l) asked e → IsRefusedWrite [] asked e
-refused_new l asked e is why = subst (λ (l : List Write). IsRefusedWrite (map write_of l) asked e) is why
-
-pub taken_none : (ws : List Write) (asked : Writes) (n : ℕ) → n ≡ length ws → n ≡ 0 → TakesAll [] asked (map write_of ws) → TakesAll [] asked []
-taken_none [] asked n count none h = h
-taken_none (w ∷ ws) asked n count none h = absurd (omega (arith, count, none))
+pub some_writes : (ws : List Write) (n : ℕ) → n ≡ length ws → n ≢ 0 → 1 ≤ length ws
+some_writes ws n count some = omega (arith, count, some)
 
 pub some_at : {X : Type 0} (P : X → Type 0) (o : Option X) (x : X) → o ≡ Some x → IfSome o P → P x
 some_at P o x is h = subst (λ (o : Option _). IfSome o P) is h
 
 pub none_at : {X : Type 0} (P : Type 0) (o : Option X) → o ≡ None → IfNone o P → P
 none_at P o is h = subst (λ (o : Option _). IfNone o P) is h
-
-pub is_full : (n m : ℕ) → n ≡ m → 1024 ≤ n → 1024 ≤ m
-is_full n m same many = omega (arith, same, many)
 
 pub not_less : (n m : ℕ) → m ≡ n → n ≤ m
 not_less n m same = omega (arith, same)
@@ -279,18 +356,3 @@ apply_storage MemtableFull u = tt
 apply_storage NoMemory u = tt
 apply_storage _ u = absurd u
 
-module _ (cells cells' : Cells) (clients : Clients) (last last' : ℕ) (asked : Writes) (s : ℕ) (has : HasSession clients last 0 s) (ws slice : List Write) (is : slice ≡ ws) (is_taken : TakesAll [] asked (map write_of ws)) (key : ℕ) (key_is : key ≡ s) where
-  pub conflict_by : (t place : ℕ) → t ≡ last + 1 → cells' ≡ cells → last' ≡ t → IsFirstTaken cells key slice place → GoesAs cells clients last (Commit 0 asked) (CommitConflict place) cells' (record clients { top = t }) last'
-  conflict_by t place drawn same at first =
-      let now : t ≡ s = drawn ∙ sym (has.is_new refl).0 in
-      let first_now = subst (λ (p : ℕ × List Write). IsFirstTaken cells p.0 p.1 place) (λ j. (key_is j, is j)) first in
-      subst (λ (n : ℕ). GoesAs cells clients last (Commit 0 asked) (CommitConflict place) cells' (record clients { top = n }) last') (sym now)
-      (conflict_at cells cells' clients last last' asked s has ws is_taken same (at ∙ now) place first_now)
-
-  pub commit_by : (slice' : List Write) (n c s' c' t : ℕ) → slice' ≡ ws → n ≡ length ws → n ≢ 0 → c ≡ s + 1 → s + 1 < 2 ^ 63 → s' ≡ s → c' ≡ c → t ≡ c → last' ≡ last + 2 → AreFree cells key slice (length slice) → cells' ≡ all_put_cells cells (map write_of slice') s c
-      → GoesAs cells clients last (Commit 0 asked) (CommitDone s' c') cells' (record clients { top = t }) last'
-  commit_by slice' n c s' c' t is' count some after limit start stamp top at free made =
-      let next = (has.is_new refl).0 in
-      let free_now = subst (λ (p : ℕ × List Write). AreFree cells p.0 p.1 (length p.1)) (λ j. (key_is j, is j)) free in
-      subst (λ (p : ℕ × ℕ × ℕ). GoesAs cells clients last (Commit 0 asked) (CommitDone p.0 p.1) cells' (record clients { top = p.2 }) last') (λ j. (sym start j, sym stamp j, sym top j))
-      (commit_at cells cells' clients last last' asked s has ws is_taken c after (omega (arith, after, limit)) (omega (arith, at, next, after)) (omega (arith, count, some)) free_now (made ∙ ap (λ (l : List Write). all_put_cells cells (map write_of l) s c) is'))

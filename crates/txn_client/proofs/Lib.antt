@@ -1,6 +1,7 @@
 pub mod Advance
 pub mod CellReads
 pub mod CommitShown
+pub mod Committed
 pub mod Exact
 pub mod GatheredItems
 pub mod OrderedCells

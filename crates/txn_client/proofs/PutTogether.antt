@@ -12,7 +12,7 @@ use Rattle.si_model.specs.Machine.{Change, Writes}
 use Rattle.si_model.specs.PutCells.{all_put_cells, put_cells}
 use Rattle.si_model.specs.declared.replies.Cell.{Cell}
 use Rattle.si_model.proofs.EditedCells.{put_so}
-use Rattle.txn_client.specs.Puts.{IsPutting}
+use Rattle.txn_client.specs.Puts.{ArePuttings, IsPutting}
 use Rattle.txn_client.specs.Writes.{write_of}
 use Rattle.txn_client.specs.declared.writes.Write.{Write}
 use Rattle.txn_client.proofs.CellReads.{next_taken}
@@ -55,10 +55,20 @@ under_more changes now change is all one = subst (AllByRecursion AreOfTheirRow) 
     joined [] h = (one, tt)
     joined (k ∷ l) h = (h.0, joined l h.1)
 
-pub rows_more : (ws : List Write) (i : ℕ) (d : Write) (changes now : List RowEdits) (change : RowEdits) (w : Write) → i < length ws → w ≡ get_or ws i d → now ≡ changes ++ change ∷ [] → change.row ≡ w.cell.row
-    → map (λ (k : RowEdits). k.row) changes ≡ map (λ (w : Write). w.cell.row) (take i ws) → map (λ (k : RowEdits). k.row) now ≡ map (λ (w : Write). w.cell.row) (take (i + 1) ws)
-rows_more ws i d changes now change w less here is row so =
-    ap (λ (l : List RowEdits). map (λ (k : RowEdits). k.row) l) is
-    ∙ (map-append (λ (k : RowEdits). k.row) changes (change ∷ [])
-    ∙ ((λ j. so j ++ (row ∙ ap (λ (u : Write). u.cell.row) here) j ∷ [])
-    ∙ sym (ap (λ (l : List Write). map (λ (w : Write). w.cell.row) l) (next_taken ws i d less).0 ∙ map-append (λ (w : Write). w.cell.row) (take i ws) (get_or ws i d ∷ []))))
+puttings_then : (s c : ℕ) (ws : Writes) (w : Cell × Change) (changes : List RowEdits) (change : RowEdits) → ArePuttings s c ws changes → change.row ≡ w.0.row → IsPutting w.0 s c w.1 change.edits.items → ArePuttings s c (ws ++ w ∷ []) (changes ++ change ∷ [])
+puttings_then s c [] w [] change h row putting = (row, putting, tt)
+puttings_then s c [] w (k ∷ ks) change h row putting = absurd h
+puttings_then s c (u ∷ ws) w [] change h row putting = absurd h
+puttings_then s c (u ∷ ws) w (k ∷ ks) change h row putting = (h.0, h.1, puttings_then s c ws w ks change h.2 row putting)
+
+pub puttings_more : (s c : ℕ) (ws : List Write) (i : ℕ) (d : Write) (changes now : List RowEdits) (change : RowEdits) (w : Write) → i < length ws → w ≡ get_or ws i d → change.row ≡ w.cell.row → IsPutting w.cell s c w.value change.edits.items → now ≡ changes ++ change ∷ []
+    → ArePuttings s c (map write_of (take i ws)) changes → ArePuttings s c (map write_of (take (i + 1) ws)) now
+puttings_more s c ws i d changes now change w less here row putting is so =
+    let same = ap (λ (l : List Write). map write_of l) (next_taken ws i d less).0 ∙ map-append write_of (take i ws) (get_or ws i d ∷ []) in
+    let one = puttings_then s c (map write_of (take i ws)) (write_of (get_or ws i d)) changes change so (row ∙ ap (λ (u : Write). u.cell.row) here) (subst (λ (u : Write). IsPutting u.cell s c u.value change.edits.items) here putting) in
+    subst (λ (p : Writes × List RowEdits). ArePuttings s c p.0 p.1) (λ j. (sym same j, sym is j)) one
+
+-- each row of the edits is readable
+pub each_row : (Readable : List ℕ → Type 0) → ((row : List ℕ) → Readable row) → (changes : List RowEdits) → AllByRecursion (λ (change : RowEdits). Readable change.row) changes
+each_row R each [] = tt
+each_row R each (change ∷ changes) = (each change.row, each_row R each changes)

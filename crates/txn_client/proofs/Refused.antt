@@ -6,6 +6,7 @@ use Rattle.oracle.specs.Ranges.{IsDrawRefusal}
 use Rattle.rows.specs.Refusals.{IsReadRefusal}
 use Rattle.si_model.specs.Machine.{State, Request, Refused, Step, refuses, IsStorageRefusal}
 use Rattle.si_model.specs.Refusing.Refuses.{gives_up}
+use Rattle.txn_client.specs.Puts.{IsPutRefusal}
 use Rattle.txn_client.specs.Refusals.{IsAdvanceRefusal, IsBeginRefusal}
 
 pub refused_storage : {st : State} {q : Request} {n : Refusal} → IsStorageRefusal n → Step st q (Refused n) st
@@ -35,3 +36,10 @@ advance_storage H P Device u = inr tt
 advance_storage H P NoMemory u = inr tt
 advance_storage H P Damaged u = inr tt
 advance_storage H P _ u = absurd u
+
+pub put_storage : (e : Refusal) → IsPutRefusal e → IsStorageRefusal e
+put_storage MemtableFull u = tt
+put_storage Exhausted u = tt
+put_storage Device u = tt
+put_storage NoMemory u = tt
+put_storage _ u = absurd u

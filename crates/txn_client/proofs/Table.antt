@@ -73,7 +73,7 @@ shows_other st next None t a b h = a ∙ h
 shows_other st next (Some s) t a b h = record { start = h.start; phase = a ∙ h.phase; writes = b ∙ h.writes }
 
 -- one session changes, and the others are unchanged
-shows_changed : (st next : State) (old new : ℕ → Option Session) (k : ℕ) (w : Option Session) → ((q : ℕ) → new q ≡ cond (is_eq (nat_cmp k q)) w (old q))
+pub shows_changed : (st next : State) (old new : ℕ → Option Session) (k : ℕ) (w : Option Session) → ((q : ℕ) → new q ≡ cond (is_eq (nat_cmp k q)) w (old q))
     → ((t : ℕ) → t ≢ k → finmap.get next.active t ≡ finmap.get st.active t) → ((t : ℕ) → t ≢ k → finmap.get next.begun t ≡ finmap.get st.begun t)
     → ((t : ℕ) → ShowsAt (old t) t st) → ShowsAt w k next → (t : ℕ) → ShowsAt (new t) t next
 shows_changed st next old new k w h a b shown now t = elim (cases_eq t k) [

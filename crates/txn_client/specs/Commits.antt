@@ -9,12 +9,13 @@ use Rattle.cell_key.specs.declared.refusals.Refusal.TheVariants.{NoMemory}
 use Rattle.rows.specs.Calls.{AppliesAll, OnlyReads, View}
 use Rattle.rows.specs.Room.{OverfillsOne}
 use Rattle.rows.specs.declared.row_edits.RowEdits.{RowEdits}
-use Rattle.si_model.specs.Machine.{State, Writes}
+use Rattle.si_model.specs.Machine.{Writes}
 use Rattle.si_model.specs.PutCells.{all_put_cells}
 use Rattle.si_model.specs.declared.transactions.CommitReply.{CommitReply}
 use Rattle.si_model.specs.declared.transactions.CommitReply.TheVariants.{Committed, Conflict}
 use Rattle.txn_client.specs.Puts.{ArePuttings}
 use Rattle.txn_client.specs.Reads.{IsFree}
+use Rattle.txn_client.specs.Shows.{IsOpenSession}
 use Rattle.txn_client.specs.Takings.{TakesAll}
 use Rattle.txn_client.specs.Transactions.{IsSessionRefusal}
 use Rattle.txn_client.specs.Writes.{write_of}
@@ -38,7 +39,7 @@ pub record CommitsIn (clients : Clients) (last start s : ℕ) (ws : List Write) 
 
 -- why it has none, or can't be copied
 abbrev pub IsCopyRefusal : Clients → ℕ → ℕ → Refusal → Type 0
-IsCopyRefusal clients last start NoMemory = start ≢ 0
+IsCopyRefusal clients last start NoMemory = (start ≢ 0) × IsOpenSession clients start
 IsCopyRefusal clients last start refusal = IsSessionRefusal clients last start refusal
 
 -- its commit stamp: the next stamp, or the one after the start of a new session

@@ -7,8 +7,8 @@ ghost use Rattle.si_model.specs.Answers.{cell_named, cells_named};
 ghost use Rattle.si_model.specs.Machine.{IsReached, State};
 ghost use Rattle.si_model.specs.Replies.{found_item, found_reply};
 ghost use Rattle.si_model.specs.ShowsCells.{ShowsCells};
-ghost use Rattle.si_model.specs.Transactions.{IsTold, told_length};
-ghost use Rattle.txn_client.specs.CellReads.{AreRead, IsReadingRefusal, IsReadsRefusal, IsRefusedAmong, ReadsNext, said_in};
+ghost use Rattle.si_model.specs.Transactions.{IsTold, told_length, told_lengths};
+ghost use Rattle.txn_client.specs.CellReads.{AreRead, IsReadingRefusal, IsReadsRefusal, IsRefusedAmong, IsShortAnswer, IsShortOf, ReadsNext, said_in};
 ghost use Rattle.txn_client.specs.Reads.{IsShort};
 ghost use Rattle.txn_client.specs.Scans.{IsNamed};
 
@@ -72,9 +72,13 @@ impl Told {
     ) -> Result<(), Refusal>
         requires few { self.old.bytes ≤ 1046268 + 9 * length self.old.found.items }
         requires count { length self.old.found.items < 256 }
+        requires sum { self.old.bytes ≡ told_lengths (said_in self.old.found.items) }
+        requires short { IsShortOf (length self.old.found.items) self.old.bytes }
         ensures few { OnOk result (self.new.bytes ≤ 1046268 + 9 * length self.new.found.items) }
         ensures count { OnOk result (length self.new.found.items
             ≡ length self.old.found.items + 1) }
+        ensures sum { OnOk result (self.new.bytes ≡ told_lengths (said_in self.new.found.items)) }
+        ensures short { OnOk result (IsShortOf (length self.new.found.items) self.new.bytes) }
         ensures named { OnOk result (IsNamed (cell_named name.entry)) }
         ensures next { R.seen.readable rows.old name.entry.row.now → OnOk result
             (ReadsNext (R.seen.cells rows.old) start (cell_named name.entry) self.old self.new) }
@@ -106,6 +110,7 @@ pub(crate) fn read_all<R: Rows>(
     requires { length names.now ≤ 256 }
     ensures read { AreReadableFrom R.seen rows.old None → IfOk result (λ found. AreRead
         (R.seen.cells rows.old) start 0 (cells_named names.now) (said_in found.items)) }
+    ensures short { IfOk result (λ found. IsShortAnswer found.items) }
     ensures reads { OnlyReads R.seen rows.old rows.new }
     ensures refused { AreReadableFrom R.seen rows.old None → IfErr result
         (IsRefusedAmong (R.seen.cells rows.old) start (cells_named names.now)) }

@@ -9,7 +9,7 @@ ghost use Rattle.si_model.specs.Answers.{cells_named, commit_answer, read_answer
 ghost use Rattle.si_model.specs.Machine.{IsReached, State};
 ghost use Rattle.si_model.specs.ShowsCells.{ShowsCells};
 ghost use Rattle.si_model.specs.Transactions.{Commit, IsReadCount, Read};
-ghost use Rattle.txn_client.specs.CellReads.{AreRead, said_in};
+ghost use Rattle.txn_client.specs.CellReads.{AreRead, IsShortAnswer, said_in};
 ghost use Rattle.txn_client.specs.Commits.{BeganAt, CommitDoes, CommitDraws, CommitsIn, EndsAt, HasNoRoomToCommit, IsCopyRefusal, LacksStamps};
 ghost use Rattle.txn_client.specs.Refusals.{HasOneReason, StepLeaves};
 ghost use Rattle.txn_client.specs.Shows.{IsCrowded, IsInactive, SameClients, ShowsClients};
@@ -17,7 +17,7 @@ ghost use Rattle.txn_client.specs.Transactions.{GoesAs, HasSession, IsCommitRefu
 
 use crate::session::Phase;
 use crate::sessions::{Clients, MOST_SESSIONS};
-use crate::writes::Writes;
+use crate::writes::{Write, Writes};
 use crate::{cell_reads, puts, takings};
 use cell_key::{MOST_STAMP, Moment, Refusal, Stamp};
 use oracle::{MarkStore, Oracle};
@@ -26,6 +26,54 @@ use si_model::{CellName, CellWrite, CommitReply, ReadReply};
 
 /// The most cells of a read.
 const MOST_READ: usize = 256;
+
+/// The bytes of an edit in a log besides its row, its family and its value: its kind, the lengths of key and value, and
+/// the ends, the column and the stamp of the key.
+const EDIT_BYTES: usize = 27;
+
+/// The bytes of the value of a write record.
+const RECORD_BYTES: usize = 9;
+
+/// At most the bytes that a write's data and record take in a log. A zero in a row takes two bytes.
+fn write_bytes(row: usize, family: usize, value: usize) -> usize {
+    let edit = row
+        .saturating_mul(2)
+        .saturating_add(family)
+        .saturating_add(EDIT_BYTES);
+    edit.saturating_mul(2)
+        .saturating_add(value)
+        .saturating_add(RECORD_BYTES)
+}
+
+/// At most the bytes that the writes of a session take in a log when they are put.
+fn buffered_bytes(writes: &[Write]) -> usize {
+    let mut bytes: usize = 0;
+    for write in writes.iter() {
+        let value = match &write.value {
+            Some(value) => value.len(),
+            None => 0,
+        };
+        let row = write.cell.row.as_bytes().len();
+        let family = write.cell.family.as_bytes().len();
+        bytes = bytes.saturating_add(write_bytes(row, family, value));
+    }
+    bytes
+}
+
+/// At most the bytes that writes that are asked for take in a log when they are put.
+fn asked_bytes(asked: &[CellWrite<'_>]) -> usize {
+    let mut bytes: usize = 0;
+    for write in asked.iter() {
+        let value = match write.value {
+            Some(value) => value.len(),
+            None => 0,
+        };
+        let row = write.cell.row.len();
+        let family = write.cell.family.len();
+        bytes = bytes.saturating_add(write_bytes(row, family, value));
+    }
+    bytes
+}
 
 /// A session whose transaction is about to be committed: its start, and a copy of its writes so far.
 #[derive(Drop)]
@@ -121,6 +169,7 @@ impl Clients {
         ensures found { AreReadableFrom R.seen rows.old None → IfOk result (λ reply. AreRead
             (R.seen.cells rows.old) reply.start 0 (cells_named names.now)
             (said_in reply.found.items)) }
+        ensures short { IfOk result (λ reply. IsShortAnswer reply.found.items) }
         ensures session { IfOk result (λ reply.
             HasSession self.old oracle.old.last start reply.start) }
         ensures drawn { start ≡ 0 → IfOk result (λ reply. oracle.new.last ≡ reply.start) }
@@ -193,6 +242,16 @@ impl Clients {
         }
     }
 
+    /// At most how many bytes the edits of `commit` take in a log: those of the session that is named, if one is active,
+    /// and those that are asked for. It is `usize::MAX` if they are more.
+    pub fn commit_bytes(&self, start: Stamp, asked: &[CellWrite<'_>]) -> usize {
+        let buffered = match self.sessions.get(&start) {
+            Some(session) => buffered_bytes(session.writes.as_slice()),
+            None => 0,
+        };
+        buffered.saturating_add(asked_bytes(asked))
+    }
+
     /// Ends the session that is named, if the start isn't 0, and sets the top.
     fn end(&mut self, start: Stamp, top: Stamp)
         ensures { EndsAt self.old self.new start top }
@@ -258,11 +317,9 @@ impl Clients {
         ensures reason { HasOneReason (R.faults rows.old) (R.faults rows.new)
             (M.faults oracle.old.marks) (M.faults oracle.new.marks) result }
     {
-        let Committing {
-            start: began,
-            writes,
-        } = self.committing(oracle.last(), start)?;
-        let writes = takings::take_all(self.alloc, writes, asked)?;
+        let found = self.committing(oracle.last(), start)?;
+        let began = found.start;
+        let writes = takings::take_all(self.alloc, found.writes, asked)?;
         if writes.len() == 0 {
             return Err(Refusal::EmptyCommit);
         }

@@ -41,6 +41,14 @@ impl Value {
         Ok(Value { bytes })
     }
 
+    /// The number of bytes.
+    pub(crate) fn len(&self) -> usize
+        ensures len { result ≡ length self.now }
+        ensures few { result ≤ 65536 }
+    {
+        self.bytes.len()
+    }
+
     /// A copy.
     pub(crate) fn copy(&self) -> Result<Value, Refusal>
         ensures copied { IfOk result (λ value. value ≡ self.now) }

@@ -4,7 +4,7 @@ use Rattle.cell_key.proofs.Reasons.{not_refused}
 use Rattle.cell_key.specs.declared.refusals.Refusal.TheVariants.{Device}
 use Rattle.rows.proofs.Calls.{reads_then}
 use Rattle.txn_client.specs.CellReads.{IsRefusedAmong}
-use Rattle.txn_client.proofs.CellReads.{lengths_now, named_more, refused_named}
+use Rattle.txn_client.proofs.CellReads.{named_more, refused_named}
 use Rattle.txn_client.proofs.cell_reads.read_all.Goals as goal
 
 pub returns-in_err-read_next-clause-refused : goal.returns-in_err-read_next-clause-refused
@@ -23,8 +23,9 @@ loop-name-preserved g c =
       few = now.few;
       count = now.count ∙ ap (λ n. n + 1) before.count;
       read = λ whole. named_more cells c.args.start c.args.names.now c.loop-name.name-index _ c.loop-name.told.bytes _ _ (now.next (before.reads.readable _ (whole _ tt))).said (g.R.Rows.seen.cells c.loop-name.rows) c.loop-name-test.true
-          (before.read whole) (before.bytes whole) now.named before.reads.kept (now.next (before.reads.readable _ (whole _ tt))).read (now.next (before.reads.readable _ (whole _ tt))).found;
-      bytes = λ whole. lengths_now c.loop-name.told.bytes c.read_next.new.self.bytes _ _ (now.next (before.reads.readable _ (whole _ tt))).said (before.bytes whole) (now.next (before.reads.readable _ (whole _ tt))).found (now.next (before.reads.readable _ (whole _ tt))).bytes;
+          (before.read whole) before.bytes now.named before.reads.kept (now.next (before.reads.readable _ (whole _ tt))).read (now.next (before.reads.readable _ (whole _ tt))).found;
+      bytes = now.sum;
+      short = now.short;
       reads = reads_then before.reads now.reads;
       faults = now.reason.told (not_refused _ Device) ∙ before.faults;
     }

@@ -1,4 +1,4 @@
-use Rattle.txn_client.proofs.PutTogether.{made_more, rows_more, under_more}
+use Rattle.txn_client.proofs.PutTogether.{made_more, puttings_more, under_more}
 use Rattle.txn_client.proofs.puts.putting_all.Goals as goal
 
 pub loop-write-preserved : goal.loop-write-preserved
@@ -9,5 +9,5 @@ loop-write-preserved c =
     record {
       made = made_more c.args.start c.args.commit c.args.writes.now c.loop-write.write-index _ _ _ c.in_ok-change.change c.write-item.result c.loop-write-test.true c.write-item.is now.putting items before.made;
       under = under_more _ _ c.in_ok-change.change items before.under now.under;
-      rows = rows_more c.args.writes.now c.loop-write.write-index _ _ _ c.in_ok-change.change c.write-item.result c.loop-write-test.true c.write-item.is items now.row before.rows;
+      puttings = puttings_more c.args.start c.args.commit c.args.writes.now c.loop-write.write-index _ _ _ c.in_ok-change.change c.write-item.result c.loop-write-test.true c.write-item.is now.row now.putting items before.puttings;
     }

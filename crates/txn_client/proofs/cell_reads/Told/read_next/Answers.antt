@@ -5,7 +5,7 @@ use Rattle.cell_key.specs.declared.refusals.Refusal.TheVariants.{Damaged}
 use Rattle.si_model.specs.Replies.{found_item}
 use Rattle.si_model.specs.declared.replies.Cell.{Cell}
 use Rattle.txn_client.specs.CellReads.{IsReadSo}
-use Rattle.txn_client.proofs.CellReads.{said_next}
+use Rattle.txn_client.proofs.CellReads.{lengths_now, said_next, short_more}
 use Rattle.txn_client.proofs.Table.{undamaged_at}
 use Rattle.txn_client.proofs.cell_reads.Told.read_next.Goals as goal
 
@@ -27,3 +27,9 @@ returns-clause-next g c = λ whole.
       found = said_next _ _ _ c.in_ok-push.ensures.items;
       bytes = ap (λ n. c.args.self.now.bytes + n) c.told_bytes.ensures;
     }
+
+pub returns-clause-sum : goal.returns-clause-sum
+returns-clause-sum g c = lengths_now c.args.self.now.bytes _ _ _ (option_map found_item c.said_after-said.result) c.requires.sum (said_next _ _ _ c.in_ok-push.ensures.items) (ap (λ n. c.args.self.now.bytes + n) c.told_bytes.ensures)
+
+pub returns-clause-short : goal.returns-clause-short
+returns-clause-short g c = short_more _ _ c.said_after-said.result c.args.self.now.bytes _ _ c.in_ok-push.ensures.items c.requires.short c.said_after-said.ensures.few (ap (λ n. c.args.self.now.bytes + n) c.told_bytes.ensures)
