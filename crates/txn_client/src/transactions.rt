@@ -334,9 +334,4 @@ impl Clients {
         self.end(start, commit);
         Ok(CommitReply::Committed(began.stamp(), commit))
     }
-
-    /// An upper bound of the bytes of the edits of such a transaction in a journal.
-    pub fn commit_bytes(&self, _start: Stamp, writes: &[CellWrite<'_>]) -> usize {
-        writes.len().saturating_mul(89_787)
-    }
 }
