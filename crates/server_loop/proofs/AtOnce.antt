@@ -1,10 +1,11 @@
 -- Answers to Commits and Reads, from the sessions' calls.
-use Rattle.std.proofs.Common.{◌≡◌, ◌∙◌, ◌+◌, ℕ, List, length, map, Option, Result, Ok, Err, IsErrOf, ap, refl, subst, sym}
+use Rattle.std.proofs.Common.{◌≡◌, ◌∙◌, ◌+◌, ◌≤◌, ℕ, List, length, map, Option, Result, Ok, Err, IsErrOf, ap, arith, refl, subst, sym}
+use Rattle.std.specs.Prelude.{option_map}
 use Rattle.cell_key.specs.Cells.{Cells}
 use Rattle.cell_key.specs.declared.refusals.Refusal.{Refusal}
 use Rattle.cell_key.specs.declared.refusals.Refusal.TheVariants.{Damaged}
 use Rattle.file_store.specs.Store.{Contents}
-use Rattle.request_codec.specs.Answers.{HoldsAnswerWithinLimits}
+use Rattle.request_codec.specs.Answers.{FitsRead, HoldsAnswerWithinLimits}
 use Rattle.request_codec.specs.declared.answers.Answer.{Answer as CodecAnswer}
 use Rattle.request_codec.specs.declared.answers.Answer.TheVariants as given
 use Rattle.request_codec.specs.declared.replies.Reply.{Reply as CodecReply}
@@ -14,6 +15,8 @@ use Rattle.row_atomic.specs.Recorded.{seen_recorded}
 use Rattle.rows.specs.Calls.{OnlyReads}
 use Rattle.si_model.specs.Answers.{commit_answer, read_answer}
 use Rattle.si_model.specs.Machine as machine
+use Rattle.si_model.specs.Replies.{found_item}
+use Rattle.si_model.specs.declared.scans.ScanFound.{ScanFound}
 use Rattle.si_model.specs.Machine.{IsReached, Refused, State, Writes}
 use Rattle.si_model.specs.Transactions.{Answer, Commit, Goes, Operation, Said}
 use Rattle.si_model.specs.declared.transactions.CommitReply.{CommitReply}
@@ -23,6 +26,7 @@ use Rattle.clean_up.specs.Shows.{ShowsCleaners}
 use Rattle.clean_up.specs.declared.cleaners.Cleaners.{Cleaners}
 use Rattle.version_collector.specs.Shows.{ShowsCollectors}
 use Rattle.version_collector.specs.declared.collectors.Collectors.{Collectors}
+use Rattle.txn_client.specs.CellReads.{IsShortAnswer, said_in}
 use Rattle.txn_client.specs.Commits.{CommitDoes}
 use Rattle.txn_client.specs.Shows as clients
 use Rattle.txn_client.specs.Transactions as clients_goes
@@ -31,6 +35,7 @@ use Rattle.server_loop.specs.Operations.{LeavesOthers}
 use Rattle.server_loop.specs.Runs.{GoesFrom, IfAnswerRefused}
 use Rattle.server_loop.specs.Server.{HoldsIn, Shows, last_of, machine_place, rows_of, server_cells}
 use Rattle.server_loop.specs.declared.server.Server.{Server}
+use Rattle.server_loop.proofs.StreamReads.{length-map}
 use Rattle.server_loop.proofs.CleanSteps.{logged_in, spots_in, unlogged}
 use Rattle.server_loop.proofs.OperationsShown.{commits_keep_collectors, operations_keep_collectors, operations_leave_others}
 
@@ -43,6 +48,12 @@ commit_told P (commits.Conflict place) = tt
 pub commit_limits : (reply : CommitReply) → HoldsAnswerWithinLimits (commit_answer reply)
 commit_limits (commits.Committed s c) = tt
 commit_limits (commits.Conflict place) = tt
+
+pub read_limits : (found : List (Option ScanFound)) → IsShortAnswer found → FitsRead (said_in found)
+read_limits found short =
+    let same : length (said_in found) ≡ length found = length-map (λ said. option_map found_item said) found in
+    let few = short.0 in
+    (omega (arith, same, few), short.1)
 
 pub commit_undamaged : (reply : CommitReply) → commit_answer reply ≡ Said (Refused Damaged) → ⊥
 commit_undamaged (commits.Committed s c) is = cc

@@ -1,6 +1,6 @@
 use Rattle.std.proofs.Common.{Ok, Err, inl, refl}
 use Rattle.row_atomic.specs.Recorded.{seen_recorded}
-use Rattle.server_loop.proofs.AtOnce.{err_given, given_err, given_undamaged, goes_from, others_stay, read_not, read_undamaged, reads_collected}
+use Rattle.server_loop.proofs.AtOnce.{err_given, given_err, given_undamaged, goes_from, others_stay, read_limits, read_not, read_undamaged, reads_collected}
 use Rattle.server_loop.proofs.SessionSteps.{first_stays, ok_not, one_rose, second_stays}
 use Rattle.server_loop.proofs.server.Server.take_read.Goals as goal
 
@@ -11,7 +11,7 @@ returns-in-Ok g c = let told = c.in-Ok.ensures in record {
   at_once = record {
     goes = goes_from g.F.Files.contents _ _ _ _ tt refl refl told.reads.stays (reads_collected g.F.Files.contents _ _ _ _ tt told.reads) told.step told.reads.still (λ st reached held shown. read_undamaged c.in-Ok.reply);
     refusal = tt;
-    limits = told.short;
+    limits = read_limits c.in-Ok.reply.found.items told.short;
     others = others_stay g.F.Files.contents _ _ refl refl refl told.reads.stays;
     refused = tt;
     device = λ is. absurd (read_not _ _ is);
