@@ -19,7 +19,7 @@ use Rattle.si_model.specs.PutCells.{all_put_cells}
 use Rattle.si_model.specs.Refusing.Refuses.{gives_up}
 use Rattle.si_model.specs.ShowsCells.{ShowsCells}
 use Rattle.si_model.specs.TransactionLaws.{committed_state}
-use Rattle.si_model.specs.Transactions.{Answer, Commit, Said, CommitDone, CommitConflict, Opens, Buffers, all_taken, takes, Advances, rests, is_unknown, is_late, request_of, reply_of, Transacts, conflicts, refuses, to_begin, to_write, to_step, transacts, ClashesFirst}
+use Rattle.si_model.specs.Transactions.{Answer, Goes, Commit, Said, CommitDone, CommitConflict, Opens, Buffers, all_taken, takes, Advances, rests, is_unknown, is_late, request_of, reply_of, Transacts, conflicts, refuses, to_begin, to_write, to_step, transacts, ClashesFirst}
 use Rattle.si_model.specs.Transactions.{gives_up as gives_up_all}
 use Rattle.si_model.specs.declared.replies.Cell.{Cell}
 use Rattle.si_model.proofs.Acceptable.{set_ok, delete_ok, stop_ok}
@@ -207,7 +207,7 @@ module _ (cells : Cells) (clients : Clients) (last start s : ℕ) (before : List
       }
 
     module _ (ne : start ≢ 0) where
-      session : Session
+      abbrev session : Session
       session = (has.is_open ne).0
 
       was : btree.get nat_cmp clients.sessions start ≡ Some session
@@ -260,7 +260,7 @@ module _ (cells cells' : Cells) (clients : Clients) (last last' start : ℕ) (as
 
   module _ (s : ℕ) (before : List Write) (has : CommitsIn clients last start s before) where
     module _ (st : State) (reached : IsReached st) (shown : Shows cells clients last st) where
-      mid : State
+      abbrev mid : State
       mid = (ready cells clients last start s before has st reached shown).0
 
       on : Ready cells clients last start s before has st mid

@@ -4,7 +4,7 @@ use crate::tests::memory::clusters::newest;
 use cell_key::{Refusal, Stamp};
 use oracle::{MemMark, Oracle};
 use row_atomic::PlainRows;
-use si_model::{Found, Progress, ScanFound, ScanRange, ScanReach};
+use si_model::{CellName, CellWrite, CommitReply, Found, Progress, ScanFound, ScanRange, ScanReach};
 use std::alloc::Global;
 use testing::memory::{Call, Subject, Table};
 use txn_client::Clients;
@@ -19,7 +19,7 @@ pub struct Sessions {
 }
 
 /// The state read after a call: `a` and `b` by session 6, the newest data of `a`, `b` and `n`, and the top.
-const CALLS: [Call; 13] = [
+const CALLS: [Call; 16] = [
     // begin
     (b"\x07", b"1L162\x07"),
     // get of a value
@@ -46,6 +46,12 @@ const CALLS: [Call; 13] = [
     (b"1L2.", b"1L162\x06"),
     // scan of two cells
     (b"1L+", b"1L162\x06"),
+    // commit of a session with a write
+    (b"\x04\x07", b"1L768\x07"),
+    // commit of a session that meets a lock
+    (b"\x00\x01", b"1L162\x06"),
+    // commit in a new session
+    (b"\x07\x08", b"1L762\x08"),
 ];
 
 /// An oracle with its mark in memory, and nothing drawn.
@@ -145,6 +151,23 @@ impl Sessions {
         Ok(told(progress))
     }
 
+    /// The result of a commit that sets `a` too: the lowest bytes of its start and its stamp, or 0 and a place.
+    fn commit(&mut self, start: Stamp) -> Result<[u8; 2], Refusal> {
+        let cell = CellName {
+            row: b"a",
+            family: b"bal",
+        };
+        let write = CellWrite {
+            cell,
+            value: Some(b"7"),
+        };
+        let oracle = &mut self.oracle;
+        match self.clients.commit(&mut self.rows, oracle, start, &[write])? {
+            CommitReply::Committed(start, stamp) => Ok([(start % 256) as u8, (stamp % 256) as u8]),
+            CommitReply::Conflict(place) => Ok([0, (place % 256) as u8]),
+        }
+    }
+
     /// The calls without an answer.
     fn call(&mut self, number: usize) -> Result<(), Refusal> {
         match number {
@@ -181,6 +204,9 @@ impl Subject for Sessions {
             7 => Ok(wanted == self.step(5)?.as_slice()),
             11 => Ok(wanted == scan(alloc, &mut self.clients, &mut self.rows, 10)?.as_slice()),
             12 => Ok(wanted == scan(alloc, &mut self.clients, &mut self.rows, 2)?.as_slice()),
+            13 => Ok(wanted == self.commit(4)?.as_slice()),
+            14 => Ok(wanted == self.commit(5)?.as_slice()),
+            15 => Ok(wanted == self.commit(0)?.as_slice()),
             _ => {
                 self.call(number)?;
                 Ok(wanted.is_empty())
