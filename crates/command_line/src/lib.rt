@@ -32,12 +32,13 @@ const LOG_BYTES_HELP: &str =
     "Bytes of a log's edits at which a checkpoint empties it: 4096 to 33554432 [default: 33554432]";
 
 const FLUSH_HELP: &str =
-    "Entries of a memtable at which it is compacted: 1 to 100000. From 99746 on one can be too full for a collector's \
-    step and stay so, and at 100000 for a commit's too [default: 10000]";
+    "Entries of a memtable at which it is compacted: 1 to 100000. From 99490 on one can be too full for a Commit of 256 \
+    cells and stay so, from 99746 on for a collector's step too, and at 100000 for a commit's step [default: 10000]";
 
 const FLUSH_BYTES_HELP: &str =
-    "Bytes of its entries at which it is compacted too: 1048576 to 67108864. From 65038466 on one can be too full for a \
-    collector's step and stay so, and from 67019079 on for a commit's too [default: bytes don't count]";
+    "Bytes of its entries at which it is compacted too: 1048576 to 67108864. From 46186754 on one can be too full for a \
+    Commit of 256 cells and stay so, from 65038466 on for a collector's step too, and from 67019079 on for a commit's \
+    step [default: bytes don't count]";
 
 const MERGE_HELP: &str =
     "Files of a tablet at which the newest ones are merged after a file was written: 2 to 64 [default: never]";
