@@ -1,7 +1,6 @@
 //! Operations: requests, and requests that stand for several; their bodies.
 
 ghost use Rattle.std.specs.Prelude.{◌≡◌, ◌≤◌, ◌++◌, ◌∷◌, length, vec_capacity, IfSome, IfNone, IfOk, OnOk, OnErr, IsOk, IsOkUnless};
-ghost use Rattle.cell_key.specs.declared.refusals.Refusal.{Refusal as Refusals};
 ghost use Rattle.request_codec.specs.Buffers.{HasRoomFor, AppendsBytes};
 ghost use Rattle.request_codec.specs.Operations.{operation_of, operation_body, IsOperation, IsNoOperation, NamesCells, OperationBytesFit};
 ghost use Rattle.request_codec.specs.Stream.{IsBody};

@@ -1,6 +1,6 @@
 //! Decoding of the fields of a Read's answer.
 
-ghost use Rattle.std.specs.Prelude.{◌≡◌, ◌≢◌, ◌<◌, ◌≤◌, ◌+◌, ◌*◌, ◌^◌, ◌↔◌, ◌++◌, ◌∷◌, List, ℕ, Option, IsTrue, IfSome, IfNone, IfOk, IsOkUnless, OnErr, length, option_map};
+ghost use Rattle.std.specs.Prelude.{◌≡◌, ◌≢◌, ◌<◌, ◌≤◌, ◌+◌, ◌*◌, ◌^◌, ◌↔◌, ◌++◌, List, ℕ, Option, IsTrue, IfSome, IfNone, IfOk, IsOkUnless, OnErr, length, option_map};
 ghost use Rattle.std.specs.List.{AllByRecursion, flat_map};
 ghost use Rattle.si_model.specs.Messages.{Item};
 ghost use Rattle.si_model.specs.Replies.{found_item};

@@ -1,6 +1,6 @@
 //! Encoding of Commits and Reads at the end of a buffer that has room.
 
-ghost use Rattle.std.specs.Prelude.{◌≡◌, ◌+◌, ◌≤◌, ◌<◌, ◌^◌, ◌∷◌, [], length, map, option_map, IfSome};
+ghost use Rattle.std.specs.Prelude.{◌≡◌, ◌+◌, ◌≤◌, ◌<◌, length};
 ghost use Rattle.std.specs.List.{AllByRecursion, flat_map};
 ghost use Rattle.si_model.specs.Answers.{cell_named, cells_named, write_named, writes_named};
 ghost use Rattle.si_model.specs.Transactions.{Commit, Read};

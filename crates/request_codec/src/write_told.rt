@@ -1,7 +1,7 @@
 //! Encoding of a Read's answer at the end of a buffer that has room.
 
-ghost use Rattle.std.specs.Prelude.{◌≡◌, ◌+◌, ◌*◌, ◌≤◌, ◌<◌, ◌^◌, ◌∷◌, [], length, map, option_map};
-ghost use Rattle.std.specs.List.{AllByRecursion, flat_map};
+ghost use Rattle.std.specs.Prelude.{◌≡◌, ◌+◌, ◌*◌, ◌≤◌, ◌<◌, ◌^◌, length};
+ghost use Rattle.std.specs.List.{flat_map};
 ghost use Rattle.si_model.specs.Answers.{read_answer};
 ghost use Rattle.si_model.specs.Transactions.{most_told, told_length as one_told, told_lengths};
 ghost use Rattle.request_codec.specs.Answers.{answer_body, told_fields, told_item, told_items, AnswerBytesFit};
