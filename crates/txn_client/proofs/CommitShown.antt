@@ -355,4 +355,3 @@ pub apply_storage : (e : Refusal) → IsApplyRefusal e → IsStorageRefusal e
 apply_storage MemtableFull u = tt
 apply_storage NoMemory u = tt
 apply_storage _ u = absurd u
-

@@ -47,15 +47,15 @@ module _ {R : Type 0} (seen : View R) (old mid new : R) (reads : OnlyReads seen 
     pub commits_by : (slice slice' : List Write) (c s' key : ℕ) → slice ≡ ws → slice' ≡ ws → s' ≡ s → key ≡ s → IsCommitStamp last start c → (seen.holds old → AreFree (seen.cells old) key slice (length slice)) → PutsWith seen (map write_of slice') s c mid new → Commits seen clients last start asked s' c old new
     commits_by slice slice' c s' key is is' began key_is stamp free puts =
         subst (λ (n : ℕ). Commits seen clients last start asked n c old new) (sym began) (
-          let now = subst (λ (l : List Write). PutsWith seen (map write_of l) s c mid new) is' puts in
-          record {
-            all = map write_of ws;
-            changes = now.changes;
-            transaction = transaction_of c now.changes stamp now.puts;
-            free = λ held. free_each (seen.cells old) s ws (subst (λ (p : ℕ × List Write). AreFree (seen.cells old) p.0 p.1 (length p.1)) (λ j. (key_is j, is j)) (free held));
-            applied = applies_after now.changes now.applied;
-            made = λ held. now.made (reads.still held) ∙ ap (λ (m : Cells). all_put_cells m (map write_of ws) s c) reads.kept;
-          })
+        let now = subst (λ (l : List Write). PutsWith seen (map write_of l) s c mid new) is' puts in
+        record {
+          all = map write_of ws;
+          changes = now.changes;
+          transaction = transaction_of c now.changes stamp now.puts;
+          free = λ held. free_each (seen.cells old) s ws (subst (λ (p : ℕ × List Write). AreFree (seen.cells old) p.0 p.1 (length p.1)) (λ j. (key_is j, is j)) (free held));
+          applied = applies_after now.changes now.applied;
+          made = λ held. now.made (reads.still held) ∙ ap (λ (m : Cells). all_put_cells m (map write_of ws) s c) reads.kept;
+        })
 
     pub no_room_by : (slice : List Write) (c : ℕ) → slice ≡ ws → IsCommitStamp last start c → HasNoRoomToPut seen (map write_of slice) s c mid → HasNoRoomToCommit seen clients last start asked old
     no_room_by slice c is stamp full =

@@ -18,9 +18,7 @@ ghost use Rattle.txn_client.specs.Puts.{ArePuttings, IsPutting, IsPutRefusal};
 ghost use Rattle.txn_client.specs.Writes.{write_of};
 
 use crate::writes::Write;
-use cell_key::{
-    CellKey, Edit, MOST_STAMP, Moment, Qualifier, Record, Refusal, Stamp, WriteKind,
-};
+use cell_key::{CellKey, Edit, MOST_STAMP, Moment, Qualifier, Record, Refusal, Stamp, WriteKind};
 use oracle::{MarkStore, Oracle};
 use rows::{RowEdits, Rows};
 use si_model::Cell;

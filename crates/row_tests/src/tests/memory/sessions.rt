@@ -4,7 +4,9 @@ use crate::tests::memory::clusters::newest;
 use cell_key::{Refusal, Stamp};
 use oracle::{MemMark, Oracle};
 use row_atomic::PlainRows;
-use si_model::{CellName, CellWrite, CommitReply, Found, Progress, ScanFound, ScanRange, ScanReach};
+use si_model::{
+    CellName, CellWrite, CommitReply, Found, Progress, ScanFound, ScanRange, ScanReach,
+};
 use std::alloc::Global;
 use testing::memory::{Call, Subject, Table};
 use txn_client::Clients;
@@ -162,7 +164,10 @@ impl Sessions {
             value: Some(b"7"),
         };
         let oracle = &mut self.oracle;
-        match self.clients.commit(&mut self.rows, oracle, start, &[write])? {
+        match self
+            .clients
+            .commit(&mut self.rows, oracle, start, &[write])?
+        {
             CommitReply::Committed(start, stamp) => Ok([(start % 256) as u8, (stamp % 256) as u8]),
             CommitReply::Conflict(place) => Ok([0, (place % 256) as u8]),
         }
