@@ -519,12 +519,12 @@ impl<S: Recording, M: MarkStore, L: Log> LastingServer<S, M, L> {
 
     /// Lets the server inside answer an operation of several cells.
     fn answer_several(&mut self, operation: Operation<'_>) -> Answer
-        requires { StandsForSeveral (operation_of operation) }
+        requires { StandsForSeveral (operation_of operation.entry) }
         ensures limits { AnswerKeepsToLimits result }
-        ensures says { S.says self.old.server operation result self.new.server }
+        ensures says { S.says self.old.server operation.entry result self.new.server }
         ensures log { self.new.log ≡ self.old.log }
         ensures goes_on { GoesOn (shown_by S.shows) (LastsIn S.stores S.logged L.holds)
-            (Logs S.stores S.logged L.holds S.is_rooted) (operation_of operation)
+            (Logs S.stores S.logged L.holds S.is_rooted) (operation_of operation.entry)
             (answer_of result) self.old self.new }
     {
         logs_edits();
@@ -535,11 +535,11 @@ impl<S: Recording, M: MarkStore, L: Log> LastingServer<S, M, L> {
 
     /// Answers an operation of several cells, if the log has room for what it records.
     fn answer_at_once(&mut self, operation: Operation<'_>) -> Answer
-        requires { StandsForSeveral (operation_of operation) }
+        requires { StandsForSeveral (operation_of operation.entry) }
         ensures limits { AnswerKeepsToLimits result }
         ensures says { IsLastingAnswer S.shows (LastsIn S.stores S.logged L.holds)
             (Logs S.stores S.logged L.holds S.is_rooted) M.faults L.faults
-            (AnswersLasting S.same S.checkpoints S.says S.sweeps) self.old operation result
+            (AnswersLasting S.same S.checkpoints S.says S.sweeps) self.old operation.entry result
             self.new }
     {
         logs_edits();

@@ -78,21 +78,20 @@ IfGiven P answer = ⊥
 pub given_err : {A : Type 0} (result : Result A Refusal) (refusal other : Refusal) → result ≡ Err refusal → given.Said (codec.Refused refusal) ≡ given.Said (codec.Refused other) → IsErrOf result other
 given_err result refusal other is same = subst (IfGiven (λ (r : Refusal). IsErrOf result r)) same is
 
-pub err_given : {A : Type 0} (result : Result A Refusal) (refusal other : Refusal) → result ≡ Err refusal → IsErrOf result other → given.Said (codec.Refused refusal) ≡ given.Said (codec.Refused other)
-err_given {A} result refusal other is err = ap (λ (r : Refusal). given.Said (codec.Refused r)) (same_error refusal other (sym is ∙ err)) where
-  abbrev error_of : Refusal → Result A Refusal → Refusal
-  error_of other (Ok value) = other
-  error_of other (Err refusal) = refusal
+abbrev error_of : {A : Type 0} → Refusal → Result A Refusal → Refusal
+error_of other (Ok value) = other
+error_of other (Err refusal) = refusal
 
-  same_error : (a b : Refusal) → Err {T = A} a ≡ Err b → a ≡ b
-  same_error a b e = ap (error_of a) e
+pub err_given : {A : Type 0} (result : Result A Refusal) (refusal other : Refusal) → result ≡ Err refusal → IsErrOf result other → given.Said (codec.Refused refusal) ≡ given.Said (codec.Refused other)
+err_given result refusal other is err = ap (λ (r : Refusal). given.Said (codec.Refused r)) (ap (error_of refusal) (sym is ∙ err))
+
+abbrev IfSaidRefused : (Refusal → Type 0) → Answer → Type 0
+IfSaidRefused P (Said (machine.Refused refusal)) = P refusal
+IfSaidRefused P answer = ⊥
 
 -- Damaged isn't answered if the call doesn't refuse so
 pub given_undamaged : {A : Type 0} (result : Result A Refusal) (refusal : Refusal) → result ≡ Err refusal → (IsErrOf result Damaged → ⊥) → Said (Refused refusal) ≡ Said (Refused Damaged) → ⊥
-given_undamaged result refusal is none same = none (subst (IfSaidRefused (λ (r : Refusal). IsErrOf result r)) same is) where
-  abbrev IfSaidRefused : (Refusal → Type 0) → Answer → Type 0
-  IfSaidRefused P (Said (machine.Refused refusal)) = P refusal
-  IfSaidRefused P answer = ⊥
+given_undamaged result refusal is none same = none (subst (IfSaidRefused (λ (r : Refusal). IsErrOf result r)) same is)
 
 module _ {F M : Type 0} (contents : F → Option Contents) (old new : Server F M) where
   -- what a call over the rows leaves

@@ -159,7 +159,7 @@ module _ {F M : Type 0} (files : Files F) (store : MarkStore M) where
     rests_at_once stored operation e several goes others left st reached rests =
         let (next, gone, after, whole) = goes st reached rests.shows in
         let shown : Shows files.contents new st = subst (λ (s : State). Shows files.contents new s) (refused_goes _ _ operation e several gone) after in
-        rests_on st shown rests ((stored rests.root rests.cells (cluster_of old) (cluster_of new) others.storage).1 rests.keeps) (may_told _ _ _ left.mark (some_told _ _ rests.tells.marked))
+        rests_on st shown rests ((stored rests.root rests.cells (cluster_of old) (cluster_of new) others.storage).1 rests.keeps) (may_told _ _ _ left.marked (some_told _ _ rests.tells.marked))
 
     commit_rests : RootIsStored files.contents → (start : ℕ) (writes : Writes) (result : Result CommitReply Refusal) → AnswersAtOnce files store (Commit start writes) IsCommitRefusal old (commit_given result) new → StaysAtRest files.contents store.mark (commit_given result) old new
     commit_rests stored start writes (Ok reply) at_once = commit_told _ reply

@@ -62,7 +62,7 @@ pub record LeavesAll {F M : Type 0} (contents : F → Option Contents) (mark : M
   pub last : last_of new ≡ last_of old
   pub range : (new.oracle.range_end ≡ old.oracle.range_end)
       ⊎ (new.oracle.range_end ≡ next_range_end old.oracle.range_end)
-  pub mark : LeavesMark mark old new
+  pub marked : LeavesMark mark old new
 
 -- The machine goes so, and the answer is within the limits. A device's fault is answered if and only if a count of
 -- faults rose.

@@ -62,8 +62,9 @@ pub trait Answering {
 
     /// Answers as the machine goes, from each reached state that is shown.
     fn answer_to(&mut self, operation: Operation<'_>) -> Answer
-        ensures goes { GoesFrom shows self.old self.new (operation_of operation) (answer_of result) }
-        ensures says { says self.old operation result self.new }
+        ensures goes { GoesFrom shows self.old self.new (operation_of operation.entry)
+            (answer_of result) }
+        ensures says { says self.old operation.entry result self.new }
         ensures limits { AnswerKeepsToLimits result };
 
     /// Does the upkeep between one answer and the next. It keeps showing each state that it shows.

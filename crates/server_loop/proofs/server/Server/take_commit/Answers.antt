@@ -36,7 +36,7 @@ returns-in-Err g c = let told = c.in-Err.ensures in record {
     refusal = told.refusal;
     limits = tt;
     others = others_stay g.F.Files.contents _ _ refl refl refl told.below.stays;
-    refused = record { sessions = told.same; rows = told.reads; last = told.stays; range = told.range; mark = told.mark };
+    refused = record { sessions = told.same; rows = told.reads; last = told.stays; range = told.range; marked = told.mark };
     device = λ is. one_rose told.reason (given_err _ _ _ refl is);
     told = λ none. record { files = first_stays told.reason (λ is. none (err_given _ _ _ refl is)); marks = second_stays told.reason (λ is. none (err_given _ _ _ refl is)) };
   };

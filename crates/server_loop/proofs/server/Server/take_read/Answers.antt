@@ -38,7 +38,7 @@ returns-in-Err g c = let told = c.in-Err.ensures in record {
     refusal = told.refusal;
     limits = tt;
     others = others_stay g.F.Files.contents _ _ refl refl refl told.reads.stays;
-    refused = record { sessions = told.same; rows = told.reads; last = told.refused.stays; range = inl told.refused.range; mark = told.refused.mark };
+    refused = record { sessions = told.same; rows = told.reads; last = told.refused.stays; range = inl told.refused.range; marked = told.refused.mark };
     device = λ is. one_rose told.reason (given_err _ _ _ refl is);
     told = λ none. record { files = first_stays told.reason (λ is. none (err_given _ _ _ refl is)); marks = second_stays told.reason (λ is. none (err_given _ _ _ refl is)) };
   };
