@@ -12,13 +12,14 @@ use Rattle.request_codec.specs.declared.replies.Reply.{Reply as CodecReply}
 use Rattle.request_codec.specs.declared.replies.Reply.TheVariants as codec
 use Rattle.row_atomic.specs.Clusters.{cells_in}
 use Rattle.row_atomic.specs.Recorded.{seen_recorded}
-use Rattle.rows.specs.Calls.{OnlyReads}
-use Rattle.si_model.specs.Answers.{commit_answer, read_answer}
+use Rattle.rows.specs.Calls.{KeepsBelow, OnlyReads}
+use Rattle.si_model.specs.Answers.{cell_named, cells_named, commit_answer, read_answer}
 use Rattle.si_model.specs.Machine as machine
 use Rattle.si_model.specs.Replies.{found_item}
 use Rattle.si_model.specs.declared.scans.ScanFound.{ScanFound}
 use Rattle.si_model.specs.Machine.{IsReached, Refused, State, Writes}
-use Rattle.si_model.specs.Transactions.{Answer, Commit, Goes, Operation, Said}
+use Rattle.si_model.specs.Transactions.{Answer, Commit, Goes, IsReadCount, Operation, Said}
+use Rattle.si_model.specs.declared.transactions.CellName.{CellName}
 use Rattle.si_model.specs.declared.transactions.CommitReply.{CommitReply}
 use Rattle.si_model.specs.declared.transactions.CommitReply.TheVariants as commits
 use Rattle.si_model.specs.declared.transactions.ReadReply.{ReadReply}
@@ -68,6 +69,16 @@ commit_not reply said is = cc
 pub read_not : (reply : ReadReply) (said : CodecReply) → given.Read reply ≡ given.Said said → ⊥
 read_not reply said is = cc
 
+-- a Read has as many cells as names
+as_many : (names : List CellName) → length (cells_named names) ≡ length names
+as_many names = length-map cell_named names
+
+pub named_count : (names : List CellName) → IsReadCount (length (cells_named names)) → IsReadCount (length names)
+named_count names few = subst IsReadCount (as_many names) few
+
+pub cells_count : (names : List CellName) → IsReadCount (length names) → IsReadCount (length (cells_named names))
+cells_count names few = subst IsReadCount (sym (as_many names)) few
+
 -- ---- a refusal
 
 abbrev IfGiven : (Refusal → Type 0) → CodecAnswer → Type 0
@@ -105,20 +116,20 @@ module _ {F M : Type 0} (contents : F → Option Contents) (old new : Server F M
   }
 
   -- what collectors show after a call that leaves the cells
-  pub reads_collected : (operation : Operation) (answer : Answer) → StandsForSeveral operation → OnlyReads (seen_recorded contents) (rows_of old) (rows_of new)
+  reads_collected : (operation : Operation) (answer : Answer) → StandsForSeveral operation → OnlyReads (seen_recorded contents) (rows_of old) (rows_of new)
       → (st next : State) → IsReached st → Shows contents old st → Goes st operation answer next → ShowsCollectors (server_cells contents new) old.collectors next
   reads_collected operation answer several reads st next reached shown goes =
       subst (λ (cells : Cells). ShowsCollectors cells old.collectors next) (sym reads.kept) (operations_keep_collectors (server_cells contents old) old.collectors st next operation answer reached several goes shown.collectors)
 
   -- and after a Commit
-  pub commits_collected : (start : ℕ) (writes : Writes) (reply : CommitReply) → CommitDoes (seen_recorded contents) old.clients (last_of old) start writes (rows_of old) (rows_of new) reply
+  commits_collected : (start : ℕ) (writes : Writes) (reply : CommitReply) → CommitDoes (seen_recorded contents) old.clients (last_of old) start writes (rows_of old) (rows_of new) reply
       → (st next : State) → IsReached st → Shows contents old st → Goes st (Commit start writes) (commit_answer reply) next → ShowsCollectors (server_cells contents new) old.collectors next
   commits_collected start writes (commits.Committed s c) does st next reached shown goes =
       subst (λ (cells : Cells). ShowsCollectors cells old.collectors next) (sym (does.made shown.in_order)) (commits_keep_collectors (server_cells contents old) old.collectors st next start s c writes does.all reached shown.shows.store goes shown.collectors)
   commits_collected start writes (commits.Conflict place) reads st next reached shown goes = reads_collected (Commit start writes) _ tt reads st next reached shown goes
 
   -- a Commit or a Read, which leaves the tablets' places, the cleaners and the collectors unchanged
-  pub goes_from : (operation : Operation) (answer : Answer) → StandsForSeveral operation → new.cleaners ≡ old.cleaners → new.collectors ≡ old.collectors → (seen_recorded contents).storage new.rows ≡ (seen_recorded contents).storage old.rows
+  goes_from : (operation : Operation) (answer : Answer) → StandsForSeveral operation → new.cleaners ≡ old.cleaners → new.collectors ≡ old.collectors → (seen_recorded contents).storage new.rows ≡ (seen_recorded contents).storage old.rows
       → ((st next : State) → IsReached st → Shows contents old st → Goes st operation answer next → ShowsCollectors (server_cells contents new) old.collectors next)
       → (HoldsIn contents old → clients_goes.GoesAs (cells_in (contents old.rows.cluster.files) old.rows.cluster.tablets) old.clients old.oracle.last operation answer (cells_in (contents new.rows.cluster.files) new.rows.cluster.tablets) new.clients new.oracle.last)
       → (HoldsIn contents old → HoldsIn contents new)
@@ -136,3 +147,18 @@ module _ {F M : Type 0} (contents : F → Option Contents) (old new : Server F M
         next = left.next_tablet ∙ shown.next ∙ ap (λ (ps : List machine.Place). length ps + 1) (sym left.places);
       } in
       (next, gone, after, whole before reached shown.in_order shown.shows)
+
+  -- the same of a call that leaves the rows
+  pub reads_go : (operation : Operation) (answer : Answer) → StandsForSeveral operation → new.cleaners ≡ old.cleaners → new.collectors ≡ old.collectors → OnlyReads (seen_recorded contents) (rows_of old) (rows_of new)
+      → (HoldsIn contents old → clients_goes.GoesAs (cells_in (contents old.rows.cluster.files) old.rows.cluster.tablets) old.clients old.oracle.last operation answer (cells_in (contents new.rows.cluster.files) new.rows.cluster.tablets) new.clients new.oracle.last)
+      → ((st : State) → IsReached st → HoldsIn contents old → clients.Shows (cells_in (contents old.rows.cluster.files) old.rows.cluster.tablets) old.clients old.oracle.last st → answer ≡ Said (Refused Damaged) → ⊥)
+      → GoesFrom (Shows contents) old new operation answer
+  reads_go operation answer several cleaners collectors reads goes whole = goes_from operation answer several cleaners collectors reads.stays (reads_collected operation answer several reads) goes reads.still whole
+
+  -- and of a Commit
+  pub commit_goes : (start : ℕ) (writes : Writes) (reply : CommitReply) → new.cleaners ≡ old.cleaners → new.collectors ≡ old.collectors → KeepsBelow (seen_recorded contents) (rows_of old) (rows_of new)
+      → CommitDoes (seen_recorded contents) old.clients (last_of old) start writes (rows_of old) (rows_of new) reply
+      → (HoldsIn contents old → clients_goes.GoesAs (cells_in (contents old.rows.cluster.files) old.rows.cluster.tablets) old.clients old.oracle.last (Commit start writes) (commit_answer reply) (cells_in (contents new.rows.cluster.files) new.rows.cluster.tablets) new.clients new.oracle.last)
+      → GoesFrom (Shows contents) old new (Commit start writes) (commit_answer reply)
+  commit_goes start writes reply cleaners collectors below does goes =
+      goes_from (Commit start writes) (commit_answer reply) tt cleaners collectors below.stays (commits_collected start writes reply does) goes below.still (λ st reached held shown. commit_undamaged reply)

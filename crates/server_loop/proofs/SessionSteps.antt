@@ -58,15 +58,16 @@ module _ {F M : Type 0} (contents : F → Option Contents) (old new : Server F M
       } in
       (next, taken, after, whole before reached shown.in_order shown.shows)
 
-abbrev said_of : Answer → Reply
+-- the reply that an answer to one request is
+abbrev pub said_of : Answer → Reply
 said_of (Said reply) = reply
 said_of answer = SetDone
 
 -- a step of the machine is an answer to one request
-pub goes_one : {S : Type 0} {shows : S → State → Type 0} {old new : S} {request : Request} {reply : Reply} → StepsAs shows old new request reply → GoesFrom shows old new (One request) (Said reply)
-goes_one steps_to before reached shown =
-    let (after, step, shows, whole) = steps_to before reached shown in
-    (after, steps step, shows, λ is. whole (ap said_of is))
+pub goes_one : {S : Type 0} (shows : S → State → Type 0) (old new : S) (request : Request) (reply : Reply) → StepsAs shows old new request reply → GoesFrom shows old new (One request) (Said reply)
+goes_one shows old new request reply steps_to before reached shown =
+    let (after, step, shown_after, whole) = steps_to before reached shown in
+    (after, steps step, shown_after, λ is. whole (ap said_of is))
 
 -- nothing was drawn for a begin, by the reason of its refusal
 abbrev pub Undrawn : Refusal → Type 0

@@ -12,17 +12,17 @@ pub returns-in-Ok-Some-clause-run : goal.returns-in-Ok-Some-clause-run
 returns-in-Ok-Some-clause-run g c = λ before reached shown.
     let (after, goes, shows, whole) = c.answer_to.ensures.goes before reached shown in
     let next = stays_reached before after _ _ reached goes in
-    record { after = after; run = (after, inl (operation_of c.in-Ok-Some.operation, c.in-Ok-Some.ensures.found, goes), refl); reached = next; laws = laws_of after next; shows = shows }
+    record { after = after; run = (after, inl (operation_of c.in-Ok-Some.operation, rw c.in-Ok-Some.field-0-is at c.in-Ok-Some.ensures.found, goes), refl); reached = next; laws = laws_of after next; shows = shows }
 
 pub returns-in-Ok-Some-clause-says : goal.returns-in-Ok-Some-clause-says
-returns-in-Ok-Some-clause-says g c = inl (c.in-Ok-Some.operation, c.answer_to.result, c.in-Ok-Some.ensures.found, refl, c.answer_to.ensures.says)
+returns-in-Ok-Some-clause-says g c = inl (c.in-Ok-Some.operation, c.answer_to.result, rw c.in-Ok-Some.field-0-is at c.in-Ok-Some.ensures.found, refl, c.answer_to.ensures.says)
 
 pub returns-in-Ok-None-clause-run : goal.returns-in-Ok-None-clause-run
 returns-in-Ok-None-clause-run g c = λ before reached shown.
-    record { after = before; run = (before, unread before _ _ (inl (c.in-Ok-None.ensures.none, refl)), refl); reached = reached; laws = laws_of before reached; shows = shown }
+    record { after = before; run = (before, unread before _ _ (inl (rw c.in-Ok-None.field-0-is at c.in-Ok-None.ensures.none, refl)), refl); reached = reached; laws = laws_of before reached; shows = shown }
 
 pub returns-in-Ok-None-clause-says : goal.returns-in-Ok-None-clause-says
-returns-in-Ok-None-clause-says g c = inr (inl (c.in-Ok-None.ensures.none, refl), refl)
+returns-in-Ok-None-clause-says g c = inr (inl (rw c.in-Ok-None.field-0-is at c.in-Ok-None.ensures.none, refl), refl)
 
 pub returns-in-Err-clause-run : goal.returns-in-Err-clause-run
 returns-in-Err-clause-run g c = λ before reached shown.

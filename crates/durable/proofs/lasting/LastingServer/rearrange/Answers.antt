@@ -1,11 +1,11 @@
-use Rattle.std.proofs.Common.{◌≤◌, ◌∙◌, inl, inr, refl, arith}
+use Rattle.std.proofs.Common.{◌≤◌, ◌∙◌, inl, inr, refl, arith, ap}
 use Rattle.si_model.specs.Machine.{refuses}
 use Rattle.si_model.specs.Refusing.{gives_up}
 use Rattle.si_model.specs.Transactions.{steps}
 use Rattle.request_codec.specs.declared.replies.Reply.TheVariants as codec
 use Rattle.durable.proofs.Logged.{holds_on, still_lasts, true_not_false}
 use Rattle.durable.proofs.Rooted.{moves_rooted, never_unmarked}
-use Rattle.server_loop.proofs.SessionSteps.{goes_one}
+use Rattle.server_loop.proofs.SessionSteps.{said_of}
 use Rattle.durable.proofs.lasting.LastingServer.rearrange.Goals as goal
 
 pub returns-then-not-self-clause-says : goal.returns-then-not-self-clause-says
@@ -17,12 +17,12 @@ returns-then-not-self-clause-says g c =
           (inr (c.root.new.self.server, c.reply_to-reply.new.self, c.in-Ok.ensures.done, c.reply_to-reply.ensures.says, inr (c.root_moved.ensures.answered.0, never_unmarked g.S.Recording.same g.S.Recording.checkpoints _ _ c.reply_to-reply.new.self c.root_moved.new.self.server c.root_moved.ensures.answered.0 c.root_moved.ensures.answered.1)));
       goes_on = λ now reached shown.
           let mid = c.root.ensures.settles.shown now shown in
-          let (next, goes, shows, whole) = goes_one c.reply_to-reply.ensures.step now reached mid in
+          let (next, step, shows, whole) = c.reply_to-reply.ensures.step now reached mid in
           record {
             next = next;
-            goes = goes;
+            goes = steps step;
             shown = c.root_moved.ensures.shown next shows;
-            whole = whole;
+            whole = λ is. whole (ap said_of is);
             logged = λ logs. elim (c.root.ensures.settles.logged now reached shown logs) [
               | inl stopped ↦ true_not_false _ stopped c.if-not-self.true
               | inr h ↦ let k = c.in-Ok.ensures.kept now shown logs in (c.root_moved.ensures.kept now next h.0 shows (holds_on g.S.Recording.stores g.S.Recording.logged g.S.Recording.waiting g.S.Recording.last g.L.Log.holds g.S.Recording.is_rooted c.logs_edits.ensures c.names_roots.ensures g.S.Recording.count c.root.new.self c.reply_to-reply.new.self h.0 h.2 moves.1.has) (moves.1.waits ∙ k.2) (moves.1.goes_on ∙ k.1) covered (still_lasts g.S.Recording.stores g.S.Recording.logged g.S.Recording.waiting g.S.Recording.last g.L.Log.holds g.S.Recording.is_rooted c.logs_edits.ensures c.names_roots.ensures g.S.Recording.count c.root.new.self c.reply_to-reply.new.self now moves.0 moves.1.has k.0)).1
@@ -42,12 +42,12 @@ returns-else-not-self-clause-says g c =
           (inr (c.root.new.self.server, c.reply_to-reply.new.self, c.in-Ok.ensures.done, c.reply_to-reply.ensures.says, inl (g.met.S.Recording.same_self c.reply_to-reply.new.self)));
       goes_on = λ now reached shown.
           let mid = c.root.ensures.settles.shown now shown in
-          let (next, goes, shows, whole) = goes_one c.reply_to-reply.ensures.step now reached mid in
+          let (next, step, shows, whole) = c.reply_to-reply.ensures.step now reached mid in
           record {
             next = next;
-            goes = goes;
+            goes = steps step;
             shown = shows;
-            whole = whole;
+            whole = λ is. whole (ap said_of is);
             logged = λ logs. inl c.if-not-self.false;
             lasting = λ logs st lasts. inr (inl (still_lasts g.S.Recording.stores g.S.Recording.logged g.S.Recording.waiting g.S.Recording.last g.L.Log.holds g.S.Recording.is_rooted c.logs_edits.ensures c.names_roots.ensures g.S.Recording.count c.root.new.self c.reply_to-reply.new.self now moves.0 moves.1.has (c.in-Ok.ensures.kept now shown logs).0));
           };
@@ -60,7 +60,7 @@ returns-in-Err-clause-says g c = record {
     next = now;
     goes = steps (refuses (gives_up c.in-Err.ensures.refusal));
     shown = c.root.ensures.settles.shown now shown;
-    whole = (goes_one c.in-Err.ensures.step now reached shown).3;
+    whole = λ is. (c.in-Err.ensures.step now reached shown).3 (ap said_of is);
     logged = c.root.ensures.settles.logged now reached shown;
     lasting = λ logs st lasts. elim (c.root.ensures.settles.lasting now reached shown logs st lasts) [ inl same ↦ inl same | inr is ↦ inr (inl is) ];
   };

@@ -1,8 +1,9 @@
+use Rattle.durable.specs.Lasts.{shown_by}
 use Rattle.server_loop.proofs.SessionSteps.{goes_one}
 use Rattle.durable.proofs.lasting.LastingServerAnswering.answer_to.Goals as goal
 
 pub returns-in-One-clause-goes : goal.returns-in-One-clause-goes
-returns-in-One-clause-goes g c = rw c.in-One.is (goes_one c.reply_to.ensures.step)
+returns-in-One-clause-goes g c = rw c.in-One.is (goes_one (shown_by g.S.Answering.shows) c.args.self.now c.reply_to.new.self _ _ c.reply_to.ensures.step)
 
 pub returns-in-One-clause-says : goal.returns-in-One-clause-says
 returns-in-One-clause-says g c = rw c.in-One.is c.reply_to.ensures.says

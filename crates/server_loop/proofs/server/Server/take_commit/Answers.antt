@@ -1,6 +1,6 @@
 use Rattle.std.proofs.Common.{Ok, Err, refl}
 use Rattle.row_atomic.specs.Recorded.{seen_recorded}
-use Rattle.server_loop.proofs.AtOnce.{commit_limits, commit_not, commit_told, commit_undamaged, commits_collected, err_given, given_err, given_undamaged, goes_from, others_stay, reads_collected}
+use Rattle.server_loop.proofs.AtOnce.{commit_goes, commit_limits, commit_not, commit_told, err_given, given_err, given_undamaged, others_stay, reads_go}
 use Rattle.server_loop.proofs.SessionSteps.{first_stays, ok_not, one_rose, second_stays}
 use Rattle.server_loop.proofs.server.Server.take_commit.Goals as goal
 
@@ -9,7 +9,7 @@ returns-in-Ok g c = let told = c.in-Ok.ensures in record {
   result = Ok c.in-Ok.reply;
   gives = refl;
   at_once = record {
-    goes = goes_from g.F.Files.contents _ _ _ _ tt refl refl told.below.stays (commits_collected g.F.Files.contents _ _ _ _ c.in-Ok.reply told.does) told.step told.below.still (λ st reached held shown. commit_undamaged c.in-Ok.reply);
+    goes = commit_goes g.F.Files.contents _ _ _ _ c.in-Ok.reply refl refl told.below told.does told.step;
     refusal = commit_told _ c.in-Ok.reply;
     limits = commit_limits c.in-Ok.reply;
     others = others_stay g.F.Files.contents _ _ refl refl refl told.below.stays;
@@ -31,7 +31,7 @@ returns-in-Err g c = let told = c.in-Err.ensures in record {
   result = Err c.in-Err.refusal;
   gives = refl;
   at_once = record {
-    goes = goes_from g.F.Files.contents _ _ _ _ tt refl refl told.below.stays (reads_collected g.F.Files.contents _ _ _ _ tt told.reads) told.step told.below.still
+    goes = reads_go g.F.Files.contents _ _ _ _ tt refl refl told.reads told.step
         (λ st reached held shown. given_undamaged _ _ refl (told.undamaged (λ row at. (seen_recorded g.F.Files.contents).each_readable _ held row)));
     refusal = told.refusal;
     limits = tt;

@@ -1,6 +1,6 @@
 use Rattle.std.proofs.Common.{Ok, Err, inl, refl}
 use Rattle.row_atomic.specs.Recorded.{seen_recorded}
-use Rattle.server_loop.proofs.AtOnce.{err_given, given_err, given_undamaged, goes_from, others_stay, read_limits, read_not, read_undamaged, reads_collected}
+use Rattle.server_loop.proofs.AtOnce.{cells_count, err_given, given_err, given_undamaged, named_count, others_stay, read_limits, read_not, read_undamaged, reads_go}
 use Rattle.server_loop.proofs.SessionSteps.{first_stays, ok_not, one_rose, second_stays}
 use Rattle.server_loop.proofs.server.Server.take_read.Goals as goal
 
@@ -9,7 +9,7 @@ returns-in-Ok g c = let told = c.in-Ok.ensures in record {
   result = Ok c.in-Ok.reply;
   gives = refl;
   at_once = record {
-    goes = goes_from g.F.Files.contents _ _ _ _ tt refl refl told.reads.stays (reads_collected g.F.Files.contents _ _ _ _ tt told.reads) told.step told.reads.still (λ st reached held shown. read_undamaged c.in-Ok.reply);
+    goes = reads_go g.F.Files.contents _ _ _ _ tt refl refl told.reads told.step (λ st reached held shown. read_undamaged c.in-Ok.reply);
     refusal = tt;
     limits = read_limits c.in-Ok.reply.found.items told.short;
     others = others_stay g.F.Files.contents _ _ refl refl refl told.reads.stays;
@@ -22,9 +22,9 @@ returns-in-Ok g c = let told = c.in-Ok.ensures in record {
   session = told.session;
   drawn = told.drawn;
   aside = told.aside;
-  count = told.count;
-  unknown = λ few some st shown gone. told.unknown few some st shown.shows.sessions gone;
-  crowded = λ few none st shown many. told.crowded few none st shown.shows.sessions many;
+  count = λ many. told.count (λ few. many (cells_count c.args.cells.now few));
+  unknown = λ few some st shown gone. told.unknown (named_count c.args.cells.now few) some st shown.shows.sessions gone;
+  crowded = λ few none st shown many. told.crowded (named_count c.args.cells.now few) none st shown.shows.sessions many;
   exhausted = told.exhausted;
 }
 
@@ -33,7 +33,7 @@ returns-in-Err g c = let told = c.in-Err.ensures in record {
   result = Err c.in-Err.refusal;
   gives = refl;
   at_once = record {
-    goes = goes_from g.F.Files.contents _ _ _ _ tt refl refl told.reads.stays (reads_collected g.F.Files.contents _ _ _ _ tt told.reads) told.step told.reads.still
+    goes = reads_go g.F.Files.contents _ _ _ _ tt refl refl told.reads told.step
         (λ st reached held shown. given_undamaged _ _ refl (told.undamaged (λ row at. (seen_recorded g.F.Files.contents).each_readable _ held row) st reached shown.store));
     refusal = told.refusal;
     limits = tt;
@@ -47,8 +47,8 @@ returns-in-Err g c = let told = c.in-Err.ensures in record {
   session = told.session;
   drawn = told.drawn;
   aside = told.aside;
-  count = told.count;
-  unknown = λ few some st shown gone. told.unknown few some st shown.shows.sessions gone;
-  crowded = λ few none st shown many. told.crowded few none st shown.shows.sessions many;
+  count = λ many. told.count (λ few. many (cells_count c.args.cells.now few));
+  unknown = λ few some st shown gone. told.unknown (named_count c.args.cells.now few) some st shown.shows.sessions gone;
+  crowded = λ few none st shown many. told.crowded (named_count c.args.cells.now few) none st shown.shows.sessions many;
   exhausted = told.exhausted;
 }
