@@ -1,4 +1,4 @@
-"""The twenty operations: the encoding of their requests and the decoding of their answers."""
+"""The twenty operations of one step: the encoding of their requests and the decoding of their answers."""
 
 from __future__ import annotations
 
@@ -366,6 +366,8 @@ def spoken_of(refusal: type[Refused], operation: object) -> str:
     part."""
     for field in refusal.speaks_of:
         given = getattr(operation, field, None)
+        if isinstance(given, tuple):
+            given = len(given)
         if given is not None:
             return named(SESSION if field == "start" else field, given)
     return ""

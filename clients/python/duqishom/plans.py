@@ -8,7 +8,7 @@ from __future__ import annotations
 
 import logging
 import random
-from collections.abc import Callable, Generator, Sequence
+from collections.abc import Callable, Generator, Iterable, Mapping, Sequence
 from contextlib import suppress
 from dataclasses import dataclass
 from typing import Any, TypeVar
@@ -24,10 +24,13 @@ from duqishom.answers import (
     Pending,
     Qualifier,
     Stamped,
+    Unsent,
+    Value,
+    Version,
 )
 from duqishom.batches import Batch, Gets, Steps
 from duqishom.cells import Cell
-from duqishom.columns import read_lock, read_record
+from duqishom.columns import Kind, Record, read_lock, read_record
 from duqishom.operations import (
     Begin,
     Checkpoint,
@@ -43,7 +46,8 @@ from duqishom.operations import (
     Stop,
     Sweep,
 )
-from duqishom.refusals import BadRequest, MemtableFull, Refused, TooManyFiles, UnknownTablet
+from duqishom.refusals import BadRequest, MemtableFull, NoMemory, Refused, TooManyFiles, UnknownTablet
+from duqishom.several import MOST_READ, NEW, CommitDone, Read, ReadDone, Support
 from duqishom.tablets import TabletMap
 
 LOG = logging.getLogger("duqishom")
@@ -173,7 +177,11 @@ class Stamps:
     one."""
 
     def __init__(self) -> None:
-        self._last = 0
+        self.forget()
+
+    def forget(self) -> None:
+        """Starts over, since there may be another store behind another connection."""
+        self.last = 0
         self._was_next = False
 
     def note(self, operations: Requests, answers: Sequence[object]) -> int:
@@ -181,18 +189,21 @@ class Stamps:
         commits = 0
         for operation, answer in zip(operations, answers):
             if isinstance(operation, Begin) and isinstance(answer, int):
-                self._was_next = answer == self._last + 1
-                self._last = answer
+                self._was_next = answer == self.last + 1
+                self.last = answer
+            elif isinstance(answer, (CommitDone, ReadDone)):
+                self.last = max(self.last, answer.start, answer.commit if isinstance(answer, CommitDone) else 0)
+                commits += isinstance(answer, CommitDone)
             elif isinstance(operation, (Step, Steps)):
                 for each in answer if isinstance(answer, tuple) else (answer,):
                     if isinstance(each, (Stamped, Committed)):
-                        self._last = max(self._last, each.commit)
+                        self.last = max(self.last, each.commit)
                         commits += isinstance(each, Committed)
         return commits
 
     def next(self) -> int | None:
         """The start that the next session will have, if the last one was as expected."""
-        return self._last + 1 if self._was_next else None
+        return self.last + 1 if self._was_next else None
 
 
 class StorePlans:
@@ -205,11 +216,33 @@ class StorePlans:
         self._tablets = tablets
         self._has_log = has_log
 
-    def read(self, cells: Sequence[Cell]) -> Plan[list[bytes | None] | None]:
-        """What cells hold as of now: None if one of them is locked. It takes one trip if the start is as expected: the
-        reads go behind the Begin that they need, and are asked again if it has another answer."""
+    def read(self, cells: Sequence[Cell], support: Support) -> Plan[list[bytes | None] | None]:
+        """What cells hold as of now: None if one of them is locked, or if they are too many for one request. It is a
+        Read that leaves no session open, if the program has it."""
         if not cells:
             return []
+        if support.is_there:
+            found = yield from self._read_at_once(cells, support)
+            if support.is_there:
+                return found
+        return (yield from self._read_one_by_one(cells))
+
+    def _read_at_once(self, cells: Sequence[Cell], support: Support) -> Plan[list[bytes | None] | None]:
+        """What cells hold as of now, by one Read."""
+        if len(cells) > MOST_READ:
+            return None
+        [answer] = yield [Read(NEW, False, tuple(cells))]
+        if isinstance(answer, ReadDone):
+            return None if any(isinstance(each, (Pending, Unsent)) for each in answer.found) else values_of(answer)
+        if isinstance(answer, BadRequest):
+            support.is_there = False
+        if isinstance(answer, (BadRequest, NoMemory)):
+            return None
+        raise answer
+
+    def _read_one_by_one(self, cells: Sequence[Cell]) -> Plan[list[bytes | None] | None]:
+        """What cells hold as of now, by Gets. It takes one trip if the start is as expected: the reads go behind the
+        Begin that they need, and are asked again if it has another answer."""
         start = self.stamps.next()
         begun, *answers = yield [Begin()] if start is None else [Begin(), Gets(start, cells)]
         if isinstance(begun, Refused):
@@ -239,6 +272,15 @@ class StorePlans:
             yield from self.checkpoint()
         else:
             yield from self._write(self._tablets.holder(row).number)
+
+    def make_room_for(self, rows: Iterable[bytes]) -> Plan[None]:
+        """Makes room for a commit in rows, of which it isn't known in which tablet there was none."""
+        if self._tablets is None or self._has_log():
+            yield from self.make_room()
+            return
+        LOG.info("a memtable is full: makes room")
+        for number in dict.fromkeys([self._tablets.holder(row).number for row in rows]):
+            yield from self._write(number)
 
     def checkpoint(self) -> Plan[None]:
         """Makes a checkpoint. Where a tablet has too many files, all of its files become one first."""
@@ -353,3 +395,39 @@ class StorePlans:
             above = record.stamp - 1
         return Lost()
 
+
+    def fate_of_writes(self, above: int, writes: Mapping[Cell, bytes | None]) -> Plan[Committed | Lost]:
+        """What became of a Commit in a new session, whose stamps are above this one, if its answer was lost. A commit of
+        the same values to the same cells, whoever made it, counts as this one: no reader can tell them apart. A Commit
+        leaves no lock to wait for."""
+        first, top = next(iter(writes)), MOST_STAMP
+        while record := (yield from ask(Raw(*first, Qualifier.WRITE, above + 1, top))):
+            start = read_record(record.value).start
+            if start > above and (yield from self._has_written(start, record.stamp, writes)):
+                return Committed(record.stamp)
+            top = record.stamp - 1
+        return Lost()
+
+    def _has_written(self, start: int, commit: int, writes: Mapping[Cell, bytes | None]) -> Plan[bool]:
+        """Whether a session has committed these writes at this stamp."""
+        records = [Raw(*cell, Qualifier.WRITE, commit, commit) for cell in writes]
+        data = [Raw(*cell, Qualifier.DATA, start, start) for cell in writes]
+        answers = yield [*records, *data]
+        for answer in answers:
+            if isinstance(answer, Refused):
+                raise answer
+        found = zip(answers[: len(records)], answers[len(records) :])
+        return all(has_written(value, start, *each) for value, each in zip(writes.values(), found))
+
+
+def has_written(value: bytes | None, start: int, record: Version | None, data: Version | None) -> bool:
+    """Whether a cell's record and data are those of this session's write of a value, or of its deletion."""
+    kind = Kind.DELETE if value is None else Kind.SET
+    if record is None or read_record(record.value) != Record(start, kind):
+        return False
+    return value is None or (data is not None and data.value == value)
+
+
+def values_of(answer: ReadDone) -> list[bytes | None]:
+    """The values that a Read has found, or None, in the order of its cells."""
+    return [each.value if isinstance(each, Value) else None for each in answer.found]

@@ -51,8 +51,8 @@ class Snapshot:
 
     @property
     def start(self) -> int:
-        """The session's start."""
-        return self._session.start
+        """The session's start. A transaction of `Store.run` begins with its first request, or now."""
+        return self._do(self._session.begin())
 
     @property
     def is_active(self) -> bool:
