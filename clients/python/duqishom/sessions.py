@@ -55,7 +55,7 @@ MOST_WRITES = 256
 LONGEST_VALUE = 65_536
 
 # So many values that a scan didn't send are read in one trip.
-MOST_UNSENT = 16
+MOST_UNSENT = 15
 
 # A row, a family and a value, or None where keys alone were asked for.
 Entry = tuple[bytes, bytes, bytes | None]
