@@ -32,12 +32,13 @@ WRITE_WEIGHT = 3
 SIZE_OF_WEIGHT = 4096
 MOST_CELLS = 256
 
-# The longest reply frames: of a read or a scan, of a blocked collector, of all other requests, of a Read, and the most
-# bytes of one of its cells.
+# The longest reply frames: of a read or a scan, of a blocked collector, of all other requests, and of a Read, with the
+# bytes before its cells, and the most bytes of a cell.
 READ_ROOM = 65_558
 BLOCKED_ROOM = 4_085
 SMALL_ROOM = 32
 LONGEST_ROOM = 1_048_580
+CELLS_AT = 17
 CELL_ROOM = 65_541
 
 
@@ -224,6 +225,7 @@ OF_CELLS = {
         code,
         names=None if is_new else Kind.SESSION,
         opens=Kind.SESSION if is_new else None,
+        room=SMALL_ROOM if code == COMMIT else CELLS_AT,
         weight_each=WRITE_WEIGHT if code == COMMIT else CELL_WEIGHT,
         is_noted=True,
         is_judged=True,

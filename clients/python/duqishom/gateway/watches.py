@@ -14,7 +14,6 @@ from duqishom.gateway.passages import (
     BAD_REQUEST,
     BAD_ROW,
     NAME_END,
-    NEW,
     TOO_MANY,
     WATCH,
     WATCH_REPLY,
@@ -118,7 +117,7 @@ class Watches:
         for cell in {**(before or {}), **dict.fromkeys(cells_of(run.body))}:
             for watch in self._watching(cell):
                 cells.setdefault(watch, []).append(cell)
-        for watch in () if run.name == NEW else self._unsure(session):
+        for watch in self._unsure(session) if run.passage.opens is None else ():
             cells.pop(watch, None)
             self._tell_unnamed(watch)
         for watch, written in cells.items():
