@@ -214,8 +214,6 @@ class Store:
                     link.stream = await FrameStream.open(self._address)
                 except OSError as error:
                     raise ConnectionLost(f"there is no connection to the gateway, and none can be made: {error}") from None
-                if before.is_lost:
-                    self._plans.stamps.forget()
                 LOG.log(logging.WARNING if before.is_lost else logging.INFO, "connected to the gateway at %s", self._address)
             return link.stream
 
@@ -593,8 +591,8 @@ class Store:
         if transaction.stream is None or not transaction.session.has_stepped or transaction.session.first is None:
             return False
         session = transaction.session
-        fate = await self.do(session.fate())
-        LOG.warning("the connection was lost in a commit: %s", fate)
+        fate = await self.fate(session.start, *transaction.session.first)
+        LOG.warning("the connection was lost while session %d committed: %s", session.start, fate)
         if isinstance(fate, Pending):
             raise lost
         session.commit_stamp = fate.commit if isinstance(fate, Committed) else None

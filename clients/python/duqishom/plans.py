@@ -8,7 +8,7 @@ from __future__ import annotations
 
 import logging
 import random
-from collections.abc import Callable, Generator, Iterable, Mapping, Sequence
+from collections.abc import Callable, Generator, Iterable, Sequence
 from contextlib import suppress
 from dataclasses import dataclass
 from typing import Any, TypeVar
@@ -26,11 +26,10 @@ from duqishom.answers import (
     Stamped,
     Unsent,
     Value,
-    Version,
 )
 from duqishom.batches import Batch, Gets, Steps
 from duqishom.cells import Cell
-from duqishom.columns import Kind, Record, read_lock, read_record
+from duqishom.columns import read_lock, read_record
 from duqishom.operations import (
     Begin,
     Checkpoint,
@@ -177,11 +176,7 @@ class Stamps:
     one."""
 
     def __init__(self) -> None:
-        self.forget()
-
-    def forget(self) -> None:
-        """Starts over, since there may be another store behind another connection."""
-        self.last = 0
+        self._last = 0
         self._was_next = False
 
     def note(self, operations: Requests, answers: Sequence[object]) -> int:
@@ -189,21 +184,21 @@ class Stamps:
         commits = 0
         for operation, answer in zip(operations, answers):
             if isinstance(operation, Begin) and isinstance(answer, int):
-                self._was_next = answer == self.last + 1
-                self.last = answer
+                self._was_next = answer == self._last + 1
+                self._last = answer
             elif isinstance(answer, (CommitDone, ReadDone)):
-                self.last = max(self.last, answer.start, answer.commit if isinstance(answer, CommitDone) else 0)
+                self._last = max(self._last, answer.start, answer.commit if isinstance(answer, CommitDone) else 0)
                 commits += isinstance(answer, CommitDone)
             elif isinstance(operation, (Step, Steps)):
                 for each in answer if isinstance(answer, tuple) else (answer,):
                     if isinstance(each, (Stamped, Committed)):
-                        self.last = max(self.last, each.commit)
+                        self._last = max(self._last, each.commit)
                         commits += isinstance(each, Committed)
         return commits
 
     def next(self) -> int | None:
         """The start that the next session will have, if the last one was as expected."""
-        return self.last + 1 if self._was_next else None
+        return self._last + 1 if self._was_next else None
 
 
 class StorePlans:
@@ -212,6 +207,7 @@ class StorePlans:
     def __init__(self, patience: Patience, tablets: TabletMap | None, has_log: Callable[[], bool]) -> None:
         """Without tablets it is a gateway's store, which others may split."""
         self.patience = patience
+        self.is_of_gateway = tablets is None
         self.stamps = Stamps()
         self._tablets = tablets
         self._has_log = has_log
@@ -394,38 +390,6 @@ class StorePlans:
                 return Committed(record.stamp)
             above = record.stamp - 1
         return Lost()
-
-
-    def fate_of_writes(self, above: int, writes: Mapping[Cell, bytes | None]) -> Plan[Committed | Lost]:
-        """What became of a Commit in a new session, whose stamps are above this one, if its answer was lost. A commit of
-        the same values to the same cells, whoever made it, counts as this one: no reader can tell them apart. A Commit
-        leaves no lock to wait for."""
-        first, top = next(iter(writes)), MOST_STAMP
-        while record := (yield from ask(Raw(*first, Qualifier.WRITE, above + 1, top))):
-            start = read_record(record.value).start
-            if start > above and (yield from self._has_written(start, record.stamp, writes)):
-                return Committed(record.stamp)
-            top = record.stamp - 1
-        return Lost()
-
-    def _has_written(self, start: int, commit: int, writes: Mapping[Cell, bytes | None]) -> Plan[bool]:
-        """Whether a session has committed these writes at this stamp."""
-        records = [Raw(*cell, Qualifier.WRITE, commit, commit) for cell in writes]
-        data = [Raw(*cell, Qualifier.DATA, start, start) for cell in writes]
-        answers = yield [*records, *data]
-        for answer in answers:
-            if isinstance(answer, Refused):
-                raise answer
-        found = zip(answers[: len(records)], answers[len(records) :])
-        return all(has_written(value, start, *each) for value, each in zip(writes.values(), found))
-
-
-def has_written(value: bytes | None, start: int, record: Version | None, data: Version | None) -> bool:
-    """Whether a cell's record and data are those of this session's write of a value, or of its deletion."""
-    kind = Kind.DELETE if value is None else Kind.SET
-    if record is None or read_record(record.value) != Record(start, kind):
-        return False
-    return value is None or (data is not None and data.value == value)
 
 
 def values_of(answer: ReadDone) -> list[bytes | None]:

@@ -26,7 +26,6 @@ from duqishom.frames import LONGEST_BODY
 from duqishom.operations import MOST_CELLS, Begin, Scan, Stop, named
 from duqishom.plans import (
     LOG,
-    Fate,
     Pause,
     Plan,
     StillPending,
@@ -76,7 +75,6 @@ class Session:
         self._plans = plans
         self._writes: dict[Cell, bytes | None] = {}
         self._sent: dict[Cell, bytes | None] = {}
-        self._above = 0
         self._steps = 0
         self._stepped_at = 0.0
         self._to_clean: list[Cell] = []
@@ -232,11 +230,13 @@ class Session:
 
     def _commit_at_once(self) -> Plan[TransactionFailed | None]:
         """Commits by one request: why it came to nothing, if it did. If the program doesn't have this request, the
-        session stays active. Writes that are too long for the request go before it."""
+        session stays active. Writes that are too long for the request go before it. At a gateway it has begun before, since a
+        connection may be lost there, and the fate of a commit can only be asked for by its session's start."""
         before = too_many_for_one(self._unsent(), LONGEST_BODY)
+        if before or self._plans.is_of_gateway:
+            yield from self.begin()
         if before:
-            start = yield from self.begin()
-            writes = Writes(start, dict(list(self._unsent().items())[:before]))
+            writes = Writes(self.start, dict(list(self._unsent().items())[:before]))
             [refusals] = yield [writes]
             self._note_sent(writes, refusals)
         answer = yield from self._ask_commit()
@@ -264,7 +264,7 @@ class Session:
     def _ask_commit(self) -> Plan[Any]:
         """Asks for the commit. The answer, or the refusal, after which the session is as before."""
         writes = tuple([(*cell, value) for cell, value in self._unsent().items()])
-        self.has_stepped, self._above = True, self._plans.stamps.last
+        self.has_stepped = True
         try:
             [answer] = yield [Commit(self._start or NEW, writes)]
         except BaseException:
@@ -272,13 +272,6 @@ class Session:
             raise
         self.has_stepped = not isinstance(answer, Refused)
         return answer
-
-    def fate(self) -> Plan[Fate]:
-        """What became of the commit, if its answer was lost. Without a start it is found by its writes."""
-        assert self.first is not None
-        if self._start is None:
-            return (yield from self._plans.fate_of_writes(self._above, self._writes))
-        return (yield from self._plans.fate(self._start, *self.first, self._plans.patience))
 
     def _commit(self) -> Plan[TransactionFailed | None]:
         """Sends the writes and takes the steps: why it came to nothing, where it did."""

@@ -200,7 +200,6 @@ class Store(AutoCommit):
             try:
                 self._connection = Gateway(self._socket)
                 self._support = Support()
-                self._plans.stamps.forget()
             except OSError as error:
                 raise ConnectionLost(f"the connection to the gateway was lost, and can't be made anew: {error}") from None
             LOG.warning("connected anew to the gateway at %s", self._socket)
@@ -406,7 +405,7 @@ class Store(AutoCommit):
         second. After the last attempt that failure is raised.
 
         The transaction begins with its first read, or else with its commit. With a program that has Read and Commit, its reads
-        of cells in one call are one request, and so is its commit.
+        of cells in one call are one request, and so is its commit, before which a gateway is asked for a session.
 
         A connection to a gateway that is lost meanwhile is made anew. Where it was lost in the commit, `fate` tells whether there
         is something left to do.
@@ -452,9 +451,8 @@ class Store(AutoCommit):
         session = transaction._session
         if not session.has_stepped or session.first is None:
             return False
-        with self.alone():
-            fate = self.do(session.fate())
-        LOG.warning("the connection was lost in a commit: %s", fate)
+        fate = self.fate(session.start, *session.first)
+        LOG.warning("the connection was lost while session %d committed: %s", session.start, fate)
         if isinstance(fate, Pending):
             raise lost
         session.commit_stamp = fate.commit if isinstance(fate, Committed) else None

@@ -12,15 +12,14 @@ from duqishom import (
     BadRow,
     BadValue,
     Cell,
-    Committed,
     ConnectionLost,
     EmptyCommit,
-    Lost,
     MalformedReply,
     NoMemory,
     Nothing,
     Patience,
     Pending,
+    Qualifier,
     Refused,
     StillPending,
     Store,
@@ -413,14 +412,6 @@ class Trips(unittest.TestCase):
         self.assertEqual(trips, [[0x33], [], [0x0A], [0x0A], [0x32]])
         self.assertEqual(store.get_many([(ANN, BAL), (CID, BAL)]), [b"1", b"1"])
 
-    def test_a_full_memtable(self) -> None:
-        """Of the program."""
-        with Store(words=["--flush-bytes", "67108864"]) as store:
-            rows = [b"%02d" % number for number in range(15)]
-            for number in range(80):
-                store.run(lambda t: [t.put(row, BAL, LONG) for row in rows])
-            self.assertEqual(store.get(b"14", BAL), LONG)
-
     def test_a_read_without_memory(self) -> None:
         store, trips = self.heard()
         store.run(add_to(ANN, BOB))  # type: ignore[arg-type]
@@ -464,59 +455,47 @@ class Trips(unittest.TestCase):
                 self.assertEqual(store.get_many([(ANN, BAL), (BOB, BAL)]), [b"2", b"1"])
 
 
-class Fates(unittest.TestCase):
-    """The fate of a commit whose answer was lost before its start was known."""
+class Losing(Heard):
+    """A connection that is lost in place of the answer to a Commit, before it does what it was asked or behind it."""
 
-    def test_by_its_writes(self) -> None:
-        with Store() as store:
-            plans = store._plans
-            writes: dict[Cell, bytes | None] = {Cell(ANN, BAL): b"1", Cell(BOB, BAL): None}
+    is_done = is_lost = False
 
-            def fate(above: int) -> object:
-                return store.do(plans.fate_of_writes(above, writes))
+    def ask(self, requests: bytes, count: int, timeout: float | None = None) -> bytes:
+        if requests[4] != Commit.code:
+            return super().ask(requests, count, timeout)
+        if self.is_done:
+            super().ask(requests, count, timeout)
+        self.is_lost = True
+        self.close()
+        raise ConnectionLost()
 
-            def put(**changes: bytes | None) -> int:
-                done = store.ask(Commit(0, tuple((row.encode(), BAL, value) for row, value in changes.items())))
-                assert isinstance(done, CommitDone)
-                return done.commit
 
-            self.assertEqual(fate(0), Lost())
-            for other in ({"Ann": b"1"}, {"Ann": b"2", "Bob": None}, {"Ann": b"1", "Bob": b"0"}, {"Ann": None, "Bob": None}):
-                put(**other)
-            self.assertEqual(fate(0), Lost())
-            commit = put(Ann=b"1", Bob=None)
-            put(Ann=b"3", Bob=b"3")
-            self.assertEqual([fate(0), fate(commit - 2)], [Committed(commit)] * 2)
-            self.assertEqual([fate(commit - 1), fate(commit)], [Lost()] * 2)
+class Losses(unittest.TestCase):
+    """Connections to a gateway that are lost."""
 
-    def test_of_blind_writes_at_a_gateway(self) -> None:
+    def test_blind_writes(self) -> None:
+        """A commit names its session, so that its fate is known. The same write of others isn't taken for it."""
         gateway = Gateway(self)
-
-        class Losing(Heard):
-            """It is lost behind a Commit, or before it."""
-
-            is_done, is_lost = True, False
-
-            def ask(self, requests: bytes, count: int, timeout: float | None = None) -> bytes:
-                if requests[4] != Commit.code:
-                    return super().ask(requests, count, timeout)
-                if self.is_done:
-                    super().ask(requests, count, timeout)
-                self.is_lost = True
-                self.close()
-                raise ConnectionLost()
-
         for is_done in (True, False):
             with Store(socket=gateway.path) as store, Store(socket=gateway.path) as other:
-                before = other.put(ANN, BAL, b"0")
+                other.put(ANN, BAL, b"1")
+                other.put(ANN, BAL, b"0")
                 store._connection = losing = Losing(store._connection)
                 losing.is_done = is_done
-                stamps = [other.run(lambda t: t).commit_stamp]
                 done = store.run(lambda t: (t.put(ANN, BAL, b"1"), t)[1], attempts=1 if is_done else 2)
-                self.assertEqual((before, stamps, other.get(ANN, BAL)), (None, [None], b"1"))
-                record = other.raw(ANN, BAL, 3)  # type: ignore[arg-type]
+                record = other.raw(ANN, BAL, Qualifier.WRITE)
                 assert record is not None
-                self.assertEqual(done.commit_stamp, record.stamp)
+                self.assertEqual((other.get(ANN, BAL), done.commit_stamp), (b"1", record.stamp))
+                self.assertEqual(losing.trips[0], [1])
+
+    def test_each_connection_finds_out(self) -> None:
+        with Store(socket=Gateway(self).path) as store:
+            store._support = Support(False)
+            store._connection = losing = Losing(store._connection)
+            losing.is_lost = True
+            losing.close()
+            store.put(ANN, BAL, b"1")
+            self.assertTrue(store._support.is_there)
 
 
 class Tasks(unittest.TestCase):
@@ -545,7 +524,7 @@ class Tasks(unittest.TestCase):
         asyncio.run(main())
         told = gateway.statistics()
         asked = {name: count for name, count in told["requests"].items() if count}
-        self.assertEqual(asked, {"Begin": 1, "Commit": 3, "Read": 3, "Statistics": 1})
+        self.assertEqual(asked, {"Begin": 2, "Commit": 3, "Read": 3, "Statistics": 1})
         self.assertEqual(told["open"]["sessions"], 0)
 
     def test_a_cancelled_read_leaves_no_session(self) -> None:
@@ -590,17 +569,6 @@ class Tasks(unittest.TestCase):
             store.run(add_to(ANN))  # type: ignore[arg-type]
             self.assertEqual(store.get(ANN, BAL), b"1")
             self.assertFalse(store._support.is_there)
-
-
-class Known(unittest.TestCase):
-    def test_each_connection_finds_out(self) -> None:
-        gateway = Gateway(self)
-        with Store(socket=gateway.path) as store:
-            store._support = Support(False)
-            store.put(ANN, BAL, b"1")
-            store._connection.close()
-            self.assertRaises(ConnectionLost, store.begin)
-            self.assertEqual(store.get(ANN, BAL), b"1")
 
 
 if __name__ == "__main__":
