@@ -525,6 +525,7 @@ class Store:
         one, it waits for another session to end. If the task is cancelled meanwhile, the session is stopped when it is there, for
         nobody would."""
         while True:
+            given = self._places.given
             beginning = asyncio.ensure_future(self.ask_each(trip, stream))
             try:
                 answers = await asyncio.shield(beginning)
@@ -533,7 +534,9 @@ class Store:
                 self._ending.add(stopping)
                 stopping.add_done_callback(self._note_ended)
                 raise
-            if not (isinstance(answers[0], TooManySessions) and await self._places.one_left()):
+            if not isinstance(answers[0], TooManySessions):
+                return answers
+            if self._places.given == given and not await self._places.one_left():
                 return answers
 
     async def _stop_begun(self, asked: object, beginning: asyncio.Future[list[Any]], stream: FrameStream) -> None:
