@@ -11,7 +11,7 @@ from duqishom.frames import whole_frames
 from duqishom.gateway.bounds import REPLIES_OF_ALL, Bounds
 from duqishom.gateway.client import Client
 from duqishom.gateway.counts import Counts
-from duqishom.gateway.passages import COMMIT, MOST_WEIGHT, NO_MEMORY, READ, READ_ROOM, of_cells, passages
+from duqishom.gateway.passages import MOST_WEIGHT, NO_MEMORY, READ_ROOM, of_cells, passages
 from tests.gateways import (
     BEGIN,
     COLUMN,
@@ -303,7 +303,9 @@ class Watches(unittest.TestCase):
     def test_a_store_s_own(self) -> None:
         gateway = Gateway(self)
         with Store(socket=gateway.path) as store, store.watch(b"a") as changes:
-            self.assertIsNone(changes.wait(10).cells)  # type: ignore[union-attr]
+            first = changes.wait(10)
+            assert first is not None
+            self.assertIsNone(first.cells)
             store.put(b"ab", COLUMN, b"v")
             change = changes.wait(10)
             assert change is not None and change.cells is not None
@@ -328,13 +330,6 @@ class Durable(unittest.TestCase):
         self.assertTrue(until(lambda: not Path(f"/proc/{program}").exists()))
         with Store(folder=folder) as store:
             self.assertEqual(store.get_many([(b"r", COLUMN), (b"s", COLUMN)]), [b"v", b"v"])
-
-
-class Codes(unittest.TestCase):
-    def test_operations(self) -> None:
-        """The table's entries are those of the protocol's numbers."""
-        table = passages(notes_reads=True)
-        self.assertEqual([table[code].code for code in (COMMIT, READ)], [0x32, 0x33])
 
 
 if __name__ == "__main__":

@@ -4,6 +4,7 @@ from __future__ import annotations
 
 import asyncio
 import unittest
+from collections.abc import Callable
 from pathlib import Path
 
 from duqishom import (
@@ -228,7 +229,7 @@ class Heard:
         return self._connection.close()
 
 
-def add_to(*rows: bytes) -> object:
+def add_to(*rows: bytes) -> Callable[[Transaction], list[bytes]]:
     """A function of a transaction that counts one more in each of these rows."""
 
     def work(t: Transaction) -> list[bytes]:
@@ -268,7 +269,7 @@ class Trips(unittest.TestCase):
         store, trips = self.heard()
         for rows in ((ANN,), (ANN, BOB, CID, b"Dan")):
             trips.clear()
-            store.run(add_to(*rows))  # type: ignore[arg-type]
+            store.run(add_to(*rows))
             self.assertEqual(trips, [[0x33], [0x32]])
         trips.clear()
         self.assertEqual(store.get_many([(row, BAL) for row in (ANN, BOB, b"-", ANN)]), [b"2", b"1", None, b"2"])
@@ -351,12 +352,13 @@ class Trips(unittest.TestCase):
     def test_locks(self) -> None:
         """A lock that stays is waited for and cleaned, before a read and behind a conflict."""
         store, trips = self.heard(Patience(tries=2, pause=0))
-        for work in (add_to(ANN, BOB), lambda t: t.put(ANN, BAL, b"5")):
+        works: tuple[Callable[[Transaction], object], ...] = (add_to(ANN, BOB), lambda t: t.put(ANN, BAL, b"5"))
+        for work in works:
             holder = store.begin()
             store.set(holder, ANN, BAL, b"1")
             store.step(holder)
             trips.clear()
-            store.run(work)  # type: ignore[arg-type]
+            store.run(work)
             self.assertIn([0x06], trips)
         self.assertEqual(store.get(ANN, BAL), b"5")
         strict, _ = self.heard(Patience(tries=2, pause=0, cleans=False))
@@ -364,7 +366,7 @@ class Trips(unittest.TestCase):
         strict.set(holder, ANN, BAL, b"1")
         strict.step(holder)
         with self.assertRaises(StillPending) as caught:
-            strict.run(add_to(ANN, BOB), attempts=1)  # type: ignore[arg-type]
+            strict.run(add_to(ANN, BOB), attempts=1)
         self.assertEqual((caught.exception.cell, caught.exception.start), (Cell(ANN, BAL), holder))
         with self.assertRaises(TransactionConflict):
             strict.run(lambda t: t.put(ANN, BAL, b"2"), attempts=1)
@@ -408,13 +410,13 @@ class Trips(unittest.TestCase):
         store._connection = Poor(store._connection, Commit.code, 2, 1, MEMTABLE_FULL)
         store.put(ANN, BAL, b"0")
         trips.clear()
-        store.run(add_to(ANN, CID))  # type: ignore[arg-type]
+        store.run(add_to(ANN, CID))
         self.assertEqual(trips, [[0x33], [], [0x0A], [0x0A], [0x32]])
         self.assertEqual(store.get_many([(ANN, BAL), (CID, BAL)]), [b"1", b"1"])
 
     def test_a_read_without_memory(self) -> None:
         store, trips = self.heard()
-        store.run(add_to(ANN, BOB))  # type: ignore[arg-type]
+        store.run(add_to(ANN, BOB))
         trips.clear()
         store._connection = Poor(store._connection, Read.code, 1, 2)
         self.assertEqual(store.get_many([(ANN, BAL), (BOB, BAL)]), [b"1", b"1"])
@@ -425,19 +427,19 @@ class Trips(unittest.TestCase):
         store, trips = self.heard()
         store._connection = Poor(store._connection, Commit.code, 1, 99, BAD_REQUEST)
         store.put(ANN, BAL, b"1")
-        store.run(add_to(ANN, BOB))  # type: ignore[arg-type]
+        store.run(add_to(ANN, BOB))
         self.assertEqual(store.get_many([(ANN, BAL), (BOB, BAL)]), [b"2", b"1"])
         self.assertEqual(trips, [[], [1], [3, 4, 4, 4], [1], [2, 2], [3, 3], [4] * 5, [1, 2, 2], [-5]])
         other, trips = self.heard()
         other._connection = Poor(other._connection, Read.code, 1, 99, BAD_REQUEST)
-        other.run(add_to(ANN, BOB))  # type: ignore[arg-type]
+        other.run(add_to(ANN, BOB))
         self.assertEqual(other.get(ANN, BAL), b"1")
         self.assertEqual(trips, [[], [1], [2, 2], [3, 3], [4] * 5, [1, 2], [-5]])
 
     def test_a_recording_has_none(self) -> None:
         place = Path(folder_of(self))
         with Store(record=place) as store:
-            store.run(add_to(ANN, BOB))  # type: ignore[arg-type]
+            store.run(add_to(ANN, BOB))
             self.assertEqual(store.get_many([(ANN, BAL), (BOB, BAL)]), [b"1", b"1"])
         bodies: list[bytes] = []
         whole_frames((place / "requests").read_bytes(), bodies)
@@ -448,7 +450,7 @@ class Trips(unittest.TestCase):
             folder = folder_of(self)
             with Store(folder=folder, log=log) as store:
                 store.put(ANN, BAL, b"1")
-                store.run(add_to(ANN, BOB))  # type: ignore[arg-type]
+                store.run(add_to(ANN, BOB))
                 if log:
                     store.kill()
             with Store(folder=folder) as store:
@@ -566,7 +568,7 @@ class Tasks(unittest.TestCase):
 
         asyncio.run(main())
         with Store(socket=gateway.path) as store:
-            store.run(add_to(ANN))  # type: ignore[arg-type]
+            store.run(add_to(ANN))
             self.assertEqual(store.get(ANN, BAL), b"1")
             self.assertFalse(store._support.is_there)
 

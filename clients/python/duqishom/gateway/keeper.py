@@ -13,12 +13,12 @@ from duqishom.gateway.passages import CHECKPOINT, GET, NAME, RAW, SCAN, SWEEP, T
 from duqishom.gateway.things import (
     CODE,
     COMMIT_REPLY,
+    COMMITTED,
     CONFLICT,
     FINISHED,
     READ_REPLY,
     STEP_REPLY,
     TAG,
-    COMMITTED,
     stamp_of_commit,
 )
 from duqishom.gateway.upstream import Run
