@@ -266,7 +266,7 @@ class Store:
         return value
 
     async def get_many(self, cells: Iterable[tuple[bytes, bytes]]) -> list[bytes | None]:
-        """The values of cells, all as of one moment and in one trip, or two where others use the store."""
+        """The values of cells, all as of one moment, as `Store.get_many` of the other twin gives them."""
         wanted = [Cell(*cell) for cell in cells]
         values: list[bytes | None] | None = None
         with suppress(ConnectionLost, TooManySessions):

@@ -373,7 +373,8 @@ class Store(AutoCommit):
         return Transaction(self, *self._begun())
 
     def get_many(self, cells: Iterable[tuple[bytes, bytes]]) -> list[bytes | None]:
-        """The values of cells, all as of one moment and in one trip, or two where others use the store."""
+        """The values of cells, all as of one moment. They are one request if they fit into it and no lock is met; with a program
+        without Read one trip, or two where others use the store."""
         wanted = [Cell(*cell) for cell in cells]
         values: list[bytes | None] | None = None
         with suppress(ConnectionLost):

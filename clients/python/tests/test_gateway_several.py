@@ -2,6 +2,7 @@
 
 from __future__ import annotations
 
+import os
 import unittest
 from pathlib import Path
 from unittest import mock
@@ -107,6 +108,18 @@ class Belongings(unittest.TestCase):
             self.assertEqual(wire.ask(request), TOO_MANY)
         self.assertEqual([wire.ask(read(NEW)), wire.ask(frame(b"\x32" + NEW))], [BAD_COUNT, BAD_REQUEST])
         self.assertEqual(wire.ask(commit(start, ONE))[:2], CONFLICT if start < number(8, 400) else DONE)
+
+    def test_heavy_ones_that_wait(self) -> None:
+        """Two clients with one session each send Commits and Reads that each wait until the program is idle."""
+        gateway = Gateway(self, ["--sessions", "1"])
+        wires = [gateway.wire() for _ in range(2)]
+        rows = [b"%02d" % place for place in range(70)]
+        for wire in wires:
+            wire.send(10 * (commit(NEW, *((row, b"v") for row in rows)) + read(NEW, *rows)) + BEGIN)
+        for wire in wires:
+            replies = [wire.reply() for _ in range(21)]
+            self.assertEqual([reply[:1] for reply in replies], 10 * [b"\xb2", b"\xb3"] + [b"\x81"])
+        self.assertEqual(gateway.statistics()["user_sessions"], {str(os.getuid()): 2})
 
     def test_a_refusal_ends_nothing(self) -> None:
         gateway = Gateway(self)

@@ -250,6 +250,8 @@ class Client(asyncio.BufferedProtocol):
                 self.needs_idle = run.weight > TURN_WEIGHT and bool(runs or self.exchange.upstream.weight)
                 if self.needs_idle:
                     break
+                if passage.opens is not None:
+                    self.exchange.things.note_begin(passage.opens, self)
                 runs.append(run)
                 weight += run.weight
             else:
@@ -265,8 +267,6 @@ class Client(asyncio.BufferedProtocol):
 
     def _noted(self, passage: Passage, at: int, end: int) -> Run:
         """The run of a request whose reply is looked at."""
-        if passage.opens is not None:
-            self.exchange.things.note_begin(passage.opens, self)
         name = bytes(self.waiting[at + HEAD + 1 : at + HEAD + NAME_END])
         body = self.body(at, end) if passage.weight_each else b""
         weight = passage.weight_of(body) if body else passage.weight
