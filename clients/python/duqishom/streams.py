@@ -22,8 +22,8 @@ class Trip:
 
 
 class FrameStream(asyncio.Protocol):
-    """A connection to a gateway, and whether the program there has Commit and Read. Replies come in the order of the requests, so the replies to a trip whose task was
-    cancelled are skipped."""
+    """A connection to a gateway, and whether the program there has Commit and Read. Replies come in the order of the
+    requests, so the replies to a trip whose task was cancelled are skipped."""
 
     def __init__(self) -> None:
         self._trips: deque[Trip] = deque()

@@ -144,10 +144,12 @@ class Operations(unittest.TestCase):
 
     def test_reads(self) -> None:
         cells = ((ANN, BAL), (BOB, BAL))
-        asked = (Read(0, True, cells), Commit(0, ((ANN, BAL, b"1"),)), Read(1, True, cells), Get(1, ANN, BAL), Read(1, False, cells))
+        commit, last = Commit(0, ((ANN, BAL, b"1"),)), Read(1, False, cells)
+        asked = (Read(0, True, cells), commit, Read(1, True, cells), Get(1, ANN, BAL), last)
         nothing = ReadDone(1, (Nothing(), Nothing()))
         self.assertEqual(self.answers(*asked), [nothing, CommitDone(2, 3), nothing, Nothing(), nothing])
-        self.assertEqual(self.answers(Read(1, True, cells), Read(0, False, cells)), [UnknownSession, ReadDone(4, (Value(b"1"), Nothing()))])
+        found = ReadDone(4, (Value(b"1"), Nothing()))
+        self.assertEqual(self.answers(Read(1, True, cells), Read(0, False, cells)), [UnknownSession, found])
 
     def test_conflicts(self) -> None:
         """With a later commit, and with a lock, which stays. Nothing else is locked, and the session has ended."""
