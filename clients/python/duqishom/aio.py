@@ -70,6 +70,7 @@ from duqishom.plans import (
     Patience,
     Pause,
     Plan,
+    Requests,
     StillPending,
     StorePlans,
     TransactionConflict,
@@ -83,6 +84,7 @@ from duqishom.progress import Reached, Report, unreported
 from duqishom.refusals import Refused, TooManySessions, UnknownSession
 from duqishom.remote import Address, ConnectionLost, Fate, address_of
 from duqishom.sessions import Entry, RangeScan, Session
+from duqishom.several import NEW, Commit, Read, ReadDone
 from duqishom.streams import FrameStream
 from duqishom.watching import Changes
 
@@ -242,6 +244,8 @@ class Store:
         if isinstance(trip, Unwaited):
             (await self._connected(stream)).tell(request_frame(trip.operation))
             return []
+        if stream is not None and begins(trip[0]):
+            return await self._ask_to_begin(trip, stream)
         return await self.ask_each(trip, stream)
 
     async def begin(self) -> int:
@@ -262,7 +266,7 @@ class Store:
         return value
 
     async def get_many(self, cells: Iterable[tuple[bytes, bytes]]) -> list[bytes | None]:
-        """The values of cells, all as of one moment and in one trip, or two where others use the store."""
+        """The values of cells, all as of one moment, as `Store.get_many` of the other twin gives them."""
         wanted = [Cell(*cell) for cell in cells]
         values: list[bytes | None] | None = None
         with suppress(ConnectionLost, TooManySessions):
@@ -273,7 +277,8 @@ class Store:
         """What cells hold as of now: None if one of them is locked."""
         link = await self._link()
         try:
-            return await self.do(self._plans.read(cells), await self._connected(None, link))
+            stream = await self._connected(None, link)
+            return await self.do(self._plans.read(cells, stream.support), stream)
         finally:
             self.left(link)
 
@@ -494,18 +499,16 @@ class Store:
         """A snapshot, that `async with` begins: the store as of then. While it is open, collectors keep what it shows."""
         return Snapshot(self)
 
-    async def begun(self) -> tuple[Session, FrameStream, Link]:
+    async def session(self, begins_later: bool) -> tuple[Session, FrameStream, Link]:
         """A new session of a snapshot or a transaction, the connection that has it, and its link. It waits for a place there first,
-        which `left` gives back; and where the gateway has fewer, for another one to end."""
+        which `left` gives back. It has begun, or begins with its first request."""
         link = await self._link()
         try:
-            while True:
-                stream = await self._connected(None, link)
-                start = await self._begun(stream)
-                if isinstance(start, int):
-                    return Session(start, self._plans), stream, link
-                if not (isinstance(start, TooManySessions) and await self._places.one_left()):
-                    raise start
+            stream = await self._connected(None, link)
+            session = Session(self._plans, stream.support)
+            if not begins_later:
+                await self.do(session.begin(), stream)
+            return session, stream, link
         except BaseException:
             self.left(link)
             raise
@@ -517,23 +520,30 @@ class Store:
         link.sessions += 1
         return link
 
-    async def _begun(self, stream: FrameStream) -> int | Refused:
-        """The start of a new session, or the refusal. If the task is cancelled meanwhile, the session is stopped when it is there,
-        for nobody would."""
-        beginning = asyncio.ensure_future(self.ask_each([Begin()], stream))
-        try:
-            [start] = await asyncio.shield(beginning)
-            return start
-        except asyncio.CancelledError:
-            stopping = asyncio.ensure_future(self._stop_begun(beginning, stream))
-            self._ending.add(stopping)
-            stopping.add_done_callback(self._note_ended)
-            raise
+    async def _ask_to_begin(self, trip: Requests, stream: FrameStream) -> list[Any]:
+        """Asks for requests of which the first begins a session, or a session that ends at once. Where the gateway has no place for
+        one, it waits for another session to end. If the task is cancelled meanwhile, the session is stopped when it is there, for
+        nobody would."""
+        while True:
+            given = self._places.given
+            beginning = asyncio.ensure_future(self.ask_each(trip, stream))
+            try:
+                answers = await asyncio.shield(beginning)
+            except asyncio.CancelledError:
+                stopping = asyncio.ensure_future(self._stop_begun(trip[0], beginning, stream))
+                self._ending.add(stopping)
+                stopping.add_done_callback(self._note_ended)
+                raise
+            if not isinstance(answers[0], TooManySessions):
+                return answers
+            if self._places.given == given and not await self._places.one_left():
+                return answers
 
-    async def _stop_begun(self, beginning: asyncio.Future[list[int | Refused]], stream: FrameStream) -> None:
+    async def _stop_begun(self, asked: object, beginning: asyncio.Future[list[Any]], stream: FrameStream) -> None:
         """Stops a session whose begin is on its way."""
         with suppress(ProgramEnded, TimeoutError):
-            [start] = await beginning
+            begun = (await beginning)[0]
+            start = begun.start if isinstance(begun, ReadDone) and isinstance(asked, Read) and asked.stays_open else begun
             if isinstance(start, int):
                 await self.ask_each([Stop(start)], stream)
 
@@ -544,10 +554,10 @@ class Store:
 
     async def run(self, work: Callable[[Transaction], Awaitable[Result]], attempts: int = 10) -> Result:
         """Does work in a transaction, and once more in a new one where it conflicts, is lost or stays pending, as `Store.run`
-        does."""
+        does. The transaction has no `start` before its first read or its commit."""
         tried = Attempts(self._patience, attempts)
         while True:
-            transaction = self.transaction()
+            transaction = Transaction(self, begins_later=True)
             results: list[Result] = []
             try:
                 async with transaction:
@@ -644,22 +654,29 @@ async def looks(address: Address, asked: Backup, copying: asyncio.Future[bytes])
             stream.close()
 
 
+def begins(operation: object) -> bool:
+    """Whether a request begins a session."""
+    return isinstance(operation, Begin) or (isinstance(operation, (Commit, Read)) and operation.start == NEW)
+
+
 class Snapshot:
     """The store as of one moment, the start of a session. It begins and ends with `async with`, or by `begin` and `stop`."""
 
-    def __init__(self, asked: Store) -> None:
+    def __init__(self, asked: Store, begins_later: bool = False) -> None:
+        """A snapshot of a store, whose session begins with `begin`, or with the first request after that."""
         self._store = asked
+        self._begins_later = begins_later
         self._link: Link | None = None
         self.stream: FrameStream | None = None
 
     async def begin(self) -> None:
         """Begins the session."""
         self._leave()
-        self.session, self.stream, self._link = await self._store.begun()
+        self.session, self.stream, self._link = await self._store.session(self._begins_later)
 
     @property
     def start(self) -> int:
-        """The session's start."""
+        """The session's start. ValueError if it hasn't begun: a transaction of `run` begins with its first read or its commit."""
         return self.session.start
 
     @property

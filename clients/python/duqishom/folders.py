@@ -43,6 +43,7 @@ from duqishom.operations import (
 from duqishom.program import ENDS, Program, ProgramEnded
 from duqishom.recording import Recording
 from duqishom.refusals import Refused
+from duqishom.several import Commit
 
 # The operations whose effects are missing from a folder without a log until the next checkpoint.
 CHANGING = {
@@ -55,6 +56,7 @@ CHANGING = {
     Split.code,
     Move.code,
     Sweep.code,
+    Commit.code,
 }
 
 

@@ -1,4 +1,4 @@
-"""The twenty operations: the encoding of their requests and the decoding of their answers."""
+"""The twenty operations of one step: the encoding of their requests and the decoding of their answers."""
 
 from __future__ import annotations
 
@@ -366,13 +366,15 @@ def spoken_of(refusal: type[Refused], operation: object) -> str:
     part."""
     for field in refusal.speaks_of:
         given = getattr(operation, field, None)
-        if given is not None:
+        if isinstance(given, tuple):
+            given = len(given)
+        if given is not None and (field, given) != ("start", NEW):
             return named(SESSION if field == "start" else field, given)
     return ""
 
 
-# The name of a start in a text.
-SESSION = "session"
+# The name of a start in a text, and the start of a request that begins a session.
+SESSION, NEW = "session", 0
 
 # The number of bytes of a row, a family or a value shown in a text.
 SHOWN = 32

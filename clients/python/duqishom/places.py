@@ -7,13 +7,13 @@ from collections import deque
 
 
 class Places:
-    """So many places. A task that finds none waits for one that is given back."""
+    """So many places. A task that finds none waits for one that is given back. `given` is how many were."""
 
     def __init__(self, most: int) -> None:
         if most < 1:
             raise ValueError(f"there must be 1 session or more, and not {most}")
         self._places = asyncio.Semaphore(most)
-        self._taken = 0
+        self._taken = self.given = 0
         self._waiting: deque[asyncio.Future[None]] = deque()
 
     async def take(self) -> None:
@@ -24,6 +24,7 @@ class Places:
     def give_back(self) -> None:
         """Gives a place back."""
         self._taken -= 1
+        self.given += 1
         self._places.release()
         while self._waiting:
             waiting = self._waiting.popleft()

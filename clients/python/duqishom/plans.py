@@ -8,7 +8,7 @@ from __future__ import annotations
 
 import logging
 import random
-from collections.abc import Callable, Generator, Sequence
+from collections.abc import Callable, Generator, Iterable, Sequence
 from contextlib import suppress
 from dataclasses import dataclass
 from typing import Any, TypeVar
@@ -24,6 +24,8 @@ from duqishom.answers import (
     Pending,
     Qualifier,
     Stamped,
+    Unsent,
+    Value,
 )
 from duqishom.batches import Batch, Gets, Steps
 from duqishom.cells import Cell
@@ -43,7 +45,8 @@ from duqishom.operations import (
     Stop,
     Sweep,
 )
-from duqishom.refusals import BadRequest, MemtableFull, Refused, TooManyFiles, UnknownTablet
+from duqishom.refusals import BadRequest, MemtableFull, NoMemory, Refused, TooManyFiles, UnknownTablet
+from duqishom.several import MOST_READ, NEW, CommitDone, Read, ReadDone, Support
 from duqishom.tablets import TabletMap
 
 LOG = logging.getLogger("duqishom")
@@ -183,6 +186,9 @@ class Stamps:
             if isinstance(operation, Begin) and isinstance(answer, int):
                 self._was_next = answer == self._last + 1
                 self._last = answer
+            elif isinstance(answer, (CommitDone, ReadDone)):
+                self._last = max(self._last, answer.start, answer.commit if isinstance(answer, CommitDone) else 0)
+                commits += isinstance(answer, CommitDone)
             elif isinstance(operation, (Step, Steps)):
                 for each in answer if isinstance(answer, tuple) else (answer,):
                     if isinstance(each, (Stamped, Committed)):
@@ -201,15 +207,38 @@ class StorePlans:
     def __init__(self, patience: Patience, tablets: TabletMap | None, has_log: Callable[[], bool]) -> None:
         """Without tablets it is a gateway's store, which others may split."""
         self.patience = patience
+        self.is_of_gateway = tablets is None
         self.stamps = Stamps()
         self._tablets = tablets
         self._has_log = has_log
 
-    def read(self, cells: Sequence[Cell]) -> Plan[list[bytes | None] | None]:
-        """What cells hold as of now: None if one of them is locked. It takes one trip if the start is as expected: the
-        reads go behind the Begin that they need, and are asked again if it has another answer."""
+    def read(self, cells: Sequence[Cell], support: Support) -> Plan[list[bytes | None] | None]:
+        """What cells hold as of now: None if one of them is locked, or if they are too many for one request. It is a
+        Read that leaves no session open, if the program has it."""
         if not cells:
             return []
+        if support.is_there:
+            found = yield from self._read_at_once(cells, support)
+            if support.is_there:
+                return found
+        return (yield from self._read_one_by_one(cells))
+
+    def _read_at_once(self, cells: Sequence[Cell], support: Support) -> Plan[list[bytes | None] | None]:
+        """What cells hold as of now, by one Read."""
+        if len(cells) > MOST_READ:
+            return None
+        [answer] = yield [Read(NEW, False, tuple(cells))]
+        if isinstance(answer, ReadDone):
+            return None if any(isinstance(each, (Pending, Unsent)) for each in answer.found) else values_of(answer)
+        if isinstance(answer, BadRequest):
+            support.is_there = False
+        if isinstance(answer, (BadRequest, NoMemory)):
+            return None
+        raise answer
+
+    def _read_one_by_one(self, cells: Sequence[Cell]) -> Plan[list[bytes | None] | None]:
+        """What cells hold as of now, by Gets. It takes one trip if the start is as expected: the reads go behind the
+        Begin that they need, and are asked again if it has another answer."""
         start = self.stamps.next()
         begun, *answers = yield [Begin()] if start is None else [Begin(), Gets(start, cells)]
         if isinstance(begun, Refused):
@@ -239,6 +268,15 @@ class StorePlans:
             yield from self.checkpoint()
         else:
             yield from self._write(self._tablets.holder(row).number)
+
+    def make_room_for(self, rows: Iterable[bytes]) -> Plan[None]:
+        """Makes room for a commit in rows, of which it isn't known in which tablet there was none."""
+        if self._tablets is None or self._has_log():
+            yield from self.make_room()
+            return
+        LOG.info("a memtable is full: makes room")
+        for number in dict.fromkeys([self._tablets.holder(row).number for row in rows]):
+            yield from self._write(number)
 
     def checkpoint(self) -> Plan[None]:
         """Makes a checkpoint. Where a tablet has too many files, all of its files become one first."""
@@ -353,3 +391,7 @@ class StorePlans:
             above = record.stamp - 1
         return Lost()
 
+
+def values_of(answer: ReadDone) -> list[bytes | None]:
+    """The values that a Read has found, or None, in the order of its cells."""
+    return [each.value if isinstance(each, Value) else None for each in answer.found]

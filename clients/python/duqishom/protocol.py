@@ -56,6 +56,7 @@ from duqishom.operations import (
     Stop,
     Sweep,
 )
+from duqishom.several import Commit, CommitConflict, CommitDone, Read, ReadDone
 
 __all__ = [
     "Begin",
@@ -70,6 +71,9 @@ __all__ = [
     "Collected",
     "Collection",
     "Collector",
+    "Commit",
+    "CommitConflict",
+    "CommitDone",
     "Committed",
     "Conflict",
     "Decided",
@@ -92,6 +96,8 @@ __all__ = [
     "Progress",
     "Qualifier",
     "Raw",
+    "Read",
+    "ReadDone",
     "RolledBack",
     "RolledForward",
     "Scan",

@@ -39,7 +39,7 @@ class UnknownSession(Refused):
 
 
 class WrongPhase(Refused):
-    """A Get, a Scan, a Set or a Delete after the session's first Step."""
+    """A Get, a Scan, a Set, a Delete, a Commit or a Read after the session's first Step."""
 
     number = 2
     limit = "nothing is read or written after the first Step"
@@ -89,6 +89,8 @@ class TooManySessions(Refused):
     # By the operation that was refused: what there are too many of, the most of a store, and of a connection to a gateway.
     limits: ClassVar[dict[int, tuple[str, str, str]]] = {
         0x01: ("sessions", "1,024", "64"),
+        0x32: ("sessions", "1,024", "64"),
+        0x33: ("sessions", "1,024", "64"),
         0x06: ("cleaners", "1,024", "64"),
         0x08: ("collectors", "64", "4"),
     }
@@ -106,7 +108,7 @@ class TooManySessions(Refused):
 
 
 class EmptyCommit(Refused):
-    """A Step of a session that has written nothing."""
+    """A Step or a Commit of a session that has written nothing."""
 
     number = 8
     limit = "it has written nothing"
@@ -155,12 +157,12 @@ class UnknownServer(Refused):
 
 class BadCount(Refused):
     """A Merge takes at least two files, and at most as many as the tablet has. A CollectStep makes 1 to 1,000 visits,
-    and a Scan visits 1 to 1,000 cells."""
+    a Scan visits 1 to 1,000 cells, and a Read reads 1 to 256."""
 
     number = 14
     limit = (
-        "a Merge takes 2 files or more, and as many as the tablet has; a CollectStep makes 1 to 1,000 visits, and a Scan looks at"
-        " 1 to 1,000 cells"
+        "a Merge takes 2 files or more, and as many as the tablet has; a CollectStep makes 1 to 1,000 visits, a Scan looks at"
+        " 1 to 1,000 cells, and a Read at 1 to 256"
     )
     speaks_of = ("count", "visits", "cells")
 
@@ -168,7 +170,7 @@ class BadCount(Refused):
 class MemtableFull(Refused):
     """The memtable of the row's tablet has no room for the edits of this step. A Minor of the tablet makes room.
 
-    A collector's step doesn't say which row: a Minor of each tablet makes room for it. If there is a log, the log may
+    A collector's step and a Commit don't say which row: a Minor of each tablet makes room for it. If there is a log, the log may
     be full instead, and a Checkpoint makes room in both.
     """
 

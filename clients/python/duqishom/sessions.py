@@ -3,8 +3,9 @@
 from __future__ import annotations
 
 import time
-from collections.abc import Iterable, Sequence
+from collections.abc import Iterable, Mapping, Sequence
 from itertools import repeat
+from typing import Any
 
 from duqishom.answers import (
     Committed,
@@ -21,7 +22,8 @@ from duqishom.answers import (
 from duqishom.batches import Gets, Steps, Writes
 from duqishom.cells import FAMILY, LONGEST_ROW, Cell, CellRange, entries_of
 from duqishom.fields import bytes_argument
-from duqishom.operations import MOST_CELLS, Scan, Stop, named
+from duqishom.frames import LONGEST_BODY
+from duqishom.operations import MOST_CELLS, Begin, Scan, Stop, named
 from duqishom.plans import (
     LOG,
     Pause,
@@ -36,39 +38,65 @@ from duqishom.plans import (
 )
 from duqishom.refusals import (
     BadColumn,
+    BadRequest,
     BadRow,
     BadValue,
     MemtableFull,
+    NoMemory,
     Refused,
     TooManyWrites,
     UnknownSession,
     WrongPhase,
 )
+from duqishom.several import NEW, Commit, CommitDone, Read, Support, pieces_of, too_many_for_one
 
 MOST_WRITES = 256
 LONGEST_VALUE = 65_536
 
 # So many values that a scan didn't send are read in one trip.
-MOST_UNSENT = 16
+MOST_UNSENT = 15
 
 # A row, a family and a value, or None where keys alone were asked for.
 Entry = tuple[bytes, bytes, bytes | None]
 
 
 class Session:
-    """One session, from its begin to its end. Its writes are kept here, and sent when it commits."""
+    """One session, from its begin to its end. Its writes are kept here, and sent when it commits.
 
-    def __init__(self, start: int, plans: StorePlans) -> None:
-        self.start = start
+    It begins with its first request. If the program has Read and Commit, the session's reads and its commit are those.
+    """
+
+    def __init__(self, plans: StorePlans, support: Support) -> None:
+        self._start: int | None = None
+        self._support = support
         self.is_active = True
         self.has_stepped = False
         self.commit_stamp: int | None = None
         self._plans = plans
         self._writes: dict[Cell, bytes | None] = {}
-        self._sent: list[Cell] = []
+        self._sent: dict[Cell, bytes | None] = {}
         self._steps = 0
         self._stepped_at = 0.0
         self._to_clean: list[Cell] = []
+
+    @property
+    def start(self) -> int:
+        """The session's start. ValueError if it hasn't begun."""
+        if self._start is None:
+            raise ValueError("the transaction has no start before its first read or its commit")
+        return self._start
+
+    def begin(self) -> Plan[int]:
+        """Begins the session, if it hasn't begun, and returns its start."""
+        if self._start is None:
+            self._check_active()
+            self._start = yield from ask(Begin())
+        return self._start
+
+    def _check_active(self) -> None:
+        """UnknownSession if the session has ended."""
+        if not self.is_active:
+            raise UnknownSession("" if self._start is None else named("session", self._start))
 
     @property
     def first(self) -> Cell | None:
@@ -92,8 +120,7 @@ class Session:
                 tries += 1
                 yield from self._wait(locks, tries)
             asked, locks = [*asked, *locks], {}
-            [answers] = yield [Gets(self.start, asked)]
-            for cell, found in zip(asked, answers):
+            for cell, found in (yield from self._found(asked)).items():
                 if isinstance(found, Refused):
                     raise found
                 if isinstance(found, Pending):
@@ -102,6 +129,45 @@ class Session:
                     values[cell] = found
             asked = []
         return values
+
+    def _found(self, cells: Sequence[Cell]) -> Plan[dict[Cell, bytes | None | Pending | Refused]]:
+        """What cells hold, by Reads if the program has them. Gets read what these haven't sent, and a single cell of a
+        session that has begun."""
+        found: dict[Cell, bytes | None | Pending | Refused] = {}
+        if self._start is None or len(cells) > 1:
+            yield from self._read_together(cells, found)
+        left = [cell for cell in cells if cell not in found]
+        if left:
+            start = yield from self.begin()
+            [answers] = yield [Gets(start, left)]
+            found.update(zip(left, answers))
+        return found
+
+    def _read_together(self, cells: Sequence[Cell], found: dict[Cell, bytes | None | Pending | Refused]) -> Plan[None]:
+        """Notes what cells hold, as far as Reads send it, in one trip, or two if the session begins with the first."""
+        pieces = pieces_of(cells)
+        while pieces and self._support.is_there and not self.has_stepped:
+            if self._start is None:
+                self._check_active()
+            count = 1 if self._start is None else len(pieces)
+            answers = yield [Read(self._start or NEW, True, piece) for piece in pieces[:count]]
+            for piece, answer in zip(pieces, answers):
+                self._note_read(piece, answer, found)
+            pieces = [] if self._start is None else pieces[count:]
+
+    def _note_read(
+        self, cells: tuple[tuple[bytes, bytes], ...], answer: Any, found: dict[Cell, bytes | None | Pending | Refused]
+    ) -> None:
+        """Notes the answer to a Read. A gateway refuses it NoMemory if it has no room for such a long reply."""
+        if isinstance(answer, BadRequest):
+            self._support.is_there = False
+        elif isinstance(answer, Refused) and not isinstance(answer, NoMemory):
+            raise answer
+        elif not isinstance(answer, Refused):
+            self._start = answer.start
+            for cell, each in zip(cells, answer.found):
+                if not isinstance(each, Unsent):
+                    found[Cell(*cell)] = each if isinstance(each, Pending) else each.value if isinstance(each, Value) else None
 
     def _wait(self, locks: dict[Cell, int], tries: int) -> Plan[None]:
         """Waits for locks to go, and after so many tries cleans them, or gives up."""
@@ -123,8 +189,7 @@ class Session:
         """Keeps a write, in the place of one of the same cell."""
         row, family = bytes_argument("row", row), bytes_argument("family", family)
         value = None if value is None else bytes_argument("value", value)
-        if not self.is_active:
-            raise UnknownSession(named("session", self.start))
+        self._check_active()
         if self.has_stepped:
             raise WrongPhase(named("session", self.start))
         if not 1 <= len(row) <= LONGEST_ROW:
@@ -142,16 +207,20 @@ class Session:
         """Ends the session where it stands. Before its first step nothing of it stays."""
         if self.is_active:
             self.is_active = False
-            yield Unwaited(Stop(self.start))
+            if self._start is not None:
+                yield Unwaited(Stop(self._start))
 
     def commit(self) -> Plan[None]:
         """Commits all writes at once, or stops where nothing was written."""
-        if not self.is_active:
-            raise UnknownSession(named("session", self.start))
+        self._check_active()
         if not self._writes:
             yield from self.stop()
             return
-        failure = yield from self._commit()
+        failure = None
+        if self._support.is_there and not self.has_stepped:
+            failure = yield from self._commit_at_once()
+        if self.is_active and failure is None:
+            failure = yield from self._commit()
         for cell in self._to_clean:
             yield from self._plans.clean(*cell)
         if failure is not None:
@@ -159,9 +228,55 @@ class Session:
                 yield from self._plans.free(failure.cell, self._plans.patience)
             raise failure
 
+    def _commit_at_once(self) -> Plan[TransactionFailed | None]:
+        """Commits by one request: why it came to nothing, if it did. If the program doesn't have this request, the
+        session stays active. Writes that are too long for the request go before it. At a gateway it has begun before, since a
+        connection may be lost there, and the fate of a commit can only be asked for by its session's start."""
+        before = too_many_for_one(self._unsent(), LONGEST_BODY)
+        if before or self._plans.is_of_gateway:
+            yield from self.begin()
+        if before:
+            writes = Writes(self.start, dict(list(self._unsent().items())[:before]))
+            [refusals] = yield [writes]
+            self._note_sent(writes, refusals)
+        answer = yield from self._ask_commit()
+        if isinstance(answer, MemtableFull):
+            yield from self._plans.make_room_for([cell.row for cell in self._writes])
+            answer = yield from self._ask_commit()
+        if isinstance(answer, BadRequest):
+            self._support.is_there = False
+            return None
+        if isinstance(answer, Refused):
+            raise answer
+        self.is_active = False
+        if isinstance(answer, CommitDone):
+            self._start, self.commit_stamp = answer.start, answer.commit
+            return None
+        failure = TransactionConflict(list({**self._sent, **self._writes})[answer.place - 1])
+        LOG.debug("a session came to nothing: %s", failure)
+        return failure
+
+    def _unsent(self) -> Mapping[Cell, bytes | None]:
+        """The writes that the store's session doesn't have."""
+        sent = self._sent
+        return {cell: value for cell, value in self._writes.items() if cell not in sent or sent[cell] != value}
+
+    def _ask_commit(self) -> Plan[Any]:
+        """Asks for the commit. The answer, or the refusal, after which the session is as before."""
+        writes = tuple([(*cell, value) for cell, value in self._unsent().items()])
+        self.has_stepped = True
+        try:
+            [answer] = yield [Commit(self._start or NEW, writes)]
+        except BaseException:
+            self.is_active = False
+            raise
+        self.has_stepped = not isinstance(answer, Refused)
+        return answer
+
     def _commit(self) -> Plan[TransactionFailed | None]:
         """Sends the writes and takes the steps: why it came to nothing, where it did."""
-        batches: list[Writes | Steps] = [] if len(self._sent) == len(self._writes) else [Writes(self.start, self._writes)]
+        yield from self.begin()
+        batches: list[Writes | Steps] = [] if self._sent == self._writes else [Writes(self.start, self._writes)]
         if batches and len(self._writes) > 1:
             # Steps beside a refused write would commit the others, so they wait for the replies. A single write takes its steps
             # along, which are refused if it is
@@ -171,7 +286,7 @@ class Session:
         while self.is_active:
             before = self._steps
             if isinstance(rest, MemtableFull):
-                yield from self._plans.make_room(self._sent[self._place()].row)
+                yield from self._plans.make_room(list(self._sent)[self._place()].row)
             elif rest is not None:
                 raise rest
             failure, rest = yield from self._ask([self._steps_left()])
@@ -205,8 +320,8 @@ class Session:
 
     def _note_sent(self, writes: Writes, refusals: Sequence[Refused | None] | None) -> None:
         """Notes the cells whose writes were accepted, in the store's order. The first refusal is raised."""
-        accepted = [cell for cell, refused in zip(writes.writes, refusals or repeat(None)) if refused is None]
-        self._sent = list(dict.fromkeys([*self._sent, *accepted]))
+        accepted = [write for write, refused in zip(writes.writes.items(), refusals or repeat(None)) if refused is None]
+        self._sent.update(accepted)
         for refused in refusals or ():
             if refused is not None:
                 self.has_stepped = self._steps > 0
@@ -242,7 +357,7 @@ class Session:
             case Finished(place, count):
                 self.is_active = place < count
             case Conflict(place):
-                return self._given_up(place - 1, TransactionConflict(self._sent[place - 1]))
+                return self._given_up(place - 1, TransactionConflict(list(self._sent)[place - 1]))
             case Lost():
                 return self._given_up(len(self._sent), TransactionLost(self._why_lost()))
         return None
@@ -251,14 +366,14 @@ class Session:
         """Why a cleaner may have rolled the transaction back."""
         seconds = time.monotonic() - self._stepped_at
         return (
-            f"another client met the lock of {self._sent[0]}, took its session for dead, and rolled it back; the commit"
+            f"another client met the lock of {next(iter(self._sent))}, took its session for dead, and rolled it back; the commit"
             f" had begun {seconds:.2f} s before. The others' `lock_wait` says how long they wait"
         )
 
     def _given_up(self, count: int, failure: TransactionFailed) -> TransactionFailed:
         """Notes that the first so many cells, which the session held to its end, are to be cleaned."""
         self.is_active = False
-        self._to_clean = self._sent[:count]
+        self._to_clean = list(self._sent)[:count]
         LOG.debug("session %d came to nothing: %s", self.start, failure)
         return failure
 
@@ -292,7 +407,8 @@ class RangeScan:
         """Asks for the next batch. The locks of a batch are waited for together. If it had too few, the next one is
         larger."""
         session = self._session
-        scanned = yield from ask(Scan(session.start, asked.after, asked.end, asked.family, self._keys, self._cells))
+        start = yield from session.begin()
+        scanned = yield from ask(Scan(start, asked.after, asked.end, asked.family, self._keys, self._cells))
         entries = entries_of(scanned, self._writes)
         locks = {cell: found.start for cell, found in entries.items() if isinstance(found, Pending)}
         read = yield from session._read([], locks)

@@ -73,6 +73,7 @@ from duqishom.recording import Recording
 from duqishom.refusals import Refused
 from duqishom.remote import Address, ConnectionLost, Fate, Gateway
 from duqishom.sessions import Session
+from duqishom.several import Support
 from duqishom.tablets import NEW_STORE, Tablet, TabletMap, tablets_of
 from duqishom.transactions import Snapshot, Transaction
 
@@ -130,7 +131,8 @@ class Store(AutoCommit):
 
         A lock is waited for `lock_wait` seconds, and then cleaned: 1 s at a gateway, and 0.03 s alone. A patience says more.
 
-        With `record`, a folder, all frames sent and received are recorded there for `tablet_audit`: see `Recording`.
+        With `record`, a folder, all frames sent and received are recorded there for `tablet_audit`: see `Recording`. As that
+        doesn't judge Commit and Read, the store doesn't use them then.
         """
         self._owner = os.getpid()
         self._turn = threading.RLock()
@@ -150,6 +152,7 @@ class Store(AutoCommit):
             program, self.folder, words, None if record is None else Recording(record, self.folder), log
         )
         self._is_closed = False
+        self._support = Support(record is None)
         self._unsaved = Unsaved(self.folder is not None, self.has_log)
         self._tablets = TabletMap(NEW_STORE if self.folder is None else tablets_of(self.folder))
         self._plans = StorePlans(self._patience, None if self._is_remote else self._tablets, lambda: self.has_log)
@@ -196,6 +199,7 @@ class Store(AutoCommit):
         if is_lost(connection) and self._socket is not None and not self._is_closed:
             try:
                 self._connection = Gateway(self._socket)
+                self._support = Support()
             except OSError as error:
                 raise ConnectionLost(f"the connection to the gateway was lost, and can't be made anew: {error}") from None
             LOG.warning("connected anew to the gateway at %s", self._socket)
@@ -369,13 +373,14 @@ class Store(AutoCommit):
         return Transaction(self, *self._begun())
 
     def get_many(self, cells: Iterable[tuple[bytes, bytes]]) -> list[bytes | None]:
-        """The values of cells, all as of one moment and in one trip, or two where others use the store."""
+        """The values of cells, all as of one moment. They are one request if they fit into it and no lock is met; with a program
+        without Read one trip, or two where others use the store."""
         wanted = [Cell(*cell) for cell in cells]
         values: list[bytes | None] | None = None
         with suppress(ConnectionLost):
             with self.alone():
-                connection = self._connected(None)
-            values = self.do(self._plans.read(wanted), connection)
+                connection, support = self._connected(None), self._support
+            values = self.do(self._plans.read(wanted, support), connection)
         return self.run(lambda t: t.get_many(wanted)) if values is None else values
 
     def snapshot(self) -> Snapshot:
@@ -383,16 +388,25 @@ class Store(AutoCommit):
         return Snapshot(self, *self._begun())
 
     def _begun(self) -> tuple[Session, Connection]:
-        """A new session, and the connection that has it."""
+        """A session that has begun, and the connection that has it."""
+        session, connection = self._session()
+        self.do(session.begin(), connection)
+        return session, connection
+
+    def _session(self) -> tuple[Session, Connection]:
+        """A session that hasn't begun, and the connection that is to have it."""
         with self.alone():
-            start = self.begin()
-            return Session(start, self._plans), self._connection
+            connection = self._connected(None)
+            return Session(self._plans, self._support), connection
 
     def run(self, work: Callable[[Transaction], Result], attempts: int = 10) -> Result:
         """Does work in a transaction, and retries in a new one after a conflict, a loss or a lock that stays.
 
         Behind each attempt there is a pause, by chance, up to a time that doubles: first the patience's pause, and at most a
         second. After the last attempt that failure is raised.
+
+        The transaction begins with its first read, or else with its commit. With a program that has Read and Commit, its reads
+        of cells in one call are one request, and so is its commit, before which a gateway is asked for a session.
 
         A connection to a gateway that is lost meanwhile is made anew. Where it was lost in the commit, `fate` tells whether there
         is something left to do.
@@ -402,7 +416,7 @@ class Store(AutoCommit):
             transaction: Transaction | None = None
             results: list[Result] = []
             try:
-                with self.transaction() as transaction:
+                with Transaction(self, *self._session()) as transaction:
                     results.append(work(transaction))
                 return results[0]
             except (TransactionConflict, TransactionLost, StillPending) as failure:

@@ -8,6 +8,7 @@ from typing import cast
 
 from duqishom.frames import frames_end
 from duqishom.remote import Address, ConnectionLost, named_error
+from duqishom.several import Support
 
 
 class Trip:
@@ -21,8 +22,8 @@ class Trip:
 
 
 class FrameStream(asyncio.Protocol):
-    """A connection to a gateway. Replies come in the order of the requests, so the replies to a trip whose task was
-    cancelled are skipped."""
+    """A connection to a gateway, and whether the program there has Commit and Read. Replies come in the order of the
+    requests, so the replies to a trip whose task was cancelled are skipped."""
 
     def __init__(self) -> None:
         self._trips: deque[Trip] = deque()
@@ -31,6 +32,7 @@ class FrameStream(asyncio.Protocol):
         self._has_room.set()
         self.is_open = True
         self.is_lost = False
+        self.support = Support()
 
     @classmethod
     async def open(cls, address: Address) -> FrameStream:

@@ -51,8 +51,8 @@ class Snapshot:
 
     @property
     def start(self) -> int:
-        """The session's start."""
-        return self._session.start
+        """The session's start. A transaction of `Store.run` begins with its first request, or now."""
+        return self._do(self._session.begin())
 
     @property
     def is_active(self) -> bool:
@@ -176,7 +176,8 @@ class Snapshot:
 
 
 class Transaction(Snapshot):
-    """One session, from its begin to its end. Its writes are kept here, and sent when it commits.
+    """One session, from its begin to its end. Its writes are kept here, and sent when it commits: by one Commit, or by Sets
+    and Steps to a program without it.
 
     In a `with` it commits at the end. Where an exception leaves, it stops, unless it has taken a step: then its cells are
     locked, and another `commit` or a cleaner frees them.
@@ -204,8 +205,8 @@ class Transaction(Snapshot):
         """Commits all writes atomically, and returns the commit stamp, or None if nothing was written.
 
         TransactionConflict if a cell is locked or was written since, and TransactionLost if a cleaner was faster: the
-        transaction's locks are released, and a lock of another session is waited for, and then cleaned. If a step is
-        refused, the session continues, and `commit` may be called again. If a request is interrupted or times out, it
+        transaction's locks are released, and a lock of another session is waited for, and then cleaned. If the Commit or a
+        step is refused, the session continues, and `commit` may be called again. If a request is interrupted or times out, it
         isn't known whether everything is committed or nothing.
         """
         self._do(self._session.commit())

@@ -72,8 +72,22 @@ def of_tablet(code: int, tablet: int) -> bytes:
     return frame(number(1, code) + number(4, tablet))
 
 
+def commit(start: bytes, *writes: tuple[bytes, bytes | None]) -> bytes:
+    """A Commit of values, or of deletions, to rows."""
+    changes = [counted(row) + counted(COLUMN) + (b"\0" if value is None else b"\1" + counted(value)) for row, value in writes]
+    return frame(b"\x32" + start + number(4, len(writes)) + b"".join(changes))
+
+
+def read(start: bytes, *rows: bytes, stays: bytes = b"\0") -> bytes:
+    """A Read of rows, by whether the session stays open."""
+    return frame(b"\x33" + start + stays + number(4, len(rows)) + b"".join(counted(row) + counted(COLUMN) for row in rows))
+
+
 BEGIN, COLLECT_BEGIN, SWEEP, CHECKPOINT = frame(b"\x01"), frame(b"\x08"), frame(b"\x0f"), frame(b"\x12")
 STATISTICS = frame(b"\x70")
+
+# The start by which a Commit or a Read begins a session.
+NEW = bytes(8)
 
 
 class Wire:

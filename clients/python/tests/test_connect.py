@@ -9,6 +9,7 @@ import time
 import unittest
 from collections.abc import Callable
 from contextlib import AsyncExitStack
+from itertools import product
 from pathlib import Path
 from typing import Any
 from unittest.mock import patch
@@ -36,6 +37,7 @@ from duqishom.connection import Connection
 from duqishom.frames import whole_frames
 from duqishom.operations import Step
 from duqishom.remote import address_of
+from duqishom.several import Commit, Support
 from tests.gateways import Gateway, folder_of, until
 from tests.peer import peer
 from tests.poor import Poor
@@ -240,6 +242,7 @@ class Trips(unittest.TestCase):
     """What is asked in one trip, and what isn't waited for."""
 
     def test_a_read_in_one_trip(self) -> None:
+        """Of a program without Read, which is asked for one only once."""
         def begun(start: int) -> tuple[bytes, bytes]:
             return b"\x01", b"\x81" + start.to_bytes(8, "big")
 
@@ -251,6 +254,7 @@ class Trips(unittest.TestCase):
 
         unknown, pending = b"\xff\1", b"\x82\2" + (4).to_bytes(8, "big")
         exchanges = [
+            (b"\x33" + bytes(9) + b"\0\0\0\1\0\0\0\3Ann\0\0\0\3bal", b"\xff\x16"),
             *(begun(1), read(1, b"\x82\1\0\0\0\1a"), stopped(1)),
             *(begun(2), read(2, b"\x82\1\0\0\0\1b"), stopped(2)),
             *(begun(9), read(3, unknown), read(9, b"\x82\0"), stopped(9)),
@@ -319,6 +323,7 @@ class Functions(unittest.TestCase):
 
         @duqishom.transactional
         def work(t: Transaction) -> int:
+            t.get(ANN, BAL)
             t.put(ANN, BAL, b"0")
             if rest:
                 store.put(ANN, BAL, rest.pop())
@@ -407,15 +412,15 @@ class Twin(unittest.TestCase):
         asyncio.run(main())
 
 
-def ends_with_step(requests: bytes) -> bool:
-    """Whether the last of these requests is a Step."""
+def commits(requests: bytes) -> bool:
+    """Whether the last of these requests is a Step or a Commit."""
     bodies: list[bytes] = []
     whole_frames(requests, bodies)
-    return bodies[-1][0] == 4
+    return bodies[-1][0] in (Step.code, Commit.code)
 
 
 class Losing:
-    """A connection that is lost in place of a reply to a Step, before it does what it was asked or behind it."""
+    """A connection that is lost in place of a reply to a Step or a Commit, before it does what it was asked or behind it."""
 
     def __init__(self, connection: Connection, is_done: bool) -> None:
         self._connection = connection
@@ -423,7 +428,7 @@ class Losing:
         self.is_lost = False
 
     def ask(self, requests: bytes, count: int, timeout: float | None = None) -> bytes:
-        if not ends_with_step(requests):
+        if not commits(requests):
             return self._connection.ask(requests, count, timeout)
         if self._is_done:
             self._connection.ask(requests, count, timeout)
@@ -470,9 +475,9 @@ class Losses(unittest.TestCase):
 
     def test_in_a_commit(self) -> None:
         gateway = Gateway(self)
-        for is_done in (True, False):
-            with self.subTest(is_done=is_done), Store(socket=gateway.path) as store:
-                store._connection = Losing(store._connection, is_done)
+        for is_done, has_commit in product((True, False), (True, False)):
+            with self.subTest(is_done=is_done, has_commit=has_commit), Store(socket=gateway.path) as store:
+                store._connection, store._support = Losing(store._connection, is_done), Support(has_commit)
                 worked: list[Transaction] = []
 
                 def work(t: Transaction) -> int:
@@ -495,7 +500,7 @@ class Losses(unittest.TestCase):
                 before = int(await store.get(ANN, BAL) or b"0")
 
                 async def losing(requests: bytes, count: int) -> bytes:
-                    if not ends_with_step(requests):
+                    if not commits(requests):
                         return await ask(requests, count)
                     if is_done:
                         await ask(requests, count)
@@ -526,7 +531,7 @@ class Losses(unittest.TestCase):
 
     def test_why_it_was_lost(self) -> None:
         with Store() as store:
-            store._connection = Poor(store._connection, Step.code, 3, count=3)
+            store._connection, store._support = Poor(store._connection, Step.code, 3, count=3), Support(False)
             transaction = store.transaction()
             for row in (ANN, BOB):
                 transaction.put(row, BAL, b"1")

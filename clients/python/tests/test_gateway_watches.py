@@ -12,6 +12,7 @@ from duqishom.gateway import watches as gateway_watches
 from duqishom.gateway.bounds import CELL_SIZE, CHANGE_SIZE, CHANGES_OF_CLIENT, WATCHES_OF_CLIENT, WRITTEN_OF_ALL
 from duqishom.gateway.passages import Kind, passages
 from duqishom.gateway.things import Thing, Things
+from duqishom.gateway.upstream import Run
 from duqishom.gateway.users import User
 from tests.gateways import (
     COLUMN,
@@ -157,7 +158,8 @@ class Watches(unittest.TestCase):
         watches = gateway_watches.Watches(passages(notes_reads=False), Things(), lambda client: None)
         for prefix in (b"a", b"b"):
             watches.begin(client, watch(prefix)[4:])
-        watches.note(bytes(8), frame(COMMITTED + bytes(8)))
+        step_of_none = Run(mock.Mock(), passages(notes_reads=False)[4], number(8, 7), 1, 1, 32)
+        watches.note(step_of_none, frame(COMMITTED + bytes(8)))
         self.assertEqual(told, [frame(unnamed(1)), frame(unnamed(2))])
 
     def test_clients_that_are_gone(self) -> None:

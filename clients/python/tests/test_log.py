@@ -385,7 +385,7 @@ class Logs(FolderTest):
             store.step(start)
         self.assertEqual(self.inspected("cells"), "counter\tc\t2\n")
         self.assertEqual(self.inspected("locks"), f"held c: session {start} sets it; its first cell is held c\n")
-        self.assertIn("10 keys in the log", self.inspected("stats"))
+        self.assertIn("7 keys in the log", self.inspected("stats"))
         self.assertIn(f", mark 1000 (1000 in {MARK}), ", self.inspected("stats"))
         size = self.end()
         what = "format 2, store [0-9a-f]{16}, [0-9]+ records from number [0-9]+, over the root of stamp"

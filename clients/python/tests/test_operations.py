@@ -576,8 +576,9 @@ class Unasked(unittest.TestCase):
 
     def test_full_memtables(self) -> None:
         with Store(words=("--flush", "2")) as store:
-            with store.transaction() as transaction:
-                transaction.set(b"r", b"c", b"v")
+            for value in (b"v", b"w"):
+                with store.transaction() as transaction:
+                    transaction.set(b"r", b"c", value)
             store.merge(1, 2)
             self.assertEqual(store.sweep(), 2)
 

@@ -72,7 +72,7 @@ class Options(FolderTest):
 
     def test_log_bytes(self) -> None:
         """An edit counts as at least 671 bytes: a log of 4,096 bytes is emptied at each seventh edit."""
-        for words, least, most in (((), 2_500, 10_000), (("--log-bytes", "4096"), 8, 1_000)):
+        for words, least, most in (((), 2_000, 10_000), (("--log-bytes", "4096"), 8, 1_000)):
             with self.subTest(words=words):
                 self.new_folder()
                 with self.opened(*words, log=True) as store:
@@ -86,7 +86,7 @@ class Options(FolderTest):
         # The words, the number of commits, the size of their values in bytes, and the number of files that the tablet
         # then has
         table: tuple[tuple[tuple[str, ...], int, int, range], ...] = (
-            (("--flush-bytes", "1048576"), 17, 65_000, range(2, 3)),
+            (("--flush-bytes", "1048576"), 18, 65_000, range(2, 3)),
             (("--flush", "100"), 10, 1, range(1, 2)),
             (("--flush", "2"), 10, 1, range(8, 64)),
             (("--flush", "2", "--merge", "3"), 10, 1, range(1, 4)),
@@ -142,7 +142,8 @@ class Options(FolderTest):
             for row in (b"25", b"50"):
                 store.split(row)
             few = len(handles(store))
-            self.put(store, 75)
+            for _ in range(2):
+                self.put(store, 75)
             self.assertGreater(len(self.files()), 140)
             for _ in range(2):
                 self.assertEqual(len(store.run(lambda t: list(t.scan()))), 75)

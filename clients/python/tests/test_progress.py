@@ -219,7 +219,7 @@ class Lines(FolderTest):
             (("restore", FORMAT1, copy), f"restore: 535 bytes of 535 bytes{RATE}\n"),
             (("dump", "--dir", FORMAT1, lines), f"dump: 2 cells{RATE}\n"),
             (("load", "--dir", store, lines), f"load: 2 cells of 2 cells{RATE}\n"),
-            (("--dir", store, "backup", self.path / "backup"), rf"backup: ([\d.]+ KiB) of \1{RATE}\n"),
+            (("--dir", store, "backup", self.path / "backup"), rf"backup: ([\d.]+ \w+) of \1{RATE}\n"),
         )
         for number, (words, line) in enumerate(cases):
             for option in ("--quiet", "--progress", None):

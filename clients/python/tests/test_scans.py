@@ -160,13 +160,12 @@ class Batches(unittest.TestCase):
 
     def test_locks_are_cleaned_together_and_read(self) -> None:
         locked = b"\xb1\1\0\0\0\2\0\0\0\1b\0\0\0\3bal\2\0\0\0\0\0\0\0\1\0\0\0\1d\0\0\0\3bal\2\0\0\0\0\0\0\0\2"
-        get_d = GET_B.replace(b"b\0", b"d\0", 1)
+        read = b"\x33" + THREE + b"\1\0\0\0\2\0\0\0\1b\0\0\0\3bal\0\0\0\1d\0\0\0\3bal"
         store = self.store(
             (ALL + MOST, locked),
             (b"\x06\0\0\0\1b\0\0\0\3bal", b"\x86\0"),
             (b"\x06\0\0\0\1d\0\0\0\3bal", b"\x86\0"),
-            (GET_B, b"\x82\1\0\0\0\1v"),
-            (get_d, b"\x82\0"),
+            (read, b"\xb3" + THREE + b"\0\0\0\2\1\0\0\0\1v\0"),
         )
         with store.transaction() as t:
             self.assertEqual(list(t.scan()), [(b"b", BAL, b"v")])

@@ -26,6 +26,7 @@ from duqishom import (
     Value,
     WrongPhase,
 )
+from duqishom.several import Support
 from tests.folders import FolderTest
 from tests.pages import TOP
 from tests.poor import Poor
@@ -35,9 +36,9 @@ SET, STEP = 0x03, 0x04
 
 
 def poor(code: int, first: int, count: int = 1) -> Store:
-    """A store that refuses some requests."""
+    """A store without Commit and Read that refuses some requests."""
     store = Store()
-    store._connection = Poor(store._connection, code, first, count)
+    store._connection, store._support = Poor(store._connection, code, first, count), Support(False)
     return store
 
 

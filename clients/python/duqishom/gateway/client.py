@@ -14,16 +14,20 @@ from duqishom.gateway.bounds import CHANGES_OF_CLIENT, READ_AHEAD, READ_SIZE, RE
 from duqishom.gateway.passages import (
     BACKUP,
     BACKUP_REPLY,
+    COMMIT,
     HEAD,
     LENGTH,
     NAME_END,
+    NO_MEMORY,
     NO_OPERATION,
     READ_ROOM,
     STATISTICS,
     TOO_LARGE,
     TURN_WEIGHT,
+    OfCells,
     Passage,
     frame,
+    of_cells,
 )
 from duqishom.gateway.things import Thing
 from duqishom.gateway.upstream import Run
@@ -230,7 +234,14 @@ class Client(asyncio.BufferedProtocol):
             if length > LONGEST_BODY:
                 return at, TOO_LARGE
             passage = table[waiting[at + HEAD] if 0 < length and end <= size else 0]
-            if end > size or passage.room > room:
+            needs = passage.room
+            if isinstance(passage, OfCells):
+                body = self.body(at, end)
+                passage = of_cells(passage, body)
+                needs = passage.room_of(body)
+            if end > size or needs > room:
+                if needs > READ_ROOM and at == 0 and self._held() == 0:
+                    return at, NO_MEMORY
                 break
             if passage.is_judged and (verdict := verdict_on(self, passage, at, end)) is not None:
                 return at, verdict
@@ -239,6 +250,8 @@ class Client(asyncio.BufferedProtocol):
                 self.needs_idle = run.weight > TURN_WEIGHT and bool(runs or self.exchange.upstream.weight)
                 if self.needs_idle:
                     break
+                if passage.opens is not None:
+                    self.exchange.things.note_begin(passage.opens, self)
                 runs.append(run)
                 weight += run.weight
             else:
@@ -248,17 +261,20 @@ class Client(asyncio.BufferedProtocol):
                 plain.add()
                 weight += passage.weight
             counts[passage.code] += 1
-            room -= passage.room
+            room -= needs
             at = end
         return at, None
 
     def _noted(self, passage: Passage, at: int, end: int) -> Run:
         """The run of a request whose reply is looked at."""
-        if passage.opens is not None:
-            self.exchange.things.note_begin(passage.opens, self)
         name = bytes(self.waiting[at + HEAD + 1 : at + HEAD + NAME_END])
-        weight = passage.weight_of(self.body(at, end)) if passage.weight_each else passage.weight
-        return Run(self, passage, name, 1, weight, passage.room, self.since)
+        body = self.body(at, end) if passage.weight_each else b""
+        weight = passage.weight_of(body) if body else passage.weight
+        room = passage.room_of(body) if isinstance(passage, OfCells) else passage.room
+        run = Run(self, passage, name, 1, weight, room, self.since)
+        if passage.code == COMMIT:
+            run.body = body
+        return run
 
     def _send(self, at: int, runs: list[Run]) -> None:
         """Sends the gathered requests."""
@@ -280,12 +296,16 @@ class Client(asyncio.BufferedProtocol):
 
     def _room(self) -> int:
         """The bytes of replies that may be asked for now. One request is always allowed if no reply is untaken or still
-        to come."""
+        to come, but for a Read of so much that there is no memory for it."""
         if self.untaken > 0:
             self._measure(self.transport.get_write_buffer_size())
-        held = self.room + self.untaken + self.kept_size + self._out_size
+        held = self._held()
         room = min(REPLIES_OF_CLIENT - held, REPLIES_OF_ALL - self.exchange.bounds.replies)
         return max(room, READ_ROOM) if held == 0 else room
+
+    def _held(self) -> int:
+        """The bytes of replies that are to come, that wait, or that the client hasn't taken."""
+        return self.room + self.untaken + self.kept_size + self._out_size
 
     def body(self, at: int, end: int) -> bytes:
         """The body of a waiting request, by the offsets of its frame."""

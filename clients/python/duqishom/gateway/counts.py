@@ -13,9 +13,11 @@ from typing import TYPE_CHECKING
 from duqishom.gateway.passages import (
     BACKUP,
     CLIENTS,
+    COMMIT,
     HEAD,
     KILL,
     LENGTH,
+    READ,
     SCAN,
     STATISTICS,
     STATISTICS_REPLY,
@@ -23,7 +25,7 @@ from duqishom.gateway.passages import (
     Kind,
     frame,
 )
-from duqishom.gateway.things import CODE, CONFLICT, FIELDS, LOST, REFUSED, STEP_REPLY
+from duqishom.gateway.things import CODE, COMMIT_REPLY, CONFLICT, FIELDS, LOST, REFUSED, STEP_REPLY
 from duqishom.gateway.users import CONNECTION
 from duqishom.refusals import BY_NUMBER
 
@@ -54,16 +56,21 @@ NAMES = (
 
 # The operations by their first bytes, and the name of everything else.
 OPERATIONS = {code: name for code, name in enumerate(NAMES, start=1)}
-OPERATIONS |= {SCAN: "Scan", STATISTICS: "Statistics", BACKUP: "Backup", CLIENTS: "Clients", KILL: "Kill", WATCH: "Watch"}
+OPERATIONS |= {SCAN: "Scan", COMMIT: "Commit", READ: "Read"}
+OPERATIONS |= {STATISTICS: "Statistics", BACKUP: "Backup", CLIENTS: "Clients", KILL: "Kill", WATCH: "Watch"}
 OTHER = "other"
 
 # How the frame of a refusal begins, and the most bytes that are searched for one.
 REFUSAL = LENGTH.pack(2) + bytes((REFUSED,))
 MOST_SEARCHED = 4096
 
-# The refusals, and the answers to a Step by which a commit comes to nothing, by the first two bytes of a reply.
+# The refusals, and the answers to a Step or a Commit by which a commit comes to nothing, by the first two bytes of a reply.
 REFUSALS = {bytes((REFUSED, number)): refusal.__name__ for number, refusal in BY_NUMBER.items()}
-CONFLICTS = {bytes((STEP_REPLY, CONFLICT)): "Conflict", bytes((STEP_REPLY, LOST)): "Lost"}
+CONFLICTS = {
+    bytes((STEP_REPLY, CONFLICT)): "Conflict",
+    bytes((STEP_REPLY, LOST)): "Lost",
+    bytes((COMMIT_REPLY, CONFLICT)): "Conflict",
+}
 
 PAGE = os.sysconf("SC_PAGE_SIZE")
 TICKS = os.sysconf("SC_CLK_TCK")
@@ -98,7 +105,10 @@ class Counts:
 
     def failed(self, names: Mapping[bytes, str]) -> dict[str, int]:
         """The number of refusals, or of conflicts, by their names."""
-        return {name: self.failures[begins] for begins, name in names.items()}
+        counted = dict.fromkeys(names.values(), 0)
+        for begins, name in names.items():
+            counted[name] += self.failures[begins]
+        return counted
 
     def note(self, reply: bytes) -> None:
         """Counts a reply, if it is a refusal or a conflict."""
@@ -107,7 +117,7 @@ class Counts:
             self.failures[begins] += 1
 
     def note_all(self, replies: bytes) -> None:
-        """Counts the refusals among replies, of which none is to a Step. Short ones are looked at one by one only if
+        """Counts the refusals among replies, of which none is to a Step or a Commit. Short ones are looked at one by one only if
         there are the bytes of a refusal somewhere."""
         at = 0 if len(replies) > MOST_SEARCHED or REFUSAL in replies else len(replies)
         while at < len(replies):

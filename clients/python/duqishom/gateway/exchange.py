@@ -79,7 +79,7 @@ class Exchange:
         self.latencies = Latencies(OPERATIONS, OTHER)
         self.slow = Slow(rules.slow)
         self.things = Things()
-        self.table = passages(notes_reads=rules.is_durable)
+        self.table = passages(notes_reads=rules.is_durable, is_recorded=recording is not None)
         self.is_closing = False
         self._recording = recording
         self.upstream = Upstream(self.latencies.look, self._taken, self._program_ended, self._eased, recording)
@@ -190,7 +190,7 @@ class Exchange:
     def note(self, client: Client, run: Run, reply: bytes) -> None:
         """Records the effects of a reply, before the client gets it."""
         self.keeper.note(client, run, reply)
-        self.watches.note(run.name, reply)
+        self.watches.note(run, reply)
         self.things.note(run.passage, run.name, reply, client, self.upstream.sent)
         if reply == MEMTABLE_FULL and self.rules.has_admin and not client.is_admin:
             self.need_room.add(client)

@@ -9,8 +9,18 @@ from typing import TYPE_CHECKING
 
 from duqishom.gateway.failure import begin, tell
 from duqishom.gateway.household import Household, body_of
-from duqishom.gateway.passages import CHECKPOINT, GET, RAW, SCAN, SWEEP, TOO_MANY_FILES, frame
-from duqishom.gateway.things import CODE, COMMITTED, CONFLICT, FIELDS, FINISHED, STEP_REPLY, TAG
+from duqishom.gateway.passages import CHECKPOINT, GET, NAME, RAW, SCAN, SWEEP, TOO_MANY_FILES, frame
+from duqishom.gateway.things import (
+    CODE,
+    COMMIT_REPLY,
+    COMMITTED,
+    CONFLICT,
+    FINISHED,
+    READ_REPLY,
+    STEP_REPLY,
+    TAG,
+    stamp_of_commit,
+)
 from duqishom.gateway.upstream import Run
 from duqishom.program import ProgramEnded
 
@@ -30,8 +40,8 @@ class Keeper:
     The program does one request after the other, so a checkpoint makes all commits durable that were answered before
     it. From an answered commit to the next answered checkpoint there are commits that aren't durable: the first has the
     stamp `unkept`. Meanwhile these replies wait, with all later ones for the same client: to a commit and its later
-    steps, a Conflict, to a cleaner, to a raw read, and to a Get or a Scan in a session that began after the first
-    commit that isn't durable.
+    steps, a Conflict, to a cleaner, to a raw read, and to a Get, a Scan or a Read in a session that began after the
+    first commit that isn't durable.
     """
 
     def __init__(self, household: Household, is_durable: bool) -> None:
@@ -66,8 +76,8 @@ class Keeper:
             holding, self._holding = self._holding, []
             for client in holding:
                 client.release()
-        elif self.unkept is None and reply[CODE] == STEP_REPLY and reply[TAG] == COMMITTED:
-            self.unkept = reply[FIELDS:]
+        elif self.unkept is None:
+            self.unkept = stamp_of_commit(reply)
 
     def _shows(self, run: Run, reply: bytes) -> bool:
         """Whether a reply shows, or may show, a commit that isn't durable."""
@@ -75,6 +85,10 @@ class Keeper:
             return False
         if run.passage.code in (GET, SCAN):
             return run.name > self.unkept
+        if reply[CODE] == READ_REPLY:
+            return reply[TAG : TAG + NAME] > self.unkept
+        if reply[CODE] == COMMIT_REPLY:
+            return True
         if reply[CODE] == STEP_REPLY:
             return reply[TAG] in (COMMITTED, FINISHED, CONFLICT)
         return reply[CODE] in CLEANER_REPLIES or run.passage.code == RAW

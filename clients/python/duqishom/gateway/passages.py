@@ -26,10 +26,20 @@ CELL_WEIGHT = 1
 # The maximum visits of a collector's step, and the maximum cells of a scan.
 MOST_COUNT = 1000
 
-# The longest reply frames: of a read or a scan, of a blocked collector, and of all other requests.
+# The weights of a write of a Commit and of a cell of a Read, of this many bytes of their bodies, and the maximum of both
+# that count: the program refuses more.
+WRITE_WEIGHT = 3
+SIZE_OF_WEIGHT = 4096
+MOST_CELLS = 256
+
+# The longest reply frames: of a read or a scan, of a blocked collector, of all other requests, and of a Read, with the
+# bytes before its cells, and the most bytes of a cell.
 READ_ROOM = 65_558
 BLOCKED_ROOM = 4_085
 SMALL_ROOM = 32
+LONGEST_ROOM = 1_048_580
+CELLS_AT = 17
+CELL_ROOM = 65_541
 
 
 def frame(body: bytes) -> bytes:
@@ -44,17 +54,20 @@ def refusal(number: int) -> bytes:
 
 UNKNOWN_TABLET, TOO_MANY_FILES, MEMTABLE_FULL = refusal(11), refusal(16), refusal(15)
 BAD_REQUEST, TOO_LARGE, TOO_MANY = refusal(22), refusal(23), refusal(7)
-BAD_ROW, BAD_COLUMN = refusal(3), refusal(4)
+BAD_ROW, BAD_COLUMN, NO_MEMORY = refusal(3), refusal(4), refusal(20)
 
 BEGIN, GET, SET, STEP, STOP, CLEAN_BEGIN, CLEAN_STEP, COLLECT_BEGIN, COLLECT_STEP = range(1, 10)
 MINOR, MERGE, MAJOR, SPLIT, MOVE, SWEEP, ORACLE_RESTART, RAW, CHECKPOINT, DELETE = range(10, 20)
-SCAN = 0x31
+SCAN, COMMIT, READ = 0x31, 0x32, 0x33
+
+# The start by which a Commit or a Read begins a session.
+NEW = bytes(NAME)
 
 # The byte of an empty body, by which clients find out whether the program answers. That it is refused says nothing.
 NO_OPERATION = 0x00
 
 # The operations whose answers show commits, in sessions and outside them, and those that write cells.
-READS = (GET, RAW, SCAN)
+READS = (GET, RAW, SCAN, READ)
 WRITES = (SET, DELETE)
 
 # The requests that the gateway answers itself. The program refuses them as no requests.
@@ -78,8 +91,8 @@ class Passage:
     """An operation as the gateway passes it on: its number, its weight, the maximum length of its reply, the kind of
     thing that it names or opens, the fields after that (the number of counted fields, the number of bytes 00 or 01, the
     numbers of counted fields after each option's byte 01, and the number of other bytes), the weight of each unit of
-    its last number, whether its reply is looked at, whether it is only for the administrator's socket, and whether the
-    gateway may answer it."""
+    its last number, whether its reply is looked at, whether it is only for the administrator's socket, whether the
+    gateway may answer it, and whether it always refuses it."""
 
     code: int
     weight: int = 1
@@ -94,6 +107,7 @@ class Passage:
     is_noted: bool = False
     is_for_admin: bool = False
     is_judged: bool = False
+    is_refused: bool = False
 
     def has_form(self, body: bytes) -> bool:
         """Whether a body has exactly the fields of this operation."""
@@ -113,6 +127,49 @@ class Passage:
         return 1 + self.weight_each * min(count, MOST_COUNT)
 
 
+@dataclass(frozen=True, slots=True)
+class OfCells(Passage):
+    """A Commit or a Read: its fields are a start, which names a session or begins one, whether that stays open (of a
+    Read), and a list of cells, which in a Commit are followed by values. `ends` is whether its session ends with an
+    answer that is no refusal."""
+
+    ends: bool = True
+
+    def has_form(self, body: bytes) -> bool:
+        """Whether a body has exactly the fields of this operation. Of a Read with a number of cells that is refused it
+        isn't asked: the program looks at that first."""
+        at = NAME_END
+        if self.code == READ:
+            at = at + 1 if body[at : at + 1] in FLAGS else NOWHERE
+        if len(body) < at + LENGTH.size:
+            return False
+        count = int(LENGTH.unpack_from(body, at)[0])
+        at += LENGTH.size
+        if self.code == READ:
+            return 1 <= count <= MOST_CELLS and len(body) == past_counted(body, at, 2 * count)
+        return len(body) == past_writes(body, at, count)
+
+    def weight_of(self, body: bytes) -> int:
+        """The weight of a request with this body, by its cells and its bytes."""
+        return 1 + self.weight_each * self._cells(body) + len(body) // SIZE_OF_WEIGHT
+
+    def room_of(self, body: bytes) -> int:
+        """The maximum length of the reply to a request with this body."""
+        return self.room if self.code == COMMIT else min(LONGEST_ROOM, self.room + CELL_ROOM * self._cells(body))
+
+    def _cells(self, body: bytes) -> int:
+        """The number of cells of a request with this body, as far as they count."""
+        at = NAME_END + (self.code == READ)
+        return min(int(LENGTH.unpack_from(body, at)[0]), MOST_CELLS) if len(body) >= at + LENGTH.size else 0
+
+
+def of_cells(passage: Passage, body: bytes) -> OfCells:
+    """The Commit or the Read with this body: whether it names a session or begins one, and whether that stays open."""
+    code, is_new = passage.code, body[1:NAME_END] == NEW
+    stays_open = code == READ and body[NAME_END : NAME_END + 1] == b"\1"
+    return OF_CELLS[code, is_new, stays_open]
+
+
 # The values of a boolean byte, and an offset behind the end of any body.
 FLAGS = (b"\0", b"\1")
 NOWHERE = 1 << 32
@@ -125,6 +182,17 @@ def past_counted(body: bytes, at: int, count: int) -> int:
         if len(body) < at + HEAD:
             return NOWHERE
         at += HEAD + int(LENGTH.unpack_from(body, at)[0])
+    return at
+
+
+def past_writes(body: bytes, at: int, count: int) -> int:
+    """The end of `count` writes of a Commit that begin here in a body, or an offset behind the body's end if they aren't
+    there."""
+    for _ in range(count):
+        at = past_counted(body, at, 2)
+        if body[at : at + 1] not in FLAGS:
+            return NOWHERE
+        at = past_counted(body, at + 1, body[at])
     return at
 
 
@@ -151,12 +219,31 @@ SCANNING = Passage(
     is_noted=True,
 )
 
+# All Commits and Reads, by their number, whether they begin a session, and whether it stays open.
+OF_CELLS = {
+    (code, is_new, stays_open): OfCells(
+        code,
+        names=None if is_new else Kind.SESSION,
+        opens=Kind.SESSION if is_new else None,
+        room=SMALL_ROOM if code == COMMIT else CELLS_AT,
+        weight_each=WRITE_WEIGHT if code == COMMIT else CELL_WEIGHT,
+        is_noted=True,
+        is_judged=True,
+        ends=not stays_open,
+    )
+    for code in (COMMIT, READ)
+    for is_new in (False, True)
+    for stays_open in (False, True)
+}
+
 KNOWN = (
     Passage(BEGIN, opens=Kind.SESSION, is_noted=True),
     of_session(GET, counted=2, room=READ_ROOM),
     of_session(SET, counted=3),
     of_session(DELETE, counted=2),
     SCANNING,
+    OF_CELLS[COMMIT, True, False],
+    OF_CELLS[READ, True, False],
     of_session(STEP, is_noted=True),
     of_session(STOP, is_noted=True),
     Passage(CLEAN_BEGIN, opens=Kind.CLEANER, counted=2, is_noted=True),
@@ -170,8 +257,9 @@ KNOWN = (
 )
 
 
-def passages(notes_reads: bool) -> tuple[Passage, ...]:
-    """The passage of each first byte of a body. Replies to reads are looked at if `notes_reads` is set."""
+def passages(notes_reads: bool, is_recorded: bool = False) -> tuple[Passage, ...]:
+    """The passage of each first byte of a body. Replies to reads are looked at if `notes_reads` is set. In a recording
+    there are no Commits and Reads."""
     table = [Passage(code) for code in range(256)]
     for passage in KNOWN:
         is_noted = passage.is_noted or (notes_reads and passage.code in READS)
@@ -179,4 +267,7 @@ def passages(notes_reads: bool) -> tuple[Passage, ...]:
         table[passage.code] = replace(passage, is_noted=is_noted, is_judged=is_judged)
     for code in (STATISTICS, CLIENTS, KILL, WATCH):
         table[code] = replace(table[code], is_judged=True)
+    if is_recorded:
+        for code in (COMMIT, READ):
+            table[code] = Passage(code, is_judged=True, is_refused=True)
     return tuple(table)

@@ -6,14 +6,15 @@ from time import monotonic
 from typing import Protocol
 
 from duqishom.gateway.bounds import CELL_SIZE, WRITTEN_OF_ALL
-from duqishom.gateway.passages import HEAD, NAME, PLACES, STEP, STOP, Kind, Passage
+from duqishom.gateway.passages import HEAD, NAME, PLACES, STEP, STOP, Kind, OfCells, Passage
 from duqishom.gateway.users import User
 
 # The offsets in a reply's frame of the body's first byte, of its tag or refusal, and of the fields after that.
 CODE, TAG, FIELDS = HEAD, HEAD + 1, HEAD + 2
-REFUSED, STEP_REPLY = 0xFF, 0x84
+REFUSED, STEP_REPLY, COMMIT_REPLY, READ_REPLY = 0xFF, 0x84, 0xB2, 0xB3
 HELD, CONFLICT, COMMITTED, LOST, FINISHED = 1, 2, 4, 5, 6
 DECIDED, COLLECTED = 1, 3
+DONE = 1
 OPENED_CLEANER = 1
 NUMBERS_OF_UNKNOWN = (1, 9, 10)
 
@@ -76,14 +77,13 @@ class Things:
         """Records a reply's news of a thing: that it has opened, continues, or has ended. The program has got `sent`
         requests so far."""
         if passage.opens is not None:
-            self._note_opening(passage.opens, reply, asker, sent)
+            self._note_opening(passage.opens, None if has_ended_at_once(passage) else opened(passage.opens, reply), asker, sent)
         elif passage.names is not None:
             thing = self.by_name[passage.names].get(name)
             if thing is not None and self._has_ended(thing, passage, reply):
                 self.close(thing)
 
-    def _note_opening(self, kind: Kind, reply: bytes, asker: Owner, sent: int) -> None:
-        name = opened(kind, reply)
+    def _note_opening(self, kind: Kind, name: bytes | None, asker: Owner, sent: int) -> None:
         if name is None:
             asker.counts[kind] -= 1
             asker.user.add(kind, -1)
@@ -120,13 +120,18 @@ class Things:
             return reply[TAG] != DECIDED
         if thing.kind == Kind.COLLECTOR:
             return reply[TAG] == COLLECTED
-        return passage.code == STOP or (passage.code == STEP and has_ended_by_step(thing, reply))
+        return passage.code == STOP or has_ended_at_once(passage) or (passage.code == STEP and has_ended_by_step(thing, reply))
 
 
 def size_of(cell: tuple[bytes, bytes]) -> int:
     """The size of a recorded cell."""
     row, family = cell
     return len(row) + len(family) + CELL_SIZE
+
+
+def has_ended_at_once(passage: Passage) -> bool:
+    """Whether the session of a request ends with each answer that is no refusal."""
+    return isinstance(passage, OfCells) and passage.ends
 
 
 def opened(kind: Kind, reply: bytes) -> bytes | None:
@@ -150,3 +155,10 @@ def has_ended_by_step(session: Thing, reply: bytes) -> bool:
         place, count = PLACES.unpack_from(reply, FIELDS)
         return bool(place == count)
     return tag in (CONFLICT, LOST)
+
+
+def stamp_of_commit(reply: bytes) -> bytes | None:
+    """The stamp of the commit that the reply to a Step or a Commit tells of, or None if it tells of none."""
+    if reply[CODE] == STEP_REPLY and reply[TAG] == COMMITTED:
+        return reply[FIELDS:]
+    return reply[FIELDS + NAME :] if reply[CODE] == COMMIT_REPLY and reply[TAG] == DONE else None

@@ -35,9 +35,10 @@ class Asker(Protocol):
 class Run:
     """Consecutive requests of one asker for one operation, whose replies go back in one piece: the number of requests
     without a reply yet, their total weight, the maximum total length of their replies, and when they came, if they are
-    a client's. A request whose reply is looked at is a run of its own, with the name in it."""
+    a client's. A request whose reply is looked at is a run of its own, with the name in it, and with its body if it is a
+    Commit."""
 
-    __slots__ = ("asker", "passage", "name", "left", "weight", "room", "since")
+    __slots__ = ("asker", "passage", "name", "left", "weight", "room", "since", "body")
 
     def __init__(
         self, asker: Asker, passage: Passage, name: bytes, left: int, weight: int, room: int, since: float = 0.0
@@ -49,6 +50,7 @@ class Run:
         self.weight = weight
         self.room = room
         self.since = since
+        self.body = b""
 
     def add(self) -> None:
         """Adds one more request."""

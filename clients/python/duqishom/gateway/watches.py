@@ -9,11 +9,23 @@ from typing import TYPE_CHECKING
 from duqishom.cells import FAMILY, LONGEST_ROW
 from duqishom.fields import FieldReader, counted, number
 from duqishom.gateway.bounds import CHANGE_SIZE, WATCHES_OF_CLIENT
-from duqishom.gateway.passages import BAD_COLUMN, BAD_REQUEST, BAD_ROW, NAME_END, TOO_MANY, WATCH, WATCH_REPLY, Kind, Passage, frame
-from duqishom.gateway.things import CODE, COMMITTED, FIELDS, STEP_REPLY, TAG, Thing, Things
+from duqishom.gateway.passages import (
+    BAD_COLUMN,
+    BAD_REQUEST,
+    BAD_ROW,
+    NAME_END,
+    TOO_MANY,
+    WATCH,
+    WATCH_REPLY,
+    Kind,
+    Passage,
+    frame,
+)
+from duqishom.gateway.things import Thing, Things, stamp_of_commit
 
 if TYPE_CHECKING:
     from duqishom.gateway.client import Client
+    from duqishom.gateway.upstream import Run
 
 # The tags of the reply, and of the two messages: a commit with its cells, and commits that aren't told one by one.
 BEGUN, CHANGED, UNNAMED = 0, 1, 2
@@ -37,9 +49,11 @@ class Watch:
 
 
 class Watches:
-    """All watches. A commit is told when its Step is answered Committed: a session that begins later shows it.
+    """All watches. A commit is told when its Step is answered Committed, or its Commit is answered Done: a session that
+    begins later shows it.
 
-    While there is a watch, each session's writes to watched cells are recorded as they are passed on. A commit is told
+    While there is a watch, each session's Sets and Deletes of watched cells are recorded as they are passed on; a Commit
+    has its cells with it. A commit is told
     without its cells to a watch that began after the commit's session, which may have written before, and to all
     watches if the session's cells were too many to be recorded.
     """
@@ -92,20 +106,22 @@ class Watches:
             if any(True for _ in self._watching(cell)):
                 self._things.note_write(session, cell)
 
-    def note(self, name: bytes, reply: bytes) -> None:
-        """Tells of a commit, by its session's name and the reply to a Step, before that session is closed here."""
-        if not self.by_number or reply[CODE] != STEP_REPLY or reply[TAG] != COMMITTED:
+    def note(self, run: Run, reply: bytes) -> None:
+        """Tells of a commit, by the reply to a Step or a Commit, before its session is closed here."""
+        stamp = stamp_of_commit(reply) if self.by_number else None
+        if stamp is None:
             return
-        session = self._things.by_name[Kind.SESSION].get(name)
+        session = self._things.by_name[Kind.SESSION].get(run.name)
+        before = {} if session is None else session.written
         cells: dict[Watch, list[Cell]] = {}
-        for cell in (None if session is None else session.written) or {}:
+        for cell in {**(before or {}), **dict.fromkeys(cells_of(run.body))}:
             for watch in self._watching(cell):
                 cells.setdefault(watch, []).append(cell)
-        for watch in self._unsure(session):
+        for watch in self._unsure(session) if run.passage.opens is None else ():
             cells.pop(watch, None)
             self._tell_unnamed(watch)
         for watch, written in cells.items():
-            self._tell(watch, reply[FIELDS:], written)
+            self._tell(watch, stamp, written)
 
     def _watching(self, cell: Cell) -> Iterator[Watch]:
         """The watches of a cell."""
@@ -149,6 +165,15 @@ class Watches:
                 self.unnamed += 1
                 self._hold(client)
                 client.tell(message(UNNAMED, watch))
+
+
+def cells_of(commit: bytes) -> Iterator[Cell]:
+    """The cells of the writes in the body of a Commit, which the program has taken, or none of an empty body."""
+    fields = FieldReader(commit[NAME_END:])
+    for _ in range(fields.number(4) if commit else 0):
+        yield fields.counted(), fields.counted()
+        if fields.number(1):
+            fields.counted()
 
 
 def message(tag: int, watch: Watch, rest: bytes = b"") -> bytes:
