@@ -36,7 +36,7 @@ const FLUSH_HELP: &str =
     cells and stay so, from 99746 on for a collector's step too, and at 100000 for a commit's step [default: 10000]";
 
 const FLUSH_BYTES_HELP: &str =
-    "Bytes of its entries at which it is compacted too: 1048576 to 67108864. From 46186754 on one can be too full for a \
+    "Bytes of its entries at which it is compacted too: 1048576 to 67108864. From 46186498 on one can be too full for a \
     Commit of 256 cells and stay so, from 65038466 on for a collector's step too, and from 67019079 on for a commit's \
     step [default: bytes don't count]";
 

@@ -269,8 +269,9 @@ module _ {S : Type 0} (same : S → S → Type 0) (checkpoints : S → Reply →
   AnswersLasting says sweeps stopped risen before now old (lent.Commit start writes) answer new =
       AnswersInRoom (says old (lent.Commit start writes) answer new)
       (λ n. answer ≡ given.Said (codec.Refused n)) before now old new
-  AnswersLasting says sweeps stopped risen before now old (lent.Read start cells open) answer new =
-      AnswersInRoom (says old (lent.Read start cells open) answer new)
+  AnswersLasting says sweeps stopped risen before now old (lent.Read start cells stays_open)
+      answer new =
+      AnswersInRoom (says old (lent.Read start cells stays_open) answer new)
       (λ n. (start ≡ 0) × (answer ≡ given.Said (codec.Refused n))) before now old new
 
 -- An answer of a server with a log: the contract of the answer, and the devices still keep a state.

@@ -519,7 +519,7 @@ impl<S: Recording, M: MarkStore, L: Log> LastingServer<S, M, L> {
 
     /// Lets the server inside answer an operation of several cells.
     fn answer_several(&mut self, operation: Operation<'_>) -> Answer
-        requires { StandsForSeveral (operation_of operation.entry) }
+        requires { StandsForSeveral (operation_of operation) }
         ensures limits { AnswerKeepsToLimits result }
         ensures says { S.says self.old.server operation.entry result self.new.server }
         ensures log { self.new.log ≡ self.old.log }
@@ -535,7 +535,7 @@ impl<S: Recording, M: MarkStore, L: Log> LastingServer<S, M, L> {
 
     /// Answers an operation of several cells, if the log has room for what it records.
     fn answer_at_once(&mut self, operation: Operation<'_>) -> Answer
-        requires { StandsForSeveral (operation_of operation.entry) }
+        requires { StandsForSeveral (operation_of operation) }
         ensures limits { AnswerKeepsToLimits result }
         ensures says { IsLastingAnswer S.shows (LastsIn S.stores S.logged L.holds)
             (Logs S.stores S.logged L.holds S.is_rooted) M.faults L.faults
