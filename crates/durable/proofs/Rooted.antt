@@ -17,7 +17,7 @@ use Rattle.request_codec.specs.Operations.{operation_of}
 use Rattle.server_loop.specs.Commands.{checkpointed}
 use Rattle.server_loop.specs.OperationLaws.{StandsForSeveral}
 use Rattle.server_loop.specs.Runs.{StepsAs}
-use Rattle.si_model.specs.Machine.{IsStorageRefusal, Refused, Reply as MachineReply, Request as MachineRequest, State, Step, Checkpoint as CheckpointAsked, refuses}
+use Rattle.si_model.specs.Machine.{IsStorageRefusal, Refused, Reply as MachineReply, Request as MachineRequest, State, Step as MachineStep, Checkpoint as CheckpointAsked, refuses}
 use Rattle.si_model.specs.Transactions.{Answer as MachineAnswer, Operation as MachineOperation, One, Commit, Read, Said, Goes, steps, transacts, reads_together, gives_up as gives_up_commit, gives_up_reads}
 use Rattle.si_model.specs.Refusing.{gives_up}
 use Rattle.durable.specs.Lasting.{GoesOn, Settles, StepsOn}
@@ -125,12 +125,12 @@ stays_refused now (One request) refusal stores = steps (refuses (gives_up stores
 stays_refused now (Commit start writes) refusal stores = transacts (gives_up_commit stores)
 stays_refused now (Read start cells stays_open) refusal stores = reads_together (gives_up_reads stores)
 
-stepped : (now next : State) (request : MachineRequest) (reply : MachineReply) → Goes now (One request) (Said reply) next → Step now request reply next
+stepped : (now next : State) (request : MachineRequest) (reply : MachineReply) → Goes now (One request) (Said reply) next → MachineStep now request reply next
 stepped now next request reply (steps step) = step
 
 -- what the machine answers to one request is a step
 pub step_of : {S : Type 0} {shows lasts : S → State → Type 0} {logs : S → Type 0} {request : MachineRequest} {reply : MachineReply} {old new : S} {now : State} → StepsOn shows lasts logs (One request) (Said reply) old new now
-    → (after : State) × Step now request reply after × shows new after × (reply ≡ Refused Damaged → ⊥)
+    → (after : State) × MachineStep now request reply after × shows new after × (reply ≡ Refused Damaged → ⊥)
 step_of on = (on.next, stepped _ _ _ _ on.goes, on.shown, λ is. on.whole (ap Said is))
 
 module _ {S : Type 0} (shows lasts : S → State → Type 0) (logs : S → Type 0) where

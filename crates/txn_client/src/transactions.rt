@@ -27,9 +27,9 @@ use si_model::{CellName, CellWrite, CommitReply, ReadReply};
 /// The most cells of a read.
 const MOST_READ: usize = 256;
 
-/// The bytes of an edit in a log besides its row, its family and its value: its kind, the lengths of key and value, and
-/// the ends, the column and the stamp of the key.
-const EDIT_BYTES: usize = 27;
+/// At most the bytes of an edit in a log besides its row, its family and its value: its kind, the lengths of key and
+/// value, and the ends, the column of five letters and the stamp of the key.
+const EDIT_BYTES: usize = 28;
 
 /// The bytes of the value of a write record.
 const RECORD_BYTES: usize = 9;

@@ -16,8 +16,8 @@ returns-in-Ok-clause-says g c =
     let mid = record c.args.self.now { log = c.reserve.new.self } in
     let settles = recounted g.S.Recording.stores g.S.Recording.logged g.S.Recording.waiting g.S.Recording.last g.L.Log.holds g.S.Recording.is_rooted c.logs_edits.ensures c.names_roots.ensures g.S.Recording.count c.args.self.now mid refl refl c.in-Ok.ensures.same refl g.S.Answering.shows in
     record {
-      answered = at_once_lasting g.S.Recording.same g.S.Recording.checkpoints g.S.Answering.says g.S.Recording.sweeps _ _ _ _ c.args.self.now.server c.answer_several.new.self.server c.args.operation c.answer_several.result c.requires c.answer_several.ensures.says (ap g.L.Log.faults c.answer_several.ensures.log ∙ c.in-Ok.ensures.cause.told (λ is. cc));
-      goes_on = goes_after _ _ _ _ _ c.args.self.now mid c.answer_several.new.self settles c.answer_several.ensures.goes_on;
+      answered = at_once_lasting g.S.Recording.same g.S.Recording.checkpoints g.S.Answering.says g.S.Recording.sweeps _ _ _ _ c.args.self.now.server c.answer_several-in-Ok.new.self.server c.args.operation c.answer_several-in-Ok.result c.requires c.answer_several-in-Ok.ensures.says (ap g.L.Log.faults c.answer_several-in-Ok.ensures.log ∙ c.in-Ok.ensures.cause.told (λ is. cc));
+      goes_on = goes_after _ _ _ _ _ c.args.self.now mid c.answer_several-in-Ok.new.self settles c.answer_several-in-Ok.ensures.goes_on;
     }
 
 pub returns-in-Err-Device-clause-says : goal.returns-in-Err-Device-clause-says
@@ -29,11 +29,11 @@ returns-in-Err-Device-clause-says g c =
       goes_on = goes_nowhere _ _ _ _ Device tt (λ is. cc) c.args.self.now mid settles;
     }
 
-pub returns-in-Err-clause-says : goal.returns-in-Err-clause-says
-returns-in-Err-clause-says g c =
+pub returns : goal.returns
+returns g c =
     let mid = record c.args.self.now { log = c.reserve.new.self } in
     let settles = recounted g.S.Recording.stores g.S.Recording.logged g.S.Recording.waiting g.S.Recording.last g.L.Log.holds g.S.Recording.is_rooted c.logs_edits.ensures c.names_roots.ensures g.S.Recording.count c.args.self.now mid refl refl c.in-Err.ensures.same refl g.S.Answering.shows in
-    record {
+    record { limits = tt; says = record {
       answered = roomless_lasting g.S.Recording.same g.S.Recording.checkpoints g.S.Answering.says g.S.Recording.sweeps _ _ _ _ c.args.self.now.server c.args.operation NoMemory c.in-Some.ensures.needs (inr refl);
       goes_on = goes_nowhere _ _ _ _ NoMemory tt (λ is. cc) c.args.self.now mid settles;
-    }
+    } }

@@ -7,3 +7,6 @@ returns-in-One-clause-goes g c = rw c.in-One.is (goes_one (shown_by g.S.Answerin
 
 pub returns-in-One-clause-says : goal.returns-in-One-clause-says
 returns-in-One-clause-says g c = rw c.in-One.is c.reply_to.ensures.says
+
+pub returns-in-Commit-clause-goes : goal.returns-in-Commit-clause-goes
+returns-in-Commit-clause-goes g c = λ before reached shown. let on = c.answer_at_once.ensures.says.goes_on before reached shown in (on.next, on.goes, on.shown, on.whole)
