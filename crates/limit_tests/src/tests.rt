@@ -1,8 +1,7 @@
-//! Tests of a server's limits, and of its replies in each order of steps, judged by the audit.
+//! Tests of limits that the program doesn't show, and of replies in each order of steps, judged by the audit.
 
 mod audits;
 mod limits;
-mod scan_limits;
 
 use cell_key::Refusal;
 use file_store::MemFiles;

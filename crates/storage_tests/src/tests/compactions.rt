@@ -40,31 +40,40 @@ fn table_of(alloc: Global, writes: &[(Stamp, Option<&[u8]>)]) -> Result<Memtable
     Ok(table)
 }
 
-/// Whether merging a memtable and an older file gives these bytes.
+/// The older file, written as the file 1.
+fn older_file(alloc: Global, files: &mut MemFiles) -> Result<SortedFile, Refusal> {
+    let older = table_of(alloc, &OLDER)?;
+    merge(alloc, &older, None, true, 1, files)?;
+    SortedFile::open(alloc, 1, files)
+}
+
+/// Whether merging the newer memtable and this file gives these bytes.
 fn is_merged(
     alloc: Global,
-    newer: &Memtable,
     file: &SortedFile,
     keep_erasures: bool,
     bytes: &[u8],
     files: &mut MemFiles,
 ) -> Result<bool, Refusal> {
-    merge(alloc, newer, Some(file), keep_erasures, 2, files)?;
+    let newer = table_of(alloc, &NEWER)?;
+    merge(alloc, &newer, Some(file), keep_erasures, 2, files)?;
     match read_whole(alloc, files, 2) {
         Ok(Some(written)) => Ok(written.as_slice() == bytes),
         _ => Ok(false),
     }
 }
 
+/// Whether merging the newer memtable and the older file gives these bytes.
+fn are_merged(alloc: Global, keep_erasures: bool, bytes: &[u8]) -> Result<bool, Refusal> {
+    let mut files = MemFiles::new(alloc);
+    let file = older_file(alloc, &mut files)?;
+    is_merged(alloc, &file, keep_erasures, bytes, &mut files)
+}
+
 #[test]
 fn newest_wins(rt: HostRuntime) -> Result<(), Fail> {
-    let older = table_of(rt.alloc(), &OLDER)?;
-    let newer = table_of(rt.alloc(), &NEWER)?;
-    let mut files = MemFiles::new(rt.alloc());
-    merge(rt.alloc(), &older, None, true, 1, &mut files)?;
-    let file = SortedFile::open(rt.alloc(), 1, &mut files)?;
     for (keep_erasures, bytes) in [(true, ERASURE_KEPT), (false, ERASURE_DROPPED)] {
-        assert!(rt; is_merged(rt.alloc(), &newer, &file, keep_erasures, bytes, &mut files)?);
+        assert!(rt; are_merged(rt.alloc(), keep_erasures, bytes)?);
     }
     Ok(())
 }

@@ -126,20 +126,24 @@ fn is_removed(rt: &HostRuntime, files: &mut DirFiles<HostRuntime>) -> Result<boo
     Ok(has_files(rt, files, &[2])? && files.size(10)?.is_none())
 }
 
-/// Whether files can be put into a folder and removed without a fault.
-fn are_kept(rt: &HostRuntime, folder: &str) -> Result<bool, FileFault> {
+/// Whether files can be put and removed without a fault, if there are none.
+fn are_kept(rt: &HostRuntime, files: &mut DirFiles<HostRuntime>) -> Result<bool, FileFault> {
+    let is_empty = has_files(rt, files, &[])?;
+    let are_put = are_put(rt, files)?;
+    Ok(is_empty && are_put && is_removed(rt, files)? && files.faults() == 0)
+}
+
+/// The same of the files of a folder.
+fn are_kept_in(rt: &HostRuntime, folder: &str) -> Result<bool, FileFault> {
     let mut files = DirFiles::open(*rt, folder)?;
-    let is_empty = has_files(rt, &mut files, &[])?;
-    let are_put = are_put(rt, &mut files)?;
-    let is_removed = is_removed(rt, &mut files)?;
-    Ok(is_empty && are_put && is_removed && files.faults() == 0)
+    are_kept(rt, &mut files)
 }
 
 #[test]
 fn files_in_a_folder(rt: HostRuntime) -> Result<(), Fail> {
     let folder = folder_of_others(&rt)?;
     let path = folder.as_str();
-    assert!(rt; are_kept(&rt, path)?);
+    assert!(rt; are_kept_in(&rt, path)?);
     assert!(rt; is_there(&rt, path, "t0000000000000002.tab")?);
     fs::remove_dir_all(&rt, path)?;
     Ok(())
@@ -198,21 +202,44 @@ fn are_faults(rt: &HostRuntime, files: &mut DirFiles<HostRuntime>) -> bool {
         && files.faults() == 2
 }
 
+/// Whether every call of a folder's files fails once the folder is removed.
+fn are_removed(rt: &HostRuntime, folder: &str) -> Result<bool, Fail> {
+    let mut files = DirFiles::open(*rt, folder)?;
+    fs::remove_dir_all(rt, folder)?;
+    Ok(are_faults(rt, &mut files))
+}
+
+/// Whether a store of the mark fails once its folder is removed.
+fn is_mark_removed(rt: &HostRuntime, folder: &str) -> Result<bool, Fail> {
+    let mut mark = DirMark::open(*rt, folder)?;
+    fs::remove_dir_all(rt, folder)?;
+    Ok(mark.store(5).is_err())
+}
+
 #[test]
 fn a_folder_is_removed(rt: HostRuntime) -> Result<(), Fail> {
     let folder = new_folder(&rt, "removed")?;
     let path = folder.as_str();
-    let mut files = DirFiles::open(rt, path)?;
-    let mut mark = DirMark::open(rt, path)?;
-    fs::remove_dir_all(&rt, path)?;
-    assert!(rt; are_faults(&rt, &mut files) && mark.store(5).is_err());
+    assert!(rt; are_removed(&rt, path)?);
     assert!(rt; matches!(DirFiles::open(rt, path), Err(FileFault::Device)));
     assert!(rt; DirMark::open(rt, path).is_err());
+    fs::create_dir(&rt, path)?;
+    assert!(rt; is_mark_removed(&rt, path)?);
     Ok(())
 }
 
 /// The name of file 5.
 const FIVE: &str = "t0000000000000005.tab";
+
+/// Makes a folder with the name of file 5.
+fn take_five(rt: &HostRuntime, folder: &str) -> io::Result<()> {
+    fs::create_dir(rt, path_of(rt, folder, FIVE)?.as_str())
+}
+
+/// Removes it.
+fn leave_five(rt: &HostRuntime, folder: &str) -> io::Result<()> {
+    fs::remove_dir(rt, path_of(rt, folder, FIVE)?.as_str())
+}
 
 /// Whether the put of file 5 fails where a folder has its name, and leaves no temporary file.
 fn is_failed(
@@ -220,11 +247,10 @@ fn is_failed(
     folder: &str,
     files: &mut DirFiles<HostRuntime>,
 ) -> io::Result<bool> {
-    let place = path_of(rt, folder, FIVE)?;
-    fs::create_dir(rt, place.as_str())?;
+    take_five(rt, folder)?;
     let called = files.put(5, b"five");
     let is_beside = is_there(rt, folder, "t0000000000000005.new")?;
-    fs::remove_dir(rt, place.as_str())?;
+    leave_five(rt, folder)?;
     Ok(called == Err(FileFault::Device) && !is_beside && files.faults() == 1)
 }
 
@@ -234,14 +260,27 @@ fn is_put(files: &mut DirFiles<HostRuntime>) -> Result<bool, FileFault> {
     Ok(files.size(5)? == Some(4))
 }
 
+/// The same of `is_failed`, and whether file 5 can be put then, with no other fault.
+fn is_put_later(
+    rt: &HostRuntime,
+    folder: &str,
+    files: &mut DirFiles<HostRuntime>,
+) -> Result<bool, Fail> {
+    Ok(is_failed(rt, folder, files)? && is_put(files)? && files.faults() == 1)
+}
+
+/// Opens a folder's files, and answers `is_put_later`.
+fn is_failed_once(rt: &HostRuntime, folder: &str) -> Result<bool, Fail> {
+    let mut files = DirFiles::open(*rt, folder)?;
+    is_put_later(rt, folder, &mut files)
+}
+
 /// A put that fails because a folder has the file's name leaves no temporary file, and succeeds later.
 #[test]
 fn a_failed_put_leaves_nothing(rt: HostRuntime) -> Result<(), Fail> {
     let folder = new_folder(&rt, "taken")?;
     let path = folder.as_str();
-    let mut files = DirFiles::open(rt, path)?;
-    assert!(rt; is_failed(&rt, path, &mut files)?);
-    assert!(rt; is_put(&mut files)? && files.faults() == 1);
+    assert!(rt; is_failed_once(&rt, path)?);
     fs::remove_dir_all(&rt, path)?;
     Ok(())
 }
@@ -254,15 +293,24 @@ fn link_to_old(rt: &HostRuntime, folder: &str) -> io::Result<()> {
     symlink(rt, old.as_str(), place.as_str())
 }
 
-/// A file is never overwritten in place: the target of a link with its name is unchanged.
+/// Opens a folder, and puts file 5.
+fn put_five(rt: &HostRuntime, folder: &str) -> Result<(), FileFault> {
+    DirFiles::open(*rt, folder)?.put(5, b"five")
+}
+
+/// Whether file 5 is put, and the target of a link with its name is unchanged.
+fn is_replaced(rt: &HostRuntime, folder: &str) -> Result<bool, Fail> {
+    link_to_old(rt, folder)?;
+    put_five(rt, folder)?;
+    Ok(has_bytes(rt, folder, "old", b"old")? && has_bytes(rt, folder, FIVE, b"five")?)
+}
+
+/// A file is never overwritten in place.
 #[test]
 fn files_are_put_in_place_whole(rt: HostRuntime) -> Result<(), Fail> {
     let folder = new_folder(&rt, "links")?;
     let path = folder.as_str();
-    link_to_old(&rt, path)?;
-    DirFiles::open(rt, path)?.put(5, b"five")?;
-    assert!(rt; has_bytes(&rt, path, "old", b"old")?);
-    assert!(rt; has_bytes(&rt, path, FIVE, b"five")?);
+    assert!(rt; is_replaced(&rt, path)?);
     fs::remove_dir_all(&rt, path)?;
     Ok(())
 }
@@ -313,16 +361,26 @@ fn are_many_read(rt: &HostRuntime, files: &mut DirFiles<HostRuntime>) -> Result<
     Ok(true)
 }
 
+/// Whether one file and then many are read right, without a fault.
+fn are_read(rt: &HostRuntime, files: &mut DirFiles<HostRuntime>) -> Result<bool, FileFault> {
+    let is_one = is_as_put(rt, files)?;
+    let are_put = are_many_put(rt, files)?;
+    Ok(is_one && are_put && are_many_read(rt, files)? && files.faults() == 0)
+}
+
+/// The same of the files of a folder.
+fn are_read_of(rt: &HostRuntime, folder: &str) -> Result<bool, FileFault> {
+    let mut files = DirFiles::open(*rt, folder)?;
+    are_read(rt, &mut files)
+}
+
 /// A file that was read stays open. Once it is replaced or removed, its old bytes are never read; and if more files are
 /// read than the store keeps open, each is read right.
 #[test]
 fn open_files_are_read_as_they_are(rt: HostRuntime) -> Result<(), Fail> {
     let folder = new_folder(&rt, "open")?;
     let path = folder.as_str();
-    let mut files = DirFiles::open(rt, path)?;
-    assert!(rt; is_as_put(&rt, &mut files)?);
-    assert!(rt; are_many_put(&rt, &mut files)? && are_many_read(&rt, &mut files)?);
-    assert!(rt; files.faults() == 0);
+    assert!(rt; are_read_of(&rt, path)?);
     fs::remove_dir_all(&rt, path)?;
     Ok(())
 }

@@ -38,19 +38,31 @@ fn holder(alloc: Global, table: &MetadataTable, row: &[u8]) -> Result<u32, Refus
     Ok(table.locate(&Row::new(alloc, row)?).tablet)
 }
 
-/// A row is in the first tablet whose end is not below it. An unknown tablet is refused before an unknown server.
+/// Whether no tablet may be split at a row.
+fn is_no_split(alloc: Global, table: &MetadataTable, row: &[u8]) -> Result<bool, Refusal> {
+    let row = Row::new(alloc, row)?;
+    Ok(table.check_split(&row) == Err(Refusal::BadSplit))
+}
+
+/// A row is in the first tablet whose end is not below it.
 #[test]
 fn places_of_rows(rt: HostRuntime) -> Result<(), Fail> {
-    let mut table = three_splits(rt.alloc())?;
+    let table = three_splits(rt.alloc())?;
     for (row, tablet) in HOLDERS {
         assert!(rt; holder(rt.alloc(), &table, row)? == tablet);
     }
-    let end = Row::new(rt.alloc(), b"m")?;
-    assert!(rt; table.check_split(&end) == Err(Refusal::BadSplit));
+    assert!(rt; is_no_split(rt.alloc(), &table, b"m")?);
+    assert!(rt; table.place(5).is_err() && !table.listed(9));
+    Ok(())
+}
+
+/// An unknown tablet is refused before an unknown server.
+#[test]
+fn tablets_that_are_not_moved(rt: HostRuntime) -> Result<(), Fail> {
+    let mut table = three_splits(rt.alloc())?;
     for (tablet, server, refusal) in MOVES {
         assert!(rt; table.assign(tablet, server) == Err(refusal));
     }
-    assert!(rt; table.place(5).is_err() && !table.listed(9));
     Ok(())
 }
 

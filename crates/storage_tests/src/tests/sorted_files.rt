@@ -1,7 +1,7 @@
 //! Sorted files, by their bytes.
 
 use crate::tests::files::Recorder;
-use crate::tests::memory::files::{merge, refused, write_again};
+use crate::tests::memory::files::{key_of_a, merge, refused, write_again};
 use crate::tests::slow::found_at;
 use cell_key::{CellKey, Family, Qualifier, Refusal, Row, Stamp};
 use file_store::{Files, MemFiles, read_whole};
@@ -10,7 +10,7 @@ use sorted_file::{KeyFilter, LockIndex, LookupKey, SortedFile, few_blocks};
 use std::alloc::{AllocError, Global};
 use std::num::NonZeroUsize;
 use std::test::Fail;
-use testing::edits::{data_key, edits_of};
+use testing::edits::edits_of;
 
 /// A file of no entries.
 pub const EMPTY: &[u8] = b"TABLET01\0\0\0\x08\0\0\0\0\0\0\0\0\0\0\0\x20TABLETZZ";
@@ -84,12 +84,19 @@ fn opened(alloc: Global, files: &mut MemFiles, bytes: &[u8]) -> Result<SortedFil
     SortedFile::open(alloc, 1, files)
 }
 
-/// Opens a file of these bytes under the name 1, over files that record their reads.
-fn recorded(alloc: Global, bytes: &[u8]) -> Result<(Recorder, SortedFile), Refusal> {
+/// A file, and the files that it is read from, which record their reads.
+#[derive(Drop)]
+struct Recorded {
+    files: Recorder,
+    file: SortedFile,
+}
+
+/// Opens a file of these bytes under the name 1. In its box it is dropped by one call.
+fn recorded_file(alloc: Global, bytes: &[u8]) -> Result<Box<Recorded>, Refusal> {
     let mut files = Recorder::new(alloc);
     refused(files.put(1, bytes))?;
     let file = SortedFile::open(alloc, 1, &mut files)?;
-    Ok((files, file))
+    Ok(Box::new(alloc, Recorded { files, file })?)
 }
 
 /// Whether the file with a name has these bytes.
@@ -105,11 +112,16 @@ fn has_bytes(
     }
 }
 
+/// Opens a file of these bytes, and writes it again; answers the name of the file written.
+fn written_again(alloc: Global, files: &mut MemFiles, bytes: &[u8]) -> Result<u64, Refusal> {
+    let file = opened(alloc, files, bytes)?;
+    write_again(alloc, &file, files)
+}
+
 /// Whether a file of these bytes can be opened, and is written again as these other bytes.
 fn is_written_as(alloc: Global, bytes: &[u8], again: &[u8]) -> Result<bool, Refusal> {
     let mut files = MemFiles::new(alloc);
-    let file = opened(alloc, &mut files, bytes)?;
-    let name = write_again(alloc, &file, &mut files)?;
+    let name = written_again(alloc, &mut files, bytes)?;
     has_bytes(alloc, &mut files, name, again)
 }
 
@@ -219,22 +231,14 @@ fn damaged_files(rt: HostRuntime) -> Result<(), Fail> {
     Ok(())
 }
 
-/// The length of the value at a stamp in the file of three entries.
-fn value_len(
-    alloc: Global,
-    file: &mut SortedFile,
-    stamp: Stamp,
-    files: &mut Recorder,
-) -> Result<Option<usize>, Refusal> {
-    let key = CellKey {
-        row: Row::new(alloc, b"a")?,
-        family: Family::new(alloc, b"bal")?,
-        qualifier: Qualifier::Data,
-        stamp,
-    };
-    match file.lookup(&key, files)? {
-        Some(Some(value)) => Ok(Some(value.len())),
-        _ => Ok(None),
+impl Recorded {
+    /// The length of the value of `a` at a stamp.
+    fn value_len(&mut self, alloc: Global, stamp: Stamp) -> Result<Option<usize>, Refusal> {
+        let key = key_of_a(alloc, stamp)?;
+        match self.file.lookup(&key, &mut self.files)? {
+            Some(Some(value)) => Ok(Some(value.len())),
+            _ => Ok(None),
+        }
     }
 }
 
@@ -253,25 +257,24 @@ const LOOK_UPS: [(bool, Stamp, &[(u64, u64, usize)], Option<usize>); 7] = [
 /// Whether a lookup at a stamp makes these reads, and finds a value of this length.
 fn is_found(
     alloc: Global,
-    file: &mut SortedFile,
+    recorded: &mut Recorded,
     stamp: Stamp,
-    files: &mut Recorder,
     reads: &[(u64, u64, usize)],
     len: Option<usize>,
 ) -> Result<bool, Refusal> {
-    files.reads.clear();
-    let found = value_len(alloc, file, stamp, files)?;
-    Ok(found == len && files.reads.as_slice() == reads)
+    recorded.files.reads.clear();
+    let found = recorded.value_len(alloc, stamp)?;
+    Ok(found == len && recorded.files.reads.as_slice() == reads)
 }
 
 #[test]
 fn look_ups_read_one_block(rt: HostRuntime) -> Result<(), Fail> {
-    let (mut files, mut file) = recorded(rt.alloc(), &three(rt.alloc())?)?;
+    let mut recorded = recorded_file(rt.alloc(), &three(rt.alloc())?)?;
     for (forgets, stamp, reads, len) in LOOK_UPS {
         if forgets {
-            file.drop_cache();
+            recorded.file.drop_cache();
         }
-        assert!(rt; is_found(rt.alloc(), &mut file, stamp, &mut files, reads, len)?);
+        assert!(rt; is_found(rt.alloc(), &mut recorded, stamp, reads, len)?);
     }
     Ok(())
 }
@@ -317,15 +320,14 @@ const NINE_LOOK_UPS: [(&[Stamp], bool); 4] = [
 /// Whether the lookups at these stamps find values of 4,000 bytes, and all of them read the file, or none does.
 fn are_read(
     alloc: Global,
-    file: &mut SortedFile,
-    files: &mut Recorder,
+    recorded: &mut Recorded,
     stamps: &[Stamp],
     is_read: bool,
 ) -> Result<bool, Refusal> {
     for stamp in stamps {
-        files.reads.clear();
-        let len = value_len(alloc, file, *stamp, files)?;
-        if len != Some(4000) || files.reads.is_empty() == is_read {
+        recorded.files.reads.clear();
+        let len = recorded.value_len(alloc, *stamp)?;
+        if len != Some(4000) || recorded.files.reads.is_empty() == is_read {
             return Ok(false);
         }
     }
@@ -334,9 +336,9 @@ fn are_read(
 
 #[test]
 fn eight_blocks_are_kept(rt: HostRuntime) -> Result<(), Fail> {
-    let (mut files, mut file) = recorded(rt.alloc(), &nine(rt.alloc())?)?;
+    let mut recorded = recorded_file(rt.alloc(), &nine(rt.alloc())?)?;
     for (stamps, is_read) in NINE_LOOK_UPS {
-        assert!(rt; are_read(rt.alloc(), &mut file, &mut files, stamps, is_read)?);
+        assert!(rt; are_read(rt.alloc(), &mut recorded, stamps, is_read)?);
     }
     Ok(())
 }
@@ -356,8 +358,7 @@ const BEFORE_RESIZED: [Stamp; 8] = [1, 2, 4, 5, 6, 7, 8, 9];
 /// The same as `are_read`, after the cache was resized to this number of blocks.
 fn are_read_of(
     alloc: Global,
-    file: &mut SortedFile,
-    files: &mut Recorder,
+    recorded: &mut Recorded,
     most: usize,
     stamps: &[Stamp],
     is_read: bool,
@@ -365,16 +366,16 @@ fn are_read_of(
     let Some(most) = NonZeroUsize::new(most) else {
         return Ok(false);
     };
-    file.resize_cache(most);
-    are_read(alloc, file, files, stamps, is_read)
+    recorded.file.resize_cache(most);
+    are_read(alloc, recorded, stamps, is_read)
 }
 
 #[test]
 fn as_many_blocks_are_kept(rt: HostRuntime) -> Result<(), Fail> {
-    let (mut files, mut file) = recorded(rt.alloc(), &nine(rt.alloc())?)?;
-    assert!(rt; are_read(rt.alloc(), &mut file, &mut files, &BEFORE_RESIZED, true)?);
+    let mut recorded = recorded_file(rt.alloc(), &nine(rt.alloc())?)?;
+    assert!(rt; are_read(rt.alloc(), &mut recorded, &BEFORE_RESIZED, true)?);
     for (most, stamps, is_read) in RESIZED {
-        assert!(rt; are_read_of(rt.alloc(), &mut file, &mut files, most, stamps, is_read)?);
+        assert!(rt; are_read_of(rt.alloc(), &mut recorded, most, stamps, is_read)?);
     }
     Ok(())
 }
@@ -409,7 +410,8 @@ fn lock_key(alloc: Global, row: &[u8]) -> Result<LookupKey, Refusal> {
 
 /// The file of the locks, as a list.
 fn files_of_locks(alloc: Global) -> Result<Vec<SortedFile>, Refusal> {
-    let (_, file) = recorded(alloc, LOCKS)?;
+    let mut files = MemFiles::new(alloc);
+    let file = opened(alloc, &mut files, LOCKS)?;
     Ok(vec![in alloc; file]?)
 }
 
@@ -445,26 +447,36 @@ fn latest(alloc: Global, index: &LockIndex, row: &[u8]) -> Result<Option<Stamp>,
 /// Whether a file with an empty cache answers this stamp for a row's newest lock, and makes these reads.
 fn is_newest(
     alloc: Global,
-    file: &mut SortedFile,
-    files: &mut Recorder,
+    recorded: &mut Recorded,
     row: &[u8],
     stamp: Option<Stamp>,
     reads: &[(u64, u64, usize)],
 ) -> Result<bool, Refusal> {
     let key = lock_key(alloc, row)?;
-    file.drop_cache();
-    files.reads.clear();
-    let newest = file.newest_stamp(&key, 0, files)?;
-    Ok(newest == stamp && files.reads.as_slice() == reads)
+    recorded.file.drop_cache();
+    recorded.files.reads.clear();
+    let newest = recorded.file.newest_stamp(&key, 0, &mut recorded.files)?;
+    Ok(newest == stamp && recorded.files.reads.as_slice() == reads)
 }
 
 #[test]
 fn lock_tests_read_what_is_locked(rt: HostRuntime) -> Result<(), Fail> {
-    let (mut files, mut file) = recorded(rt.alloc(), LOCKS)?;
+    let mut recorded = recorded_file(rt.alloc(), LOCKS)?;
     for (row, stamp, reads) in LOCK_TESTS {
-        assert!(rt; is_newest(rt.alloc(), &mut file, &mut files, row, stamp, reads)?);
+        assert!(rt; is_newest(rt.alloc(), &mut recorded, row, stamp, reads)?);
     }
     Ok(())
+}
+
+/// Whether an index has this newest lock of a row up to 9, and says whether the row may have locks.
+fn is_indexed(
+    alloc: Global,
+    index: &LockIndex,
+    row: &[u8],
+    stamp: Option<Stamp>,
+) -> Result<bool, Refusal> {
+    let may_have = may_have_row(alloc, index, row)?;
+    Ok(may_have == stamp.is_some() && latest(alloc, index, row)? == stamp)
 }
 
 #[test]
@@ -472,8 +484,7 @@ fn lock_tests_of_the_index(rt: HostRuntime) -> Result<(), Fail> {
     assert!(rt; may_have_locks(rt.alloc(), 0)? && !may_have_locks(rt.alloc(), 2)?);
     let index = index_of_locks(rt.alloc())?;
     for (row, stamp, _) in LOCK_TESTS {
-        assert!(rt; may_have_row(rt.alloc(), &index, row)? == stamp.is_some());
-        assert!(rt; latest(rt.alloc(), &index, row)? == stamp);
+        assert!(rt; is_indexed(rt.alloc(), &index, row, stamp)?);
     }
     Ok(())
 }
@@ -502,9 +513,8 @@ fn index_of_both(alloc: Global) -> Result<LockIndex, Refusal> {
 fn erased_locks_leave_the_index(rt: HostRuntime) -> Result<(), Fail> {
     let index = index_of_locks(rt.alloc())?;
     let both = index_of_both(rt.alloc())?;
-    for (row, before, after) in [(b"a", Some(1), None), (b"c", Some(1), Some(1))] {
-        assert!(rt; may_have_row(rt.alloc(), &index, row)?);
-        assert!(rt; latest(rt.alloc(), &index, row)? == before);
+    for (row, after) in [(b"a", None), (b"c", Some(1))] {
+        assert!(rt; is_indexed(rt.alloc(), &index, row, Some(1))?);
         assert!(rt; latest(rt.alloc(), &both, row)? == after);
     }
     Ok(())
@@ -515,8 +525,8 @@ fn erased_locks_leave_the_index(rt: HostRuntime) -> Result<(), Fail> {
 const GARBLED: [(usize, u8); 2] = [(2059, 0x17), (12, b'`')];
 
 /// Whether a lookup at the stamp 3 is refused as damaged.
-fn is_refused(alloc: Global, file: &mut SortedFile, files: &mut Recorder) -> bool {
-    matches!(value_len(alloc, file, 3, files), Err(Refusal::Damaged))
+fn is_refused(alloc: Global, recorded: &mut Recorded) -> bool {
+    matches!(recorded.value_len(alloc, 3), Err(Refusal::Damaged))
 }
 
 /// Writes the file of three entries, with this byte at an offset.
@@ -529,19 +539,19 @@ fn put_changed(alloc: Global, files: &mut Recorder, at: usize, byte: u8) -> Resu
 /// Whether a cached block is still used when its bytes on disk have changed in this way, and is refused once it is read
 /// again.
 fn is_kept(alloc: Global, at: usize, byte: u8) -> Result<bool, Refusal> {
-    let (mut files, mut file) = recorded(alloc, &three(alloc)?)?;
-    let before = value_len(alloc, &mut file, 3, &mut files)?;
-    put_changed(alloc, &mut files, at, byte)?;
-    let after = value_len(alloc, &mut file, 3, &mut files)?;
-    file.drop_cache();
-    Ok(before == Some(2017) && after == before && is_refused(alloc, &mut file, &mut files))
+    let mut recorded = recorded_file(alloc, &three(alloc)?)?;
+    let before = recorded.value_len(alloc, 3)?;
+    put_changed(alloc, &mut recorded.files, at, byte)?;
+    let after = recorded.value_len(alloc, 3)?;
+    recorded.file.drop_cache();
+    Ok(before == Some(2017) && after == before && is_refused(alloc, &mut recorded))
 }
 
 /// Whether a block whose bytes have changed in this way is refused, however often it is read.
 fn is_never_kept(alloc: Global, at: usize, byte: u8) -> Result<bool, Refusal> {
-    let (mut files, mut file) = recorded(alloc, &three(alloc)?)?;
-    put_changed(alloc, &mut files, at, byte)?;
-    Ok(is_refused(alloc, &mut file, &mut files) && is_refused(alloc, &mut file, &mut files))
+    let mut recorded = recorded_file(alloc, &three(alloc)?)?;
+    put_changed(alloc, &mut recorded.files, at, byte)?;
+    Ok(is_refused(alloc, &mut recorded) && is_refused(alloc, &mut recorded))
 }
 
 #[test]
@@ -569,30 +579,35 @@ fn many(alloc: Global) -> Result<Vec<u8>, Refusal> {
     file_of(alloc, &table)
 }
 
-/// Whether a lookup at a stamp of `a` finds the same as a slow lookup in the bytes.
-fn agree_on(
+/// Whether a lookup's entry is the one that a slow lookup of a key finds in the bytes.
+fn is_entry(
     alloc: Global,
-    file: &mut SortedFile,
-    stamp: Stamp,
+    key: &CellKey,
+    entry: Option<Option<&[u8]>>,
     bytes: &[u8],
-    files: &mut MemFiles,
 ) -> Result<bool, Refusal> {
-    let key = data_key(alloc, &Row::new(alloc, b"a")?, stamp)?;
     let mut text = Vec::new(alloc);
     key.encode(&mut text)?;
-    Ok(match (file.lookup(&key, files)?, found_at(bytes, &text)) {
-        (Some(Some(value)), Some(Some(slow))) => value.as_slice() == slow,
-        (Some(None), Some(None)) | (None, None) => true,
-        _ => false,
-    })
+    Ok(entry == found_at(bytes, &text))
+}
+
+impl Recorded {
+    /// Whether a lookup at a stamp of `a` finds the same as a slow lookup in the bytes.
+    fn agrees_on(&mut self, alloc: Global, stamp: Stamp, bytes: &[u8]) -> Result<bool, Refusal> {
+        let key = key_of_a(alloc, stamp)?;
+        match self.file.lookup(&key, &mut self.files)? {
+            Some(Some(value)) => is_entry(alloc, &key, Some(Some(value.as_slice())), bytes),
+            Some(None) => is_entry(alloc, &key, Some(None), bytes),
+            None => is_entry(alloc, &key, None, bytes),
+        }
+    }
 }
 
 /// Whether lookups agree with slow ones at each stamp below `end`, in a file of these bytes.
 fn agree_below(alloc: Global, bytes: &[u8], end: Stamp) -> Result<bool, Refusal> {
-    let mut files = MemFiles::new(alloc);
-    let mut file = opened(alloc, &mut files, bytes)?;
+    let mut recorded = recorded_file(alloc, bytes)?;
     for stamp in 0..end {
-        if !agree_on(alloc, &mut file, stamp, bytes, &mut files)? {
+        if !recorded.agrees_on(alloc, stamp, bytes)? {
             return Ok(false);
         }
     }

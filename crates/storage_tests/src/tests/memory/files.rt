@@ -1,6 +1,6 @@
 //! Memtables, files in memory, and sorted files.
 
-use cell_key::{EntryRef, Refusal, Row, Stamp};
+use cell_key::{CellKey, EntryRef, Refusal, Row, Stamp};
 use compaction::{Input, merge_into};
 use file_store::{FileFault, Files, MemFiles, read_whole};
 use memtable::Memtable;
@@ -125,6 +125,11 @@ fn first_byte(entry: Option<EntryRef<'_>>) -> u8 {
     }
 }
 
+/// The key of the data of `a` at a stamp.
+pub fn key_of_a(alloc: Global, stamp: Stamp) -> Result<CellKey, Refusal> {
+    data_key(alloc, &Row::new(alloc, b"a")?, stamp)
+}
+
 /// The entry of a sorted file at a stamp of `a`.
 fn found(
     alloc: Global,
@@ -132,7 +137,7 @@ fn found(
     files: &mut MemFiles,
     stamp: Stamp,
 ) -> Result<u8, Refusal> {
-    let key = data_key(alloc, &Row::new(alloc, b"a")?, stamp)?;
+    let key = key_of_a(alloc, stamp)?;
     match file.lookup(&key, files)? {
         Some(Some(value)) => Ok(value.first().copied().unwrap_or(b' ')),
         Some(None) => Ok(b'x'),
@@ -185,15 +190,31 @@ pub fn write_again(alloc: Global, file: &SortedFile, files: &mut MemFiles) -> Re
 
 pub const SORTED: Table = (b"\x95--x2x1", &SORTED_CALLS);
 
+/// A memtable with a write of `a` at a stamp.
+fn table_of(alloc: Global, stamp: Stamp, value: u8) -> Result<Memtable, Refusal> {
+    let mut table = Memtable::new(alloc);
+    write(alloc, &mut table, b'a', stamp, value)?;
+    Ok(table)
+}
+
+/// Writes the sorted file, and opens it.
+fn file_of(alloc: Global, files: &mut MemFiles) -> Result<SortedFile, Refusal> {
+    let older = table_of(alloc, 1, b'1')?;
+    merge(alloc, &older, None, true, 1, files)?;
+    SortedFile::open(alloc, 1, files)
+}
+
+/// Opens the sorted file again; answers its entry at the stamp 9.
+fn found_again(alloc: Global, files: &mut MemFiles) -> Result<u8, Refusal> {
+    let mut file = SortedFile::open(alloc, 1, files)?;
+    found(alloc, &mut file, files, 9)
+}
+
 impl Subject for Sorted {
     fn set_up(alloc: Global) -> Result<Sorted, Refusal> {
-        let mut older = Memtable::new(alloc);
-        write(alloc, &mut older, b'a', 1, b'1')?;
-        let mut table = Memtable::new(alloc);
-        write(alloc, &mut table, b'a', 2, b'2')?;
+        let table = table_of(alloc, 2, b'2')?;
         let mut files = MemFiles::new(alloc);
-        merge(alloc, &older, None, true, 1, &mut files)?;
-        let file = SortedFile::open(alloc, 1, &mut files)?;
+        let file = file_of(alloc, &mut files)?;
         Ok(Sorted { files, file, table })
     }
 
@@ -203,10 +224,7 @@ impl Subject for Sorted {
             0 => {
                 let _name = write_again(alloc, &self.file, files)?;
             }
-            1 => {
-                let mut file = SortedFile::open(alloc, 1, files)?;
-                return Ok(wanted == [found(alloc, &mut file, files, 9)?].as_slice());
-            }
+            1 => return Ok(wanted == [found_again(alloc, files)?].as_slice()),
             2 => return Ok(wanted == [found(alloc, &mut self.file, files, 1)?].as_slice()),
             3 => merge(alloc, &self.table, Some(&self.file), true, 2, files)?,
             4 => write(alloc, &mut self.table, b'a', 3, b'3')?,

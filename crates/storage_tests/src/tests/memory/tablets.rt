@@ -185,24 +185,31 @@ fn load(alloc: Global, files: &mut MemFiles) -> Result<u8, Refusal> {
 
 pub const SERVED: Table = (b"a345\x03\x01", &CALLS);
 
+impl Served {
+    /// Writes into a new tablet.
+    fn write_all(&mut self, alloc: Global) -> Result<(), Refusal> {
+        for (row, stamp, value, is_followed) in WRITES {
+            write(alloc, &mut self.tablet, row, stamp, value)?;
+            if is_followed {
+                let name = &mut self.next_name;
+                self.tablet.minor(FILE_LIMIT, name, &mut self.files)?;
+            }
+        }
+        Ok(())
+    }
+}
+
 impl Subject for Served {
     fn set_up(alloc: Global) -> Result<Served, Refusal> {
         let names = vec![in alloc; 9]?;
-        let mut tablet = Tablet::new(alloc);
-        let mut files = MemFiles::new(alloc);
-        let mut next_name = 1;
-        for (row, stamp, value, is_followed) in WRITES {
-            write(alloc, &mut tablet, row, stamp, value)?;
-            if is_followed {
-                tablet.minor(FILE_LIMIT, &mut next_name, &mut files)?;
-            }
-        }
-        Ok(Served {
-            tablet,
-            files,
-            next_name,
+        let mut served = Served {
+            tablet: Tablet::new(alloc),
+            files: MemFiles::new(alloc),
+            next_name: 1,
             names,
-        })
+        };
+        served.write_all(alloc)?;
+        Ok(served)
     }
 
     fn answers(&mut self, alloc: Global, number: usize, wanted: &[u8]) -> Result<bool, Refusal> {
