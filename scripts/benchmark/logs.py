@@ -24,7 +24,7 @@ HEADER = Path("/usr/include/leveldb/db.h")
 
 VALUE = b"v" * 100
 FAMILY = b"c"
-BEGIN, COMMITTED = b"\x01", b"\x84\x04"
+BEGIN, COMMITTED, DONE = b"\x01", b"\x84\x04", b"\xb2\x01"
 
 # The size in bytes of a one-cell commit's edits with such a row and value.
 COMMIT_BYTES = 312
@@ -101,6 +101,12 @@ def commits(program: Program, new: Iterator[bytes], count: int) -> None:
     check(program.ask(bodies)[3::4])
 
 
+def whole_commits(program: Program, new: Iterator[bytes], count: int) -> None:
+    """Commits rows, each in a request of its own."""
+    head, tail = b"\x32" + bytes(8) + b"\0\0\0\x01", field(FAMILY) + b"\x01" + field(VALUE)
+    check(program.ask([head + field(next(new)) + tail for _ in range(count)]), DONE)
+
+
 def commit(program: Program, new: Iterator[bytes], count: int) -> None:
     """Commits this many rows in one session."""
     [reply] = program.ask([BEGIN])
@@ -109,9 +115,9 @@ def commit(program: Program, new: Iterator[bytes], count: int) -> None:
     check([program.ask(bodies)[2 * count + 1]])
 
 
-def check(replies: list[bytes]) -> None:
-    """Ends the script if a commit has a wrong answer."""
-    if any(reply[:2] != COMMITTED for reply in replies):
+def check(replies: list[bytes], wanted: bytes = COMMITTED) -> None:
+    """Ends the script if a reply to a commit doesn't begin so."""
+    if not all(reply.startswith(wanted) for reply in replies):
         sys.exit("not the replies that are wanted")
 
 

@@ -52,12 +52,7 @@ impl<F: Files + Drop, M: MarkStore + Drop> Server<F, M> {
     }
 
     /// Reads cells in such a session, which then stays open or ends.
-    pub(crate) fn read(
-        &mut self,
-        start: Stamp,
-        cells: &[CellName<'_>],
-        stays_open: bool,
-    ) -> Answer
+    pub(crate) fn read(&mut self, start: Stamp, cells: &[CellName<'_>], stays_open: bool) -> Answer
         ensures { IsReadAnswer F.Files M.MarkStore self.old start (cells_named cells.now) stays_open
             result self.new }
     {

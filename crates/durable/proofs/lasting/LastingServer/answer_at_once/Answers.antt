@@ -33,7 +33,10 @@ pub returns : goal.returns
 returns g c =
     let mid = record c.args.self.now { log = c.reserve.new.self } in
     let settles = recounted g.S.Recording.stores g.S.Recording.logged g.S.Recording.waiting g.S.Recording.last g.L.Log.holds g.S.Recording.is_rooted c.logs_edits.ensures c.names_roots.ensures g.S.Recording.count c.args.self.now mid refl refl c.in-Err.ensures.same refl g.S.Answering.shows in
-    record { limits = tt; says = record {
-      answered = roomless_lasting g.S.Recording.same g.S.Recording.checkpoints g.S.Answering.says g.S.Recording.sweeps _ _ _ _ c.args.self.now.server c.args.operation NoMemory c.in-Some.ensures.needs (inr refl);
-      goes_on = goes_nowhere _ _ _ _ NoMemory tt (λ is. cc) c.args.self.now mid settles;
-    } }
+    record {
+      limits = tt;
+      says = record {
+        answered = roomless_lasting g.S.Recording.same g.S.Recording.checkpoints g.S.Answering.says g.S.Recording.sweeps _ _ _ _ c.args.self.now.server c.args.operation NoMemory c.in-Some.ensures.needs (inr refl);
+        goes_on = goes_nowhere _ _ _ _ NoMemory tt (λ is. cc) c.args.self.now mid settles;
+      };
+    }
