@@ -76,6 +76,31 @@ fn is_decoded(alloc: Global, text: &[u8], wanted: &[u8]) -> Result<bool, Refusal
     }
 }
 
+/// Whether it is a Commit whose first write is under this row.
+fn commits_row(operation: &Option<Operation<'_>>, wanted: &[u8]) -> bool {
+    let Some(Operation::Commit { writes, .. }) = operation else {
+        return false;
+    };
+    match writes.first() {
+        Some(write) => write.cell.row == wanted,
+        None => false,
+    }
+}
+
+/// Whether the Commit is read, with its row.
+fn is_commit_read(alloc: Global, wanted: &[u8]) -> Result<bool, Refusal> {
+    let operation = decode_operation(alloc, COMMIT)?;
+    Ok(commits_row(&operation, wanted))
+}
+
+/// Whether the Read's answer is read, with its one cell.
+fn is_answer_read(alloc: Global) -> Result<bool, Refusal> {
+    match &decode_answer(alloc, TOLD)? {
+        Some(Answer::Read(reply)) => Ok(reply.found.len() == 1),
+        _ => Ok(false),
+    }
+}
+
 impl Keys {
     /// Calls of names, and of a raw reply.
     fn names(&self, alloc: Global, number: usize, wanted: &[u8]) -> Result<bool, Refusal> {
@@ -92,23 +117,6 @@ impl Keys {
                 Some(Reply::Raw(Some((_, value)))) => Ok(value.as_slice() == wanted),
                 _ => Ok(false),
             },
-        }
-    }
-
-    /// Whether a Commit and a Read's answer are read: the row of the one write, or that the one cell has nothing.
-    fn parts(&self, alloc: Global, number: usize, wanted: &[u8]) -> Result<bool, Refusal> {
-        if number == 12 {
-            return Ok(match decode_answer(alloc, TOLD)? {
-                Some(Answer::Read(reply)) => reply.found.len() == 1,
-                _ => false,
-            });
-        }
-        match decode_operation(alloc, COMMIT)? {
-            Some(Operation::Commit { writes, .. }) => match writes.first() {
-                Some(write) => Ok(write.cell.row == wanted),
-                None => Ok(false),
-            },
-            _ => Ok(false),
         }
     }
 
@@ -144,7 +152,8 @@ impl Subject for Keys {
             7 => return is_decoded(alloc, b"a\0", wanted),
             8 => self.write_request()?,
             9 => encode_reply(&Reply::Begin(7), &mut self.text)?,
-            11 | 12 => return self.parts(alloc, number, wanted),
+            11 => return is_commit_read(alloc, wanted),
+            12 => return is_answer_read(alloc),
             13 => encode_operation(&Operation::One(Request::Begin), &mut self.text)?,
             14 => encode_answer(&Answer::Said(Reply::Begin(7)), &mut self.text)?,
             _ => return self.names(alloc, number, wanted),
