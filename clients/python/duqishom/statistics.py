@@ -47,7 +47,7 @@ METRICS = (
     Metric("open", False, "what is open in the program", ("open",), "kind"),
     Metric("oldest_session_seconds", False, "seconds since the oldest open session began", ("oldest_session_seconds",)),
     Metric("refusals_total", True, "requests that were refused, by refusal", ("refusals",), "refusal"),
-    Metric("conflicts_total", True, "commits that came to nothing, by the answer to their Step or Commit", ("conflicts",), "answer"),
+    Metric("conflicts_total", True, "commits that came to nothing, by the answer to Step or Commit", ("conflicts",), "answer"),
     Metric("held", False, "bytes of requests and of replies that wait, and runs that the program has", ("held",), "what"),
     Metric("checkpoints_total", True, "checkpoints that were made", ("checkpoints",)),
     Metric("program_memory_bytes", False, "memory of the program", ("program", "memory")),
