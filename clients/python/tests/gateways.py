@@ -2,6 +2,7 @@
 
 from __future__ import annotations
 
+import itertools
 import json
 import os
 import signal
@@ -141,6 +142,11 @@ class Wire:
         start = self.begin()
         self.send(get(start, row) + stop(start))
         return [self.reply() for _ in range(2)][0]
+
+    def told(self) -> list[bytes]:
+        """What a client was told before the answer to a Statistics that it asks now."""
+        self.send(STATISTICS)
+        return list(itertools.takewhile(lambda body: body[0] != 0xF0, iter(self.reply, b"")))
 
     def close(self) -> None:
         self.socket.close()

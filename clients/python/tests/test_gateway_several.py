@@ -253,26 +253,19 @@ def changed(watch: int, stamp: int, *rows: bytes) -> bytes:
 class Watches(unittest.TestCase):
     """A Commit that is answered Done is told with its cells."""
 
-    def told(self, wire: Wire, *messages: bytes) -> None:
-        """A client was told this, and nothing else."""
-        wire.send(STATISTICS)
-        for message in messages:
-            self.assertEqual(wire.reply(), message)
-        self.assertEqual(wire.reply()[:1], b"\xf0")
-
     def test_cells(self) -> None:
         gateway = Gateway(self)
         watcher, wire = gateway.wire(), gateway.wire()
         watcher.ask(watch(b"a"))
         blind = commit(NEW, (b"ab", b"v"), (b"b", b"v"), (b"a", None), (b"ab", b"w"))
         self.assertEqual(wire.ask(blind), DONE + number(8, 1) + number(8, 2))
-        self.told(watcher, changed(1, 2, b"ab", b"a"))
+        self.assertEqual(watcher.told(), [changed(1, 2, b"ab", b"a")])
         start = wire.begin()
         self.assertEqual(wire.ask(set_(start, b"ac", b"v")), b"\x83")
         self.assertEqual(wire.ask(commit(start, (b"ad", b"v"), (b"ac", b"w")))[:2], DONE)
-        self.told(watcher, changed(1, 4, b"ac", b"ad"))
+        self.assertEqual(watcher.told(), [changed(1, 4, b"ac", b"ad")])
         self.assertEqual(wire.ask(commit(NEW, (b"b", b"v")))[:2], DONE)
-        self.told(watcher)
+        self.assertEqual(watcher.told(), [])
         self.assertEqual(gateway.statistics()["watches"], {"open": 1, "changes": 2, "unnamed": 0})
 
     def test_what_is_not_committed(self) -> None:
@@ -285,9 +278,9 @@ class Watches(unittest.TestCase):
         self.assertEqual(wire.ask(commit(NEW, (b"l", b"v")))[:2], CONFLICT)
         self.assertEqual(wire.ask(commit(start, (b"a", b"v"), (b"", b"v"))), b"\xff\x03")
         self.assertEqual(wire.ask(read(start, b"a", stays=b"\1"))[:1], b"\xb3")
-        self.told(watcher)
+        self.assertEqual(watcher.told(), [])
         self.assertEqual(wire.ask(commit(start, (b"c", b"v"))), DONE + start + number(8, 4))
-        self.told(watcher, changed(1, 4, b"c"))
+        self.assertEqual(watcher.told(), [changed(1, 4, b"c")])
 
     def test_a_session_that_began_before(self) -> None:
         """It may have written other cells of the watch. A Commit that begins its session has all of its cells with it."""
@@ -297,7 +290,7 @@ class Watches(unittest.TestCase):
         wire.ask(set_(start, b"ab", b"v"))
         watcher.ask(watch(b"a"))
         self.assertEqual(wire.ask(commit(start, (b"ac", b"v")))[:2], DONE)
-        self.told(watcher, b"\xf4\2" + number(8, 1))
+        self.assertEqual(watcher.told(), [b"\xf4\2" + number(8, 1)])
 
     def test_a_watch_that_begins_meanwhile(self) -> None:
         """While the program commits: it is told, and with the cells."""

@@ -17,7 +17,6 @@ from duqishom.gateway.users import User
 from tests.gateways import (
     COLUMN,
     PATIENCE,
-    STATISTICS,
     Gateway,
     Wire,
     counted,
@@ -65,13 +64,6 @@ def unnamed(watch: int) -> bytes:
 class Watches(unittest.TestCase):
     """What is told."""
 
-    def told(self, wire: Wire, *messages: bytes) -> None:
-        """A client was told this, and nothing else."""
-        wire.send(STATISTICS)
-        for message in messages:
-            self.assertEqual(wire.reply(), message)
-        self.assertEqual(wire.reply()[:1], b"\xf0")
-
     def watching(self, gateway: Gateway, *watches: bytes) -> Wire:
         """A client with these watches."""
         wire = gateway.wire()
@@ -89,12 +81,12 @@ class Watches(unittest.TestCase):
         watcher, wire = self.watching(gateway, watch(b"a")), gateway.wire()
         start = wire.begin()
         self.answers(wire, set_(start, b"ab", b"v") + set_(start, b"b", b"v") + 3 * step(start), 5)
-        self.told(watcher)
+        self.assertEqual(watcher.told(), [])
         committed = wire.ask(step(start))
         self.assertEqual(watcher.reply(), changed(1, committed, (b"ab", COLUMN)))
         self.assertEqual(watcher.read(b"ab"), b"\x82\1\0\0\0\1v")
         self.assertEqual(wire.ask(step(start))[:2], b"\x84\6")
-        self.told(watcher)
+        self.assertEqual(watcher.told(), [])
 
     def test_which_cells(self) -> None:
         gateway = Gateway(self)
@@ -107,9 +99,7 @@ class Watches(unittest.TestCase):
         ab, abd, b = (b"ab", COLUMN), (b"ab", b"d"), (b"b", COLUMN)
         told = [changed(1, committed, ab, abd, b), changed(6, committed, b)]
         told += [changed(2, committed, ab, abd), changed(3, committed, ab, abd), changed(4, committed, abd)]
-        watcher.send(STATISTICS)
-        self.assertEqual(sorted(watcher.reply() for _ in told), sorted(told))
-        self.assertEqual(watcher.reply()[:1], b"\xf0")
+        self.assertEqual(sorted(watcher.told()), sorted(told))
         self.assertEqual(wire.commit(b"c", b"v")[:2], COMMITTED)
         self.assertEqual(watcher.reply()[:10], changed(1, committed)[:10])
         self.assertEqual(gateway.statistics()["watches"], {"open": 6, "changes": 6, "unnamed": 0})
@@ -121,9 +111,9 @@ class Watches(unittest.TestCase):
         self.answers(wire, set_(first, b"a", b"v") + 2 * step(first) + stop(first), 4)
         self.answers(wire, set_(second, b"a", b"v") + step(second), 2)
         self.assertEqual(self.answers(wire, set_(third, b"", b"v") + set_(third, b"b", b"v" * 70_000) + stop(third), 3)[0], BAD_ROW)
-        self.told(watcher)
+        self.assertEqual(watcher.told(), [])
         committed = other.commit(b"b", b"v")
-        self.told(watcher, changed(1, committed, (b"b", COLUMN)))
+        self.assertEqual(watcher.told(), [changed(1, committed, (b"b", COLUMN))])
 
     def test_a_session_that_began_before(self) -> None:
         """It may have written cells of the watch, and it is told without them: whether it has or not."""
@@ -135,12 +125,12 @@ class Watches(unittest.TestCase):
         watcher = self.watching(gateway, watch(b"a"))
         self.answers(wire, 2 * step(start), 2)
         self.answers(other, 3 * step(early), 3)
-        self.told(watcher, unnamed(1), unnamed(1))
+        self.assertEqual(watcher.told(), [unnamed(1), unnamed(1)])
         self.answers(other, 3 * step(early), 3)
         late = self.watching(gateway, watch(b"a"))
         committed = wire.commit(b"ab", b"v")
         for each, name in ((watcher, 1), (late, 2)):
-            self.told(each, changed(name, committed, (b"ab", COLUMN)))
+            self.assertEqual(each.told(), [changed(name, committed, (b"ab", COLUMN))])
 
     def test_the_session_of_another_client(self) -> None:
         gateway = Gateway(self, ["--shared"])
@@ -148,7 +138,7 @@ class Watches(unittest.TestCase):
         start = wire.begin()
         self.answers(other, set_(start, b"a", b"v"), 1)
         committed = self.answers(wire, 3 * step(start), 3)[-1]
-        self.told(watcher, changed(1, committed, (b"a", COLUMN)))
+        self.assertEqual(watcher.told(), [changed(1, committed, (b"a", COLUMN))])
         self.assertEqual(other.ask(set_(number(8, 77), b"a", b"v")), b"\xff\1")
 
     def test_a_session_that_is_not_known_any_more(self) -> None:
@@ -179,7 +169,7 @@ class Watches(unittest.TestCase):
             found.append(reader.read(row)[:2] == b"\x82\1")
             if found[-1]:
                 self.assertIn(counted(row), watcher.reply())
-            self.told(watcher)
+            self.assertEqual(watcher.told(), [])
         self.assertEqual((found[0], found[-1]), (True, False))
 
     def test_no_checkpoint_yet(self) -> None:

@@ -262,7 +262,8 @@ module _ {S : Type 0} (same : S → S → Type 0) (checkpoints : S → Reply →
   abbrev pub AnswersLasting : (S → Operation → Answer → S → Type 0)
       → (S → Result ℕ Refusal → S → Type 0)
       → (stopped risen : Type 0) → (before now : ℕ) → S → Operation → Answer → S → Type 0
-  AnswersLasting says sweeps stopped risen before now old (lent.One request) (given.Said reply) new =
+  AnswersLasting says sweeps stopped risen before now old (lent.One request) (given.Said reply)
+      new =
       RepliesLasting (λ a q r b. says a (lent.One q) (given.Said r) b) sweeps stopped risen before
       now old request reply new
   AnswersLasting says sweeps stopped risen before now old (lent.One request) answer new = ⊥

@@ -109,7 +109,8 @@ pub(crate) fn push_commit(out: &mut Vec<u8>, start: Stamp, writes: &[CellWrite<'
     requires short { length (operation_body (Commit start (writes_named writes.now))) ≤ longest }
     requires room { HasRoomFor out.old
         (length (operation_body (Commit start (writes_named writes.now)))) }
-    ensures { AppendsBytes out.old out.new (operation_body (Commit start (writes_named writes.now))) }
+    ensures { AppendsBytes out.old out.new
+        (operation_body (Commit start (writes_named writes.now))) }
 {
     push_byte(out, COMMIT);
     push_u64(out, start);
