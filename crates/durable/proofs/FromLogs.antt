@@ -10,8 +10,8 @@ use Rattle.si_model.specs.Machine.{IsReached, Place, State, end_of_stamps, reope
 use Rattle.si_model.specs.Recovered.{IsRecovered, Recovers}
 use Rattle.si_model.specs.ShowsCells.{ShowsCells}
 use Rattle.durable.specs.Devices.{Covers}
-use Rattle.durable.specs.LastingOpening.{ServesFrom}
-use Rattle.durable.specs.Replaying.{FollowsLog}
+use Rattle.durable.specs.Recovery.{ServesFrom}
+use Rattle.durable.specs.Replay.{FollowsLog}
 use Rattle.server_loop.specs.Server.{Shows, ShowsNoSession, last_of, machine_places, rows_of}
 use Rattle.server_loop.specs.declared.server.Server.{Server}
 

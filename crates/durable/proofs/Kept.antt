@@ -7,8 +7,8 @@ use Rattle.oracle.specs.Marks.{IsWithinMark}
 use Rattle.si_model.specs.Machine.{State}
 use Rattle.durable.specs.Devices.{Covers, LastsOn}
 use Rattle.server_loop.specs.Server.{cluster_of}
-use Rattle.durable.specs.ServesLogged.{LastsOver}
-use Rattle.durable.specs.declared.lasting.LastingServer.{LastingServer}
+use Rattle.durable.specs.OverDevices.{LastsOver}
+use Rattle.durable.specs.declared.server.DurableServer.{DurableServer}
 use Rattle.server_loop.specs.declared.server.Server.{Server}
 
 covers_so : (mark : Option ℕ) (last top : ℕ) → IsSome mark → IsWithinMark last mark → top ≤ last → Covers mark top
@@ -16,7 +16,7 @@ covers_so None last top known within low = cc
 covers_so (Some mark) last top known within low = omega (arith, within, low)
 
 module _ {F N M L : Type 0} (files : Files F) (log : Log L) where
-  pub devices_last : (server : LastingServer (Server F N) M L) (st : State) (mark : Option ℕ) → IsSome mark → IsWithinMark server.marks.stored mark → LastsOver files log server st → LastsOn (files.contents (cluster_of server.server).files) mark (log.holds server.log) st
+  pub devices_last : (server : DurableServer (Server F N) M L) (st : State) (mark : Option ℕ) → IsSome mark → IsWithinMark server.marks.stored mark → LastsOver files log server st → LastsOn (files.contents (cluster_of server.server).files) mark (log.holds server.log) st
   devices_last server st mark known within lasts = record {
     root = lasts.kept.root;
     base = lasts.kept.base;

@@ -11,7 +11,7 @@ use Rattle.request_codec.specs.Operations.{operation_of}
 use Rattle.request_codec.specs.declared.answers.Answer.{Answer as CodecAnswer}
 use Rattle.request_codec.specs.declared.operations.Operation.{Operation as Lent}
 use Rattle.request_codec.specs.Stream.{frame, frames, BeginsNoFrame, IsPartial}
-use Rattle.durable.specs.Lasting.{FailsToSettle, GoesOn, IsAllWritten, IsSettled, KeepsBeginning, ServesLasting, Settles, SettlesAnswers, StaysSettled}
+use Rattle.durable.specs.Durability.{FailsToSettle, GoesOn, IsAllWritten, IsSettled, KeepsBeginning, ServesDurably, Settles, SettlesAnswers, StaysSettled}
 use Rattle.server_loop.specs.Batches.{over_at, AnswersAll, Answered, Cuts, Delivers, IsAnswered, ServesOn, SettlesAll}
 use Rattle.server_loop.specs.Runs.{Taken, Body, Oversize, Answers, RunsAs, RunOver, SaysAll, SaysOf}
 use Rattle.server_loop.specs.Serve.{as_write, written_of, EndsBy, TakesBodies, WritesReplies}
@@ -214,7 +214,7 @@ module _ {S : Type 0} (shows : S → State → Type 0) (says : S → Lent → Co
   all_written : Laws → (result : Result End ServeFault) (over : List Taken) (a e : S) (read rest : List ℕ) (l m h i : Option (List ℕ)) (r : ℕ) → Consumes l m read → (as_write result ≢ Err faults.Write → BeginsNoFrame rest) → (p : Delivers Answer Sets Breaks a e read rest over h i)
       → TakesBodies (as_write result) p.answered.bodies rest (map Body p.answered.bodies ++ over) → ((rs : List MachineAnswer) → WritesReplies (as_write result) rs (written_of rs))
       → EndsBy (as_write result) r read rest m (Some []) (Some (written_of (replies_of shows says between a e (map Body p.answered.bodies ++ over) p.replies p.answered.said).0)) → IsAllWritten result []
-      → ServesLasting shows says between lasts logs a e l m h i r result
+      → ServesDurably shows says between lasts logs a e l m h i r result
   all_written laws result over a e read rest l m h i r consumed open_rest p takes writes ending all =
       let ts = map Body p.answered.bodies ++ over in
       let q = replies_of shows says between a e ts p.replies p.answered.said in
@@ -253,7 +253,7 @@ module _ {S : Type 0} (shows : S → State → Type 0) (says : S → Lent → Co
   cut_lasting : Laws → (most : ℕ) (fault : ServeFault) (a e : S) (read rest : List ℕ) (l m h i : Option (List ℕ)) (r : ℕ) → Consumes l m read → EndsBy (Err faults.Write) r read rest m h i
       → (c : Cuts Answer Sets Breaks most fault a e read rest h i) → Sets c.last e ⊎ Breaks c.last e
       → ((now : State) → IsReached now → shows c.last now → logs c.last → (st : State) → lasts c.last st → ((c.written ≡ []) × lasts e st) ⊎ lasts e now)
-      → ServesLasting shows says between lasts logs a e l m h i r (Err faults.Write)
+      → ServesDurably shows says between lasts logs a e l m h i r (Err faults.Write)
   cut_lasting laws most fault a e read rest l m h i r consumed within c is err =
       let fr = c.front.answered in
       let ts = map Body c.batch.bodies ++ c.over in
@@ -311,10 +311,10 @@ module _ {S : Type 0} (shows : S → State → Type 0) (says : S → Lent → Co
       }
 
   -- the log failed
-  logged_so : (a e : S) (l m h i : Option (List ℕ)) (r : ℕ) → ServesLasting shows says between lasts logs a e l m h i r (Err faults.Write) → ServesLasting shows says between lasts logs a e l m h i r (Err faults.Log)
+  logged_so : (a e : S) (l m h i : Option (List ℕ)) (r : ℕ) → ServesDurably shows says between lasts logs a e l m h i r (Err faults.Write) → ServesDurably shows says between lasts logs a e l m h i r (Err faults.Log)
   logged_so a e l m h i r p = record { buffer = p.buffer; served = p.served; framed = p.framed; written = p.written; more = p.more; parts = p.parts; whole = tt; appended = p.appended; kept = p.kept }
 
-  pub serves_lasting : Laws → (most : ℕ) (a e : S) (l m h i : Option (List ℕ)) (r : ℕ) (result : Result End ServeFault) → ServesOn Answer Sets Breaks most [] a e l m h i r result → ServesLasting shows says between lasts logs a e l m h i r result
+  pub serves_lasting : Laws → (most : ℕ) (a e : S) (l m h i : Option (List ℕ)) (r : ℕ) (result : Result End ServeFault) → ServesOn Answer Sets Breaks most [] a e l m h i r result → ServesDurably shows says between lasts logs a e l m h i r result
   serves_lasting laws most a e l m h i r (Ok end) p =
       all_written laws (Ok end) (over_at end) a e p.read p.rest l m h i r p.consumed p.open_rest p.outcome (taken-at end p.outcome.answered.bodies r p.read p.rest m h i p.ending) (λ rs. refl)
       (ended_so end r p.read p.rest m h i (Some []) (Some _) p.ending) refl

@@ -15,11 +15,11 @@ use Rattle.row_atomic.specs.Roots.{root_sum}
 use Rattle.row_atomic.specs.Journals.{HasRoomFor, IsWithin, empty_journal}
 use Rattle.si_model.specs.Machine.{Place, State, reopened}
 use Rattle.si_model.specs.ShowsCells.{ShowsCells}
-use Rattle.durable.specs.Lasting.{Settles}
+use Rattle.durable.specs.Durability.{Settles}
 use Rattle.durable.specs.Devices.{IsOver, most_stamp}
-use Rattle.durable.specs.Lasts.{Follows, HasNewRoot, HoldsLogged, LastsIn, Logs, StaysRooted, StaysStored, named, shown_by}
+use Rattle.durable.specs.Answers.{Follows, HasNewRoot, HoldsLogged, LastsIn, Logs, StaysRooted, StaysStored, named, shown_by}
 use Rattle.durable.specs.StoredMarks.{CoversStamp, MarkView}
-use Rattle.durable.specs.declared.lasting.LastingServer.{LastingServer}
+use Rattle.durable.specs.declared.server.DurableServer.{DurableServer}
 
 all-join : {A : Type 0} (P : A → Type 0) (xs ys : List A) → AllByRecursion P xs → AllByRecursion P ys → AllByRecursion P (xs ++ ys)
 all-join P [] ys p q = q
@@ -129,15 +129,15 @@ module _ {S L : Type 0} (stores : S → RootView → Cells → List Place → Ty
       }
 
 module _ {S M L : Type 0} (stores : S → RootView → Cells → List Place → Type 0) (logged waiting : S → List ℕ) (last : S → ℕ) (holds : L → List (List ℕ) → Type 0) (is_rooted : S → RootView → Type 0) (laws : LogsEdits) (names : NamesRoots) (count : S → ℕ) where
-  abbrev Lasting : LastingServer S M L → State → Type 0
+  abbrev Lasting : DurableServer S M L → State → Type 0
   Lasting s st = LastsIn stores logged holds s st
 
   -- the stored cells and the stored mark stay
-  abbrev Stays : LastingServer S M L → LastingServer S M L → Type 0
+  abbrev Stays : DurableServer S M L → DurableServer S M L → Type 0
   Stays old new = StaysStored stores old.server new.server × (old.marks.stored ≤ new.marks.stored)
 
   -- a state lasts if the log holds records of the same edits, over the same root
-  lasts_with : (old new : LastingServer S M L) (st : State) → Stays old new → (lasts : Lasting old st) → (records : List (List ℕ)) → holds new.log records → IsOver records lasts.kept.root → AreUpTo most_stamp records
+  lasts_with : (old new : DurableServer S M L) (st : State) → Stays old new → (lasts : Lasting old st) → (records : List (List ℕ)) → holds new.log records → IsOver records lasts.kept.root → AreUpTo most_stamp records
       → CoversStamp new.marks records st.top → HoldEdits records lasts.kept.edits → (new.is_stopped ≡ true) ⊎ (flat_map edit_bytes records ≡ logged new.server) → Lasting new st
   lasts_with old new st stays lasts records in_log over up_to covers held bytes = record {
     kept = record {
@@ -159,13 +159,13 @@ module _ {S M L : Type 0} (stores : S → RootView → Cells → List Place → 
   }
 
   -- a state lasts as long as the log holds its records
-  pub lasts_on : (old new : LastingServer S M L) (st : State) → Stays old new → (lasts : Lasting old st) → holds new.log lasts.kept.records
+  pub lasts_on : (old new : DurableServer S M L) (st : State) → Stays old new → (lasts : Lasting old st) → holds new.log lasts.kept.records
       → (new.is_stopped ≡ true) ⊎ (flat_map edit_bytes lasts.kept.records ≡ logged new.server) → Lasting new st
   lasts_on old new st stays lasts in_log bytes = lasts_with old new st stays lasts lasts.kept.records in_log lasts.kept.over lasts.kept.stamps
       (elim lasts.kept.top [ inl at ↦ inl (let rises = stays.1 in omega (arith, rises, at)) | inr at ↦ inr at ]) lasts.kept.held bytes
 
   -- and also with a further record "any root"
-  pub lasts_any : (old new : LastingServer S M L) (st : State) → Stays old new → (lasts : Lasting old st) → holds new.log (lasts.kept.records ++ any_root ∷ [])
+  pub lasts_any : (old new : DurableServer S M L) (st : State) → Stays old new → (lasts : Lasting old st) → holds new.log (lasts.kept.records ++ any_root ∷ [])
       → (new.is_stopped ≡ true) ⊎ (flat_map edit_bytes lasts.kept.records ≡ logged new.server) → Lasting new st
   lasts_any old new st stays lasts in_log bytes = lasts_with old new st stays lasts (lasts.kept.records ++ any_root ∷ []) in_log
       (names.any lasts.kept.records lasts.kept.root.top (root_sum lasts.kept.root))
@@ -175,7 +175,7 @@ module _ {S M L : Type 0} (stores : S → RootView → Cells → List Place → 
       (elim bytes [ inl stopped ↦ inl stopped | inr is ↦ inr (any_adds_none lasts.kept.records ∙ is) ])
 
   -- a state that is shown lasts if the log holds all edits of the journal, and its stamps are covered
-  pub shown_lasts : (old : S) (new : LastingServer S M L) (root : RootView) (st : State) → Follows (stores old root) (logged old) (waiting old) (count old) (last old) st → StaysStored stores old new.server → root.top ≤ new.marks.stored → (records : List (List ℕ)) → holds new.log records → IsOver records root → AreUpTo most_stamp records
+  pub shown_lasts : (old : S) (new : DurableServer S M L) (root : RootView) (st : State) → Follows (stores old root) (logged old) (waiting old) (count old) (last old) st → StaysStored stores old new.server → root.top ≤ new.marks.stored → (records : List (List ℕ)) → holds new.log records → IsOver records root → AreUpTo most_stamp records
       → CoversStamp new.marks records (last old) → (edits : List Edit) → HoldEdits records edits
       → AllByRecursion IsStoredEdit edits → HasRoomFor empty_journal edits → flat_map edit_bytes records ≡ logged old ++ waiting old → (new.is_stopped ≡ true) ⊎ (flat_map edit_bytes records ≡ logged new.server) → Lasting new st
   shown_lasts old new root st f stays low records in_log over up_to covers edits held stored room all bytes =
@@ -201,7 +201,7 @@ module _ {S M L : Type 0} (stores : S → RootView → Cells → List Place → 
       }
 
   -- a new root's state lasts if the log holds the root's name alone
-  pub emptied_lasts : (old : S) (new : LastingServer S M L) (root : RootView) (st : State) → (put : HasNewRoot stores is_rooted last root old st) → StaysStored stores old new.server → root.top ≤ new.marks.stored → new.marks.stored ≤ most_stamp → last old ≤ new.marks.stored
+  pub emptied_lasts : (old : S) (new : DurableServer S M L) (root : RootView) (st : State) → (put : HasNewRoot stores is_rooted last root old st) → StaysStored stores old new.server → root.top ≤ new.marks.stored → new.marks.stored ≤ most_stamp → last old ≤ new.marks.stored
       → holds new.log (named root ∷ []) → (new.is_stopped ≡ true) ⊎ ([] ≡ logged new.server) → Lasting new st
   emptied_lasts old new root st put stays low limit covered is bytes = record {
     kept = record {
@@ -223,7 +223,7 @@ module _ {S M L : Type 0} (stores : S → RootView → Cells → List Place → 
   }
 
   -- such a log agrees with a server whose journal is empty
-  pub holds_root : (new : LastingServer S M L) (root : RootView) → root.top ≤ new.marks.stored → new.marks.stored ≤ most_stamp → new.marks.covered ≤ new.marks.stored → holds new.log (named root ∷ []) → logged new.server ≡ [] → HoldsLogged stores logged holds new root
+  pub holds_root : (new : DurableServer S M L) (root : RootView) → root.top ≤ new.marks.stored → new.marks.stored ≤ most_stamp → new.marks.covered ≤ new.marks.stored → holds new.log (named root ∷ []) → logged new.server ≡ [] → HoldsLogged stores logged holds new root
   holds_root new root low limit covered one none = record {
     records = named root ∷ [];
     in_log = one;
@@ -240,11 +240,11 @@ module _ {S M L : Type 0} (stores : S → RootView → Cells → List Place → 
   }
 
   -- the log still agrees with a server that counts the same edits as logged
-  pub holds_on : (mid : LastingServer S M L) (next : S) (root : RootView) → HoldsLogged stores logged holds mid root → logged next ≡ logged mid.server → HoldsLogged stores logged holds (record mid { server = next }) root
+  pub holds_on : (mid : DurableServer S M L) (next : S) (root : RootView) → HoldsLogged stores logged holds mid root → logged next ≡ logged mid.server → HoldsLogged stores logged holds (record mid { server = next }) root
   holds_on mid next root h same = record { records = h.records; in_log = h.in_log; over = h.over; stamps = h.stamps; low = h.low; limit = h.limit; covered = h.covered; edits = h.edits; held = h.held; stored = h.stored; room = h.room; bytes = h.bytes ∙ sym same }
 
   -- and also over any root that the mark covers, once that record was appended
-  pub holds_any : (mid new : LastingServer S M L) (old root : RootView) → (h : HoldsLogged stores logged holds mid old) → logged new.server ≡ logged mid.server → mid.marks.stored ≤ new.marks.stored → new.marks.stored ≤ most_stamp → new.marks.covered ≡ mid.marks.covered → root.top ≤ new.marks.stored
+  pub holds_any : (mid new : DurableServer S M L) (old root : RootView) → (h : HoldsLogged stores logged holds mid old) → logged new.server ≡ logged mid.server → mid.marks.stored ≤ new.marks.stored → new.marks.stored ≤ most_stamp → new.marks.covered ≡ mid.marks.covered → root.top ≤ new.marks.stored
       → holds new.log (h.records ++ any_root ∷ []) → HoldsLogged stores logged holds new root
   holds_any mid new old root h same rises limit covered low in_log = record {
     records = h.records ++ any_root ∷ [];
@@ -262,30 +262,30 @@ module _ {S M L : Type 0} (stores : S → RootView → Cells → List Place → 
   }
 
   -- what is shown lasts while the log has all edits and covers the last stamp
-  pub root_lasts : (new : LastingServer S M L) (root : RootView) (now : State) → Follows (stores new.server root) (logged new.server) (waiting new.server) (count new.server) (last new.server) now → HoldsLogged stores logged holds new root → waiting new.server ≡ [] → last new.server ≤ new.marks.covered → Lasting new now
+  pub root_lasts : (new : DurableServer S M L) (root : RootView) (now : State) → Follows (stores new.server root) (logged new.server) (waiting new.server) (count new.server) (last new.server) now → HoldsLogged stores logged holds new root → waiting new.server ≡ [] → last new.server ≤ new.marks.covered → Lasting new now
   root_lasts new root now f h none covered =
       shown_lasts new.server new root now f (λ other base places is. is) h.low h.records h.in_log h.over h.stamps (covers_low names new.marks h.records (last new.server) new.marks.covered covered h.covered) h.edits h.held h.stored h.room (none_waits h.records (logged new.server) (waiting new.server) none h.bytes) (inr h.bytes)
 
-  pub still_lasts : (mid : LastingServer S M L) (next : S) (now : State) → StaysStored stores mid.server next → logged next ≡ logged mid.server → Lasting mid now → Lasting (record mid { server = next }) now
+  pub still_lasts : (mid : DurableServer S M L) (next : S) (now : State) → StaysStored stores mid.server next → logged next ≡ logged mid.server → Lasting mid now → Lasting (record mid { server = next }) now
   still_lasts mid next now stays same lasts = lasts_on mid (record mid { server = next }) now (stays, no_less mid.marks.stored) lasts lasts.kept.in_log.0 (elim lasts.kept.in_log.1 [ inl stopped ↦ inl stopped | inr bytes ↦ inr (bytes ∙ sym same) ])
 
   -- a server that goes on with the same log
-  pub logs_on : (old : LastingServer S M L) (next : S) → StaysRooted stores is_rooted old.server next → logged next ≡ logged old.server → Logs stores logged holds is_rooted old → Logs stores logged holds is_rooted (record old { server = next })
+  pub logs_on : (old : DurableServer S M L) (next : S) → StaysRooted stores is_rooted old.server next → logged next ≡ logged old.server → Logs stores logged holds is_rooted old → Logs stores logged holds is_rooted (record old { server = next })
   logs_on old next stays same (inl stopped) = inl stopped
   logs_on old next stays same (inr h) = inr (h.0, stays.rooted h.0 h.1, holds_on old next h.0 h.2 same)
 
   -- a log that holds the same, of the same server
-  pub held_still : (old : LastingServer S M L) (log : L) (root : RootView) → Keeps (holds old.log) (holds log) → HoldsLogged stores logged holds old root → HoldsLogged stores logged holds (record old { log = log }) root
+  pub held_still : (old : DurableServer S M L) (log : L) (root : RootView) → Keeps (holds old.log) (holds log) → HoldsLogged stores logged holds old root → HoldsLogged stores logged holds (record old { log = log }) root
   held_still old log root keeps h = record { records = h.records; in_log = keeps h.records h.in_log; over = h.over; stamps = h.stamps; low = h.low; limit = h.limit; covered = h.covered; edits = h.edits; held = h.held; stored = h.stored; room = h.room; bytes = h.bytes }
 
-  pub lasts_still : (old : LastingServer S M L) (log : L) (st : State) → Keeps (holds old.log) (holds log) → Logs stores logged holds is_rooted old → Lasting old st → Lasting (record old { log = log }) st × Logs stores logged holds is_rooted (record old { log = log })
+  pub lasts_still : (old : DurableServer S M L) (log : L) (st : State) → Keeps (holds old.log) (holds log) → Logs stores logged holds is_rooted old → Lasting old st → Lasting (record old { log = log }) st × Logs stores logged holds is_rooted (record old { log = log })
   lasts_still old log st keeps logs lasts = (
     lasts_on old (record old { log = log }) st (λ root base places is. is, no_less old.marks.stored) lasts (keeps lasts.kept.records lasts.kept.in_log.0) lasts.kept.in_log.1,
     elim logs [ inl stopped ↦ inl stopped | inr h ↦ inr (h.0, h.1, held_still old log h.0 keeps h.2) ],
   )
 
   -- the same server with other counts, over a log that holds the same records
-  pub recounted : (old new : LastingServer S M L) → new.server ≡ old.server → new.marks ≡ old.marks → ((records : List (List ℕ)) → holds old.log records → holds new.log records) → new.is_stopped ≡ old.is_stopped → (shows : S → State → Type 0) → Settles (shown_by shows) Lasting (Logs stores logged holds is_rooted) old new
+  pub recounted : (old new : DurableServer S M L) → new.server ≡ old.server → new.marks ≡ old.marks → ((records : List (List ℕ)) → holds old.log records → holds new.log records) → new.is_stopped ≡ old.is_stopped → (shows : S → State → Type 0) → Settles (shown_by shows) Lasting (Logs stores logged holds is_rooted) old new
   recounted old new server marks log stop shows = record {
     shown = λ st s. subst (λ (x : S). shows x st) (sym server) s;
     logged = λ now reached s logs. elim logs [

@@ -11,7 +11,7 @@ use Rattle.si_model.specs.Machine.{new_machine, reopened}
 use Rattle.si_model.specs.ShowsCells.{ShowsCells}
 use Rattle.commit_log.specs.Records.{AreUpTo, IsGreatest, NamesRoots}
 use Rattle.durable.specs.Devices.{Covers, CoversWith, most_stamp}
-use Rattle.durable.specs.LastingOpening.{AreWhole, LacksBase, NamesTop}
+use Rattle.durable.specs.Recovery.{AreWhole, LacksBase, NamesTop}
 use Rattle.durable.specs.StoredMarks.{IsMarkOf, MarkView}
 use Rattle.metadata_table.specs.Roots.{OneRoot, RootView}
 use Rattle.server_loop.specs.Opening.{IsLost, below, damaged}

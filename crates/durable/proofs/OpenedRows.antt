@@ -20,9 +20,9 @@ use Rattle.row_atomic.specs.Roots.{KeepsCells, root_at, root_name}
 use Rattle.row_atomic.specs.declared.recorded.Recorded.{Recorded}
 use Rattle.row_atomic.proofs.Fresh.{new_cells as none_in}
 use Rattle.durable.specs.Devices.{IsOver}
-use Rattle.durable.specs.LastingOpening.{HasRootFile, LacksBase, NamesTop, OpensNew, no_root, other_root}
+use Rattle.durable.specs.Recovery.{HasRootFile, LacksBase, NamesTop, OpensNew, no_root, other_root}
 use Rattle.server_loop.specs.Opening.{LacksRoot}
-use Rattle.durable.specs.Replaying.{FollowsLog, ShowsRoot}
+use Rattle.durable.specs.Replay.{FollowsLog, ShowsRoot}
 use Rattle.server_loop.specs.Server.{machine_place, machine_places}
 use Rattle.durable.proofs.Logged.{AsManyEdits, true_not_false}
 use Rattle.durable.proofs.OpensLogs.{holds_none}

@@ -16,14 +16,14 @@ use Rattle.si_model.specs.ShowsCells.{ShowsCells}
 use Rattle.commit_log.specs.Records.{AreUpTo, edit_bytes}
 use Rattle.metadata_table.specs.Roots.{RootView}
 use Rattle.durable.specs.Devices.{CoversWith, IsOver, KeepsUnder, Lasts, most_stamp}
-use Rattle.durable.specs.LastingOpening.{HasRootFile, LacksBase, OpensFrom, ServesFrom}
-use Rattle.durable.specs.Lasts.{HoldsLogged}
+use Rattle.durable.specs.Recovery.{HasRootFile, LacksBase, OpensFrom, ServesFrom}
+use Rattle.durable.specs.Answers.{HoldsLogged}
 use Rattle.server_loop.specs.Opening.{IsLost}
 use Rattle.server_loop.specs.Server.{Shows, cluster_of, journal_of, last_of}
-use Rattle.durable.specs.ServesLogged.{IsSettledOver}
+use Rattle.durable.specs.OverDevices.{IsSettledOver}
 use Rattle.durable.specs.Stored.{IsRooted, StoresCells}
 use Rattle.durable.specs.StoredMarks.{CoversStamp, MarkView}
-use Rattle.durable.specs.declared.lasting.LastingServer.{LastingServer}
+use Rattle.durable.specs.declared.server.DurableServer.{DurableServer}
 use Rattle.server_loop.specs.declared.server.Server.{Server}
 use Rattle.durable.proofs.Logged.{AsManyEdits}
 use Rattle.durable.proofs.OpenedLogs.{DamageWith}
@@ -88,7 +88,7 @@ damage_of_log holds (Some m) (Some n) found same (inr (inl lacks)) = inr (inl (�
 damage_of_log holds (Some m) (Some n) found same (inr (inr later)) = inr (inr (λ records held. subst (λ (rs : List (List ℕ)). ¬ AreUpTo most_stamp rs) (same records held) later))
 
 module _ {F N M L : Type 0} (files : Files F) (marks : MarkStore M) (log : Log L) where
-  pub opens_from : LogsEdits → (st : State) (server : Server F N) (mark : MarkView M) (kept : L) (opened : LastingServer (Server F N) M L) → opened.server ≡ server → opened.marks ≡ mark → opened.log ≡ kept → (root : RootView) (base : Cells) (edits given : List Edit) (records : List (List ℕ)) → ServesFrom files (marks.mark mark.marks) root base edits st server
+  pub opens_from : LogsEdits → (st : State) (server : Server F N) (mark : MarkView M) (kept : L) (opened : DurableServer (Server F N) M L) → opened.server ≡ server → opened.marks ≡ mark → opened.log ≡ kept → (root : RootView) (base : Cells) (edits given : List Edit) (records : List (List ℕ)) → ServesFrom files (marks.mark mark.marks) root base edits st server
       → root.top ≤ mark.stored → mark.stored ≤ most_stamp → last_of server ≡ mark.covered → CoversStamp mark records mark.covered → ((top : ℕ) → top ≤ mark.covered → CoversWith (marks.mark mark.marks) records top)
       → HoldEdits records edits → AllByRecursion IsStoredEdit edits → log.holds kept records → IsOver records root → AreUpTo most_stamp records → HoldEdits records given → AllByRecursion IsStoredEdit given → HasRoomFor empty_journal given → st.next_tablet ≡ length st.places + 1
       → ((there : RootView) → is_some (journal_of server) ≡ true → IsRooted files.contents server there → waiting_of (journal_of server) ≡ [] → last_of server ≤ mark.covered → HoldsLogged (StoresCells files.contents) (λ s. logged_of (journal_of s)) log.holds opened there → IsSettledOver files log opened) → OpensFrom files marks log st opened

@@ -15,7 +15,7 @@ use Rattle.row_atomic.specs.Journals.{HasRoomFor, JournalView, all_logged, empty
 use Rattle.row_atomic.specs.Recorded.{FitsMemtables, OverfillsJournal, OverfillsRecorded, seen_recorded}
 use Rattle.row_atomic.specs.Roots.{RootIsStored}
 use Rattle.row_atomic.specs.declared.recorded.Recorded.{Recorded}
-use Rattle.durable.specs.Replaying.{FollowsLog, HasRoom, Replays, ShowsRoot, logged_journal}
+use Rattle.durable.specs.Replay.{FollowsLog, HasRoom, Replays, ShowsRoot, logged_journal}
 use Rattle.server_loop.specs.Server.{machine_places}
 
 -- ---- storage

@@ -20,17 +20,17 @@ use Rattle.server_loop.specs.Runs.{StepsAs}
 use Rattle.si_model.specs.Machine.{IsStorageRefusal, Refused, Reply as MachineReply, Request as MachineRequest, State, Step as MachineStep, Checkpoint as CheckpointAsked, refuses}
 use Rattle.si_model.specs.Transactions.{Answer as MachineAnswer, Operation as MachineOperation, One, Commit, Read, Said, Goes, steps, transacts, reads_together, gives_up as gives_up_commit, gives_up_reads}
 use Rattle.si_model.specs.Refusing.{gives_up}
-use Rattle.durable.specs.Lasting.{GoesOn, Settles, StepsOn}
-use Rattle.durable.specs.Lasts.{AnswersInRoom, AnswersLasting, AnswersRooted, Checkpoints, MovesTablets, NeedsLogRoom, NeedsRoom, ActsOnRoots, PutsRoot, SweepsAfter, TouchesRoots}
-use Rattle.durable.specs.Lasts.PutsRoot.{answered, failed, unmarked, unnamed}
+use Rattle.durable.specs.Durability.{GoesOn, Settles, StepsOn}
+use Rattle.durable.specs.Answers.{AnswersInRoom, AnswersDurably, AnswersRooted, Checkpoints, MovesTablets, NeedsLogRoom, NeedsRoom, ActsOnRoots, PutsRoot, SweepsAfter, TouchesRoots}
+use Rattle.durable.specs.Answers.PutsRoot.{answered, failed, unmarked, unnamed}
 
 module _ {S : Type 0} (same : S → S → Type 0) (checkpoints : S → Reply → S → Type 0) (says : S → Operation → Answer → S → Type 0) (sweeps : S → Result ℕ Refusal → S → Type 0) (stopped risen : Type 0) (before now : ℕ) where
-  pub moves_rooted : (old new : S) (request : Request) (reply : Reply) → MovesTablets request → AnswersRooted same checkpoints (λ a r b. says a (lent.One request) (given.Said r) b) stopped risen old reply new → AnswersLasting same checkpoints says sweeps stopped risen before now old (lent.One request) (given.Said reply) new
+  pub moves_rooted : (old new : S) (request : Request) (reply : Reply) → MovesTablets request → AnswersRooted same checkpoints (λ a r b. says a (lent.One request) (given.Said r) b) stopped risen old reply new → AnswersDurably same checkpoints says sweeps stopped risen before now old (lent.One request) (given.Said reply) new
   moves_rooted old new (Split row) reply of p = p
   moves_rooted old new (Move tablet server) reply of p = p
   moves_rooted old new request reply of p = absurd of
 
-  pub plain_lasting : (old new : S) (request : Request) (reply : Reply) → ¬ ActsOnRoots request → ¬ NeedsRoom request → says old (lent.One request) (given.Said reply) new → AnswersLasting same checkpoints says sweeps stopped risen before now old (lent.One request) (given.Said reply) new
+  pub plain_lasting : (old new : S) (request : Request) (reply : Reply) → ¬ ActsOnRoots request → ¬ NeedsRoom request → says old (lent.One request) (given.Said reply) new → AnswersDurably same checkpoints says sweeps stopped risen before now old (lent.One request) (given.Said reply) new
   plain_lasting old new (Split row) reply other plain p = absurd (other tt)
   plain_lasting old new (Move tablet server) reply other plain p = absurd (other tt)
   plain_lasting old new Sweep reply other plain p = absurd (other tt)
@@ -41,7 +41,7 @@ module _ {S : Type 0} (same : S → S → Type 0) (checkpoints : S → Reply →
   plain_lasting old new (CollectStep collector visits) reply other plain p = absurd (plain tt)
   plain_lasting old new request reply other plain p = p
 
-  pub room_lasting : (old new : S) (request : Request) (reply : Reply) → NeedsRoom request → AnswersInRoom same checkpoints (says old (lent.One request) (given.Said reply) new) (λ n. reply ≡ codec.Refused n) before now old new → AnswersLasting same checkpoints says sweeps stopped risen before now old (lent.One request) (given.Said reply) new
+  pub room_lasting : (old new : S) (request : Request) (reply : Reply) → NeedsRoom request → AnswersInRoom same checkpoints (says old (lent.One request) (given.Said reply) new) (λ n. reply ≡ codec.Refused n) before now old new → AnswersDurably same checkpoints says sweeps stopped risen before now old (lent.One request) (given.Said reply) new
   room_lasting old new Begin reply needs p = p
   room_lasting old new (Step start) reply needs p = p
   room_lasting old new (CleanStep cleaner) reply needs p = p
@@ -56,12 +56,12 @@ rootless (CollectStep collector visits) needs root = root
 rootless request needs root = absurd needs
 
 module _ {S : Type 0} (same : S → S → Type 0) (checkpoints : S → Reply → S → Type 0) (says : S → Operation → Answer → S → Type 0) (sweeps : S → Result ℕ Refusal → S → Type 0) (stopped risen : Type 0) (before now : ℕ) where
-  pub at_once_lasting : (old new : S) (operation : Operation) (answer : Answer) → StandsForSeveral (operation_of operation) → says old operation answer new → now ≡ before → AnswersLasting same checkpoints says sweeps stopped risen before now old operation answer new
+  pub at_once_lasting : (old new : S) (operation : Operation) (answer : Answer) → StandsForSeveral (operation_of operation) → says old operation answer new → now ≡ before → AnswersDurably same checkpoints says sweeps stopped risen before now old operation answer new
   at_once_lasting old new (lent.One request) answer several p unfailed = absurd several
   at_once_lasting old new (lent.Commit start writes) answer several p unfailed = inl (p, unfailed)
   at_once_lasting old new (lent.Read start cells stays_open) answer several p unfailed = inl (p, unfailed)
 
-  pub roomless_lasting : (old : S) (operation : Operation) (refusal : Refusal) → NeedsLogRoom operation → ((refusal ≡ Device) × HasRisen before now) ⊎ (refusal ≡ NoMemory) → AnswersLasting same checkpoints says sweeps stopped risen before now old operation (given.Said (codec.Refused refusal)) old
+  pub roomless_lasting : (old : S) (operation : Operation) (refusal : Refusal) → NeedsLogRoom operation → ((refusal ≡ Device) × HasRisen before now) ⊎ (refusal ≡ NoMemory) → AnswersDurably same checkpoints says sweeps stopped risen before now old operation (given.Said (codec.Refused refusal)) old
   roomless_lasting old (lent.One request) refusal needs why = absurd needs
   roomless_lasting old (lent.Commit start writes) refusal needs (inl (is, rose)) = inr (refl, inl (ap (λ n. given.Said (codec.Refused n)) is, rose))
   roomless_lasting old (lent.Commit start writes) refusal needs (inr is) = inr (refl, inr (ap (λ n. given.Said (codec.Refused n)) is))

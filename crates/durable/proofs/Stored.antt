@@ -38,8 +38,8 @@ use Rattle.si_model.specs.Machine.{IsReached, State, reopened}
 use Rattle.si_model.specs.ShowsCells.{ShowsCells}
 use Rattle.server_loop.specs.Answer.{IsAnswer, IsPlainAnswer, KeepsLogged, TendsTablets}
 use Rattle.server_loop.specs.Commands.{HasOutcome, checkpointed, command_of, outcome_of}
-use Rattle.durable.specs.Lasts as lasts
-use Rattle.durable.specs.Lasts.{HasNewRoot, KeepsRecording, MovesTablets, ActsOnRoots, StaysRooted, StaysStored, TouchesRoots}
+use Rattle.durable.specs.Answers as lasts
+use Rattle.durable.specs.Answers.{HasNewRoot, KeepsJournal, MovesTablets, ActsOnRoots, StaysRooted, StaysStored, TouchesRoots}
 use Rattle.server_loop.specs.Sessions.{KeepsOracle}
 use Rattle.rows.specs.Storage.{Storage}
 use Rattle.server_loop.specs.Operations.{IsAnswerTo, LeavesOthers}
@@ -203,7 +203,7 @@ module _ {F M : Type 0} (files : Files F) (marks : MarkStore M) (stored : RootIs
   answer_leaves old new (operations.Read start cells stays_open) answer other is now reached shown = at_once_leaves old new is.plain.at_once.others
 
   pub answer_moves : (old new : Server F M) (request : Lent) (reply : CodecReply) → MovesTablets request → IsAnswer files marks old request reply new
-      → StaysStored (StoresCells files.contents) old new × KeepsRecording (λ server. is_some (journal_of server)) (λ server. logged_of (journal_of server)) (λ server. waiting_of (journal_of server)) last_of old new
+      → StaysStored (StoresCells files.contents) old new × KeepsJournal (λ server. is_some (journal_of server)) (λ server. logged_of (journal_of server)) (λ server. waiting_of (journal_of server)) last_of old new
   answer_moves old new request reply of answer =
       let plain = answer.plain in
       let roots = answer_root request reply old new (moves_not_checkpoint request of) (moves_not_sweep request of) plain.tablets in
@@ -324,7 +324,7 @@ module _ {F M : Type 0} (contents : F → Option Contents) (faults : F → ℕ) 
       go (Some journal) some follows = law.whole follows.such.root follows.such.base result (cluster_of old) (cluster_of new) swept follows.such.has
 
 pub sweep_keeps : {F M : Type 0} (old new : Server F M) → new ≡ record old { rows = record (rows_of old) { cluster = cluster_of new } }
-    → KeepsRecording (λ server. is_some (journal_of server)) (λ server. logged_of (journal_of server)) (λ server. waiting_of (journal_of server)) last_of old new
+    → KeepsJournal (λ server. is_some (journal_of server)) (λ server. logged_of (journal_of server)) (λ server. waiting_of (journal_of server)) last_of old new
 sweep_keeps old new others = record {
   goes_on = ap (λ (s : Server _ _). is_some (journal_of s)) others;
   has = ap (λ (s : Server _ _). logged_of (journal_of s)) others;

@@ -2,11 +2,11 @@
 use Rattle.std.specs.Prelude.{◌≡◌, ◌≤◌, ◌<◌, ◌+◌, ◌⊎◌, ℕ}
 use Rattle.request_codec.specs.declared.replies.Reply.{Reply}
 use Rattle.request_codec.specs.declared.replies.Reply.TheVariants.{Refused}
-use Rattle.durable.specs.declared.lasting.LastingServer.{LastingServer}
+use Rattle.durable.specs.declared.server.DurableServer.{DurableServer}
 
 -- The journal has reached the size that was set. A refused root is due again once the journal has grown
 -- by 8,388,608 bytes, or has shrunk, since then a root was put meanwhile.
-abbrev pub IsRootDue : {S M L : Type 0} → LastingServer S M L → ℕ → Type 0
+abbrev pub IsRootDue : {S M L : Type 0} → DurableServer S M L → ℕ → Type 0
 IsRootDue server written =
     (server.root_bytes ≤ written)
     × ((written < server.tried_bytes) ⊎ (server.tried_bytes ≡ 0)
@@ -19,7 +19,7 @@ tried_at (Refused refusal) written = written
 tried_at reply written = 0
 
 -- it is due by the same sizes, with the same upkeep
-abbrev pub IsDueAlike : {S M L : Type 0} → LastingServer S M L → LastingServer S M L → Type 0
+abbrev pub IsDueAlike : {S M L : Type 0} → DurableServer S M L → DurableServer S M L → Type 0
 IsDueAlike old new =
     (new.root_bytes ≡ old.root_bytes) × (new.tried_bytes ≡ old.tried_bytes)
     × (new.upkeep ≡ old.upkeep)

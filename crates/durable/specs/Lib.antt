@@ -1,9 +1,9 @@
-pub mod Lasting
+pub mod Durability
 pub mod Devices
 pub mod Due
-pub mod Lasts
+pub mod Answers
 pub mod Stored
 pub mod StoredMarks
-pub mod ServesLogged
-pub mod Replaying
-pub mod LastingOpening
+pub mod OverDevices
+pub mod Replay
+pub mod Recovery

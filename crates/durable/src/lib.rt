@@ -1,15 +1,15 @@
 //! A server with a log: its answers survive a kill.
 #![tactic(auto)]
 
-mod lasting;
-mod lasting_opening;
-mod lasting_serving;
-mod recorded_server;
-mod recording;
-mod replaying;
+mod server;
+mod recovery;
+mod serve;
+mod journaled_server;
+mod journaled;
+mod replay;
 mod stored_mark;
-mod whole_files;
+mod atomic_put;
 
-pub use lasting::LastingServer;
+pub use server::DurableServer;
 pub use row_atomic::ROOT_NAME;
-pub use whole_files::WholeFiles;
+pub use atomic_put::AtomicPut;

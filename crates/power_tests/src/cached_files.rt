@@ -9,7 +9,7 @@ ghost use Rattle.power_tests.specs.Meant.{all_last, mixed, set_to, with_root_rea
 ghost use Rattle.power_tests.specs.Views.{AgreeBut, meant_files};
 
 use crate::fates::{Choice, Fates};
-use durable::{ROOT_NAME, WholeFiles};
+use durable::{ROOT_NAME, AtomicPut};
 use file_store::{FileFault, Files, MemFiles, read_whole};
 use std::alloc::Global;
 use std::collections::BTreeSet;
@@ -239,6 +239,6 @@ impl<V: Choice> Files for CachedFiles<V> {
     }
 }
 
-impl<V: Choice> WholeFiles for CachedFiles<V> {
+impl<V: Choice> AtomicPut for CachedFiles<V> {
     ghost whole = { tt };
 }

@@ -1,8 +1,8 @@
 //! Servers with a log over devices with two contents: they serve, are killed or lose power, and are opened again.
 
 ghost use Rattle.std.specs.Prelude.{◌≡◌, ◌≢◌, IfSome, IsErr, IsTrue, MatchResult, OnErr, OnOk};
-ghost use Rattle.durable.specs.LastingOpening.{OpensFrom};
-ghost use Rattle.durable.specs.ServesLogged.{LastsOver, ServesOver};
+ghost use Rattle.durable.specs.Recovery.{OpensFrom};
+ghost use Rattle.durable.specs.OverDevices.{LastsOver, ServesOver};
 ghost use Rattle.server_loop.specs.Server.{IsConfig};
 ghost use Rattle.si_model.specs.Machine.{IsReached, State};
 ghost use Rattle.power_tests.specs.Keeping.{EndsWith, KeepsBy, lasting, taken_over};
@@ -14,7 +14,7 @@ use crate::cached_mark::CachedMark;
 use crate::fates::Choice;
 use cell_key::Refusal;
 use commit_log::{FileLog, Log, LogFault};
-use durable::LastingServer;
+use durable::DurableServer;
 use file_store::{FileFault, Files};
 use oracle::{MarkStore, MemMark};
 use server_loop::{Config, End, ServeFault, Server};
@@ -22,7 +22,7 @@ use std::alloc::Global;
 use std::io::{Read, Write};
 
 /// A server with a log over devices with two contents.
-pub type CachedServer<V> = LastingServer<
+pub type CachedServer<V> = DurableServer<
     Server<CachedFiles<V>, MemMark>,
     CachedMark<V>,
     FileLog<CachedLogFile<V>>,
@@ -75,7 +75,7 @@ pub fn serve<V: Choice, I: Read, O: Write>(
 ///
 /// # Errors
 ///
-/// Those of `LastingServer::open`. The devices are given back.
+/// Those of `DurableServer::open`. The devices are given back.
 pub fn open<V: Choice>(
     alloc: Global,
     devices: CachedDevices<V>,
@@ -94,7 +94,7 @@ pub fn open<V: Choice>(
         Ok(log) => log,
         Err((fault, log)) => return Err((refusal_of(fault), CachedDevices { files, marks, log })),
     };
-    match LastingServer::open(alloc, files, marks, log, config) {
+    match DurableServer::open(alloc, files, marks, log, config) {
         Ok(server) => Ok(server),
         Err((refusal, files, marks, log)) => {
             let log = log.into_file();

@@ -9,8 +9,8 @@ use Rattle.std.proofs.lemmas.Bool.Decides.{nat_tests}
 use Rattle.std.specs.Int.{to_be_bytes, w32}
 use Rattle.server_loop.specs.Runs.{Taken, Body, Oversize}
 use Rattle.server_loop.specs.Batches.{Answered, AnswersAll, Cuts, Delivers, IsBatch, IsCutBy, IsOver, LeavesRest, Outcome, SettlesAll, over_of}
-use Rattle.server_loop.specs.declared.serving.Rest.{Rest}
-use Rattle.server_loop.specs.declared.serving.Rest.TheVariants as rests
+use Rattle.server_loop.specs.declared.frame_loop.Rest.{Rest}
+use Rattle.server_loop.specs.declared.frame_loop.Rest.TheVariants as rests
 use Rattle.request_codec.specs.Framing.{longest_frame}
 use Rattle.request_codec.specs.Stream.{frame, frames, IsTooLong, IsPartial, BeginsNoFrame, IsBody}
 use Rattle.server_loop.specs.declared.statuses.End.{End}

@@ -12,7 +12,7 @@ use Rattle.server_loop.specs.declared.statuses.End.{End}
 use Rattle.server_loop.specs.declared.statuses.End.TheVariants as ends
 use Rattle.server_loop.specs.declared.statuses.ServeFault.{ServeFault}
 use Rattle.server_loop.specs.declared.statuses.ServeFault.TheVariants as faults
-use Rattle.server_loop.specs.declared.serving.Rest.TheVariants as rests
+use Rattle.server_loop.specs.declared.frame_loop.Rest.TheVariants as rests
 use Rattle.server_loop.proofs.FrameHeads.{hand_frame, hand_long}
 use Rattle.server_loop.proofs.ServingLemmas.{BeginsNoFrame-from_large, BeginsNoFrame-from_partial, Cuts-after, Delivers-kept, Delivers-more, Delivers-none, Delivers-then, each-join, has_room, IsPartial-nil, length-answered, map-join, Outcome-after, whole-join}
 

@@ -14,14 +14,14 @@ use Rattle.server_loop.specs.declared.statuses.End.{End}
 use Rattle.server_loop.specs.declared.statuses.End.TheVariants as ends
 use Rattle.server_loop.specs.declared.statuses.ServeFault.{ServeFault}
 use Rattle.server_loop.specs.declared.statuses.ServeFault.TheVariants as faults
-use Rattle.server_loop.specs.declared.serving.Heard.{Heard}
-use Rattle.server_loop.specs.declared.serving.Heard.TheVariants as heards
-use Rattle.server_loop.specs.declared.serving.Rest.{Rest}
-use Rattle.server_loop.specs.declared.serving.Rest.TheVariants as rests
+use Rattle.server_loop.specs.declared.frame_loop.Incoming.{Incoming}
+use Rattle.server_loop.specs.declared.frame_loop.Incoming.TheVariants as heards
+use Rattle.server_loop.specs.declared.frame_loop.Rest.{Rest}
+use Rattle.server_loop.specs.declared.frame_loop.Rest.TheVariants as rests
 
 -- ---- an answer
 
-abbrev pub taken_by : Heard → Taken
+abbrev pub taken_by : Incoming → Taken
 taken_by (heards.Body body) = Body body.now
 taken_by heards.TooLarge = Oversize
 

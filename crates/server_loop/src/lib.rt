@@ -1,15 +1,15 @@
 //! The server: it answers a stream of framed requests, reply by reply, as a run of the snapshot machine.
 #![tactic(auto)]
 
-mod cleaning;
-mod collecting;
+mod cleaners;
+mod collectors;
 mod frames;
 mod journals;
 mod laws;
 mod opening;
-mod scanning;
+mod scans;
 mod server;
-mod serving;
+mod frame_loop;
 mod sessions;
 mod statuses;
 mod transactions;
@@ -22,6 +22,6 @@ pub use laws::{
 };
 pub use row_atomic::FlushLimits;
 pub use server::{Config, Server};
-pub use serving::{Answering, Heard, Hearing, Rest, answer_heard, serve_all};
+pub use frame_loop::{Handler, Incoming, FrameHandler, Rest, answer_incoming, serve_all};
 pub use statuses::{End, ServeFault, end_status, open_status};
 pub use upkeep::RootName;

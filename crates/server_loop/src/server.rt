@@ -6,7 +6,7 @@ ghost use Rattle.row_atomic.specs.Clusters.{IsFirstTablet};
 ghost use Rattle.server_loop.specs.Serve.{Serves, ServesStream};
 ghost use Rattle.si_model.specs.Machine.{State, new_machine};
 
-use crate::serving::{Answering, Heard, Hearing, answer_heard, serve_all};
+use crate::frame_loop::{Handler, Incoming, FrameHandler, answer_incoming, serve_all};
 use crate::statuses::{End, ServeFault};
 use cell_key::{MOST_STAMP, Refusal, Stamp};
 use clean_up::Cleaners;
@@ -309,7 +309,7 @@ impl<F: Files + Drop, M: MarkStore + Drop> Server<F, M> {
     }
 }
 
-impl<F: Files + Drop, M: MarkStore + Drop> Hearing for Server<F, M> {
+impl<F: Files + Drop, M: MarkStore + Drop> FrameHandler for Server<F, M> {
     ghost use Rattle.std.proofs.Common.{◌≡◌, inl, inr, subst, sym};
     ghost use Rattle.server_loop.specs.Batches.{IsAnswered};
     ghost use Rattle.server_loop.specs.Operations.{IsAnswerTo};
@@ -329,8 +329,8 @@ impl<F: Files + Drop, M: MarkStore + Drop> Hearing for Server<F, M> {
       | inr none ↦ absurd none
     ] };
 
-    fn answer(&mut self, heard: Heard<'_>, waiting: &mut Vec<u8>) {
-        answer_heard(self.alloc, self, heard, waiting);
+    fn answer(&mut self, incoming: Incoming<'_>, waiting: &mut Vec<u8>) {
+        answer_incoming(self.alloc, self, incoming, waiting);
     }
 
     /// The answers need no settling.
@@ -339,7 +339,7 @@ impl<F: Files + Drop, M: MarkStore + Drop> Hearing for Server<F, M> {
     }
 }
 
-impl<F: Files + Drop, M: MarkStore + Drop> Answering for Server<F, M> {
+impl<F: Files + Drop, M: MarkStore + Drop> Handler for Server<F, M> {
     ghost use Rattle.server_loop.specs.Operations.{IsAnswerTo};
     ghost use Rattle.server_loop.specs.Server.{Shows};
     ghost use Rattle.row_atomic.specs.Flushes.{KeepsShown};

@@ -9,7 +9,7 @@ use cell_key::Refusal;
 use clap::error::ErrorKind;
 use command_line::{Options, options};
 use commit_log::{DirLog, Log, LogFault, OpenLog, make_log, open_log};
-use durable::{LastingServer, ROOT_NAME, WholeFiles};
+use durable::{DurableServer, ROOT_NAME, AtomicPut};
 use file_store::{DirFiles, FileFault, Files, MemFiles, read_whole};
 use oracle::{DirMark, MarkStore, MemMark};
 use server_loop::{Config, FlushLimits, Server, end_status, open_status};
@@ -212,12 +212,12 @@ fn serve<R: AllocGlobal + Input + Print, F: Files + Drop, M: MarkStore + Drop>(
 /// error.
 fn serve_logged<
     R: AllocGlobal + Input + Print,
-    F: WholeFiles + Drop,
+    F: AtomicPut + Drop,
     M: MarkStore + Drop,
     L: Log + Drop,
 >(
     rt: &R,
-    opened: Result<LastingServer<Server<F, MemMark>, M, L>, (Refusal, F, M, L)>,
+    opened: Result<DurableServer<Server<F, MemMark>, M, L>, (Refusal, F, M, L)>,
     options: &Options<'_>,
 ) -> (u8, &'static str) {
     let mut server = match opened {
@@ -295,7 +295,7 @@ fn serve_folder<R: AllocGlobal + Input + Print + Eprint + Folders<File = File> +
             if let Err(refusal) = renew_mark(&mut marks) {
                 return Ok(open_status(&refusal));
             }
-            let opened = LastingServer::open(alloc, files, marks, log, config);
+            let opened = DurableServer::open(alloc, files, marks, log, config);
             Ok(serve_logged(rt, opened, options))
         }
         Ok(None) => Ok(serve(rt, Server::open(alloc, files, marks, config), options)),

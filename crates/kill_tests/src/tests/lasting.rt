@@ -4,7 +4,7 @@ use crate::tests::FLUSH;
 use crate::tests::stopping::{Life, Stopping};
 use cell_key::Refusal;
 use commit_log::{FileLog, LogFault, LogFile, MemFile, new_log};
-use durable::{LastingServer, ROOT_NAME};
+use durable::{DurableServer, ROOT_NAME};
 use file_store::{Files, MemFiles};
 use oracle::{MarkStore, MemMark};
 use server_loop::{Config, FlushLimits, ServeFault, Server};
@@ -14,7 +14,7 @@ use testing::FILE_LIMIT;
 use testing::frames::push_frame;
 
 /// A server over devices that can be cut off.
-pub type StoppingServer<'a> = LastingServer<
+pub type StoppingServer<'a> = DurableServer<
     Server<Stopping<'a, MemFiles>, MemMark>,
     Stopping<'a, MemMark>,
     Stopping<'a, FileLog<MemFile>>,
@@ -145,7 +145,7 @@ impl Devices {
             },
             file_limit: FILE_LIMIT,
         };
-        let mut server = match LastingServer::open(self.alloc, files, marks, log, config) {
+        let mut server = match DurableServer::open(self.alloc, files, marks, log, config) {
             Ok(server) => server,
             Err((refusal, _, _, _)) => return Err(refusal),
         };

@@ -6,7 +6,7 @@ use crate::tests::lasting::{Devices, ON_REQUEST, StoppingServer, Upkeep, reads, 
 use crate::tests::stopping::Written;
 use cell_key::Refusal;
 use commit_log::MemLog;
-use durable::LastingServer;
+use durable::DurableServer;
 use file_store::MemFiles;
 use oracle::MemMark;
 use server_loop::{Config, End, ServeFault, Server, end_status};
@@ -108,7 +108,7 @@ fn what_the_log_has(rt: HostRuntime) -> Result<(), Fail> {
 }
 
 /// A server with a log in memory.
-type MemLasting = LastingServer<Server<MemFiles, MemMark>, MemMark, MemLog>;
+type MemLasting = DurableServer<Server<MemFiles, MemMark>, MemMark, MemLog>;
 
 /// A server opened over these devices.
 fn opened(
@@ -121,7 +121,7 @@ fn opened(
         flush: FLUSH,
         file_limit: FILE_LIMIT,
     };
-    match LastingServer::open(alloc, files, marks, log, config) {
+    match DurableServer::open(alloc, files, marks, log, config) {
         Ok(server) => Ok(server),
         Err((refusal, _, _, _)) => Err(refusal),
     }

@@ -8,7 +8,7 @@ ghost use Rattle.file_store.specs.Store.{HasFaultCause};
 
 use cell_key::Stamp;
 use commit_log::{Log, LogFault, RecordKind};
-use durable::WholeFiles;
+use durable::AtomicPut;
 use file_store::{FileFault, Files};
 use oracle::{MarkFault, MarkStore};
 use std::cell::Cell;
@@ -232,7 +232,7 @@ impl<F: Files + Drop> Files for Stopping<'_, F> {
     }
 }
 
-impl<F: Files + Drop> WholeFiles for Stopping<'_, F> {
+impl<F: Files + Drop> AtomicPut for Stopping<'_, F> {
     ghost whole = { tt };
 }
 

@@ -3,7 +3,7 @@
 use crate::tests::FLUSH;
 use cell_key::Refusal;
 use commit_log::MemLog;
-use durable::LastingServer;
+use durable::DurableServer;
 use file_store::MemFiles;
 use oracle::MemMark;
 use server_loop::{Config, End, ServeFault, Server};
@@ -13,7 +13,7 @@ use testing::frames::stream_of;
 use testing::memory::{Call, Subject, Table};
 
 /// A server with a log over devices in memory.
-type LogServer = LastingServer<Server<MemFiles, MemMark>, MemMark, MemLog>;
+type LogServer = DurableServer<Server<MemFiles, MemMark>, MemMark, MemLog>;
 
 /// The requests served before: a commit that the root has, a commit that only the log has, and a lock.
 const SET_UP: [&[u8]; 14] = [
@@ -96,7 +96,7 @@ impl Logged {
             flush: FLUSH,
             file_limit: FILE_LIMIT,
         };
-        match LastingServer::open(alloc, files, marks, log, config) {
+        match DurableServer::open(alloc, files, marks, log, config) {
             Ok(server) => Ok(server),
             Err((refusal, files, marks, log)) => {
                 self.devices = Some((files, marks, log));

@@ -1,8 +1,0 @@
-use Rattle.durable.proofs.Rooted.{plain_lasting}
-use Rattle.durable.proofs.lasting.LastingServer.answer_plainly.Goals as goal
-
-pub returns-clause-says : goal.returns-clause-says
-returns-clause-says g c = record {
-  answered = plain_lasting g.S.Recording.same g.S.Recording.checkpoints g.S.Answering.says g.S.Recording.sweeps _ _ _ _ c.args.self.now.server c.answer_inside.new.self.server c.args.request c.answer_inside.result c.requires.rootless c.requires.roomless c.answer_inside.ensures.says;
-  goes_on = c.answer_inside.ensures.goes_on;
-}

@@ -1,0 +1,328 @@
+-- The state that a server with a log keeps over a kill.
+use Rattle.std.specs.Prelude.{◌≡◌, ◌≤◌, ◌+◌, ◌⊎◌, ℕ, List, ◌++◌, length, Bool, Result, Ok, Err, true, flat_map, ⊤}
+use Rattle.std.specs.List.{AllByRecursion}
+use Rattle.cell_key.specs.Cells.{Cells, after_edits}
+use Rattle.cell_key.specs.declared.edits.Edit.{Edit}
+use Rattle.cell_key.specs.declared.refusals.Refusal.{Refusal}
+use Rattle.cell_key.specs.declared.refusals.Refusal.TheVariants.{Device, NoMemory}
+use Rattle.commit_log.specs.Edits.{HoldEdits, IsStoredEdit, spelled_edits}
+use Rattle.commit_log.specs.Faults.{HasRisen}
+use Rattle.commit_log.specs.Records.{AreUpTo, HasRecord, any_root, edit_bytes, root_record}
+use Rattle.metadata_table.specs.Roots.{RootView}
+use Rattle.row_atomic.specs.Journals.{HasRoomFor, empty_journal}
+use Rattle.row_atomic.specs.Roots.{root_sum}
+use Rattle.request_codec.specs.Answers.{answer_of}
+use Rattle.request_codec.specs.Operations.{operation_of}
+use Rattle.request_codec.specs.declared.answers.Answer.{Answer}
+use Rattle.request_codec.specs.declared.answers.Answer.TheVariants as given
+use Rattle.request_codec.specs.declared.operations.Operation.{Operation}
+use Rattle.request_codec.specs.declared.operations.Operation.TheVariants as lent
+use Rattle.request_codec.specs.declared.replies.Reply.{Reply}
+use Rattle.request_codec.specs.declared.replies.Reply.TheVariants as codec
+use Rattle.request_codec.specs.declared.requests.Request.{Request}
+use Rattle.request_codec.specs.declared.requests.Request.TheVariants.{Begin, Step, CleanStep, CollectStep, Split, Move, Sweep, Checkpoint}
+use Rattle.si_model.specs.Machine.{Place, State, reopened}
+use Rattle.si_model.specs.ShowsCells.{ShowsCells}
+use Rattle.durable.specs.Devices.{IsOver, Lasts, most_stamp}
+use Rattle.durable.specs.Due.{IsRootDue, tried_at}
+use Rattle.durable.specs.Durability.{GoesOn, Settles}
+use Rattle.durable.specs.StoredMarks.{CoversStamp}
+use Rattle.durable.specs.declared.server.DurableServer.{DurableServer}
+use Rattle.server_loop.specs.declared.upkeep.RootName.{RootName}
+
+-- requests around which roots are put
+abbrev pub MovesTablets : Request → Type 0
+MovesTablets (Split row) = ⊤
+MovesTablets (Move tablet server) = ⊤
+MovesTablets request = ⊥
+
+-- requests that put roots or remove files: the server inside doesn't answer them by itself
+abbrev pub ActsOnRoots : Request → Type 0
+ActsOnRoots (Split row) = ⊤
+ActsOnRoots (Move tablet server) = ⊤
+ActsOnRoots Sweep = ⊤
+ActsOnRoots Checkpoint = ⊤
+ActsOnRoots request = ⊥
+
+-- operations that put roots or remove files: none of several cells does
+abbrev pub TouchesRoots : Operation → Type 0
+TouchesRoots (lent.One request) = ActsOnRoots request
+TouchesRoots operation = ⊥
+
+-- requests that need room in the log: they may write edits or draw a stamp
+abbrev pub NeedsRoom : Request → Type 0
+NeedsRoom Begin = ⊤
+NeedsRoom (Step start) = ⊤
+NeedsRoom (CleanStep cleaner) = ⊤
+NeedsRoom (CollectStep collector visits) = ⊤
+NeedsRoom request = ⊥
+
+-- operations of several cells that do: those that write edits or draw a stamp
+abbrev pub NeedsLogRoom : Operation → Type 0
+NeedsLogRoom (lent.One request) = ⊥
+NeedsLogRoom (lent.Commit start writes) = ⊤
+NeedsLogRoom (lent.Read start cells stays_open) = start ≡ 0
+
+-- ---- the journal
+
+-- Files keep cells under a root with the places of a state's tablets. The logged edits, and then the
+-- waiting ones, change these cells to ones that show the state after a clean restart.
+pub record Follows (stores : Cells → List Place → Type 0) (logged waiting : List ℕ)
+    (count last : ℕ) (st : State) : Type 0 where
+  pub base : Cells
+  pub kept : stores base st.places
+  pub first : List Edit
+  pub then : List Edit
+  pub logged_bytes : logged ≡ spelled_edits first
+  pub waiting_bytes : waiting ≡ spelled_edits then
+  pub counted : count ≡ length (first ++ then)
+  pub stored : AllByRecursion IsStoredEdit (first ++ then)
+  pub shows : ShowsCells (after_edits base (first ++ then)) (reopened st)
+  pub next : st.next_tablet ≡ length st.places + 1
+  pub top : st.top ≤ last
+
+-- the stored cells stay
+abbrev pub StaysStored : {S : Type 0} → (S → RootView → Cells → List Place → Type 0) → S → S
+    → Type 0
+StaysStored stores old new =
+    (root : RootView) (base : Cells) (places : List Place) → stores old root base places
+    → stores new root base places
+
+-- and the root still has the places of the tablets
+pub record StaysRooted {S : Type 0} (stores : S → RootView → Cells → List Place → Type 0)
+    (is_rooted : S → RootView → Type 0) (old new : S) : Type 0 where
+  pub stored : StaysStored stores old new
+  pub rooted : (root : RootView) → is_rooted old root → is_rooted new root
+
+-- this root was put, and keeps cells which show the state after a clean restart
+pub record HasNewRoot {S : Type 0} (stores : S → RootView → Cells → List Place → Type 0)
+    (is_rooted : S → RootView → Type 0) (last : S → ℕ) (root : RootView) (new : S) (st : State)
+    : Type 0 where
+  pub rooted : is_rooted new root
+  pub base : Cells
+  pub kept : stores new root base st.places
+  pub shows : ShowsCells base (reopened st)
+  pub next : st.next_tablet ≡ length st.places + 1
+  pub top : st.top ≤ last new
+  pub low : root.top ≤ last new
+
+-- the journal and the last stamp stay
+pub record KeepsJournal {S : Type 0} (recording : S → Bool) (logged waiting : S → List ℕ)
+    (last : S → ℕ) (old new : S) : Type 0 where
+  pub goes_on : recording new ≡ recording old
+  pub has : logged new ≡ logged old
+  pub waits : waiting new ≡ waiting old
+  pub stamp : last new ≡ last old
+
+-- the name of a root in the records of a log
+abbrev pub named : RootView → List ℕ
+named root = root_record root.top (root_sum root)
+
+-- A log names the root that it is over: none of its records says that this may be any root.
+pub record NamesItsRoot (holds : List (List ℕ) → Type 0) : Type 0 where
+  pub records : List (List ℕ)
+  pub in_log : holds records
+  pub names : ¬ HasRecord records any_root
+
+-- this is the name of a root
+abbrev pub IsNameOf : RootName → RootView → Type 0
+IsNameOf name root = (name.top ≡ root.top) × (name.sum ≡ root_sum root)
+
+-- ---- a server with a log
+
+module _ {S M L : Type 0} (stores : S → RootView → Cells → List Place → Type 0)
+    (logged : S → List ℕ) (holds : L → List (List ℕ) → Type 0) where
+  -- Its files keep cells under a root whose greatest stamp the mark's file covers.
+  abbrev pub StoresUnder : DurableServer S M L → RootView → Cells → List Place → Type 0
+  StoresUnder server root base places =
+      stores server.server root base places × (root.top ≤ server.marks.stored)
+
+  -- The log holds records. Unless it failed, they have the edits that the server counts as logged.
+  abbrev pub HoldsRecords : DurableServer S M L → List (List ℕ) → Type 0
+  HoldsRecords server records =
+      holds server.log records
+      × ((server.is_stopped ≡ true)
+      ⊎ (flat_map edit_bytes records ≡ logged server.server))
+
+  -- Its devices keep a state, which needn't be the one that it shows.
+  pub record LastsIn (server : DurableServer S M L) (st : State) : Type 0 where
+    pub kept : Lasts (StoresUnder server) (HoldsRecords server) (CoversStamp server.marks) st
+
+  -- The log is over a root and has the edits that the server counts as logged. The mark's file covers the
+  -- root's greatest stamp, and the file or the log the stamps that count as covered.
+  pub record HoldsLogged (server : DurableServer S M L) (root : RootView) : Type 0 where
+    pub records : List (List ℕ)
+    pub in_log : holds server.log records
+    pub over : IsOver records root
+    pub stamps : AreUpTo most_stamp records
+    pub low : root.top ≤ server.marks.stored
+    pub limit : server.marks.stored ≤ most_stamp
+    pub covered : CoversStamp server.marks records server.marks.covered
+    pub edits : List Edit
+    pub held : HoldEdits records edits
+    pub stored : AllByRecursion IsStoredEdit edits
+    pub room : HasRoomFor empty_journal edits
+    pub bytes : flat_map edit_bytes records ≡ logged server.server
+
+  -- The log is so over the current root, which has the places of the tablets. Or the log failed: then no
+  -- reply leaves the server any more.
+  abbrev pub Logs : (S → RootView → Type 0) → DurableServer S M L → Type 0
+  Logs is_rooted server =
+      (server.is_stopped ≡ true)
+      ⊎ ((root : RootView) × is_rooted server.server root × HoldsLogged server root)
+
+-- a server with a log shows the states of the server inside
+abbrev pub shown_by : {S M L : Type 0} → (S → State → Type 0) → DurableServer S M L → State
+    → Type 0
+shown_by shows server st = shows server.server st
+
+-- ---- answers
+
+-- the reply to a sweep
+abbrev pub swept : Result ℕ Refusal → Reply
+swept (Ok count) = codec.Sweep count
+swept (Err refusal) = codec.Refused refusal
+
+-- A sweep left the root's files. Or no edits are recorded: nothing was done, and no reply leaves the
+-- server any more.
+abbrev pub SweepsNow : {S : Type 0} → (S → Result ℕ Refusal → S → Type 0) → Type 0 → S → Result ℕ Refusal → S
+    → Type 0
+SweepsNow sweeps stopped old result new =
+    sweeps old result new ⊎ ((result ≡ Err Device) × stopped × (new ≡ old))
+
+module _ {S : Type 0} (same : S → S → Type 0) (checkpoints : S → Reply → S → Type 0) where
+  -- The files answered a checkpoint, apart from the journal.
+  abbrev pub Checkpoints : S → Reply → S → Type 0
+  Checkpoints old reply new =
+      (mid next : S) × same old mid × checkpoints mid reply next × same next new
+
+  -- A checkpoint was answered as the files answered it. Or it was refused with NoMemory: the root was
+  -- put, and memory to name it in the log was refused. Or with Device: the mark's file failed, before the
+  -- root was put; or the log failed, before that or after, and no reply leaves the server any more.
+  pub data PutsRoot (stopped risen : Type 0) (old : S) (reply : Reply) (new : S) : Type 0 where
+    answered : Checkpoints old reply new → PutsRoot stopped risen old reply new
+    unnamed : reply ≡ codec.Refused NoMemory → Checkpoints old codec.Checkpoint new
+        → PutsRoot stopped risen old reply new
+    unmarked : reply ≡ codec.Refused Device → risen → same old new
+        → PutsRoot stopped risen old reply new
+    failed : reply ≡ codec.Refused Device → stopped
+        → same old new ⊎ Checkpoints old codec.Checkpoint new
+        → PutsRoot stopped risen old reply new
+
+  -- It was refused with the refusal of the checkpoint before it. Or it was answered after that
+  -- checkpoint, and another checkpoint may have followed.
+  abbrev pub AnswersRooted : (S → Reply → S → Type 0) → (stopped risen : Type 0) → S → Reply → S
+      → Type 0
+  AnswersRooted answers stopped risen old reply new =
+      ((refusal : Refusal) × (reply ≡ codec.Refused refusal)
+      × PutsRoot stopped risen old reply new)
+      ⊎ ((first next : S) × Checkpoints old codec.Checkpoint first × answers first reply next
+      × (same next new ⊎ ((second : Reply) × PutsRoot stopped risen next second new)))
+
+  -- It was refused since the log got no room, and nothing was changed: a device failed, or memory was
+  -- refused.
+  abbrev pub LacksRoom : (Refusal → Type 0) → Type 0 → S → S → Type 0
+  LacksRoom is_refused risen old new =
+      (new ≡ old) × ((is_refused Device × risen) ⊎ is_refused NoMemory)
+
+  -- It was answered so, and no device of the log failed; or refused since the log got no room.
+  abbrev pub AnswersInRoom : Type 0 → (Refusal → Type 0) → (before now : ℕ) → S → S → Type 0
+  AnswersInRoom is_said is_refused before now old new =
+      (is_said × (now ≡ before)) ⊎ LacksRoom is_refused (HasRisen before now) old new
+
+  -- The replies of a server with a log are those of one without, except that checkpoints come with
+  -- splits and moves, that a sweep leaves the root's files, and that requests which need room in the log
+  -- are refused if it has none.
+  abbrev pub RepliesDurably : (S → Request → Reply → S → Type 0)
+      → (S → Result ℕ Refusal → S → Type 0)
+      → (stopped risen : Type 0) → (before now : ℕ) → S → Request → Reply → S → Type 0
+  RepliesDurably says sweeps stopped risen before now old (Split row) reply new =
+      AnswersRooted (λ a r b. says a (Split row) r b) stopped risen old reply new
+  RepliesDurably says sweeps stopped risen before now old (Move tablet server) reply new =
+      AnswersRooted (λ a r b. says a (Move tablet server) r b) stopped risen old reply new
+  RepliesDurably says sweeps stopped risen before now old Sweep reply new =
+      (result : Result ℕ Refusal) × (reply ≡ swept result) × SweepsNow sweeps stopped old result new
+  RepliesDurably says sweeps stopped risen before now old Checkpoint reply new =
+      PutsRoot stopped risen old reply new
+  RepliesDurably says sweeps stopped risen before now old Begin reply new =
+      AnswersInRoom (says old Begin reply new) (λ n. reply ≡ codec.Refused n) before now old new
+  RepliesDurably says sweeps stopped risen before now old (Step start) reply new =
+      AnswersInRoom (says old (Step start) reply new) (λ n. reply ≡ codec.Refused n) before now
+      old new
+  RepliesDurably says sweeps stopped risen before now old (CleanStep cleaner) reply new =
+      AnswersInRoom (says old (CleanStep cleaner) reply new) (λ n. reply ≡ codec.Refused n) before
+      now old new
+  RepliesDurably says sweeps stopped risen before now old (CollectStep collector n) reply new =
+      AnswersInRoom (says old (CollectStep collector n) reply new) (λ n. reply ≡ codec.Refused n)
+      before now old new
+  RepliesDurably says sweeps stopped risen before now old request reply new =
+      says old request reply new
+
+  -- The same for operations: a Commit, and a Read that begins a session, need room in the log.
+  abbrev pub AnswersDurably : (S → Operation → Answer → S → Type 0)
+      → (S → Result ℕ Refusal → S → Type 0)
+      → (stopped risen : Type 0) → (before now : ℕ) → S → Operation → Answer → S → Type 0
+  AnswersDurably says sweeps stopped risen before now old (lent.One request) (given.Said reply)
+      new =
+      RepliesDurably (λ a q r b. says a (lent.One q) (given.Said r) b) sweeps stopped risen before
+      now old request reply new
+  AnswersDurably says sweeps stopped risen before now old (lent.One request) answer new = ⊥
+  AnswersDurably says sweeps stopped risen before now old (lent.Commit start writes) answer new =
+      AnswersInRoom (says old (lent.Commit start writes) answer new)
+      (λ n. answer ≡ given.Said (codec.Refused n)) before now old new
+  AnswersDurably says sweeps stopped risen before now old (lent.Read start cells stays_open)
+      answer new =
+      AnswersInRoom (says old (lent.Read start cells stays_open) answer new)
+      (λ n. (start ≡ 0) × (answer ≡ given.Said (codec.Refused n))) before now old new
+
+-- An answer of a server with a log: the contract of the answer, and the devices still keep a state.
+pub record IsDurableAnswer {S M L : Type 0} (shows : S → State → Type 0)
+    (lasts : DurableServer S M L → State → Type 0) (logs : DurableServer S M L → Type 0)
+    (mark_faults : M → ℕ) (log_faults : L → ℕ)
+    (answers : (stopped risen : Type 0) → (before now : ℕ) → S → Operation → Answer → S → Type 0)
+    (old : DurableServer S M L) (operation : Operation) (answer : Answer)
+    (new : DurableServer S M L) : Type 0 where
+  pub answered : answers (new.is_stopped ≡ true)
+      (HasRisen (mark_faults old.marks.marks) (mark_faults new.marks.marks))
+      (log_faults old.log) (log_faults new.log) old.server operation answer new.server
+  pub goes_on : GoesOn (shown_by shows) lasts logs (operation_of operation) (answer_of answer)
+      old new
+
+-- with upkeep, a sweep follows a root that was put
+abbrev pub SweepsAfter : {S : Type 0} → (S → Result ℕ Refusal → S → Type 0) → Type 0 → Bool → Reply
+    → S → S → Type 0
+SweepsAfter sweeps stopped true codec.Checkpoint old new =
+    (result : Result ℕ Refusal) × SweepsNow sweeps stopped old result new
+SweepsAfter sweeps stopped upkeep reply old new = new ≡ old
+
+-- A root was put, or refused, and the size from which the next try is counted was set. With upkeep, a
+-- sweep followed a root that was put.
+pub record TriesRoot {S M L : Type 0} (mark_faults : M → ℕ) (same : S → S → Type 0)
+    (roots : (stopped risen : Type 0) → S → Reply → S → Type 0)
+    (sweeps : S → Result ℕ Refusal → S → Type 0) (written : ℕ) (mid : S)
+    (old new : DurableServer S M L) : Type 0 where
+  pub reply : Reply
+  pub next : S
+  pub last : S
+  pub answered : roots (new.is_stopped ≡ true)
+      (HasRisen (mark_faults old.marks.marks) (mark_faults new.marks.marks)) mid reply next
+  pub swept : SweepsAfter sweeps (new.is_stopped ≡ true) old.upkeep reply next last
+  pub is_same : same last new.server
+  pub tried : new.tried_bytes ≡ tried_at reply written
+
+-- Upkeep between two answers: that of a server without a log, and then a checkpoint if one is due by the
+-- journal's size.
+pub record IsDurablyTended {S M L : Type 0} (shows : S → State → Type 0)
+    (lasts : DurableServer S M L → State → Type 0) (logs : DurableServer S M L → Type 0)
+    (mark_faults : M → ℕ) (between same : S → S → Type 0)
+    (roots : (stopped risen : Type 0) → S → Reply → S → Type 0)
+    (sweeps : S → Result ℕ Refusal → S → Type 0) (size : S → ℕ)
+    (old new : DurableServer S M L) : Type 0 where
+  pub mid : S
+  pub tended : between old.server mid
+  pub rooted : (IsRootDue old (size mid)
+      × TriesRoot mark_faults same roots sweeps (size mid) mid old new)
+      ⊎ ((¬ IsRootDue old (size mid)) × same mid new.server × (new.tried_bytes ≡ old.tried_bytes))
+  pub root_bytes : new.root_bytes ≡ old.root_bytes
+  pub upkeep : new.upkeep ≡ old.upkeep
+  pub settles : Settles (shown_by shows) lasts logs old new

@@ -1,0 +1,112 @@
+//! The server with a journal, over files that a put replaces as a whole.
+
+ghost use Rattle.std.specs.Prelude.{◌≡◌, ◌≤◌};
+ghost use Rattle.row_atomic.specs.Journals.{IsWithin};
+
+use crate::journaled::Journaled;
+use crate::atomic_put::AtomicPut;
+use cell_key::{Refusal, Stamp};
+use commit_log::laws::logs_edits;
+use metadata_table::one_root;
+use oracle::MarkStore;
+use row_atomic::{
+    root_is_stored, root_outlasts_flushes, root_outlasts_merges, root_outlasts_sweeps, root_stays,
+};
+use server_loop::{RootName, Server};
+use si_model::{CellWrite, shows_reopened};
+
+/// The bytes counted for each edit: the journal's upper bound of bytes, 67,108,864, divided by its bound of edits,
+/// 100,000.
+const BYTES_OF_EDIT: usize = 671;
+
+impl<F: AtomicPut + Drop, M: MarkStore + Drop> Journaled for Server<F, M> {
+    ghost use Rattle.std.specs.Prelude.{is_some};
+    ghost use Rattle.row_atomic.specs.Recorded.{edits_written, logged_of, waiting_of};
+    ghost use Rattle.server_loop.specs.Server.{journal_of, last_of, next_root};
+    ghost use Rattle.durable.specs.Stored.{AnswersCheckpoint, IsClean, IsRooted, IsSame, StoresCells, SweepsFiles, journal_size};
+    ghost use Rattle.std.proofs.Common.{refl, ◌∙◌};
+
+    ghost stores = { StoresCells F.contents };
+
+    ghost is_rooted = { IsRooted F.contents };
+
+    ghost next_root = { next_root };
+
+    ghost is_clean = { IsClean F.contents };
+
+    ghost recording = { λ server. is_some (journal_of server) };
+
+    ghost logged = { λ server. logged_of (journal_of server) };
+
+    ghost waiting = { λ server. waiting_of (journal_of server) };
+
+    ghost count = { λ server. edits_written (journal_of server) };
+
+    ghost size = { λ server. journal_size (journal_of server) };
+
+    ghost last = { last_of };
+
+    ghost same = { IsSame };
+
+    ghost checkpoints = { AnswersCheckpoint F.Files M.MarkStore };
+
+    ghost sweeps = { SweepsFiles F.contents F.faults };
+
+    fn written(&self) -> usize {
+        let of_edits = self.written_edits().saturating_mul(BYTES_OF_EDIT);
+        self.written_bytes().max(of_edits)
+    }
+
+    fn is_recording(&self) -> bool {
+        self.is_recording()
+    }
+
+    fn waiting(&self) -> &[u8] {
+        self.waiting()
+    }
+
+    fn commit_bytes(&self, start: Stamp, writes: &[CellWrite<'_>]) -> usize {
+        self.commit_bytes(start, writes)
+    }
+
+    fn settled(&mut self) {
+        logs_edits();
+        self.settled();
+    }
+
+    fn last(&self) -> Stamp {
+        self.last_stamp()
+    }
+
+    fn root_name(&self) -> Result<RootName, Refusal> {
+        self.root_name()
+    }
+
+    fn checkpoint_now(&mut self) -> Result<(), Refusal> {
+        shows_reopened();
+        root_is_stored::<F>();
+        self.put_root()
+    }
+
+    fn emptied(&mut self) {
+        self.emptied();
+    }
+
+    fn sweep_now(&mut self) -> Result<u64, Refusal> {
+        root_outlasts_sweeps::<F>();
+        self.sweep_beside_root()
+    }
+
+    fn journal_laws() {
+        one_root();
+        shows_reopened();
+        root_is_stored::<F>();
+        root_stays::<F>();
+        root_outlasts_flushes::<F>();
+        root_outlasts_merges::<F>();
+    }
+
+    ghost same_self = { λ server. refl };
+
+    ghost same_then = { λ first mid last a b. a ∙ b };
+}
