@@ -9,6 +9,7 @@ use Rattle.cell_key.specs.declared.edits.Edit.{Edit}
 use Rattle.commit_log.specs.Edits.{HoldEdits, IsStoredEdit, LogsEdits, spelled_edits}
 use Rattle.commit_log.specs.Held.{Keeps}
 use Rattle.commit_log.specs.Records.{AreUpTo, HasRecord, NamesRoots, any_root, edit_bytes, spelled_record}
+use Rattle.commit_log.specs.declared.logs.Log.{Ghosts as Log}
 use Rattle.commit_log.specs.declared.records.RecordKind.TheVariants as kind
 use Rattle.metadata_table.specs.Roots.{RootView}
 use Rattle.row_atomic.specs.Roots.{root_sum}
@@ -19,6 +20,7 @@ use Rattle.durable.specs.Durability.{Settles}
 use Rattle.durable.specs.Devices.{IsOver, most_stamp}
 use Rattle.durable.specs.Answers.{Follows, HasNewRoot, HoldsLogged, LastsIn, Logs, StaysRooted, StaysStored, named, shown_by}
 use Rattle.durable.specs.StoredMarks.{CoversStamp, MarkView}
+use Rattle.durable.specs.View.{View}
 use Rattle.durable.specs.declared.server.DurableServer.{DurableServer}
 
 all-join : {A : Type 0} (P : A → Type 0) (xs ys : List A) → AllByRecursion P xs → AllByRecursion P ys → AllByRecursion P (xs ++ ys)
@@ -101,44 +103,44 @@ module _ {M : Type 0} (names : NamesRoots) where
   pub covers_last : (mark : MarkView M) (records : List (List ℕ)) (stamp top : ℕ) (body : List ℕ) → stamp ≤ most_stamp → top ≤ stamp → CoversStamp mark (records ++ spelled_record kind.Edits stamp body ∷ []) top
   covers_last mark records stamp top body small low = covers_low mark (records ++ spelled_record kind.Edits stamp body ∷ []) top stamp low (inr (names.reached records kind.Edits stamp body (omega (arith, small))))
 
-module _ {S L : Type 0} (stores : S → RootView → Cells → List Place → Type 0) (logged waiting : S → List ℕ) (last : S → ℕ) (holds : L → List (List ℕ) → Type 0) (is_rooted : S → RootView → Type 0) (laws : LogsEdits) (names : NamesRoots) (count : S → ℕ) where
-  -- the records after the waiting edits were appended
+module _ {S L : Type 0} (view : View S) (device : Log L) (laws : LogsEdits) (names : NamesRoots) where
+  -- the records after the view.waiting edits were appended
   pub record Gained (old : S) (stamp : ℕ) (records : List (List ℕ)) : Type 0 where
     pub edits : List Edit
-    pub held : HoldEdits (records ++ spelled_record kind.Edits stamp (waiting old) ∷ []) edits
+    pub held : HoldEdits (records ++ spelled_record kind.Edits stamp (view.waiting old) ∷ []) edits
     pub stored : AllByRecursion IsStoredEdit edits
     pub room : HasRoomFor empty_journal edits
-    pub all : flat_map edit_bytes (records ++ spelled_record kind.Edits stamp (waiting old) ∷ []) ≡ logged old ++ waiting old
+    pub all : flat_map edit_bytes (records ++ spelled_record kind.Edits stamp (view.waiting old) ∷ []) ≡ view.logged old ++ view.waiting old
 
-  pub gained : AsManyEdits → (old : S) (stamp : ℕ) (root : RootView) (st : State) → IsWithin (record { logged = logged old; waiting = waiting old; count = count old }) → Follows (stores old root) (logged old) (waiting old) (count old) (last old) st → (records : List (List ℕ)) (edits : List Edit) → HoldEdits records edits → AllByRecursion IsStoredEdit edits → flat_map edit_bytes records ≡ logged old → Gained old stamp records
+  pub gained : AsManyEdits → (old : S) (stamp : ℕ) (root : RootView) (st : State) → IsWithin (record { logged = view.logged old; waiting = view.waiting old; count = view.count old }) → Follows view old root st → (records : List (List ℕ)) (edits : List Edit) → HoldEdits records edits → AllByRecursion IsStoredEdit edits → flat_map edit_bytes records ≡ view.logged old → Gained old stamp records
   gained as_many old stamp root st within f records edits held stored bytes =
-      let spelled : spelled_edits edits ≡ logged old = sym (laws.whole records edits held) ∙ bytes in
+      let spelled : spelled_edits edits ≡ view.logged old = sym (laws.whole records edits held) ∙ bytes in
       let few : length edits ≡ length f.first = as_many edits f.first stored (all-front IsStoredEdit f.first f.then f.stored) (spelled ∙ f.logged_bytes) in
       let both = length-append edits f.then in
       let those = f.counted ∙ length-append f.first f.then in
       let most = within.edits in
-      let size : length (spelled_edits (edits ++ f.then)) ≡ length (logged old) + length (waiting old) = ap length (laws.after edits f.then) ∙ length-append (spelled_edits edits) (spelled_edits f.then) ∙ (ap (λ (x : List ℕ). length x + length (spelled_edits f.then)) spelled ∙ ap (λ (x : List ℕ). length (logged old) + length x) (sym f.waiting_bytes)) in
+      let size : length (spelled_edits (edits ++ f.then)) ≡ length (view.logged old) + length (view.waiting old) = ap length (laws.after edits f.then) ∙ length-append (spelled_edits edits) (spelled_edits f.then) ∙ (ap (λ (x : List ℕ). length x + length (spelled_edits f.then)) spelled ∙ ap (λ (x : List ℕ). length (view.logged old) + length x) (sym f.waiting_bytes)) in
       let small = within.bytes in
-      let more : HoldEdits (records ++ spelled_record kind.Edits stamp (waiting old) ∷ []) (edits ++ f.then) = subst (λ (w : List ℕ). HoldEdits (records ++ spelled_record kind.Edits stamp w ∷ []) (edits ++ f.then)) (sym f.waiting_bytes) (laws.more records edits f.then stamp held) in
+      let more : HoldEdits (records ++ spelled_record kind.Edits stamp (view.waiting old) ∷ []) (edits ++ f.then) = subst (λ (w : List ℕ). HoldEdits (records ++ spelled_record kind.Edits stamp w ∷ []) (edits ++ f.then)) (sym f.waiting_bytes) (laws.more records edits f.then stamp held) in
       record {
         edits = edits ++ f.then;
         held = more;
         stored = all-join IsStoredEdit edits f.then stored (all-later IsStoredEdit f.first f.then f.stored);
         room = record { edits = omega (arith, few, both, those, most); bytes = omega (arith, size, small) };
-        all = laws.whole _ _ more ∙ (laws.after edits f.then ∙ (ap (λ (x : List ℕ). x ++ spelled_edits f.then) (sym (laws.whole records edits held) ∙ bytes) ∙ ap (λ (x : List ℕ). logged old ++ x) (sym f.waiting_bytes)));
+        all = laws.whole _ _ more ∙ (laws.after edits f.then ∙ (ap (λ (x : List ℕ). x ++ spelled_edits f.then) (sym (laws.whole records edits held) ∙ bytes) ∙ ap (λ (x : List ℕ). view.logged old ++ x) (sym f.waiting_bytes)));
       }
 
-module _ {S M L : Type 0} (stores : S → RootView → Cells → List Place → Type 0) (logged waiting : S → List ℕ) (last : S → ℕ) (holds : L → List (List ℕ) → Type 0) (is_rooted : S → RootView → Type 0) (laws : LogsEdits) (names : NamesRoots) (count : S → ℕ) where
+module _ {S M L : Type 0} (view : View S) (device : Log L) (laws : LogsEdits) (names : NamesRoots) where
   abbrev Lasting : DurableServer S M L → State → Type 0
-  Lasting s st = LastsIn stores logged holds s st
+  Lasting s st = LastsIn view device s st
 
   -- the stored cells and the stored mark stay
   abbrev Stays : DurableServer S M L → DurableServer S M L → Type 0
-  Stays old new = StaysStored stores old.server new.server × (old.marks.stored ≤ new.marks.stored)
+  Stays old new = StaysStored view old.server new.server × (old.marks.stored ≤ new.marks.stored)
 
-  -- a state lasts if the log holds records of the same edits, over the same root
-  lasts_with : (old new : DurableServer S M L) (st : State) → Stays old new → (lasts : Lasting old st) → (records : List (List ℕ)) → holds new.log records → IsOver records lasts.kept.root → AreUpTo most_stamp records
-      → CoversStamp new.marks records st.top → HoldEdits records lasts.kept.edits → (new.is_stopped ≡ true) ⊎ (flat_map edit_bytes records ≡ logged new.server) → Lasting new st
+  -- a state lasts if the log device.holds records of the same edits, over the same root
+  lasts_with : (old new : DurableServer S M L) (st : State) → Stays old new → (lasts : Lasting old st) → (records : List (List ℕ)) → device.holds new.log records → IsOver records lasts.kept.root → AreUpTo most_stamp records
+      → CoversStamp new.marks records st.top → HoldEdits records lasts.kept.edits → (new.is_stopped ≡ true) ⊎ (flat_map edit_bytes records ≡ view.logged new.server) → Lasting new st
   lasts_with old new st stays lasts records in_log over up_to covers held bytes = record {
     kept = record {
       root = lasts.kept.root;
@@ -158,15 +160,15 @@ module _ {S M L : Type 0} (stores : S → RootView → Cells → List Place → 
     };
   }
 
-  -- a state lasts as long as the log holds its records
-  pub lasts_on : (old new : DurableServer S M L) (st : State) → Stays old new → (lasts : Lasting old st) → holds new.log lasts.kept.records
-      → (new.is_stopped ≡ true) ⊎ (flat_map edit_bytes lasts.kept.records ≡ logged new.server) → Lasting new st
+  -- a state lasts as long as the log device.holds its records
+  pub lasts_on : (old new : DurableServer S M L) (st : State) → Stays old new → (lasts : Lasting old st) → device.holds new.log lasts.kept.records
+      → (new.is_stopped ≡ true) ⊎ (flat_map edit_bytes lasts.kept.records ≡ view.logged new.server) → Lasting new st
   lasts_on old new st stays lasts in_log bytes = lasts_with old new st stays lasts lasts.kept.records in_log lasts.kept.over lasts.kept.stamps
       (elim lasts.kept.top [ inl at ↦ inl (let rises = stays.1 in omega (arith, rises, at)) | inr at ↦ inr at ]) lasts.kept.held bytes
 
   -- and also with a further record "any root"
-  pub lasts_any : (old new : DurableServer S M L) (st : State) → Stays old new → (lasts : Lasting old st) → holds new.log (lasts.kept.records ++ any_root ∷ [])
-      → (new.is_stopped ≡ true) ⊎ (flat_map edit_bytes lasts.kept.records ≡ logged new.server) → Lasting new st
+  pub lasts_any : (old new : DurableServer S M L) (st : State) → Stays old new → (lasts : Lasting old st) → device.holds new.log (lasts.kept.records ++ any_root ∷ [])
+      → (new.is_stopped ≡ true) ⊎ (flat_map edit_bytes lasts.kept.records ≡ view.logged new.server) → Lasting new st
   lasts_any old new st stays lasts in_log bytes = lasts_with old new st stays lasts (lasts.kept.records ++ any_root ∷ []) in_log
       (names.any lasts.kept.records lasts.kept.root.top (root_sum lasts.kept.root))
       (names.up_to lasts.kept.records kind.AnyRoot 0 most_stamp [] lasts.kept.stamps (omega arith))
@@ -174,12 +176,12 @@ module _ {S M L : Type 0} (stores : S → RootView → Cells → List Place → 
       (laws.any lasts.kept.records lasts.kept.edits lasts.kept.held)
       (elim bytes [ inl stopped ↦ inl stopped | inr is ↦ inr (any_adds_none lasts.kept.records ∙ is) ])
 
-  -- a state that is shown lasts if the log holds all edits of the journal, and its stamps are covered
-  pub shown_lasts : (old : S) (new : DurableServer S M L) (root : RootView) (st : State) → Follows (stores old root) (logged old) (waiting old) (count old) (last old) st → StaysStored stores old new.server → root.top ≤ new.marks.stored → (records : List (List ℕ)) → holds new.log records → IsOver records root → AreUpTo most_stamp records
-      → CoversStamp new.marks records (last old) → (edits : List Edit) → HoldEdits records edits
-      → AllByRecursion IsStoredEdit edits → HasRoomFor empty_journal edits → flat_map edit_bytes records ≡ logged old ++ waiting old → (new.is_stopped ≡ true) ⊎ (flat_map edit_bytes records ≡ logged new.server) → Lasting new st
+  -- a state that is shown lasts if the log device.holds all edits of the journal, and its stamps are covered
+  pub shown_lasts : (old : S) (new : DurableServer S M L) (root : RootView) (st : State) → Follows view old root st → StaysStored view old new.server → root.top ≤ new.marks.stored → (records : List (List ℕ)) → device.holds new.log records → IsOver records root → AreUpTo most_stamp records
+      → CoversStamp new.marks records (view.last old) → (edits : List Edit) → HoldEdits records edits
+      → AllByRecursion IsStoredEdit edits → HasRoomFor empty_journal edits → flat_map edit_bytes records ≡ view.logged old ++ view.waiting old → (new.is_stopped ≡ true) ⊎ (flat_map edit_bytes records ≡ view.logged new.server) → Lasting new st
   shown_lasts old new root st f stays low records in_log over up_to covers edits held stored room all bytes =
-      let spelled : spelled_edits (f.first ++ f.then) ≡ logged old ++ waiting old = laws.after f.first f.then ∙ (ap (λ (x : List ℕ). x ++ spelled_edits f.then) (sym f.logged_bytes) ∙ ap (λ (x : List ℕ). logged old ++ x) (sym f.waiting_bytes)) in
+      let spelled : spelled_edits (f.first ++ f.then) ≡ view.logged old ++ view.waiting old = laws.after f.first f.then ∙ (ap (λ (x : List ℕ). x ++ spelled_edits f.then) (sym f.logged_bytes) ∙ ap (λ (x : List ℕ). view.logged old ++ x) (sym f.waiting_bytes)) in
       let same : spelled_edits (f.first ++ f.then) ≡ spelled_edits edits = spelled ∙ (sym all ∙ laws.whole records edits held) in
       record {
         kept = record {
@@ -196,13 +198,13 @@ module _ {S M L : Type 0} (stores : S → RootView → Cells → List Place → 
           room = room;
           shows = subst (λ (cells : Cells). ShowsCells cells (reopened st)) (laws.one (f.first ++ f.then) edits f.stored stored same f.base) f.shows;
           next = f.next;
-          top = covers_low names new.marks records st.top (last old) f.top covers;
+          top = covers_low names new.marks records st.top (view.last old) f.top covers;
         };
       }
 
-  -- a new root's state lasts if the log holds the root's name alone
-  pub emptied_lasts : (old : S) (new : DurableServer S M L) (root : RootView) (st : State) → (put : HasNewRoot stores is_rooted last root old st) → StaysStored stores old new.server → root.top ≤ new.marks.stored → new.marks.stored ≤ most_stamp → last old ≤ new.marks.stored
-      → holds new.log (named root ∷ []) → (new.is_stopped ≡ true) ⊎ ([] ≡ logged new.server) → Lasting new st
+  -- a new root's state lasts if the log device.holds the root's name alone
+  pub emptied_lasts : (old : S) (new : DurableServer S M L) (root : RootView) (st : State) → (put : HasNewRoot view root old st) → StaysStored view old new.server → root.top ≤ new.marks.stored → new.marks.stored ≤ most_stamp → view.last old ≤ new.marks.stored
+      → device.holds new.log (named root ∷ []) → (new.is_stopped ≡ true) ⊎ ([] ≡ view.logged new.server) → Lasting new st
   emptied_lasts old new root st put stays low limit covered is bytes = record {
     kept = record {
       root = root;
@@ -223,7 +225,7 @@ module _ {S M L : Type 0} (stores : S → RootView → Cells → List Place → 
   }
 
   -- such a log agrees with a server whose journal is empty
-  pub holds_root : (new : DurableServer S M L) (root : RootView) → root.top ≤ new.marks.stored → new.marks.stored ≤ most_stamp → new.marks.covered ≤ new.marks.stored → holds new.log (named root ∷ []) → logged new.server ≡ [] → HoldsLogged stores logged holds new root
+  pub holds_root : (new : DurableServer S M L) (root : RootView) → root.top ≤ new.marks.stored → new.marks.stored ≤ most_stamp → new.marks.covered ≤ new.marks.stored → device.holds new.log (named root ∷ []) → view.logged new.server ≡ [] → HoldsLogged view device new root
   holds_root new root low limit covered one none = record {
     records = named root ∷ [];
     in_log = one;
@@ -239,13 +241,13 @@ module _ {S M L : Type 0} (stores : S → RootView → Cells → List Place → 
     bytes = sym none;
   }
 
-  -- the log still agrees with a server that counts the same edits as logged
-  pub holds_on : (mid : DurableServer S M L) (next : S) (root : RootView) → HoldsLogged stores logged holds mid root → logged next ≡ logged mid.server → HoldsLogged stores logged holds (record mid { server = next }) root
+  -- the log still agrees with a server that counts the same edits as view.logged
+  pub holds_on : (mid : DurableServer S M L) (next : S) (root : RootView) → HoldsLogged view device mid root → view.logged next ≡ view.logged mid.server → HoldsLogged view device (record mid { server = next }) root
   holds_on mid next root h same = record { records = h.records; in_log = h.in_log; over = h.over; stamps = h.stamps; low = h.low; limit = h.limit; covered = h.covered; edits = h.edits; held = h.held; stored = h.stored; room = h.room; bytes = h.bytes ∙ sym same }
 
   -- and also over any root that the mark covers, once that record was appended
-  pub holds_any : (mid new : DurableServer S M L) (old root : RootView) → (h : HoldsLogged stores logged holds mid old) → logged new.server ≡ logged mid.server → mid.marks.stored ≤ new.marks.stored → new.marks.stored ≤ most_stamp → new.marks.covered ≡ mid.marks.covered → root.top ≤ new.marks.stored
-      → holds new.log (h.records ++ any_root ∷ []) → HoldsLogged stores logged holds new root
+  pub holds_any : (mid new : DurableServer S M L) (old root : RootView) → (h : HoldsLogged view device mid old) → view.logged new.server ≡ view.logged mid.server → mid.marks.stored ≤ new.marks.stored → new.marks.stored ≤ most_stamp → new.marks.covered ≡ mid.marks.covered → root.top ≤ new.marks.stored
+      → device.holds new.log (h.records ++ any_root ∷ []) → HoldsLogged view device new root
   holds_any mid new old root h same rises limit covered low in_log = record {
     records = h.records ++ any_root ∷ [];
     in_log = in_log;
@@ -261,38 +263,38 @@ module _ {S M L : Type 0} (stores : S → RootView → Cells → List Place → 
     bytes = any_adds_none h.records ∙ h.bytes ∙ sym same;
   }
 
-  -- what is shown lasts while the log has all edits and covers the last stamp
-  pub root_lasts : (new : DurableServer S M L) (root : RootView) (now : State) → Follows (stores new.server root) (logged new.server) (waiting new.server) (count new.server) (last new.server) now → HoldsLogged stores logged holds new root → waiting new.server ≡ [] → last new.server ≤ new.marks.covered → Lasting new now
+  -- what is shown lasts while the log has all edits and covers the view.last stamp
+  pub root_lasts : (new : DurableServer S M L) (root : RootView) (now : State) → Follows view new.server root now → HoldsLogged view device new root → view.waiting new.server ≡ [] → view.last new.server ≤ new.marks.covered → Lasting new now
   root_lasts new root now f h none covered =
-      shown_lasts new.server new root now f (λ other base places is. is) h.low h.records h.in_log h.over h.stamps (covers_low names new.marks h.records (last new.server) new.marks.covered covered h.covered) h.edits h.held h.stored h.room (none_waits h.records (logged new.server) (waiting new.server) none h.bytes) (inr h.bytes)
+      shown_lasts new.server new root now f (λ other base places is. is) h.low h.records h.in_log h.over h.stamps (covers_low names new.marks h.records (view.last new.server) new.marks.covered covered h.covered) h.edits h.held h.stored h.room (none_waits h.records (view.logged new.server) (view.waiting new.server) none h.bytes) (inr h.bytes)
 
-  pub still_lasts : (mid : DurableServer S M L) (next : S) (now : State) → StaysStored stores mid.server next → logged next ≡ logged mid.server → Lasting mid now → Lasting (record mid { server = next }) now
+  pub still_lasts : (mid : DurableServer S M L) (next : S) (now : State) → StaysStored view mid.server next → view.logged next ≡ view.logged mid.server → Lasting mid now → Lasting (record mid { server = next }) now
   still_lasts mid next now stays same lasts = lasts_on mid (record mid { server = next }) now (stays, no_less mid.marks.stored) lasts lasts.kept.in_log.0 (elim lasts.kept.in_log.1 [ inl stopped ↦ inl stopped | inr bytes ↦ inr (bytes ∙ sym same) ])
 
   -- a server that goes on with the same log
-  pub logs_on : (old : DurableServer S M L) (next : S) → StaysRooted stores is_rooted old.server next → logged next ≡ logged old.server → Logs stores logged holds is_rooted old → Logs stores logged holds is_rooted (record old { server = next })
+  pub logs_on : (old : DurableServer S M L) (next : S) → StaysRooted view old.server next → view.logged next ≡ view.logged old.server → Logs view device old → Logs view device (record old { server = next })
   logs_on old next stays same (inl stopped) = inl stopped
   logs_on old next stays same (inr h) = inr (h.0, stays.rooted h.0 h.1, holds_on old next h.0 h.2 same)
 
-  -- a log that holds the same, of the same server
-  pub held_still : (old : DurableServer S M L) (log : L) (root : RootView) → Keeps (holds old.log) (holds log) → HoldsLogged stores logged holds old root → HoldsLogged stores logged holds (record old { log = log }) root
+  -- a log that device.holds the same, of the same server
+  pub held_still : (old : DurableServer S M L) (log : L) (root : RootView) → Keeps (device.holds old.log) (device.holds log) → HoldsLogged view device old root → HoldsLogged view device (record old { log = log }) root
   held_still old log root keeps h = record { records = h.records; in_log = keeps h.records h.in_log; over = h.over; stamps = h.stamps; low = h.low; limit = h.limit; covered = h.covered; edits = h.edits; held = h.held; stored = h.stored; room = h.room; bytes = h.bytes }
 
-  pub lasts_still : (old : DurableServer S M L) (log : L) (st : State) → Keeps (holds old.log) (holds log) → Logs stores logged holds is_rooted old → Lasting old st → Lasting (record old { log = log }) st × Logs stores logged holds is_rooted (record old { log = log })
+  pub lasts_still : (old : DurableServer S M L) (log : L) (st : State) → Keeps (device.holds old.log) (device.holds log) → Logs view device old → Lasting old st → Lasting (record old { log = log }) st × Logs view device (record old { log = log })
   lasts_still old log st keeps logs lasts = (
     lasts_on old (record old { log = log }) st (λ root base places is. is, no_less old.marks.stored) lasts (keeps lasts.kept.records lasts.kept.in_log.0) lasts.kept.in_log.1,
     elim logs [ inl stopped ↦ inl stopped | inr h ↦ inr (h.0, h.1, held_still old log h.0 keeps h.2) ],
   )
 
-  -- the same server with other counts, over a log that holds the same records
-  pub recounted : (old new : DurableServer S M L) → new.server ≡ old.server → new.marks ≡ old.marks → ((records : List (List ℕ)) → holds old.log records → holds new.log records) → new.is_stopped ≡ old.is_stopped → (shows : S → State → Type 0) → Settles (shown_by shows) Lasting (Logs stores logged holds is_rooted) old new
+  -- the same server with other counts, over a log that device.holds the same records
+  pub recounted : (old new : DurableServer S M L) → new.server ≡ old.server → new.marks ≡ old.marks → ((records : List (List ℕ)) → device.holds old.log records → device.holds new.log records) → new.is_stopped ≡ old.is_stopped → (shows : S → State → Type 0) → Settles (shown_by shows) Lasting (Logs view device) old new
   recounted old new server marks log stop shows = record {
     shown = λ st s. subst (λ (x : S). shows x st) (sym server) s;
     logged = λ now reached s logs. elim logs [
       | inl stopped ↦ inl (stop ∙ stopped)
       | inr h ↦ inr (
         h.0,
-        subst (λ (x : S). is_rooted x h.0) (sym server) h.1,
+        subst (λ (x : S). view.is_rooted x h.0) (sym server) h.1,
         record {
           records = h.2.records;
           in_log = log h.2.records h.2.in_log;
@@ -305,10 +307,10 @@ module _ {S M L : Type 0} (stores : S → RootView → Cells → List Place → 
           held = h.2.held;
           stored = h.2.stored;
           room = h.2.room;
-          bytes = h.2.bytes ∙ ap logged (sym server);
+          bytes = h.2.bytes ∙ ap view.logged (sym server);
         },
       )
     ];
-    lasting = λ now reached s logs st lasts. inl (lasts_on old new st (subst (λ (x : S). StaysStored stores old.server x) (sym server) (λ root base places is. is), subst (λ (m : MarkView M). old.marks.stored ≤ m.stored) (sym marks) (no_less old.marks.stored)) lasts (log lasts.kept.records lasts.kept.in_log.0)
-        (elim lasts.kept.in_log.1 [ inl stopped ↦ inl (stop ∙ stopped) | inr bytes ↦ inr (bytes ∙ ap logged (sym server)) ]));
+    lasting = λ now reached s logs st lasts. inl (lasts_on old new st (subst (λ (x : S). StaysStored view old.server x) (sym server) (λ root base places is. is), subst (λ (m : MarkView M). old.marks.stored ≤ m.stored) (sym marks) (no_less old.marks.stored)) lasts (log lasts.kept.records lasts.kept.in_log.0)
+        (elim lasts.kept.in_log.1 [ inl stopped ↦ inl (stop ∙ stopped) | inr bytes ↦ inr (bytes ∙ ap view.logged (sym server)) ]));
   }

@@ -21,7 +21,7 @@ use Rattle.durable.specs.Answers.{HoldsLogged}
 use Rattle.server_loop.specs.Opening.{IsLost}
 use Rattle.server_loop.specs.Server.{Shows, cluster_of, journal_of, last_of}
 use Rattle.durable.specs.OverDevices.{IsSettledOver}
-use Rattle.durable.specs.Stored.{IsRooted, StoresCells}
+use Rattle.durable.specs.Stored.{IsRooted, view_of}
 use Rattle.durable.specs.StoredMarks.{CoversStamp, MarkView}
 use Rattle.durable.specs.declared.server.DurableServer.{DurableServer}
 use Rattle.server_loop.specs.declared.server.Server.{Server}
@@ -91,7 +91,7 @@ module _ {F N M L : Type 0} (files : Files F) (marks : MarkStore M) (log : Log L
   pub opens_from : LogsEdits → (st : State) (server : Server F N) (mark : MarkView M) (kept : L) (opened : DurableServer (Server F N) M L) → opened.server ≡ server → opened.marks ≡ mark → opened.log ≡ kept → (root : RootView) (base : Cells) (edits given : List Edit) (records : List (List ℕ)) → ServesFrom files (marks.mark mark.marks) root base edits st server
       → root.top ≤ mark.stored → mark.stored ≤ most_stamp → last_of server ≡ mark.covered → CoversStamp mark records mark.covered → ((top : ℕ) → top ≤ mark.covered → CoversWith (marks.mark mark.marks) records top)
       → HoldEdits records edits → AllByRecursion IsStoredEdit edits → log.holds kept records → IsOver records root → AreUpTo most_stamp records → HoldEdits records given → AllByRecursion IsStoredEdit given → HasRoomFor empty_journal given → st.next_tablet ≡ length st.places + 1
-      → ((there : RootView) → is_some (journal_of server) ≡ true → IsRooted files.contents server there → waiting_of (journal_of server) ≡ [] → last_of server ≤ mark.covered → HoldsLogged (StoresCells files.contents) (λ s. logged_of (journal_of s)) log.holds opened there → IsSettledOver files log opened) → OpensFrom files marks log st opened
+      → ((there : RootView) → is_some (journal_of server) ≡ true → IsRooted files.contents server there → waiting_of (journal_of server) ≡ [] → last_of server ≤ mark.covered → HoldsLogged (view_of files.contents) log opened there → IsSettledOver files log opened) → OpensFrom files marks log st opened
   opens_from laws st server mark kept opened same_server same_mark same_log root base edits given records s low limit last covered covers held stored in_log over stamps held_given stored_given room next settle =
       let now = s.next in
       let in_log_now : log.holds opened.log records = subst (λ (l : L). log.holds l records) (sym same_log) in_log in

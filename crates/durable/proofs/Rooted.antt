@@ -22,15 +22,16 @@ use Rattle.si_model.specs.Transactions.{Answer as MachineAnswer, Operation as Ma
 use Rattle.si_model.specs.Refusing.{gives_up}
 use Rattle.durable.specs.Durability.{GoesOn, Settles, StepsOn}
 use Rattle.durable.specs.Answers.{AnswersInRoom, AnswersDurably, AnswersRooted, Checkpoints, MovesTablets, NeedsLogRoom, NeedsRoom, ActsOnRoots, PutsRoot, SweepsAfter, TouchesRoots}
+use Rattle.durable.specs.View.{RootCalls, View}
 use Rattle.durable.specs.Answers.PutsRoot.{answered, failed, unmarked, unnamed}
 
-module _ {S : Type 0} (same : S → S → Type 0) (checkpoints : S → Reply → S → Type 0) (says : S → Operation → Answer → S → Type 0) (sweeps : S → Result ℕ Refusal → S → Type 0) (stopped risen : Type 0) (before now : ℕ) where
-  pub moves_rooted : (old new : S) (request : Request) (reply : Reply) → MovesTablets request → AnswersRooted same checkpoints (λ a r b. says a (lent.One request) (given.Said r) b) stopped risen old reply new → AnswersDurably same checkpoints says sweeps stopped risen before now old (lent.One request) (given.Said reply) new
+module _ {S : Type 0} (view : View S) (calls : RootCalls S) (says : S → Operation → Answer → S → Type 0) (stopped risen : Type 0) (before now : ℕ) where
+  pub moves_rooted : (old new : S) (request : Request) (reply : Reply) → MovesTablets request → AnswersRooted view calls (λ a r b. says a (lent.One request) (given.Said r) b) stopped risen old reply new → AnswersDurably view calls says stopped risen before now old (lent.One request) (given.Said reply) new
   moves_rooted old new (Split row) reply of p = p
   moves_rooted old new (Move tablet server) reply of p = p
   moves_rooted old new request reply of p = absurd of
 
-  pub plain_lasting : (old new : S) (request : Request) (reply : Reply) → ¬ ActsOnRoots request → ¬ NeedsRoom request → says old (lent.One request) (given.Said reply) new → AnswersDurably same checkpoints says sweeps stopped risen before now old (lent.One request) (given.Said reply) new
+  pub plain_lasting : (old new : S) (request : Request) (reply : Reply) → ¬ ActsOnRoots request → ¬ NeedsRoom request → says old (lent.One request) (given.Said reply) new → AnswersDurably view calls says stopped risen before now old (lent.One request) (given.Said reply) new
   plain_lasting old new (Split row) reply other plain p = absurd (other tt)
   plain_lasting old new (Move tablet server) reply other plain p = absurd (other tt)
   plain_lasting old new Sweep reply other plain p = absurd (other tt)
@@ -41,7 +42,7 @@ module _ {S : Type 0} (same : S → S → Type 0) (checkpoints : S → Reply →
   plain_lasting old new (CollectStep collector visits) reply other plain p = absurd (plain tt)
   plain_lasting old new request reply other plain p = p
 
-  pub room_lasting : (old new : S) (request : Request) (reply : Reply) → NeedsRoom request → AnswersInRoom same checkpoints (says old (lent.One request) (given.Said reply) new) (λ n. reply ≡ codec.Refused n) before now old new → AnswersDurably same checkpoints says sweeps stopped risen before now old (lent.One request) (given.Said reply) new
+  pub room_lasting : (old new : S) (request : Request) (reply : Reply) → NeedsRoom request → AnswersInRoom view calls (says old (lent.One request) (given.Said reply) new) (λ n. reply ≡ codec.Refused n) before now old new → AnswersDurably view calls says stopped risen before now old (lent.One request) (given.Said reply) new
   room_lasting old new Begin reply needs p = p
   room_lasting old new (Step start) reply needs p = p
   room_lasting old new (CleanStep cleaner) reply needs p = p
@@ -55,13 +56,13 @@ rootless (CleanStep cleaner) needs root = root
 rootless (CollectStep collector visits) needs root = root
 rootless request needs root = absurd needs
 
-module _ {S : Type 0} (same : S → S → Type 0) (checkpoints : S → Reply → S → Type 0) (says : S → Operation → Answer → S → Type 0) (sweeps : S → Result ℕ Refusal → S → Type 0) (stopped risen : Type 0) (before now : ℕ) where
-  pub at_once_lasting : (old new : S) (operation : Operation) (answer : Answer) → StandsForSeveral (operation_of operation) → says old operation answer new → now ≡ before → AnswersDurably same checkpoints says sweeps stopped risen before now old operation answer new
+module _ {S : Type 0} (view : View S) (calls : RootCalls S) (says : S → Operation → Answer → S → Type 0) (stopped risen : Type 0) (before now : ℕ) where
+  pub at_once_lasting : (old new : S) (operation : Operation) (answer : Answer) → StandsForSeveral (operation_of operation) → says old operation answer new → now ≡ before → AnswersDurably view calls says stopped risen before now old operation answer new
   at_once_lasting old new (lent.One request) answer several p unfailed = absurd several
   at_once_lasting old new (lent.Commit start writes) answer several p unfailed = inl (p, unfailed)
   at_once_lasting old new (lent.Read start cells stays_open) answer several p unfailed = inl (p, unfailed)
 
-  pub roomless_lasting : (old : S) (operation : Operation) (refusal : Refusal) → NeedsLogRoom operation → ((refusal ≡ Device) × HasRisen before now) ⊎ (refusal ≡ NoMemory) → AnswersDurably same checkpoints says sweeps stopped risen before now old operation (given.Said (codec.Refused refusal)) old
+  pub roomless_lasting : (old : S) (operation : Operation) (refusal : Refusal) → NeedsLogRoom operation → ((refusal ≡ Device) × HasRisen before now) ⊎ (refusal ≡ NoMemory) → AnswersDurably view calls says stopped risen before now old operation (given.Said (codec.Refused refusal)) old
   roomless_lasting old (lent.One request) refusal needs why = absurd needs
   roomless_lasting old (lent.Commit start writes) refusal needs (inl (is, rose)) = inr (refl, inl (ap (λ n. given.Said (codec.Refused n)) is, rose))
   roomless_lasting old (lent.Commit start writes) refusal needs (inr is) = inr (refl, inr (ap (λ n. given.Said (codec.Refused n)) is))
@@ -74,22 +75,22 @@ several_rootless (lent.Commit start writes) several root = root
 several_rootless (lent.Read start cells stays_open) several root = root
 
 -- what is stopped, or has risen, may be said of a later moment
-module _ {S : Type 0} (same : S → S → Type 0) (checkpoints : S → Reply → S → Type 0) {stopped stopped' risen risen' : Type 0} (still : stopped → stopped') (rises : risen → risen') where
-  pub puts_still : (a b : S) (reply : Reply) → PutsRoot same checkpoints stopped risen a reply b → PutsRoot same checkpoints stopped' risen' a reply b
+module _ {S : Type 0} (view : View S) (calls : RootCalls S) {stopped stopped' risen risen' : Type 0} (still : stopped → stopped') (rises : risen → risen') where
+  pub puts_still : (a b : S) (reply : Reply) → PutsRoot view calls stopped risen a reply b → PutsRoot view calls stopped' risen' a reply b
   puts_still a b reply (answered p) = answered p
   puts_still a b reply (unnamed is p) = unnamed is p
   puts_still a b reply (unmarked is risen p) = unmarked is (rises risen) p
   puts_still a b reply (failed is stops p) = failed is (still stops) p
 
-pub sweeps_still : {S : Type 0} {stopped stopped' : Type 0} (sweeps : S → Result ℕ Refusal → S → Type 0) → (stopped → stopped') → (upkeep : Bool) (reply : Reply) (a b : S) → SweepsAfter sweeps stopped upkeep reply a b → SweepsAfter sweeps stopped' upkeep reply a b
-sweeps_still sweeps still true codec.Checkpoint a b (result, inl swept) = (result, inl swept)
-sweeps_still sweeps still true codec.Checkpoint a b (result, inr none) = (result, inr (none.0, still none.1, none.2))
-sweeps_still sweeps still true _ a b same = same
-sweeps_still sweeps still false reply a b same = same
+pub sweeps_still : {S : Type 0} {stopped stopped' : Type 0} (calls : RootCalls S) → (stopped → stopped') → (upkeep : Bool) (reply : Reply) (a b : S) → SweepsAfter calls stopped upkeep reply a b → SweepsAfter calls stopped' upkeep reply a b
+sweeps_still calls still true codec.Checkpoint a b (result, inl swept) = (result, inl swept)
+sweeps_still calls still true codec.Checkpoint a b (result, inr none) = (result, inr (none.0, still none.1, none.2))
+sweeps_still calls still true _ a b same = same
+sweeps_still calls still false reply a b same = same
 
 -- a root whose mark's file did not fail
-module _ {S : Type 0} (same : S → S → Type 0) (checkpoints : S → Reply → S → Type 0) (stopped risen : Type 0) where
-  pub never_unmarked : (old new : S) (reply : Reply) → PutsRoot same checkpoints stopped ⊥ old reply new → PutsRoot same checkpoints stopped risen old reply new
+module _ {S : Type 0} (view : View S) (calls : RootCalls S) (stopped risen : Type 0) where
+  pub never_unmarked : (old new : S) (reply : Reply) → PutsRoot view calls stopped ⊥ old reply new → PutsRoot view calls stopped risen old reply new
   never_unmarked old new reply (answered p) = answered p
   never_unmarked old new reply (unnamed is p) = unnamed is p
   never_unmarked old new reply (unmarked is risen p) = absurd risen
@@ -108,8 +109,8 @@ only_storage (Ok done) c = tt
 only_storage (Err refusal) c = stored_refusal refusal c
 
 -- a checkpoint that was made, and whose root was named or not
-module _ {S : Type 0} (same : S → S → Type 0) (checkpoints : S → Reply → S → Type 0) (stopped risen : Type 0) where
-  pub named_answer : (old new : S) (r : Result (Unit {0}) Refusal) → IfErr r IsLogRefusal → (IsErrOf r Device → stopped) → Checkpoints same checkpoints old codec.Checkpoint new → PutsRoot same checkpoints stopped risen old (checkpointed r) new
+module _ {S : Type 0} (view : View S) (calls : RootCalls S) (stopped risen : Type 0) where
+  pub named_answer : (old new : S) (r : Result (Unit {0}) Refusal) → IfErr r IsLogRefusal → (IsErrOf r Device → stopped) → Checkpoints view calls old codec.Checkpoint new → PutsRoot view calls stopped risen old (checkpointed r) new
   named_answer old new (Ok done) c stops p = answered p
   named_answer old new (Err refusal) (inl is) stops p = failed (ap codec.Refused is) (stops (ap Err is)) (inr p)
   named_answer old new (Err refusal) (inr is) stops p = unnamed (ap codec.Refused is) p

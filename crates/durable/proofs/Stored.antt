@@ -44,7 +44,7 @@ use Rattle.server_loop.specs.Sessions.{KeepsOracle}
 use Rattle.rows.specs.Storage.{Storage}
 use Rattle.server_loop.specs.Operations.{IsAnswerTo, LeavesOthers}
 use Rattle.server_loop.specs.Server.{Shows, cluster_of, floor_of, forgets, journal_of, last_of, machine_place, machine_places, next_root, rows_of, top_of}
-use Rattle.durable.specs.Stored.{IsClean, IsRooted, StoresCells}
+use Rattle.durable.specs.Stored.{IsClean, IsRooted, StoresCells, view_of}
 use Rattle.server_loop.specs.Tending.{IsTended, MergesWhere}
 use Rattle.server_loop.specs.declared.server.Server.{Server}
 use Rattle.server_loop.proofs.SamePlaces.{KeepsPlaces, keeps_places}
@@ -70,10 +70,10 @@ same_machine_places old new is = ap (λ (spots : List Spot). map machine_place s
 
 module _ {F M : Type 0} (contents : F → Option Contents) where
   -- the journal leads to the state that is shown
-  pub follows_in : OneRoot → ((cells : Cells) (st : State) → ShowsCells cells st → ShowsCells cells (reopened st)) → (server : Server F M) (root : RootView) (st : State) (journal : Option JournalView) → is_some journal ≡ true → Follows contents (cluster_of server) journal
-      → IsRooted contents server root → Shows contents server st → lasts.Follows (StoresCells contents server root) (logged_of journal) (waiting_of journal) (edits_written journal) (last_of server) st
-  follows_in one reopens server root st None is follows rooted shown = cc
-  follows_in one reopens server root st (Some journal) is follows rooted shown =
+  pub follows_in : OneRoot → ((cells : Cells) (st : State) → ShowsCells cells st → ShowsCells cells (reopened st)) → (server : Server F M) (root : RootView) (st : State) (journal : Option JournalView) → journal_of server ≡ journal → is_some journal ≡ true → Follows contents (cluster_of server) journal
+      → IsRooted contents server root → Shows contents server st → lasts.Follows (view_of contents) server root st
+  follows_in one reopens server root st None same_journal is follows rooted shown = cc
+  follows_in one reopens server root st (Some journal) same_journal is follows rooted shown =
       let same = same_root contents one root follows.such.root rooted.base follows.such.base (cluster_of server) rooted.has follows.such.has in
       record {
         base = follows.such.base;
@@ -83,9 +83,9 @@ module _ {F M : Type 0} (contents : F → Option Contents) where
         };
         first = follows.logged;
         then = follows.waiting;
-        logged_bytes = follows.logged_bytes;
-        waiting_bytes = follows.waiting_bytes;
-        counted = follows.counted;
+        logged_bytes = ap logged_of same_journal ∙ follows.logged_bytes;
+        waiting_bytes = ap waiting_of same_journal ∙ follows.waiting_bytes;
+        counted = ap edits_written same_journal ∙ follows.counted;
         stored = follows.stored;
         shows = subst (λ (cells : Cells). ShowsCells cells (reopened st)) (sym follows.such.replay) (reopens _ st shown.shows.store);
         next = shown.next;
@@ -99,7 +99,7 @@ module _ {F M : Type 0} (contents : F → Option Contents) where
   -- ---- unchanged roots
 
   pub stays_rooted : (old new : Server F M) → ((root : RootView) (cells : Cells) → HasRoot contents root cells (cluster_of old) → HasRoot contents root cells (cluster_of new)) → machine_places (cluster_of new).places ≡ machine_places (cluster_of old).places
-      → StaysRooted (StoresCells contents) (IsRooted contents) old new
+      → StaysRooted (view_of contents) old new
   stays_rooted old new stays places = record {
     stored = λ root base ps s. record { has = stays root base s.has; placed = s.placed };
     rooted = λ root r. record { base = r.base; has = stays root r.base r.has; placed = r.placed ∙ sym places };
@@ -112,12 +112,12 @@ module _ {F M : Type 0} (contents : F → Option Contents) where
   next_low server st shown = let top = shown.shows.top in let is = shown.shows.sessions.top in omega (arith, is, top)
 
   pub new_root : ((cells : Cells) (st : State) → ShowsCells cells st → ShowsCells cells (reopened st)) → (old new : Server F M) (st : State) → Rests contents (top_of old) (floor_of old) (cluster_of old) (cluster_of new) → machine_places (cluster_of new).places ≡ machine_places (cluster_of old).places → last_of new ≡ last_of old → next_root new ≡ root_at (top_of old) (floor_of old) (cluster_of new)
-      → Shows contents old st → HasNewRoot (StoresCells contents) (IsRooted contents) last_of (next_root new) new st
+      → Shows contents old st → HasNewRoot (view_of contents) (next_root new) new st
   new_root reopens old new st rests places last next shown =
       let keeps = rests shown.in_order.0 in
       let top : st.top ≤ last_of new = let below = shown.shows.top in omega (arith, below, last) in
       let low : top_of old ≤ last_of new = let is = next_low old st shown in omega (arith, is, last) in
-      subst (λ (root : RootView). HasNewRoot (StoresCells contents) (IsRooted contents) last_of root new st) (sym next) (record {
+      subst (λ (root : RootView). HasNewRoot (view_of contents) root new st) (sym next) (record {
         rooted = record { base = cells_shown contents (cluster_of old); has = keeps.has; placed = refl };
         base = cells_shown contents (cluster_of old);
         kept = record { has = keeps.has; placed = places ∙ shown.places };
@@ -179,7 +179,7 @@ module _ {F M : Type 0} (files : Files F) (marks : MarkStore M) (stored : RootIs
   answer_root request reply old new first other tends = by_has (command_of request) request reply (cluster_of old) (cluster_of new) other tends
 
   reply_leaves : (old new : Server F M) (request : Lent) (reply : CodecReply) → ¬ ActsOnRoots request → IsAnswer files marks old request reply new → (now : State) → IsReached now → Shows files.contents old now
-      → StaysRooted (StoresCells files.contents) (IsRooted files.contents) old new × (logged_of (journal_of new) ≡ logged_of (journal_of old))
+      → StaysRooted (view_of files.contents) old new × (logged_of (journal_of new) ≡ logged_of (journal_of old))
   reply_leaves old new request reply other answer now reached shown =
       let plain = answer.plain in
       let (next, step, shows, whole) = plain.step.step now reached shown in
@@ -188,7 +188,7 @@ module _ {F M : Type 0} (files : Files F) (marks : MarkStore M) (stored : RootIs
         plain_logged request (journal_of old) (journal_of new) other plain.logged,
       )
 
-  at_once_leaves : (old new : Server F M) → LeavesOthers files.contents old new → StaysRooted (StoresCells files.contents) (IsRooted files.contents) old new × (logged_of (journal_of new) ≡ logged_of (journal_of old))
+  at_once_leaves : (old new : Server F M) → LeavesOthers files.contents old new → StaysRooted (view_of files.contents) old new × (logged_of (journal_of new) ≡ logged_of (journal_of old))
   at_once_leaves old new others = (
     stays_rooted files.contents old new (λ root cells has. (stored root cells (cluster_of old) (cluster_of new) others.storage).0 has) (ap (λ (s : Storage). machine_places s.places) others.storage),
     others.logged,
@@ -196,14 +196,14 @@ module _ {F M : Type 0} (files : Files F) (marks : MarkStore M) (stored : RootIs
 
   -- an answer that puts no root and removes no file
   pub answer_leaves : (old new : Server F M) (operation : LentOperation) (answer : CodecAnswer) → ¬ TouchesRoots operation → IsAnswerTo files marks old operation answer new → (now : State) → IsReached now → Shows files.contents old now
-      → StaysRooted (StoresCells files.contents) (IsRooted files.contents) old new × (logged_of (journal_of new) ≡ logged_of (journal_of old))
+      → StaysRooted (view_of files.contents) old new × (logged_of (journal_of new) ≡ logged_of (journal_of old))
   answer_leaves old new (operations.One request) (given.Said reply) other is now reached shown = reply_leaves old new request reply other is now reached shown
   answer_leaves old new (operations.One request) answer other is now reached shown = absurd is
   answer_leaves old new (operations.Commit start writes) answer other is now reached shown = at_once_leaves old new is.plain.at_once.others
   answer_leaves old new (operations.Read start cells stays_open) answer other is now reached shown = at_once_leaves old new is.plain.at_once.others
 
   pub answer_moves : (old new : Server F M) (request : Lent) (reply : CodecReply) → MovesTablets request → IsAnswer files marks old request reply new
-      → StaysStored (StoresCells files.contents) old new × KeepsJournal (λ server. is_some (journal_of server)) (λ server. logged_of (journal_of server)) (λ server. waiting_of (journal_of server)) last_of old new
+      → StaysStored (view_of files.contents) old new × KeepsJournal (view_of files.contents) old new
   answer_moves old new request reply of answer =
       let plain = answer.plain in
       let roots = answer_root request reply old new (moves_not_checkpoint request of) (moves_not_sweep request of) plain.tablets in
@@ -226,7 +226,7 @@ module _ {F : Type 0} (contents : F → Option Contents) (faults : F → ℕ) (f
   merges_root true (Some most) old new made root cells has = merge root cells old new most made has
 
   pub tended_leaves : {M : Type 0} (old new : Server F M) → IsTended contents faults old new
-      → StaysRooted (StoresCells contents) (IsRooted contents) old new × (logged_of (journal_of new) ≡ logged_of (journal_of old)) × ((st : State) → Shows contents old st → Shows contents new st)
+      → StaysRooted (view_of contents) old new × (logged_of (journal_of new) ≡ logged_of (journal_of old)) × ((st : State) → Shows contents old st → Shows contents new st)
   tended_leaves old new tended = (
     stays_rooted contents old new (λ root cells has. merges_root _ _ tended.compacted (cluster_of new) tended.merges root cells (((flushes root cells (cluster_of old) tended.compacted).0 _ tended.compacts).0 has))
         (same_machine_places (cluster_of old).places (cluster_of new).places tended.keeps.spots),
@@ -255,11 +255,11 @@ module _ {F : Type 0} (contents : F → Option Contents) (laws : LogsEdits) wher
 
 module _ {F M : Type 0} (contents : F → Option Contents) where
   -- the same server with other rows, of the same cluster
-  same_cluster : (old : Server F M) (rows : Recorded F) → rows.cluster ≡ cluster_of old → StaysRooted (StoresCells contents) (IsRooted contents) old (record old { rows = rows })
+  same_cluster : (old : Server F M) (rows : Recorded F) → rows.cluster ≡ cluster_of old → StaysRooted (view_of contents) old (record old { rows = rows })
   same_cluster old rows is = stays_rooted contents old (record old { rows = rows }) (λ root cells has. subst (λ (state : ClusterState F). HasRoot contents root cells state) (sym is) has) (ap (λ (state : ClusterState F). machine_places state.places) is)
 
-  pub same_rows : (old new : Server F M) (rows : Recorded F) → new ≡ record old { rows = rows } → rows.cluster ≡ cluster_of old → StaysRooted (StoresCells contents) (IsRooted contents) old new
-  same_rows old new rows is same = subst (λ (server : Server F M). StaysRooted (StoresCells contents) (IsRooted contents) old server) (sym is) (same_cluster old rows same)
+  pub same_rows : (old new : Server F M) (rows : Recorded F) → new ≡ record old { rows = rows } → rows.cluster ≡ cluster_of old → StaysRooted (view_of contents) old new
+  same_rows old new rows is same = subst (λ (server : Server F M). StaysRooted (view_of contents) old server) (sym is) (same_cluster old rows same)
 
   -- a state shown without a journal is shown with one that follows
   pub remembers : (server : Server F M) (st : State) → Shows contents (forgets server) st → Follows contents (cluster_of server) (journal_of server) → Shows contents server st
@@ -279,7 +279,7 @@ module _ {F M : Type 0} (contents : F → Option Contents) where
 
 module _ {F M : Type 0} (files : Files F) (marks : MarkStore M) (reopens : (cells : Cells) (st : State) → ShowsCells cells st → ShowsCells cells (reopened st)) (old new : Server F M) (spots : spots_of (cluster_of new) ≡ spots_of (cluster_of old)) where
   abbrev NewRoot : State → Type 0
-  NewRoot st = HasNewRoot (StoresCells files.contents) (IsRooted files.contents) last_of (next_root new) new st
+  NewRoot st = HasNewRoot (view_of files.contents) (next_root new) new st
 
   abbrev Checked : Result (Unit {0}) Refusal → Type 0
   Checked result = IsPlainAnswer files marks old lent.Checkpoint (checkpointed result) (forgets new)
@@ -294,7 +294,7 @@ module _ {F M : Type 0} (files : Files F) (marks : MarkStore M) (reopens : (cell
   checkpoint_done (Err refusal) plain clean = tt
 
   pub checkpoint_undone : files.replaces → (result : Result (Unit {0}) Refusal) → Checked result
-      → OnErr result (StaysRooted (StoresCells files.contents) (IsRooted files.contents) old new ⊎ ((st : State) → Shows files.contents old st → NewRoot st))
+      → OnErr result (StaysRooted (view_of files.contents) old new ⊎ ((st : State) → Shows files.contents old st → NewRoot st))
   checkpoint_undone replaces (Ok done) plain = tt
   checkpoint_undone replaces (Err refusal) plain =
       let places = same_machine_places (cluster_of old).places (cluster_of new).places spots in
@@ -323,9 +323,9 @@ module _ {F M : Type 0} (contents : F → Option Contents) (faults : F → ℕ) 
       go None some follows = cc
       go (Some journal) some follows = law.whole follows.such.root follows.such.base result (cluster_of old) (cluster_of new) swept follows.such.has
 
-pub sweep_keeps : {F M : Type 0} (old new : Server F M) → new ≡ record old { rows = record (rows_of old) { cluster = cluster_of new } }
-    → KeepsJournal (λ server. is_some (journal_of server)) (λ server. logged_of (journal_of server)) (λ server. waiting_of (journal_of server)) last_of old new
-sweep_keeps old new others = record {
+pub sweep_keeps : {F M : Type 0} (contents : F → Option Contents) (old new : Server F M) → new ≡ record old { rows = record (rows_of old) { cluster = cluster_of new } }
+    → KeepsJournal (view_of contents) old new
+sweep_keeps contents old new others = record {
   goes_on = ap (λ (s : Server _ _). is_some (journal_of s)) others;
   has = ap (λ (s : Server _ _). logged_of (journal_of s)) others;
   waits = ap (λ (s : Server _ _). waiting_of (journal_of s)) others;

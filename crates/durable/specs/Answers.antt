@@ -8,7 +8,9 @@ use Rattle.cell_key.specs.declared.refusals.Refusal.TheVariants.{Device, NoMemor
 use Rattle.commit_log.specs.Edits.{HoldEdits, IsStoredEdit, spelled_edits}
 use Rattle.commit_log.specs.Faults.{HasRisen}
 use Rattle.commit_log.specs.Records.{AreUpTo, HasRecord, any_root, edit_bytes, root_record}
+use Rattle.commit_log.specs.declared.logs.Log.{Ghosts as Log}
 use Rattle.metadata_table.specs.Roots.{RootView}
+use Rattle.oracle.specs.declared.marks.MarkStore.{Ghosts as MarkStore}
 use Rattle.row_atomic.specs.Journals.{HasRoomFor, empty_journal}
 use Rattle.row_atomic.specs.Roots.{root_sum}
 use Rattle.request_codec.specs.Answers.{answer_of}
@@ -27,6 +29,7 @@ use Rattle.durable.specs.Devices.{IsOver, Lasts, most_stamp}
 use Rattle.durable.specs.Due.{IsRootDue, tried_at}
 use Rattle.durable.specs.Durability.{GoesOn, Settles}
 use Rattle.durable.specs.StoredMarks.{CoversStamp}
+use Rattle.durable.specs.View.{RootCalls, View}
 use Rattle.durable.specs.declared.server.DurableServer.{DurableServer}
 use Rattle.server_loop.specs.declared.upkeep.RootName.{RootName}
 
@@ -65,54 +68,50 @@ NeedsLogRoom (lent.Read start cells stays_open) = start ≡ 0
 
 -- ---- the journal
 
--- Files keep cells under a root with the places of a state's tablets. The logged edits, and then the
+-- The files keep cells under a root with the places of a state's tablets. The logged edits, and then the
 -- waiting ones, change these cells to ones that show the state after a clean restart.
-pub record Follows (stores : Cells → List Place → Type 0) (logged waiting : List ℕ)
-    (count last : ℕ) (st : State) : Type 0 where
+pub record Follows {S : Type 0} (view : View S) (server : S) (root : RootView) (st : State)
+    : Type 0 where
   pub base : Cells
-  pub kept : stores base st.places
+  pub kept : view.stores server root base st.places
   pub first : List Edit
   pub then : List Edit
-  pub logged_bytes : logged ≡ spelled_edits first
-  pub waiting_bytes : waiting ≡ spelled_edits then
-  pub counted : count ≡ length (first ++ then)
+  pub logged_bytes : view.logged server ≡ spelled_edits first
+  pub waiting_bytes : view.waiting server ≡ spelled_edits then
+  pub counted : view.count server ≡ length (first ++ then)
   pub stored : AllByRecursion IsStoredEdit (first ++ then)
   pub shows : ShowsCells (after_edits base (first ++ then)) (reopened st)
   pub next : st.next_tablet ≡ length st.places + 1
-  pub top : st.top ≤ last
+  pub top : st.top ≤ view.last server
 
 -- the stored cells stay
-abbrev pub StaysStored : {S : Type 0} → (S → RootView → Cells → List Place → Type 0) → S → S
-    → Type 0
-StaysStored stores old new =
-    (root : RootView) (base : Cells) (places : List Place) → stores old root base places
-    → stores new root base places
+abbrev pub StaysStored : {S : Type 0} → View S → S → S → Type 0
+StaysStored view old new =
+    (root : RootView) (base : Cells) (places : List Place) → view.stores old root base places
+    → view.stores new root base places
 
 -- and the root still has the places of the tablets
-pub record StaysRooted {S : Type 0} (stores : S → RootView → Cells → List Place → Type 0)
-    (is_rooted : S → RootView → Type 0) (old new : S) : Type 0 where
-  pub stored : StaysStored stores old new
-  pub rooted : (root : RootView) → is_rooted old root → is_rooted new root
+pub record StaysRooted {S : Type 0} (view : View S) (old new : S) : Type 0 where
+  pub stored : StaysStored view old new
+  pub rooted : (root : RootView) → view.is_rooted old root → view.is_rooted new root
 
 -- this root was put, and keeps cells which show the state after a clean restart
-pub record HasNewRoot {S : Type 0} (stores : S → RootView → Cells → List Place → Type 0)
-    (is_rooted : S → RootView → Type 0) (last : S → ℕ) (root : RootView) (new : S) (st : State)
+pub record HasNewRoot {S : Type 0} (view : View S) (root : RootView) (new : S) (st : State)
     : Type 0 where
-  pub rooted : is_rooted new root
+  pub rooted : view.is_rooted new root
   pub base : Cells
-  pub kept : stores new root base st.places
+  pub kept : view.stores new root base st.places
   pub shows : ShowsCells base (reopened st)
   pub next : st.next_tablet ≡ length st.places + 1
-  pub top : st.top ≤ last new
-  pub low : root.top ≤ last new
+  pub top : st.top ≤ view.last new
+  pub low : root.top ≤ view.last new
 
 -- the journal and the last stamp stay
-pub record KeepsJournal {S : Type 0} (recording : S → Bool) (logged waiting : S → List ℕ)
-    (last : S → ℕ) (old new : S) : Type 0 where
-  pub goes_on : recording new ≡ recording old
-  pub has : logged new ≡ logged old
-  pub waits : waiting new ≡ waiting old
-  pub stamp : last new ≡ last old
+pub record KeepsJournal {S : Type 0} (view : View S) (old new : S) : Type 0 where
+  pub goes_on : view.recording new ≡ view.recording old
+  pub has : view.logged new ≡ view.logged old
+  pub waits : view.waiting new ≡ view.waiting old
+  pub stamp : view.last new ≡ view.last old
 
 -- the name of a root in the records of a log
 abbrev pub named : RootView → List ℕ
@@ -130,19 +129,18 @@ IsNameOf name root = (name.top ≡ root.top) × (name.sum ≡ root_sum root)
 
 -- ---- a server with a log
 
-module _ {S M L : Type 0} (stores : S → RootView → Cells → List Place → Type 0)
-    (logged : S → List ℕ) (holds : L → List (List ℕ) → Type 0) where
+module _ {S M L : Type 0} (view : View S) (log : Log L) where
   -- Its files keep cells under a root whose greatest stamp the mark's file covers.
   abbrev pub StoresUnder : DurableServer S M L → RootView → Cells → List Place → Type 0
   StoresUnder server root base places =
-      stores server.server root base places × (root.top ≤ server.marks.stored)
+      view.stores server.server root base places × (root.top ≤ server.marks.stored)
 
   -- The log holds records. Unless it failed, they have the edits that the server counts as logged.
   abbrev pub HoldsRecords : DurableServer S M L → List (List ℕ) → Type 0
   HoldsRecords server records =
-      holds server.log records
+      log.holds server.log records
       × ((server.is_stopped ≡ true)
-      ⊎ (flat_map edit_bytes records ≡ logged server.server))
+      ⊎ (flat_map edit_bytes records ≡ view.logged server.server))
 
   -- Its devices keep a state, which needn't be the one that it shows.
   pub record LastsIn (server : DurableServer S M L) (st : State) : Type 0 where
@@ -152,7 +150,7 @@ module _ {S M L : Type 0} (stores : S → RootView → Cells → List Place → 
   -- root's greatest stamp, and the file or the log the stamps that count as covered.
   pub record HoldsLogged (server : DurableServer S M L) (root : RootView) : Type 0 where
     pub records : List (List ℕ)
-    pub in_log : holds server.log records
+    pub in_log : log.holds server.log records
     pub over : IsOver records root
     pub stamps : AreUpTo most_stamp records
     pub low : root.top ≤ server.marks.stored
@@ -162,14 +160,14 @@ module _ {S M L : Type 0} (stores : S → RootView → Cells → List Place → 
     pub held : HoldEdits records edits
     pub stored : AllByRecursion IsStoredEdit edits
     pub room : HasRoomFor empty_journal edits
-    pub bytes : flat_map edit_bytes records ≡ logged server.server
+    pub bytes : flat_map edit_bytes records ≡ view.logged server.server
 
   -- The log is so over the current root, which has the places of the tablets. Or the log failed: then no
   -- reply leaves the server any more.
-  abbrev pub Logs : (S → RootView → Type 0) → DurableServer S M L → Type 0
-  Logs is_rooted server =
+  abbrev pub Logs : DurableServer S M L → Type 0
+  Logs server =
       (server.is_stopped ≡ true)
-      ⊎ ((root : RootView) × is_rooted server.server root × HoldsLogged server root)
+      ⊎ ((root : RootView) × view.is_rooted server.server root × HoldsLogged server root)
 
 -- a server with a log shows the states of the server inside
 abbrev pub shown_by : {S M L : Type 0} → (S → State → Type 0) → DurableServer S M L → State
@@ -185,16 +183,16 @@ swept (Err refusal) = codec.Refused refusal
 
 -- A sweep left the root's files. Or no edits are recorded: nothing was done, and no reply leaves the
 -- server any more.
-abbrev pub SweepsNow : {S : Type 0} → (S → Result ℕ Refusal → S → Type 0) → Type 0 → S → Result ℕ Refusal → S
-    → Type 0
-SweepsNow sweeps stopped old result new =
-    sweeps old result new ⊎ ((result ≡ Err Device) × stopped × (new ≡ old))
+abbrev pub SweepsNow : {S : Type 0} → RootCalls S → Type 0 → S → Result ℕ Refusal → S → Type 0
+SweepsNow calls stopped old result new =
+    calls.sweeps old result new ⊎ ((result ≡ Err Device) × stopped × (new ≡ old))
 
-module _ {S : Type 0} (same : S → S → Type 0) (checkpoints : S → Reply → S → Type 0) where
+module _ {S : Type 0} (view : View S) (calls : RootCalls S) where
   -- The files answered a checkpoint, apart from the journal.
   abbrev pub Checkpoints : S → Reply → S → Type 0
   Checkpoints old reply new =
-      (mid next : S) × same old mid × checkpoints mid reply next × same next new
+      (mid next : S)
+      × view.same old mid × calls.checkpoints mid reply next × view.same next new
 
   -- A checkpoint was answered as the files answered it. Or it was refused with NoMemory: the root was
   -- put, and memory to name it in the log was refused. Or with Device: the mark's file failed, before the
@@ -203,10 +201,10 @@ module _ {S : Type 0} (same : S → S → Type 0) (checkpoints : S → Reply →
     answered : Checkpoints old reply new → PutsRoot stopped risen old reply new
     unnamed : reply ≡ codec.Refused NoMemory → Checkpoints old codec.Checkpoint new
         → PutsRoot stopped risen old reply new
-    unmarked : reply ≡ codec.Refused Device → risen → same old new
+    unmarked : reply ≡ codec.Refused Device → risen → view.same old new
         → PutsRoot stopped risen old reply new
     failed : reply ≡ codec.Refused Device → stopped
-        → same old new ⊎ Checkpoints old codec.Checkpoint new
+        → view.same old new ⊎ Checkpoints old codec.Checkpoint new
         → PutsRoot stopped risen old reply new
 
   -- It was refused with the refusal of the checkpoint before it. Or it was answered after that
@@ -217,7 +215,7 @@ module _ {S : Type 0} (same : S → S → Type 0) (checkpoints : S → Reply →
       ((refusal : Refusal) × (reply ≡ codec.Refused refusal)
       × PutsRoot stopped risen old reply new)
       ⊎ ((first next : S) × Checkpoints old codec.Checkpoint first × answers first reply next
-      × (same next new ⊎ ((second : Reply) × PutsRoot stopped risen next second new)))
+      × (view.same next new ⊎ ((second : Reply) × PutsRoot stopped risen next second new)))
 
   -- It was refused since the log got no room, and nothing was changed: a device failed, or memory was
   -- refused.
@@ -234,95 +232,85 @@ module _ {S : Type 0} (same : S → S → Type 0) (checkpoints : S → Reply →
   -- splits and moves, that a sweep leaves the root's files, and that requests which need room in the log
   -- are refused if it has none.
   abbrev pub RepliesDurably : (S → Request → Reply → S → Type 0)
-      → (S → Result ℕ Refusal → S → Type 0)
       → (stopped risen : Type 0) → (before now : ℕ) → S → Request → Reply → S → Type 0
-  RepliesDurably says sweeps stopped risen before now old (Split row) reply new =
+  RepliesDurably says stopped risen before now old (Split row) reply new =
       AnswersRooted (λ a r b. says a (Split row) r b) stopped risen old reply new
-  RepliesDurably says sweeps stopped risen before now old (Move tablet server) reply new =
+  RepliesDurably says stopped risen before now old (Move tablet server) reply new =
       AnswersRooted (λ a r b. says a (Move tablet server) r b) stopped risen old reply new
-  RepliesDurably says sweeps stopped risen before now old Sweep reply new =
-      (result : Result ℕ Refusal) × (reply ≡ swept result) × SweepsNow sweeps stopped old result new
-  RepliesDurably says sweeps stopped risen before now old Checkpoint reply new =
+  RepliesDurably says stopped risen before now old Sweep reply new =
+      (result : Result ℕ Refusal) × (reply ≡ swept result) × SweepsNow calls stopped old result new
+  RepliesDurably says stopped risen before now old Checkpoint reply new =
       PutsRoot stopped risen old reply new
-  RepliesDurably says sweeps stopped risen before now old Begin reply new =
+  RepliesDurably says stopped risen before now old Begin reply new =
       AnswersInRoom (says old Begin reply new) (λ n. reply ≡ codec.Refused n) before now old new
-  RepliesDurably says sweeps stopped risen before now old (Step start) reply new =
+  RepliesDurably says stopped risen before now old (Step start) reply new =
       AnswersInRoom (says old (Step start) reply new) (λ n. reply ≡ codec.Refused n) before now
       old new
-  RepliesDurably says sweeps stopped risen before now old (CleanStep cleaner) reply new =
+  RepliesDurably says stopped risen before now old (CleanStep cleaner) reply new =
       AnswersInRoom (says old (CleanStep cleaner) reply new) (λ n. reply ≡ codec.Refused n) before
       now old new
-  RepliesDurably says sweeps stopped risen before now old (CollectStep collector n) reply new =
+  RepliesDurably says stopped risen before now old (CollectStep collector n) reply new =
       AnswersInRoom (says old (CollectStep collector n) reply new) (λ n. reply ≡ codec.Refused n)
       before now old new
-  RepliesDurably says sweeps stopped risen before now old request reply new =
+  RepliesDurably says stopped risen before now old request reply new =
       says old request reply new
 
   -- The same for operations: a Commit, and a Read that begins a session, need room in the log.
   abbrev pub AnswersDurably : (S → Operation → Answer → S → Type 0)
-      → (S → Result ℕ Refusal → S → Type 0)
       → (stopped risen : Type 0) → (before now : ℕ) → S → Operation → Answer → S → Type 0
-  AnswersDurably says sweeps stopped risen before now old (lent.One request) (given.Said reply)
+  AnswersDurably says stopped risen before now old (lent.One request) (given.Said reply)
       new =
-      RepliesDurably (λ a q r b. says a (lent.One q) (given.Said r) b) sweeps stopped risen before
-      now old request reply new
-  AnswersDurably says sweeps stopped risen before now old (lent.One request) answer new = ⊥
-  AnswersDurably says sweeps stopped risen before now old (lent.Commit start writes) answer new =
+      RepliesDurably (λ a q r b. says a (lent.One q) (given.Said r) b) stopped risen before now
+      old request reply new
+  AnswersDurably says stopped risen before now old (lent.One request) answer new = ⊥
+  AnswersDurably says stopped risen before now old (lent.Commit start writes) answer new =
       AnswersInRoom (says old (lent.Commit start writes) answer new)
       (λ n. answer ≡ given.Said (codec.Refused n)) before now old new
-  AnswersDurably says sweeps stopped risen before now old (lent.Read start cells stays_open)
+  AnswersDurably says stopped risen before now old (lent.Read start cells stays_open)
       answer new =
       AnswersInRoom (says old (lent.Read start cells stays_open) answer new)
       (λ n. (start ≡ 0) × (answer ≡ given.Said (codec.Refused n))) before now old new
 
 -- An answer of a server with a log: the contract of the answer, and the devices still keep a state.
-pub record IsDurableAnswer {S M L : Type 0} (shows : S → State → Type 0)
-    (lasts : DurableServer S M L → State → Type 0) (logs : DurableServer S M L → Type 0)
-    (mark_faults : M → ℕ) (log_faults : L → ℕ)
-    (answers : (stopped risen : Type 0) → (before now : ℕ) → S → Operation → Answer → S → Type 0)
-    (old : DurableServer S M L) (operation : Operation) (answer : Answer)
-    (new : DurableServer S M L) : Type 0 where
-  pub answered : answers (new.is_stopped ≡ true)
-      (HasRisen (mark_faults old.marks.marks) (mark_faults new.marks.marks))
-      (log_faults old.log) (log_faults new.log) old.server operation answer new.server
-  pub goes_on : GoesOn (shown_by shows) lasts logs (operation_of operation) (answer_of answer)
-      old new
+pub record IsDurableAnswer {S M L : Type 0} (view : View S) (calls : RootCalls S)
+    (shows : S → State → Type 0) (says : S → Operation → Answer → S → Type 0)
+    (marks : MarkStore M) (log : Log L) (old : DurableServer S M L) (operation : Operation)
+    (answer : Answer) (new : DurableServer S M L) : Type 0 where
+  pub answered : AnswersDurably view calls says (new.is_stopped ≡ true)
+      (HasRisen (marks.faults old.marks.marks) (marks.faults new.marks.marks))
+      (log.faults old.log) (log.faults new.log) old.server operation answer new.server
+  pub goes_on : GoesOn (shown_by shows) (LastsIn view log) (Logs view log)
+      (operation_of operation) (answer_of answer) old new
 
 -- with upkeep, a sweep follows a root that was put
-abbrev pub SweepsAfter : {S : Type 0} → (S → Result ℕ Refusal → S → Type 0) → Type 0 → Bool → Reply
-    → S → S → Type 0
-SweepsAfter sweeps stopped true codec.Checkpoint old new =
-    (result : Result ℕ Refusal) × SweepsNow sweeps stopped old result new
-SweepsAfter sweeps stopped upkeep reply old new = new ≡ old
+abbrev pub SweepsAfter : {S : Type 0} → RootCalls S → Type 0 → Bool → Reply → S → S → Type 0
+SweepsAfter calls stopped true codec.Checkpoint old new =
+    (result : Result ℕ Refusal) × SweepsNow calls stopped old result new
+SweepsAfter calls stopped upkeep reply old new = new ≡ old
 
 -- A root was put, or refused, and the size from which the next try is counted was set. With upkeep, a
 -- sweep followed a root that was put.
-pub record TriesRoot {S M L : Type 0} (mark_faults : M → ℕ) (same : S → S → Type 0)
-    (roots : (stopped risen : Type 0) → S → Reply → S → Type 0)
-    (sweeps : S → Result ℕ Refusal → S → Type 0) (written : ℕ) (mid : S)
-    (old new : DurableServer S M L) : Type 0 where
+pub record TriesRoot {S M L : Type 0} (view : View S) (calls : RootCalls S) (marks : MarkStore M)
+    (mid : S) (old new : DurableServer S M L) : Type 0 where
   pub reply : Reply
   pub next : S
   pub last : S
-  pub answered : roots (new.is_stopped ≡ true)
-      (HasRisen (mark_faults old.marks.marks) (mark_faults new.marks.marks)) mid reply next
-  pub swept : SweepsAfter sweeps (new.is_stopped ≡ true) old.upkeep reply next last
-  pub is_same : same last new.server
-  pub tried : new.tried_bytes ≡ tried_at reply written
+  pub answered : PutsRoot view calls (new.is_stopped ≡ true)
+      (HasRisen (marks.faults old.marks.marks) (marks.faults new.marks.marks)) mid reply next
+  pub swept : SweepsAfter calls (new.is_stopped ≡ true) old.upkeep reply next last
+  pub is_same : view.same last new.server
+  pub tried : new.tried_bytes ≡ tried_at reply (view.size mid)
 
 -- Upkeep between two answers: that of a server without a log, and then a checkpoint if one is due by the
 -- journal's size.
-pub record IsDurablyTended {S M L : Type 0} (shows : S → State → Type 0)
-    (lasts : DurableServer S M L → State → Type 0) (logs : DurableServer S M L → Type 0)
-    (mark_faults : M → ℕ) (between same : S → S → Type 0)
-    (roots : (stopped risen : Type 0) → S → Reply → S → Type 0)
-    (sweeps : S → Result ℕ Refusal → S → Type 0) (size : S → ℕ)
+pub record IsDurablyTended {S M L : Type 0} (view : View S) (calls : RootCalls S)
+    (shows : S → State → Type 0) (between : S → S → Type 0) (marks : MarkStore M) (log : Log L)
     (old new : DurableServer S M L) : Type 0 where
   pub mid : S
   pub tended : between old.server mid
-  pub rooted : (IsRootDue old (size mid)
-      × TriesRoot mark_faults same roots sweeps (size mid) mid old new)
-      ⊎ ((¬ IsRootDue old (size mid)) × same mid new.server × (new.tried_bytes ≡ old.tried_bytes))
+  pub rooted : (IsRootDue old (view.size mid) × TriesRoot view calls marks mid old new)
+      ⊎ ((¬ IsRootDue old (view.size mid)) × view.same mid new.server
+      × (new.tried_bytes ≡ old.tried_bytes))
   pub root_bytes : new.root_bytes ≡ old.root_bytes
   pub upkeep : new.upkeep ≡ old.upkeep
-  pub settles : Settles (shown_by shows) lasts logs old new
+  pub settles : Settles (shown_by shows) (LastsIn view log) (Logs view log) old new

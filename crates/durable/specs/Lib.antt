@@ -7,3 +7,4 @@ pub mod StoredMarks
 pub mod OverDevices
 pub mod Replay
 pub mod Recovery
+pub mod View

@@ -5,13 +5,12 @@ use Rattle.file_store.specs.declared.files.Files.{Ghosts as Files}
 use Rattle.oracle.specs.declared.marks.MarkStore.{Ghosts as MarkStore}
 use Rattle.request_codec.specs.declared.answers.Answer.{Answer}
 use Rattle.request_codec.specs.declared.operations.Operation.{Operation}
-use Rattle.row_atomic.specs.Recorded.{logged_of}
 use Rattle.si_model.specs.Machine.{State}
 use Rattle.server_loop.specs.Operations.{IsAnswerTo}
 use Rattle.durable.specs.Durability.{IsSettled, ServesDurably}
-use Rattle.durable.specs.Answers.{AnswersDurably, IsDurableAnswer, IsDurablyTended, LastsIn, Logs, PutsRoot, shown_by}
-use Rattle.server_loop.specs.Server.{Shows, journal_of}
-use Rattle.durable.specs.Stored.{AnswersCheckpoint, IsRooted, IsSame, StoresCells, SweepsFiles, journal_size}
+use Rattle.durable.specs.Answers.{IsDurableAnswer, IsDurablyTended, LastsIn, Logs, shown_by}
+use Rattle.server_loop.specs.Server.{Shows}
+use Rattle.durable.specs.Stored.{calls_of, view_of}
 use Rattle.server_loop.specs.Tending.{IsTended}
 use Rattle.durable.specs.declared.server.DurableServer.{DurableServer}
 use Rattle.server_loop.specs.declared.server.Server.{Server}
@@ -21,13 +20,10 @@ use Rattle.server_loop.specs.declared.statuses.ServeFault.{ServeFault}
 module _ {F N M L : Type 0} (files : Files F) (log : Log L) where
   -- Its devices keep a state through a kill.
   abbrev pub LastsOver : DurableServer (Server F N) M L → State → Type 0
-  LastsOver =
-      LastsIn (StoresCells files.contents) (λ server. logged_of (journal_of server)) log.holds
+  LastsOver = LastsIn (view_of files.contents) log
 
   abbrev pub LogsOver : DurableServer (Server F N) M L → Type 0
-  LogsOver =
-      Logs (StoresCells files.contents) (λ server. logged_of (journal_of server)) log.holds
-      (IsRooted files.contents)
+  LogsOver = Logs (view_of files.contents) log
 
   -- Its devices keep each state that it shows.
   abbrev pub IsSettledOver : DurableServer (Server F N) M L → Type 0
@@ -39,18 +35,13 @@ module _ {F N M L : Type 0} (files : Files F) (inside : MarkStore N) (marks : Ma
   abbrev pub IsAnswerOver : DurableServer (Server F N) M L → Operation → Answer
       → DurableServer (Server F N) M L → Type 0
   IsAnswerOver =
-      IsDurableAnswer (Shows files.contents) (LastsOver files log) (LogsOver files log)
-      marks.faults log.faults
-      (AnswersDurably IsSame (AnswersCheckpoint files inside) (IsAnswerTo files inside)
-      (SweepsFiles files.contents files.faults))
+      IsDurableAnswer (view_of files.contents) (calls_of files inside) (Shows files.contents)
+      (IsAnswerTo files inside) marks log
 
   abbrev pub IsTendedOver : DurableServer (Server F N) M L → DurableServer (Server F N) M L → Type 0
   IsTendedOver =
-      IsDurablyTended (Shows files.contents) (LastsOver files log) (LogsOver files log)
-      marks.faults (IsTended files.contents files.faults) IsSame
-      (PutsRoot IsSame (AnswersCheckpoint files inside))
-      (SweepsFiles files.contents files.faults)
-      (λ server. journal_size (journal_of server))
+      IsDurablyTended (view_of files.contents) (calls_of files inside) (Shows files.contents)
+      (IsTended files.contents files.faults) marks log
 
   abbrev pub ServesOver : DurableServer (Server F N) M L → DurableServer (Server F N) M L
       → Option (List ℕ) → Option (List ℕ) → Option (List ℕ) → Option (List ℕ) → ℕ

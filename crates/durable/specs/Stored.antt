@@ -1,5 +1,5 @@
 -- The cells that a server's files keep under their root.
-use Rattle.std.specs.Prelude.{◌≡◌, ◌*◌, ◌^◌, ◌-◌, ℕ, List, [], Option, Result, max, min}
+use Rattle.std.specs.Prelude.{◌≡◌, ◌*◌, ◌^◌, ◌-◌, ℕ, List, [], Option, Result, is_some, max, min}
 use Rattle.cell_key.specs.Cells.{Cells}
 use Rattle.cell_key.specs.declared.refusals.Refusal.{Refusal}
 use Rattle.file_store.specs.Store.{Contents}
@@ -9,12 +9,13 @@ use Rattle.oracle.specs.declared.marks.MarkStore.{Ghosts as MarkStore}
 use Rattle.request_codec.specs.declared.replies.Reply.{Reply}
 use Rattle.request_codec.specs.declared.requests.Request.TheVariants.{Checkpoint}
 use Rattle.row_atomic.specs.Journals.{JournalView}
-use Rattle.row_atomic.specs.Recorded.{Tracks, bytes_written, edits_written}
+use Rattle.row_atomic.specs.Recorded.{Tracks, bytes_written, edits_written, logged_of, waiting_of}
 use Rattle.row_atomic.specs.RootSweeps.{SweepsBesideRoot}
 use Rattle.row_atomic.specs.Roots.{HasRoot}
 use Rattle.si_model.specs.Machine.{Place}
+use Rattle.durable.specs.View.{RootCalls, View}
 use Rattle.server_loop.specs.Answer.{IsPlainAnswer}
-use Rattle.server_loop.specs.Server.{cluster_of, forgets, machine_places, rows_of}
+use Rattle.server_loop.specs.Server.{cluster_of, forgets, journal_of, last_of, machine_places, next_root, rows_of}
 use Rattle.server_loop.specs.declared.server.Server.{Server}
 
 module _ {F M : Type 0} (contents : F → Option Contents) where
@@ -52,3 +53,26 @@ abbrev pub SweepsFiles : {F M : Type 0} → (F → Option Contents) → (F → �
 SweepsFiles contents faults old result new =
     SweepsBesideRoot contents faults result (cluster_of old) (cluster_of new)
     × (new ≡ record old { rows = record (rows_of old) { cluster = cluster_of new } })
+
+-- ---- the server under a log
+
+abbrev pub view_of : {F M : Type 0} → (F → Option Contents) → View (Server F M)
+view_of contents = record {
+  stores = StoresCells contents;
+  is_rooted = IsRooted contents;
+  next_root = next_root;
+  is_clean = IsClean contents;
+  recording = λ server. is_some (journal_of server);
+  logged = λ server. logged_of (journal_of server);
+  waiting = λ server. waiting_of (journal_of server);
+  count = λ server. edits_written (journal_of server);
+  size = λ server. journal_size (journal_of server);
+  last = last_of;
+  same = IsSame;
+}
+
+abbrev pub calls_of : {F M : Type 0} → Files F → MarkStore M → RootCalls (Server F M)
+calls_of files marks = record {
+  checkpoints = AnswersCheckpoint files marks;
+  sweeps = SweepsFiles files.contents files.faults;
+}

@@ -20,37 +20,12 @@ use si_model::{CellWrite, shows_reopened};
 const BYTES_OF_EDIT: usize = 671;
 
 impl<F: AtomicPut + Drop, M: MarkStore + Drop> Journaled for Server<F, M> {
-    ghost use Rattle.std.specs.Prelude.{is_some};
-    ghost use Rattle.row_atomic.specs.Recorded.{edits_written, logged_of, waiting_of};
-    ghost use Rattle.server_loop.specs.Server.{journal_of, last_of, next_root};
-    ghost use Rattle.durable.specs.Stored.{AnswersCheckpoint, IsClean, IsRooted, IsSame, StoresCells, SweepsFiles, journal_size};
+    ghost use Rattle.durable.specs.Stored.{calls_of, view_of};
     ghost use Rattle.std.proofs.Common.{refl, ◌∙◌};
 
-    ghost stores = { StoresCells F.contents };
+    ghost view = { view_of F.contents };
 
-    ghost is_rooted = { IsRooted F.contents };
-
-    ghost next_root = { next_root };
-
-    ghost is_clean = { IsClean F.contents };
-
-    ghost recording = { λ server. is_some (journal_of server) };
-
-    ghost logged = { λ server. logged_of (journal_of server) };
-
-    ghost waiting = { λ server. waiting_of (journal_of server) };
-
-    ghost count = { λ server. edits_written (journal_of server) };
-
-    ghost size = { λ server. journal_size (journal_of server) };
-
-    ghost last = { last_of };
-
-    ghost same = { IsSame };
-
-    ghost checkpoints = { AnswersCheckpoint F.Files M.MarkStore };
-
-    ghost sweeps = { SweepsFiles F.contents F.faults };
+    ghost calls = { calls_of F.Files M.MarkStore };
 
     fn written(&self) -> usize {
         let of_edits = self.written_edits().saturating_mul(BYTES_OF_EDIT);

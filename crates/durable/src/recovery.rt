@@ -403,11 +403,10 @@ impl<S: Journaled, M: MarkStore, L: Log> DurableServer<S, M, L> {
         ensures log { result.log ≡ log }
         ensures root_bytes { result.root_bytes ≡ 33554432 }
         ensures upkeep { result.upkeep ≡ false }
-        ensures settled { (root : RootView) → S.recording server ≡ true → S.is_rooted server root
-            → S.waiting server ≡ [] → S.last server ≤ marks.covered
-            → HoldsLogged S.stores S.logged L.holds result root
-            → IsSettled (shown_by S.shows) (LastsIn S.stores S.logged L.holds)
-            (Logs S.stores S.logged L.holds S.is_rooted) result }
+        ensures settled { (root : RootView) → S.view.recording server ≡ true
+            → S.view.is_rooted server root → S.view.waiting server ≡ []
+            → S.view.last server ≤ marks.covered → HoldsLogged S.view L.Log result root
+            → IsSettled (shown_by S.shows) (LastsIn S.view L.Log) (Logs S.view L.Log) result }
     {
         logs_edits();
         names_roots();

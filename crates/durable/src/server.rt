@@ -91,10 +91,10 @@ fn most_edit_bytes(request: Request<'_>) -> usize {
 ///
 /// `NoMemory`; the log is unchanged. `Device` if the log failed.
 fn renew_log<S: Journaled, L: Log>(server: &S, log: &mut L) -> Result<(), Refusal>
-    ensures ok { OnOk result
-        (Renews (L.holds log.old) (L.holds log.new) (named (S.next_root server.now))) }
-    ensures err { OnErr result
-        (MayRenew (L.holds log.old) (L.holds log.new) (named (S.next_root server.now))) }
+    ensures ok { OnOk result (Renews (L.holds log.old) (L.holds log.new) (named (S.view.next_root
+        server.now))) }
+    ensures err { OnErr result (MayRenew (L.holds log.old) (L.holds log.new) (named
+        (S.view.next_root server.now))) }
     ensures unchanged { IsErrOf result Refusal.NoMemory
         → Keeps (L.holds log.old) (L.holds log.new) }
     ensures refusal { IfErr result (λ refusal.
@@ -116,14 +116,14 @@ impl<S: Journaled, M: MarkStore, L: Log> DurableServer<S, M, L> {
     /// stamp is never above the greatest one.
     fn can_log(&self, last: Stamp) -> bool
         ensures { IsTrue result ↔ (self.now.is_stopped ≡ false)
-            × (S.recording self.now.server ≡ true) × (last < 2 ^ 63) }
+            × (S.view.recording self.now.server ≡ true) × (last < 2 ^ 63) }
     {
         !self.is_stopped && self.server.is_recording() && last <= MOST_STAMP
     }
 
     /// Whether no edits wait for the log, and this stamp is covered.
     fn is_logged(&self, last: Stamp) -> bool
-        ensures { IsTrue result ↔ (S.waiting self.now.server ≡ [])
+        ensures { IsTrue result ↔ (S.view.waiting self.now.server ≡ [])
             × (last ≤ self.now.marks.covered) }
     {
         self.server.waiting().is_empty() && last <= self.marks.covered()
@@ -133,25 +133,21 @@ impl<S: Journaled, M: MarkStore, L: Log> DurableServer<S, M, L> {
     /// the server is stopped.
     fn log_waiting(&mut self) -> bool
         ensures shown { (st : State) → S.shows self.old.server st → S.shows self.new.server st }
-        ensures same { S.same self.old.server self.new.server }
-        ensures stays { StaysRooted S.stores S.is_rooted self.old.server self.new.server }
-        ensures recording { result ≡ true → S.recording self.new.server ≡ true }
-        ensures waiting { result ≡ true → S.waiting self.new.server ≡ [] }
-        ensures covered { result ≡ true → S.last self.new.server ≤ self.new.marks.covered }
+        ensures same { S.view.same self.old.server self.new.server }
+        ensures stays { StaysRooted S.view self.old.server self.new.server }
+        ensures recording { result ≡ true → S.view.recording self.new.server ≡ true }
+        ensures waiting { result ≡ true → S.view.waiting self.new.server ≡ [] }
+        ensures covered { result ≡ true → S.view.last self.new.server ≤ self.new.marks.covered }
         ensures on { result ≡ true → self.new.is_stopped ≡ false }
         ensures still { self.old.is_stopped ≡ true → self.new.is_stopped ≡ true }
         ensures ok { result ≡ true → (now : State) → S.shows self.old.server now
-            → Logs S.stores S.logged L.holds S.is_rooted self.old
-            → ((root : RootView) × S.is_rooted self.new.server root
-            × HoldsLogged S.stores S.logged L.holds self.new root)
-            × ((st : State) → S.shows self.new.server st
-            → LastsIn S.stores S.logged L.holds self.new st) }
+            → Logs S.view L.Log self.old → ((root : RootView)
+            × S.view.is_rooted self.new.server root × HoldsLogged S.view L.Log self.new root)
+            × ((st : State) → S.shows self.new.server st → LastsIn S.view L.Log self.new st) }
         ensures stopped { result ≡ false → self.new.is_stopped ≡ true }
         ensures err { result ≡ false → (now : State) → S.shows self.old.server now
-            → Logs S.stores S.logged L.holds S.is_rooted self.old → (st : State)
-            → LastsIn S.stores S.logged L.holds self.old st
-            → LastsIn S.stores S.logged L.holds self.new st
-            ⊎ LastsIn S.stores S.logged L.holds self.new now }
+            → Logs S.view L.Log self.old → (st : State) → LastsIn S.view L.Log self.old st
+            → LastsIn S.view L.Log self.new st ⊎ LastsIn S.view L.Log self.new now }
         ensures marks { self.new.marks.marks ≡ self.old.marks.marks }
         ensures due { IsDueAlike self.old self.new }
     {
@@ -190,28 +186,26 @@ impl<S: Journaled, M: MarkStore, L: Log> DurableServer<S, M, L> {
     ///
     /// `NoMemory`; log and journal are unchanged. `Device` if the log failed: the server is stopped.
     fn empty_log(&mut self) -> Result<(), Refusal>
-        ensures shown { S.is_clean self.old.server → (st : State) → S.shows self.old.server st
+        ensures shown { S.view.is_clean self.old.server → (st : State) → S.shows self.old.server st
             → S.shows self.new.server st }
-        ensures same { S.same self.old.server self.new.server }
-        ensures stays { StaysRooted S.stores S.is_rooted self.old.server self.new.server }
-        ensures clean { S.is_clean self.old.server → S.is_clean self.new.server }
-        ensures recording { S.recording self.new.server ≡ S.recording self.old.server }
-        ensures waiting { S.waiting self.old.server ≡ [] → S.waiting self.new.server ≡ [] }
-        ensures named { OnOk result (Renews (L.holds self.old.log) (L.holds self.new.log)
-            (named (S.next_root self.old.server))) }
+        ensures same { S.view.same self.old.server self.new.server }
+        ensures stays { StaysRooted S.view self.old.server self.new.server }
+        ensures clean { S.view.is_clean self.old.server → S.view.is_clean self.new.server }
+        ensures recording { S.view.recording self.new.server ≡ S.view.recording self.old.server }
+        ensures waiting { S.view.waiting self.old.server ≡ []
+            → S.view.waiting self.new.server ≡ [] }
+        ensures named { OnOk result (Renews (L.holds self.old.log) (L.holds self.new.log) (named
+            (S.view.next_root self.old.server))) }
         ensures stopped { IsErrOf result Refusal.Device → self.new.is_stopped ≡ true }
         ensures refusal { IfErr result (λ refusal.
             (refusal ≡ Refusal.Device) ⊎ (refusal ≡ Refusal.NoMemory)) }
-        ensures kept { (st : State) → HasNewRoot S.stores S.is_rooted S.last
-            (S.next_root self.old.server) self.old.server st
-            → HoldsLogged S.stores S.logged L.holds self.old (S.next_root self.old.server)
-            → S.last self.old.server ≤ self.old.marks.stored
-            → self.old.marks.covered ≤ self.old.marks.stored
-            → LastsIn S.stores S.logged L.holds self.old st
-            → LastsIn S.stores S.logged L.holds self.new st
-            × Logs S.stores S.logged L.holds S.is_rooted self.new }
+        ensures kept { (st : State) → HasNewRoot S.view (S.view.next_root self.old.server)
+            self.old.server st → HoldsLogged S.view L.Log self.old (S.view.next_root
+            self.old.server) → S.view.last self.old.server ≤ self.old.marks.stored
+            → self.old.marks.covered ≤ self.old.marks.stored → LastsIn S.view L.Log self.old st
+            → LastsIn S.view L.Log self.new st × Logs S.view L.Log self.new }
         ensures marks { self.new.marks ≡ self.old.marks }
-        ensures last { S.last self.new.server ≡ S.last self.old.server }
+        ensures last { S.view.last self.new.server ≡ S.view.last self.old.server }
         ensures due { IsDueAlike self.old self.new }
     {
         logs_edits();
@@ -242,23 +236,21 @@ impl<S: Journaled, M: MarkStore, L: Log> DurableServer<S, M, L> {
         ensures step { StepsAs (shown_by S.shows) self.old self.new CheckpointAsked
             (replied (checkpointed result)) }
         ensures refusal { IfErr result IsStorageRefusal }
-        ensures settles { Settles (shown_by S.shows) (LastsIn S.stores S.logged L.holds)
-            (Logs S.stores S.logged L.holds S.is_rooted) self.old self.new }
-        ensures answered { PutsRoot S.same S.checkpoints (self.new.is_stopped ≡ true)
-            (HasRisen (M.faults self.old.marks.marks) (M.faults self.new.marks.marks))
-            self.old.server (checkpointed result) self.new.server }
-        ensures done { OnOk result (Checkpoints S.same S.checkpoints self.old.server
-            CodecReply.Checkpoint self.new.server) }
+        ensures settles { Settles (shown_by S.shows) (LastsIn S.view L.Log) (Logs S.view L.Log)
+            self.old self.new }
+        ensures answered { PutsRoot S.view S.calls (self.new.is_stopped ≡ true) (HasRisen (M.faults
+            self.old.marks.marks) (M.faults self.new.marks.marks)) self.old.server (checkpointed
+            result) self.new.server }
+        ensures done { OnOk result (Checkpoints S.view S.calls self.old.server CodecReply.Checkpoint
+            self.new.server) }
         ensures named { OnOk result ((now : State) → S.shows self.old.server now
-            → Logs S.stores S.logged L.holds S.is_rooted self.old
-            → NamesItsRoot (L.holds self.new.log)) }
+            → Logs S.view L.Log self.old → NamesItsRoot (L.holds self.new.log)) }
         ensures clean { OnOk result ((now : State) → S.shows self.old.server now
-            → S.is_clean self.new.server) }
-        ensures covered { OnOk result (S.last self.new.server ≤ self.new.marks.covered) }
+            → S.view.is_clean self.new.server) }
+        ensures covered { OnOk result (S.view.last self.new.server ≤ self.new.marks.covered) }
         ensures kept { OnOk result ((now : State) → S.shows self.old.server now
-            → Logs S.stores S.logged L.holds S.is_rooted self.old
-            → LastsIn S.stores S.logged L.holds self.new now
-            × (S.recording self.new.server ≡ true) × (S.waiting self.new.server ≡ [])) }
+            → Logs S.view L.Log self.old → LastsIn S.view L.Log self.new now
+            × (S.view.recording self.new.server ≡ true) × (S.view.waiting self.new.server ≡ [])) }
         ensures due { IsDueAlike self.old self.new }
     {
         logs_edits();
@@ -284,17 +276,14 @@ impl<S: Journaled, M: MarkStore, L: Log> DurableServer<S, M, L> {
     /// allocation for its name in the log fails, the log stays over any root.
     fn root_moved(&mut self)
         ensures shown { (st : State) → S.shows self.old.server st → S.shows self.new.server st }
-        ensures answered { (reply : CodecReply)
-            × PutsRoot S.same S.checkpoints (self.new.is_stopped ≡ true) ⊥ self.old.server reply
-            self.new.server }
+        ensures answered { (reply : CodecReply) × PutsRoot S.view S.calls (self.new.is_stopped ≡
+            true) ⊥ self.old.server reply self.new.server }
         ensures kept { (before after : State) (root : RootView) → S.shows self.old.server after
-            → HoldsLogged S.stores S.logged L.holds self.old root
-            → S.waiting self.old.server ≡ [] → S.recording self.old.server ≡ true
-            → S.last self.old.server ≤ self.old.marks.covered
-            → LastsIn S.stores S.logged L.holds self.old before
-            → (LastsIn S.stores S.logged L.holds self.new before
-            ⊎ LastsIn S.stores S.logged L.holds self.new after)
-            × Logs S.stores S.logged L.holds S.is_rooted self.new }
+            → HoldsLogged S.view L.Log self.old root → S.view.waiting self.old.server ≡ []
+            → S.view.recording self.old.server ≡ true → S.view.last self.old.server ≤
+            self.old.marks.covered → LastsIn S.view L.Log self.old before
+            → (LastsIn S.view L.Log self.new before ⊎ LastsIn S.view L.Log self.new after)
+            × Logs S.view L.Log self.new }
     {
         logs_edits();
         names_roots();
@@ -321,15 +310,14 @@ impl<S: Journaled, M: MarkStore, L: Log> DurableServer<S, M, L> {
     ///
     /// Those of a checkpoint, and `Device` or `NoMemory` if the log can't be read. The log may then still be over any root.
     pub fn name_root(&mut self) -> Result<(), Refusal>
-        ensures settles { Settles (shown_by S.shows) (LastsIn S.stores S.logged L.holds)
-            (Logs S.stores S.logged L.holds S.is_rooted) self.old self.new }
-        ensures rooted { S.same self.old.server self.new.server
-            ⊎ PutsRoot S.same S.checkpoints (self.new.is_stopped ≡ true)
-            (HasRisen (M.faults self.old.marks.marks) (M.faults self.new.marks.marks))
-            self.old.server (checkpointed result) self.new.server }
+        ensures settles { Settles (shown_by S.shows) (LastsIn S.view L.Log) (Logs S.view L.Log)
+            self.old self.new }
+        ensures rooted { S.view.same self.old.server self.new.server
+            ⊎ PutsRoot S.view S.calls (self.new.is_stopped ≡ true) (HasRisen (M.faults
+            self.old.marks.marks) (M.faults self.new.marks.marks)) self.old.server (checkpointed
+            result) self.new.server }
         ensures named { OnOk result ((now : State) (root : RootView) → S.shows self.old.server now
-            → S.is_rooted self.old.server root
-            → HoldsLogged S.stores S.logged L.holds self.old root
+            → S.view.is_rooted self.old.server root → HoldsLogged S.view L.Log self.old root
             → NamesItsRoot (L.holds self.new.log)) }
         ensures refusal { IfErr result IsStorageRefusal }
     {
@@ -353,10 +341,10 @@ impl<S: Journaled, M: MarkStore, L: Log> DurableServer<S, M, L> {
     ///
     /// `Device` or `NoMemory`; `Device` also without a journal. Some of the files may already be removed.
     fn sweep_files(&mut self) -> Result<u64, Refusal>
-        ensures swept { SweepsNow S.sweeps (self.new.is_stopped ≡ true) self.old.server result
+        ensures swept { SweepsNow S.calls (self.new.is_stopped ≡ true) self.old.server result
             self.new.server }
-        ensures settles { Settles (shown_by S.shows) (LastsIn S.stores S.logged L.holds)
-            (Logs S.stores S.logged L.holds S.is_rooted) self.old self.new }
+        ensures settles { Settles (shown_by S.shows) (LastsIn S.view L.Log) (Logs S.view L.Log)
+            self.old self.new }
         ensures refusal { IfErr result IsStorageRefusal }
         ensures whole { (st : State) → S.shows self.old.server st
             → ¬ IsErrOf result Refusal.Damaged }
@@ -375,10 +363,10 @@ impl<S: Journaled, M: MarkStore, L: Log> DurableServer<S, M, L> {
 
     /// With upkeep, sweeps after a root that was put. A refusal is not reported.
     fn sweep_after(&mut self, done: &Result<(), Refusal>)
-        ensures swept { SweepsAfter S.sweeps (self.new.is_stopped ≡ true) self.old.upkeep
+        ensures swept { SweepsAfter S.calls (self.new.is_stopped ≡ true) self.old.upkeep
             (checkpointed done.now) self.old.server self.new.server }
-        ensures settles { Settles (shown_by S.shows) (LastsIn S.stores S.logged L.holds)
-            (Logs S.stores S.logged L.holds S.is_rooted) self.old self.new }
+        ensures settles { Settles (shown_by S.shows) (LastsIn S.view L.Log) (Logs S.view L.Log)
+            self.old self.new }
         ensures marks { self.new.marks ≡ self.old.marks }
         ensures still { self.old.is_stopped ≡ true → self.new.is_stopped ≡ true }
         ensures due { IsDueAlike self.old self.new }
@@ -394,9 +382,7 @@ impl<S: Journaled, M: MarkStore, L: Log> DurableServer<S, M, L> {
     /// Answers a sweep.
     fn sweep(&mut self) -> Reply
         ensures limits { KeepsToLimits result }
-        ensures says { IsDurableAnswer S.shows (LastsIn S.stores S.logged L.holds)
-            (Logs S.stores S.logged L.holds S.is_rooted) M.faults L.faults
-            (AnswersDurably S.same S.checkpoints S.says S.sweeps) self.old
+        ensures says { IsDurableAnswer S.view S.calls S.shows S.says M.MarkStore L.Log self.old
             (Operation.One Request.Sweep) (Answer.Said result) self.new }
     {
         match self.sweep_files() {
@@ -409,9 +395,7 @@ impl<S: Journaled, M: MarkStore, L: Log> DurableServer<S, M, L> {
     fn rearrange(&mut self, request: Request<'_>) -> Reply
         requires { MovesTablets request }
         ensures limits { KeepsToLimits result }
-        ensures says { IsDurableAnswer S.shows (LastsIn S.stores S.logged L.holds)
-            (Logs S.stores S.logged L.holds S.is_rooted) M.faults L.faults
-            (AnswersDurably S.same S.checkpoints S.says S.sweeps) self.old
+        ensures says { IsDurableAnswer S.view S.calls S.shows S.says M.MarkStore L.Log self.old
             (Operation.One request.entry) (Answer.Said result) self.new }
     {
         logs_edits();
@@ -432,9 +416,7 @@ impl<S: Journaled, M: MarkStore, L: Log> DurableServer<S, M, L> {
     /// Answers a checkpoint.
     fn checkpoint(&mut self) -> Reply
         ensures limits { KeepsToLimits result }
-        ensures says { IsDurableAnswer S.shows (LastsIn S.stores S.logged L.holds)
-            (Logs S.stores S.logged L.holds S.is_rooted) M.faults L.faults
-            (AnswersDurably S.same S.checkpoints S.says S.sweeps) self.old
+        ensures says { IsDurableAnswer S.view S.calls S.shows S.says M.MarkStore L.Log self.old
             (Operation.One Request.Checkpoint) (Answer.Said result) self.new }
     {
         match self.root() {
@@ -461,9 +443,8 @@ impl<S: Journaled, M: MarkStore, L: Log> DurableServer<S, M, L> {
         ensures says { S.says self.old.server (Operation.One request.entry) (Answer.Said result)
             self.new.server }
         ensures log { self.new.log ≡ self.old.log }
-        ensures goes_on { GoesOn (shown_by S.shows) (LastsIn S.stores S.logged L.holds)
-            (Logs S.stores S.logged L.holds S.is_rooted) (One (asked request.entry))
-            (Said (replied result)) self.old self.new }
+        ensures goes_on { GoesOn (shown_by S.shows) (LastsIn S.view L.Log) (Logs S.view L.Log) (One
+            (asked request.entry)) (Said (replied result)) self.old self.new }
     {
         logs_edits();
         names_roots();
@@ -486,9 +467,7 @@ impl<S: Journaled, M: MarkStore, L: Log> DurableServer<S, M, L> {
     fn answer_with_room(&mut self, request: Request<'_>) -> Reply
         requires { NeedsRoom request }
         ensures limits { KeepsToLimits result }
-        ensures says { IsDurableAnswer S.shows (LastsIn S.stores S.logged L.holds)
-            (Logs S.stores S.logged L.holds S.is_rooted) M.faults L.faults
-            (AnswersDurably S.same S.checkpoints S.says S.sweeps) self.old
+        ensures says { IsDurableAnswer S.view S.calls S.shows S.says M.MarkStore L.Log self.old
             (Operation.One request.entry) (Answer.Said result) self.new }
     {
         logs_edits();
@@ -523,9 +502,8 @@ impl<S: Journaled, M: MarkStore, L: Log> DurableServer<S, M, L> {
         ensures limits { AnswerKeepsToLimits result }
         ensures says { S.says self.old.server operation.entry result self.new.server }
         ensures log { self.new.log ≡ self.old.log }
-        ensures goes_on { GoesOn (shown_by S.shows) (LastsIn S.stores S.logged L.holds)
-            (Logs S.stores S.logged L.holds S.is_rooted) (operation_of operation.entry)
-            (answer_of result) self.old self.new }
+        ensures goes_on { GoesOn (shown_by S.shows) (LastsIn S.view L.Log) (Logs S.view L.Log)
+            (operation_of operation.entry) (answer_of result) self.old self.new }
     {
         logs_edits();
         names_roots();
@@ -537,10 +515,8 @@ impl<S: Journaled, M: MarkStore, L: Log> DurableServer<S, M, L> {
     fn answer_at_once(&mut self, operation: Operation<'_>) -> Answer
         requires { StandsForSeveral (operation_of operation) }
         ensures limits { AnswerKeepsToLimits result }
-        ensures says { IsDurableAnswer S.shows (LastsIn S.stores S.logged L.holds)
-            (Logs S.stores S.logged L.holds S.is_rooted) M.faults L.faults
-            (AnswersDurably S.same S.checkpoints S.says S.sweeps) self.old operation.entry result
-            self.new }
+        ensures says { IsDurableAnswer S.view S.calls S.shows S.says M.MarkStore L.Log self.old
+            operation.entry result self.new }
     {
         logs_edits();
         names_roots();
@@ -560,9 +536,7 @@ impl<S: Journaled, M: MarkStore, L: Log> DurableServer<S, M, L> {
         requires rootless { ¬ ActsOnRoots request }
         requires roomless { ¬ NeedsRoom request }
         ensures limits { KeepsToLimits result }
-        ensures says { IsDurableAnswer S.shows (LastsIn S.stores S.logged L.holds)
-            (Logs S.stores S.logged L.holds S.is_rooted) M.faults L.faults
-            (AnswersDurably S.same S.checkpoints S.says S.sweeps) self.old
+        ensures says { IsDurableAnswer S.view S.calls S.shows S.says M.MarkStore L.Log self.old
             (Operation.One request.entry) (Answer.Said result) self.new }
     {
         self.answer_inside(request)
@@ -570,17 +544,13 @@ impl<S: Journaled, M: MarkStore, L: Log> DurableServer<S, M, L> {
 }
 
 impl<S: Journaled, M: MarkStore, L: Log> Handler for DurableServer<S, M, L> {
-    ghost use Rattle.durable.specs.Answers.{AnswersDurably, IsDurableAnswer, IsDurablyTended, LastsIn, Logs, PutsRoot, shown_by};
+    ghost use Rattle.durable.specs.Answers.{IsDurableAnswer, IsDurablyTended, LastsIn, Logs, shown_by};
 
     ghost shows = { shown_by S.shows };
 
-    ghost says = { IsDurableAnswer S.shows (LastsIn S.stores S.logged L.holds)
-        (Logs S.stores S.logged L.holds S.is_rooted) M.faults L.faults
-        (AnswersDurably S.same S.checkpoints S.says S.sweeps) };
+    ghost says = { IsDurableAnswer S.view S.calls S.shows S.says M.MarkStore L.Log };
 
-    ghost between = { IsDurablyTended S.shows (LastsIn S.stores S.logged L.holds)
-        (Logs S.stores S.logged L.holds S.is_rooted) M.faults S.between S.same
-        (PutsRoot S.same S.checkpoints) S.sweeps S.size };
+    ghost between = { IsDurablyTended S.view S.calls S.shows S.between M.MarkStore L.Log };
 
     fn reply_to(&mut self, request: Request<'_>) -> Reply {
         match request {
@@ -618,29 +588,21 @@ impl<S: Journaled, M: MarkStore, L: Log> Handler for DurableServer<S, M, L> {
 
 impl<S: Journaled, M: MarkStore, L: Log> FrameHandler for DurableServer<S, M, L> {
     ghost use Rattle.durable.specs.Durability.{FailsToSettle, SettlesAnswers};
-    ghost use Rattle.durable.specs.Answers.{AnswersDurably, IsDurableAnswer, IsDurablyTended, LastsIn, Logs, PutsRoot, shown_by};
+    ghost use Rattle.durable.specs.Answers.{IsDurableAnswer, IsDurablyTended, LastsIn, Logs, shown_by};
     ghost use Rattle.server_loop.specs.Batches.{IsAnswered};
     ghost use Rattle.std.proofs.Common.{inl, inr};
 
-    ghost answers = { IsAnswered (shown_by S.shows) (IsDurableAnswer S.shows
-        (LastsIn S.stores S.logged L.holds)
-        (Logs S.stores S.logged L.holds S.is_rooted) M.faults L.faults
-        (AnswersDurably S.same S.checkpoints S.says S.sweeps)) (IsDurablyTended S.shows
-        (LastsIn S.stores S.logged L.holds)
-        (Logs S.stores S.logged L.holds S.is_rooted) M.faults S.between S.same
-        (PutsRoot S.same S.checkpoints) S.sweeps S.size) };
+    ghost answers = { IsAnswered (shown_by S.shows)
+        (IsDurableAnswer S.view S.calls S.shows S.says M.MarkStore L.Log)
+        (IsDurablyTended S.view S.calls S.shows S.between M.MarkStore L.Log) };
 
-    ghost settles = { SettlesAnswers (shown_by S.shows) (IsDurablyTended S.shows
-        (LastsIn S.stores S.logged L.holds)
-        (Logs S.stores S.logged L.holds S.is_rooted) M.faults S.between S.same
-        (PutsRoot S.same S.checkpoints) S.sweeps S.size) (LastsIn S.stores S.logged L.holds)
-        (Logs S.stores S.logged L.holds S.is_rooted) };
+    ghost settles = { SettlesAnswers (shown_by S.shows)
+        (IsDurablyTended S.view S.calls S.shows S.between M.MarkStore L.Log)
+        (LastsIn S.view L.Log) (Logs S.view L.Log) };
 
-    ghost fails = { FailsToSettle (shown_by S.shows) (IsDurablyTended S.shows
-        (LastsIn S.stores S.logged L.holds)
-        (Logs S.stores S.logged L.holds S.is_rooted) M.faults S.between S.same
-        (PutsRoot S.same S.checkpoints) S.sweeps S.size) (LastsIn S.stores S.logged L.holds)
-        (Logs S.stores S.logged L.holds S.is_rooted) };
+    ghost fails = { FailsToSettle (shown_by S.shows)
+        (IsDurablyTended S.view S.calls S.shows S.between M.MarkStore L.Log)
+        (LastsIn S.view L.Log) (Logs S.view L.Log) };
 
     ghost joins = { λ first mid new taken body is after. record {
       mid = is.mid;

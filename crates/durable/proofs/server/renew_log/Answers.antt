@@ -5,7 +5,7 @@ use Rattle.durable.proofs.server.renew_log.Goals as goal
 
 pub returns-in-Ok-renew-clause-ok : goal.returns-in-Ok-renew-clause-ok
 returns-in-Ok-renew-clause-ok g c = λ records held.
-    let name = named_so (g.S.Journaled.next_root c.args.server.now) _ _ _ c.in-Ok.ensures.name.0 c.in-Ok.ensures.name.1 c.root_sum_bytes.ensures in
+    let name = named_so (g.S.Journaled.view.next_root c.args.server.now) _ _ _ c.in-Ok.ensures.name.0 c.in-Ok.ensures.name.1 c.root_sum_bytes.ensures in
     subst (λ (one : List ℕ). g.L.Log.holds c.renew.new.self (one ∷ [])) name (c.in-Ok-renew.ensures.ok records held)
 
 pub returns-in-Err-Memory-clause-err : goal.returns-in-Err-Memory-clause-err
@@ -16,5 +16,5 @@ returns-in-Err-Memory-clause-unchanged g c = λ _. c.in-Err-Memory.ensures.uncha
 
 pub returns-in-Err-renew-clause-err : goal.returns-in-Err-renew-clause-err
 returns-in-Err-renew-clause-err g c = λ records held.
-    let name = named_so (g.S.Journaled.next_root c.args.server.now) _ _ _ c.in-Ok.ensures.name.0 c.in-Ok.ensures.name.1 c.root_sum_bytes.ensures in
+    let name = named_so (g.S.Journaled.view.next_root c.args.server.now) _ _ _ c.in-Ok.ensures.name.0 c.in-Ok.ensures.name.1 c.root_sum_bytes.ensures in
     elim (c.in-Err-renew.ensures.err records held) [ inl same ↦ inl same | inr one ↦ inr (subst (λ (r : List ℕ). g.L.Log.holds c.renew.new.self (r ∷ [])) name one) ]

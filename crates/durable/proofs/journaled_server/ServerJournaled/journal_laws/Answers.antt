@@ -1,9 +1,10 @@
+use Rattle.std.proofs.Common.{refl}
 use Rattle.server_loop.specs.Server.{journal_of}
 use Rattle.durable.proofs.Stored.{answer_leaves, answer_moves, follows_in, one_stored, tended_leaves}
 use Rattle.durable.proofs.journaled_server.ServerJournaled.journal_laws.Goals as goal
 
 pub returns-clause-follows : goal.returns-clause-follows
-returns-clause-follows g c = λ server root st is rooted shown. follows_in g.F.Files.contents c.one_root.ensures c.shows_reopened.ensures server root st (journal_of server) is shown.in_order.1 rooted shown
+returns-clause-follows g c = λ server root st is rooted shown. follows_in g.F.Files.contents c.one_root.ensures c.shows_reopened.ensures server root st (journal_of server) refl is shown.in_order.1 rooted shown
 
 pub returns-clause-one : goal.returns-clause-one
 returns-clause-one g c = λ server root other base places stored rooted. one_stored g.F.Files.contents c.one_root.ensures server root other base places stored rooted

@@ -10,7 +10,7 @@ pub returns-clause-whole : goal.returns-clause-whole
 returns-clause-whole g c = λ recording st shown. swept_sound g.F.Files.contents g.F.Files.faults c.root_outlasts_sweeps.ensures c.args.self.now c.sweep_beside_root.new.self c.sweep_beside_root.result c.sweep_beside_root.ensures.swept recording shown.in_order.1
 
 pub returns-clause-keeps : goal.returns-clause-keeps
-returns-clause-keeps g c = sweep_keeps c.args.self.now c.sweep_beside_root.new.self c.sweep_beside_root.ensures.others
+returns-clause-keeps g c = sweep_keeps g.F.Files.contents c.args.self.now c.sweep_beside_root.new.self c.sweep_beside_root.ensures.others
 
 pub returns-clause-stays : goal.returns-clause-stays
 returns-clause-stays g c = stays_rooted g.F.Files.contents c.args.self.now c.sweep_beside_root.new.self

@@ -15,6 +15,6 @@ returns-clause-goes_on g c = λ now reached shown.
       goes = steps step;
       shown = shows;
       whole = λ is. whole (ap said_of is);
-      logged = logs_on g.S.Journaled.stores g.S.Journaled.logged g.S.Journaled.waiting g.S.Journaled.last g.L.Log.holds g.S.Journaled.is_rooted c.logs_edits.ensures c.names_roots.ensures g.S.Journaled.count c.args.self.now c.reply_to.new.self leaves.0 leaves.1;
-      lasting = λ logs st lasts. inl (still_lasts g.S.Journaled.stores g.S.Journaled.logged g.S.Journaled.waiting g.S.Journaled.last g.L.Log.holds g.S.Journaled.is_rooted c.logs_edits.ensures c.names_roots.ensures g.S.Journaled.count c.args.self.now c.reply_to.new.self st leaves.0.stored leaves.1 lasts);
+      logged = logs_on g.S.Journaled.view g.L.Log c.logs_edits.ensures c.names_roots.ensures c.args.self.now c.reply_to.new.self leaves.0 leaves.1;
+      lasting = λ logs st lasts. inl (still_lasts g.S.Journaled.view g.L.Log c.logs_edits.ensures c.names_roots.ensures c.args.self.now c.reply_to.new.self st leaves.0.stored leaves.1 lasts);
     }

@@ -3,6 +3,6 @@ use Rattle.durable.proofs.server.DurableServer.answer_plainly.Goals as goal
 
 pub returns-clause-says : goal.returns-clause-says
 returns-clause-says g c = record {
-  answered = plain_lasting g.S.Journaled.same g.S.Journaled.checkpoints g.S.Handler.says g.S.Journaled.sweeps _ _ _ _ c.args.self.now.server c.answer_inside.new.self.server c.args.request c.answer_inside.result c.requires.rootless c.requires.roomless c.answer_inside.ensures.says;
+  answered = plain_lasting g.S.Journaled.view g.S.Journaled.calls g.S.Handler.says _ _ _ _ c.args.self.now.server c.answer_inside.new.self.server c.args.request c.answer_inside.result c.requires.rootless c.requires.roomless c.answer_inside.ensures.says;
   goes_on = c.answer_inside.ensures.goes_on;
 }

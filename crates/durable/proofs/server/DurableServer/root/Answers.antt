@@ -33,8 +33,8 @@ returns-then-is_err-clause-settles g c =
       lasting = λ now reached shown logs st lasts.
           let before = (w.ok is now shown logs).1 now (w.shown now shown) in
           inr (elim (may before.kept.records before.kept.in_log.0) [
-            | inl same ↦ lasts_on g.S.Journaled.stores g.S.Journaled.logged g.S.Journaled.waiting g.S.Journaled.last g.L.Log.holds g.S.Journaled.is_rooted c.logs_edits.ensures c.names_roots.ensures g.S.Journaled.count c.log_waiting.new.self _ now (λ root base places is. is, no_less _) before same (inl refl)
-            | inr more ↦ lasts_any g.S.Journaled.stores g.S.Journaled.logged g.S.Journaled.waiting g.S.Journaled.last g.L.Log.holds g.S.Journaled.is_rooted c.logs_edits.ensures c.names_roots.ensures g.S.Journaled.count c.log_waiting.new.self _ now (λ root base places is. is, no_less _) before more (inl refl)
+            | inl same ↦ lasts_on g.S.Journaled.view g.L.Log c.logs_edits.ensures c.names_roots.ensures c.log_waiting.new.self _ now (λ root base places is. is, no_less _) before same (inl refl)
+            | inr more ↦ lasts_any g.S.Journaled.view g.L.Log c.logs_edits.ensures c.names_roots.ensures c.log_waiting.new.self _ now (λ root base places is. is, no_less _) before more (inl refl)
           ]);
     }
 
@@ -55,10 +55,10 @@ returns-then-is_err-2-clause-settles g c =
           let held = (w.ok is now shown logs).0 in
           let low = held.2.low in
           let limit = held.2.limit in
-          inr (held.0, held.1, holds_any g.S.Journaled.stores g.S.Journaled.logged g.S.Journaled.waiting g.S.Journaled.last g.L.Log.holds g.S.Journaled.is_rooted c.logs_edits.ensures c.names_roots.ensures g.S.Journaled.count c.log_waiting.new.self new held.0 held.0 held.2 refl m.rises (omega (arith, limit, stored)) m.covered (omega (arith, low, stored)) (gains held.2.records held.2.in_log));
+          inr (held.0, held.1, holds_any g.S.Journaled.view g.L.Log c.logs_edits.ensures c.names_roots.ensures c.log_waiting.new.self new held.0 held.0 held.2 refl m.rises (omega (arith, limit, stored)) m.covered (omega (arith, low, stored)) (gains held.2.records held.2.in_log));
       lasting = λ now reached shown logs st lasts.
           let before = (w.ok is now shown logs).1 now (w.shown now shown) in
-          inr (lasts_any g.S.Journaled.stores g.S.Journaled.logged g.S.Journaled.waiting g.S.Journaled.last g.L.Log.holds g.S.Journaled.is_rooted c.logs_edits.ensures c.names_roots.ensures g.S.Journaled.count c.log_waiting.new.self new now (λ root base places is. is, m.rises) before (gains before.kept.records before.kept.in_log.0) before.kept.in_log.1);
+          inr (lasts_any g.S.Journaled.view g.L.Log c.logs_edits.ensures c.names_roots.ensures c.log_waiting.new.self new now (λ root base places is. is, m.rises) before (gains before.kept.records before.kept.in_log.0) before.kept.in_log.1);
     }
 
 pub returns-in-Ok-clause-step : goal.returns-in-Ok-clause-step
@@ -82,20 +82,20 @@ returns-in-Ok-clause-settles g c =
     let limit : new.marks.stored ≤ most_stamp = omega (arith, stored, m.covered, within) in
     let same = p.keeps.stamp in
     let before = w.covered is in
-    let last : g.S.Journaled.last c.checkpoint_now.new.self ≤ new.marks.stored = omega (arith, stored, same, before) in
+    let last : g.S.Journaled.view.last c.checkpoint_now.new.self ≤ new.marks.stored = omega (arith, stored, same, before) in
     let all : new.marks.covered ≤ new.marks.stored = omega (arith, stored, m.covered) in
-    let covered : g.S.Journaled.last c.checkpoint_now.new.self ≤ new.marks.covered = omega (arith, same, before, m.covered) in
-    let kept = λ (now : State) (shown : g.S.Handler.shows c.args.self.now.server now) (logs : Logs g.S.Journaled.stores g.S.Journaled.logged g.L.Log.holds g.S.Journaled.is_rooted c.args.self.now).
+    let covered : g.S.Journaled.view.last c.checkpoint_now.new.self ≤ new.marks.covered = omega (arith, same, before, m.covered) in
+    let kept = λ (now : State) (shown : g.S.Handler.shows c.args.self.now.server now) (logs : Logs g.S.Journaled.view.stores g.S.Journaled.view.logged g.L.Log.holds g.S.Journaled.view.is_rooted c.args.self.now).
     let held = w.ok is now shown logs in
     let shows = w.shown now shown in
     let put = (c.in-Ok.ensures.done now shows).0 in
-    let root = g.S.Journaled.next_root c.checkpoint_now.new.self in
+    let root = g.S.Journaled.view.next_root c.checkpoint_now.new.self in
     let low : root.top ≤ new.marks.stored = (let at = put.low in omega (arith, at, last)) in
     let goes = p.keeps.goes_on ∙ w.recording is in
     let none = p.keeps.waits ∙ w.waiting is in
     let follows = c.journal_laws.ensures.follows c.checkpoint_now.new.self root now goes put.rooted (p.shown now shows) in
-    let holds = holds_any g.S.Journaled.stores g.S.Journaled.logged g.S.Journaled.waiting g.S.Journaled.last g.L.Log.holds g.S.Journaled.is_rooted c.logs_edits.ensures c.names_roots.ensures g.S.Journaled.count c.log_waiting.new.self new held.0.0 root held.0.2 p.keeps.has m.rises limit m.covered low (gains held.0.2.records held.0.2.in_log) in
-    let kept = c.empty_log.ensures.kept now put holds last all (root_lasts g.S.Journaled.stores g.S.Journaled.logged g.S.Journaled.waiting g.S.Journaled.last g.L.Log.holds g.S.Journaled.is_rooted c.logs_edits.ensures c.names_roots.ensures g.S.Journaled.count new root now follows holds none covered) in
+    let holds = holds_any g.S.Journaled.view g.L.Log c.logs_edits.ensures c.names_roots.ensures c.log_waiting.new.self new held.0.0 root held.0.2 p.keeps.has m.rises limit m.covered low (gains held.0.2.records held.0.2.in_log) in
+    let kept = c.empty_log.ensures.kept now put holds last all (root_lasts g.S.Journaled.view g.L.Log c.logs_edits.ensures c.names_roots.ensures new root now follows holds none covered) in
     kept in
     record {
       shown = λ st shown. let mid = w.shown st shown in c.empty_log.ensures.shown (c.in-Ok.ensures.done st mid).1 st (p.shown st mid);
@@ -116,19 +116,19 @@ returns-in-Ok-clause-kept g c = on_any c.empty_log.result (λ now shown logs.
     let limit : new.marks.stored ≤ most_stamp = omega (arith, stored, m.covered, within) in
     let same = p.keeps.stamp in
     let before = w.covered is in
-    let last : g.S.Journaled.last c.checkpoint_now.new.self ≤ new.marks.stored = omega (arith, stored, same, before) in
+    let last : g.S.Journaled.view.last c.checkpoint_now.new.self ≤ new.marks.stored = omega (arith, stored, same, before) in
     let all : new.marks.covered ≤ new.marks.stored = omega (arith, stored, m.covered) in
-    let covered : g.S.Journaled.last c.checkpoint_now.new.self ≤ new.marks.covered = omega (arith, same, before, m.covered) in
+    let covered : g.S.Journaled.view.last c.checkpoint_now.new.self ≤ new.marks.covered = omega (arith, same, before, m.covered) in
     let held = w.ok is now shown logs in
     let shows = w.shown now shown in
     let put = (c.in-Ok.ensures.done now shows).0 in
-    let root = g.S.Journaled.next_root c.checkpoint_now.new.self in
+    let root = g.S.Journaled.view.next_root c.checkpoint_now.new.self in
     let low : root.top ≤ new.marks.stored = (let at = put.low in omega (arith, at, last)) in
     let goes = p.keeps.goes_on ∙ w.recording is in
     let none = p.keeps.waits ∙ w.waiting is in
     let follows = c.journal_laws.ensures.follows c.checkpoint_now.new.self root now goes put.rooted (p.shown now shows) in
-    let holds = holds_any g.S.Journaled.stores g.S.Journaled.logged g.S.Journaled.waiting g.S.Journaled.last g.L.Log.holds g.S.Journaled.is_rooted c.logs_edits.ensures c.names_roots.ensures g.S.Journaled.count c.log_waiting.new.self new held.0.0 root held.0.2 p.keeps.has m.rises limit m.covered low (gains held.0.2.records held.0.2.in_log) in
-    let kept = c.empty_log.ensures.kept now put holds last all (root_lasts g.S.Journaled.stores g.S.Journaled.logged g.S.Journaled.waiting g.S.Journaled.last g.L.Log.holds g.S.Journaled.is_rooted c.logs_edits.ensures c.names_roots.ensures g.S.Journaled.count new root now follows holds none covered) in
+    let holds = holds_any g.S.Journaled.view g.L.Log c.logs_edits.ensures c.names_roots.ensures c.log_waiting.new.self new held.0.0 root held.0.2 p.keeps.has m.rises limit m.covered low (gains held.0.2.records held.0.2.in_log) in
+    let kept = c.empty_log.ensures.kept now put holds last all (root_lasts g.S.Journaled.view g.L.Log c.logs_edits.ensures c.names_roots.ensures new root now follows holds none covered) in
     (kept.0, c.empty_log.ensures.recording ∙ goes, c.empty_log.ensures.waiting none))
 
 pub returns-in-Ok-clause-covered : goal.returns-in-Ok-clause-covered
@@ -145,7 +145,7 @@ pub returns-in-Ok-clause-done : goal.returns-in-Ok-clause-done
 returns-in-Ok-clause-done g c = on_any c.empty_log.result (c.log_waiting.new.self.server, c.checkpoint_now.new.self, c.log_waiting.ensures.same, c.in-Ok.ensures.says, c.empty_log.ensures.same)
 
 pub returns-in-Ok-clause-answered : goal.returns-in-Ok-clause-answered
-returns-in-Ok-clause-answered g c = named_answer g.S.Journaled.same g.S.Journaled.checkpoints _ _ c.args.self.now.server _ c.empty_log.result c.empty_log.ensures.refusal c.empty_log.ensures.stopped (c.log_waiting.new.self.server, c.checkpoint_now.new.self, c.log_waiting.ensures.same, c.in-Ok.ensures.says, c.empty_log.ensures.same)
+returns-in-Ok-clause-answered g c = named_answer g.S.Journaled.view g.S.Journaled.calls _ _ c.args.self.now.server _ c.empty_log.result c.empty_log.ensures.refusal c.empty_log.ensures.stopped (c.log_waiting.new.self.server, c.checkpoint_now.new.self, c.log_waiting.ensures.same, c.in-Ok.ensures.says, c.empty_log.ensures.same)
 
 pub returns-in-Ok-clause-refusal : goal.returns-in-Ok-clause-refusal
 returns-in-Ok-clause-refusal g c = only_storage c.empty_log.result c.empty_log.ensures.refusal
@@ -154,7 +154,7 @@ pub returns-in-Ok-clause-named : goal.returns-in-Ok-clause-named
 returns-in-Ok-clause-named g c = ok_through c.empty_log.result (λ renews now shown logs.
     let held = (c.log_waiting.ensures.ok c.if-not-log_waiting.false now shown logs).0 in
     let gains = on_ok c.append.result c.is_err.result c.is_err.ensures.value c.if-is_err.false c.append.ensures.ok in
-    record { records = _; in_log = renews _ (gains held.2.records held.2.in_log); names = names_it (g.S.Journaled.next_root c.checkpoint_now.new.self) }) c.empty_log.ensures.named
+    record { records = _; in_log = renews _ (gains held.2.records held.2.in_log); names = names_it (g.S.Journaled.view.next_root c.checkpoint_now.new.self) }) c.empty_log.ensures.named
 
 pub returns-then-not-log_waiting-clause-answered : goal.returns-then-not-log_waiting-clause-answered
 returns-then-not-log_waiting-clause-answered g c = failed refl (c.log_waiting.ensures.stopped c.if-not-log_waiting.true) (inl c.log_waiting.ensures.same)
@@ -186,21 +186,21 @@ returns-in-Err-clause-settles g c =
     let limit : new.marks.stored ≤ most_stamp = omega (arith, stored, m.covered, within) in
     let same = p.keeps.stamp in
     let before = w.covered is in
-    let last : g.S.Journaled.last c.checkpoint_now.new.self ≤ new.marks.stored = omega (arith, stored, same, before) in
+    let last : g.S.Journaled.view.last c.checkpoint_now.new.self ≤ new.marks.stored = omega (arith, stored, same, before) in
     let all : new.marks.covered ≤ new.marks.stored = omega (arith, stored, m.covered) in
-    let covered : g.S.Journaled.last c.checkpoint_now.new.self ≤ new.marks.covered = omega (arith, same, before, m.covered) in
-    let any : (now : State) → g.S.Handler.shows c.args.self.now.server now → Logs g.S.Journaled.stores g.S.Journaled.logged g.L.Log.holds g.S.Journaled.is_rooted c.args.self.now → (root : RootView) × g.S.Journaled.is_rooted c.checkpoint_now.new.self root × HoldsLogged g.S.Journaled.stores g.S.Journaled.logged g.L.Log.holds new root × LastsIn g.S.Journaled.stores g.S.Journaled.logged g.L.Log.holds new now = λ now shown logs.
+    let covered : g.S.Journaled.view.last c.checkpoint_now.new.self ≤ new.marks.covered = omega (arith, same, before, m.covered) in
+    let any : (now : State) → g.S.Handler.shows c.args.self.now.server now → Logs g.S.Journaled.view.stores g.S.Journaled.view.logged g.L.Log.holds g.S.Journaled.view.is_rooted c.args.self.now → (root : RootView) × g.S.Journaled.view.is_rooted c.checkpoint_now.new.self root × HoldsLogged g.S.Journaled.view.stores g.S.Journaled.view.logged g.L.Log.holds new root × LastsIn g.S.Journaled.view.stores g.S.Journaled.view.logged g.L.Log.holds new now = λ now shown logs.
     let held = w.ok is now shown logs in
     let shows = w.shown now shown in
-    let log = λ (root : RootView) (low : root.top ≤ new.marks.stored). holds_any g.S.Journaled.stores g.S.Journaled.logged g.S.Journaled.waiting g.S.Journaled.last g.L.Log.holds g.S.Journaled.is_rooted c.logs_edits.ensures c.names_roots.ensures g.S.Journaled.count c.log_waiting.new.self new held.0.0 root held.0.2 p.keeps.has m.rises limit m.covered low (gains held.0.2.records held.0.2.in_log) in
-    let lasts = λ (root : RootView) (rooted : g.S.Journaled.is_rooted c.checkpoint_now.new.self root) (low : root.top ≤ new.marks.stored). root_lasts g.S.Journaled.stores g.S.Journaled.logged g.S.Journaled.waiting g.S.Journaled.last g.L.Log.holds g.S.Journaled.is_rooted c.logs_edits.ensures c.names_roots.ensures g.S.Journaled.count new root now (c.journal_laws.ensures.follows c.checkpoint_now.new.self root now (p.keeps.goes_on ∙ w.recording is) rooted (p.shown now shows)) (log root low) (p.keeps.waits ∙ w.waiting is) covered in
+    let log = λ (root : RootView) (low : root.top ≤ new.marks.stored). holds_any g.S.Journaled.view g.L.Log c.logs_edits.ensures c.names_roots.ensures c.log_waiting.new.self new held.0.0 root held.0.2 p.keeps.has m.rises limit m.covered low (gains held.0.2.records held.0.2.in_log) in
+    let lasts = λ (root : RootView) (rooted : g.S.Journaled.view.is_rooted c.checkpoint_now.new.self root) (low : root.top ≤ new.marks.stored). root_lasts g.S.Journaled.view g.L.Log c.logs_edits.ensures c.names_roots.ensures new root now (c.journal_laws.ensures.follows c.checkpoint_now.new.self root now (p.keeps.goes_on ∙ w.recording is) rooted (p.shown now shows)) (log root low) (p.keeps.waits ∙ w.waiting is) covered in
     elim c.in-Err.ensures.undone [
       | inl stays ↦
           let rooted = stays.rooted held.0.0 held.0.1 in
           let low : held.0.0.top ≤ new.marks.stored = (let at = held.0.2.low in let rises = m.rises in omega (arith, at, rises)) in
           (held.0.0, rooted, log held.0.0 low, lasts held.0.0 rooted low)
       | inr put ↦
-          let root = g.S.Journaled.next_root c.checkpoint_now.new.self in
+          let root = g.S.Journaled.view.next_root c.checkpoint_now.new.self in
           let is_put = put now shows in
           let low : root.top ≤ new.marks.stored = (let at = is_put.low in omega (arith, at, last)) in
           (root, is_put.rooted, log root low, lasts root is_put.rooted low)

@@ -18,8 +18,8 @@ returns-then-log_waiting-clause-ok g c = record {
               reply = put.reply;
               next = put.next;
               last = put.last;
-              answered = puts_still g.S.Journaled.same g.S.Journaled.checkpoints w.still (λ risen. subst (λ (m : g.row.M.Denot). HasRisen (g.M.MarkStore.faults first.marks.marks) (g.M.MarkStore.faults m)) (sym w.marks) risen) b.mid put.next put.reply put.answered;
-              swept = sweeps_still g.S.Journaled.sweeps w.still first.upkeep put.reply put.next put.last put.swept;
+              answered = puts_still g.S.Journaled.view g.S.Journaled.calls w.still (λ risen. subst (λ (m : g.row.M.Denot). HasRisen (g.M.MarkStore.faults first.marks.marks) (g.M.MarkStore.faults m)) (sym w.marks) risen) b.mid put.next put.reply put.answered;
+              swept = sweeps_still g.S.Journaled.calls w.still first.upkeep put.reply put.next put.last put.swept;
               is_same = g.met.S.Journaled.same_then put.last _ _ put.is_same w.same;
               tried = w.due.1 ∙ put.tried;
             },
@@ -53,8 +53,8 @@ returns-else-log_waiting-clause-err g c = record {
               reply = put.reply;
               next = put.next;
               last = put.last;
-              answered = puts_still g.S.Journaled.same g.S.Journaled.checkpoints w.still (λ risen. subst (λ (m : g.row.M.Denot). HasRisen (g.M.MarkStore.faults first.marks.marks) (g.M.MarkStore.faults m)) (sym w.marks) risen) b.mid put.next put.reply put.answered;
-              swept = sweeps_still g.S.Journaled.sweeps w.still first.upkeep put.reply put.next put.last put.swept;
+              answered = puts_still g.S.Journaled.view g.S.Journaled.calls w.still (λ risen. subst (λ (m : g.row.M.Denot). HasRisen (g.M.MarkStore.faults first.marks.marks) (g.M.MarkStore.faults m)) (sym w.marks) risen) b.mid put.next put.reply put.answered;
+              swept = sweeps_still g.S.Journaled.calls w.still first.upkeep put.reply put.next put.last put.swept;
               is_same = g.met.S.Journaled.same_then put.last _ _ put.is_same w.same;
               tried = w.due.1 ∙ put.tried;
             },

@@ -18,11 +18,11 @@ returns-then-is_root_due-clause-between g c =
         record {
           reply = checkpointed c.root-done.result;
           next = c.root-done.new.self.server;
-          answered = puts_still g.S.Journaled.same g.S.Journaled.checkpoints c.sweep_after.ensures.still
+          answered = puts_still g.S.Journaled.view g.S.Journaled.calls c.sweep_after.ensures.still
               (subst (λ m. HasRisen (g.M.MarkStore.faults c.args.self.now.marks.marks) (g.M.MarkStore.faults m.marks)) (sym c.sweep_after.ensures.marks)) _ _ _ c.root-done.ensures.answered;
           last = c.sweep_after.new.self.server;
           is_same = g.met.S.Journaled.same_self c.sweep_after.new.self.server;
-          swept = subst (λ (upkeep : Bool). SweepsAfter g.S.Journaled.sweeps (c.sweep_after.new.self.is_stopped ≡ true) upkeep (checkpointed c.root-done.result) c.root-done.new.self.server c.sweep_after.new.self.server) c.root-done.ensures.due.2 c.sweep_after.ensures.swept;
+          swept = subst (λ (upkeep : Bool). SweepsAfter g.S.Journaled.calls.sweeps (c.sweep_after.new.self.is_stopped ≡ true) upkeep (checkpointed c.root-done.result) c.root-done.new.self.server c.sweep_after.new.self.server) c.root-done.ensures.due.2 c.sweep_after.ensures.swept;
           tried = c.sweep_after.ensures.due.1 ∙ c.tried_after-self.ensures ∙ ap (tried_at (checkpointed c.root-done.result)) c.written-written.ensures;
         },
       );
@@ -30,10 +30,10 @@ returns-then-is_root_due-clause-between g c =
       upkeep = c.sweep_after.ensures.due.2 ∙ c.root-done.ensures.due.2;
       settles = settles_then _ _ _ c.args.self.now (record c.args.self.now { server = c.tend.new.self }) _ (record {
         shown = t.2;
-        logged = λ now reached shown. logs_on g.S.Journaled.stores g.S.Journaled.logged g.S.Journaled.waiting g.S.Journaled.last g.L.Log.holds g.S.Journaled.is_rooted c.logs_edits.ensures c.names_roots.ensures g.S.Journaled.count c.args.self.now c.tend.new.self t.0 t.1;
-        lasting = λ now reached shown logs st lasts. inl (still_lasts g.S.Journaled.stores g.S.Journaled.logged g.S.Journaled.waiting g.S.Journaled.last g.L.Log.holds g.S.Journaled.is_rooted c.logs_edits.ensures c.names_roots.ensures g.S.Journaled.count c.args.self.now c.tend.new.self st t.0.stored t.1 lasts);
+        logged = λ now reached shown. logs_on g.S.Journaled.view g.L.Log c.logs_edits.ensures c.names_roots.ensures c.args.self.now c.tend.new.self t.0 t.1;
+        lasting = λ now reached shown logs st lasts. inl (still_lasts g.S.Journaled.view g.L.Log c.logs_edits.ensures c.names_roots.ensures c.args.self.now c.tend.new.self st t.0.stored t.1 lasts);
       }) (settles_then _ _ _ (record c.args.self.now { server = c.tend.new.self }) c.root-done.new.self _ c.root-done.ensures.settles (settles_then _ _ _ c.root-done.new.self (record c.root-done.new.self { tried_bytes = c.tried_after-self.result }) _
-          (recounted g.S.Journaled.stores g.S.Journaled.logged g.S.Journaled.waiting g.S.Journaled.last g.L.Log.holds g.S.Journaled.is_rooted c.logs_edits.ensures c.names_roots.ensures g.S.Journaled.count _ _ refl refl (λ records held. held) refl g.S.Handler.shows) c.sweep_after.ensures.settles));
+          (recounted g.S.Journaled.view g.L.Log c.logs_edits.ensures c.names_roots.ensures _ _ refl refl (λ records held. held) refl g.S.Handler.shows) c.sweep_after.ensures.settles));
     }
 
 pub returns-else-is_root_due-clause-between : goal.returns-else-is_root_due-clause-between
@@ -51,7 +51,7 @@ returns-else-is_root_due-clause-between g c =
       upkeep = refl;
       settles = record {
         shown = t.2;
-        logged = λ now reached shown. logs_on g.S.Journaled.stores g.S.Journaled.logged g.S.Journaled.waiting g.S.Journaled.last g.L.Log.holds g.S.Journaled.is_rooted c.logs_edits.ensures c.names_roots.ensures g.S.Journaled.count c.args.self.now c.tend.new.self t.0 t.1;
-        lasting = λ now reached shown logs st lasts. inl (still_lasts g.S.Journaled.stores g.S.Journaled.logged g.S.Journaled.waiting g.S.Journaled.last g.L.Log.holds g.S.Journaled.is_rooted c.logs_edits.ensures c.names_roots.ensures g.S.Journaled.count c.args.self.now c.tend.new.self st t.0.stored t.1 lasts);
+        logged = λ now reached shown. logs_on g.S.Journaled.view g.L.Log c.logs_edits.ensures c.names_roots.ensures c.args.self.now c.tend.new.self t.0 t.1;
+        lasting = λ now reached shown logs st lasts. inl (still_lasts g.S.Journaled.view g.L.Log c.logs_edits.ensures c.names_roots.ensures c.args.self.now c.tend.new.self st t.0.stored t.1 lasts);
       };
     }
