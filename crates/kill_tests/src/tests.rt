@@ -1,7 +1,7 @@
 //! Tests of a server with a log: the log's bytes, and kills at each call of the devices.
 
 mod kills;
-mod lasting;
+mod servers;
 mod logs;
 mod memory;
 mod stopping;

@@ -1,7 +1,7 @@
 //! The script with a log, over devices that a kill cuts off at each of their calls: whole replies were written, and an
 //! open recovers the state after a prefix of the requests that contains each request replied to.
 
-use crate::tests::lasting::{Devices, ON_REQUEST, Upkeep, reads, states};
+use crate::tests::servers::{Devices, ON_REQUEST, Upkeep, reads, states};
 use crate::tests::stopping::Written;
 use cell_key::Refusal;
 use std::alloc::{AllocError, Global};

@@ -2,7 +2,7 @@
 //! that aren't edits.
 
 use crate::tests::FLUSH;
-use crate::tests::lasting::{Devices, ON_REQUEST, StoppingServer, Upkeep, reads, states};
+use crate::tests::servers::{Devices, ON_REQUEST, StoppingServer, Upkeep, reads, states};
 use crate::tests::stopping::Written;
 use cell_key::Refusal;
 use commit_log::MemLog;
@@ -108,7 +108,7 @@ fn what_the_log_has(rt: HostRuntime) -> Result<(), Fail> {
 }
 
 /// A server with a log in memory.
-type MemLasting = DurableServer<Server<MemFiles, MemMark>, MemMark, MemLog>;
+type MemServer = DurableServer<Server<MemFiles, MemMark>, MemMark, MemLog>;
 
 /// A server opened over these devices.
 fn opened(
@@ -116,7 +116,7 @@ fn opened(
     files: MemFiles,
     marks: MemMark,
     log: MemLog,
-) -> Result<MemLasting, Refusal> {
+) -> Result<MemServer, Refusal> {
     let config = Config {
         flush: FLUSH,
         file_limit: FILE_LIMIT,
@@ -143,7 +143,7 @@ const READ_LATER: [Exchange; 3] = [
 const HANDED_ON: Row = (0, &[&READ_LATER]);
 
 /// Whether a server ends cleanly and writes the replies of a row.
-fn is_met(alloc: Global, server: &mut MemLasting, row: &Row) -> Result<bool, Refusal> {
+fn is_met(alloc: Global, server: &mut MemServer, row: &Row) -> Result<bool, Refusal> {
     let (requests, replies) = streams_of(alloc, row)?;
     let mut reader = requests.as_slice();
     let mut writer = Holding::new(alloc);
