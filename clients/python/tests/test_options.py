@@ -4,16 +4,55 @@ that a program holds."""
 from __future__ import annotations
 
 import os
+import subprocess
 import unittest
 from pathlib import Path
 
 from duqishom import NotOpened, Store
 from duqishom.files import LOG_FILE, log_of
 from duqishom.folders import read_root
-from duqishom.program import Program
+from duqishom.program import Program, default_program
 from tests.folders import FolderTest
 
 FAMILY = b"c"
+
+
+# Command lines without --dir that are accepted, and such that are refused.
+ACCEPTED = (
+    "",
+    "--flush 1",
+    "--flush 100000",
+    "--flush=7",
+    "--flush-bytes 1048576",
+    "--flush-bytes 67108864",
+    "--merge 2",
+    "--merge 64",
+    "--cache 8",
+    "--cache 4096",
+    "--log-bytes 4096",
+    "--log-bytes 33554432",
+    "--help",
+    "--version",
+)
+REFUSED = (
+    "--flush",
+    "--flush 0",
+    "--flush 100001",
+    "--flush x",
+    "--flush-bytes 1048575",
+    "--flush-bytes 67108865",
+    "--merge 1",
+    "--merge 65",
+    "--cache 7",
+    "--cache 4097",
+    "--log-bytes 4095",
+    "--log-bytes 33554433",
+    "--dir",
+    "--log",
+    "--upkeep",
+    "--flush 2 --flush 2",
+    "more",
+)
 
 
 def process_of(store: Store) -> Path:
@@ -55,6 +94,22 @@ class Options(FolderTest):
         """Commits this many rows, one after the other, with values of this size."""
         for number in range(count):
             store.run(lambda t: t.set(b"%02d" % number, FAMILY, b"v" * size))
+
+    def status(self, *words: str) -> int:
+        """The status of a program with these words and no input."""
+        return subprocess.run([default_program(), *words], stdin=subprocess.DEVNULL, capture_output=True, timeout=60).returncode
+
+    def test_command_lines(self) -> None:
+        """A refused one ends with status 1, before a folder is opened."""
+        for line in ACCEPTED:
+            self.assertEqual(self.status(*line.split()), 0, line)
+        for line in REFUSED:
+            self.assertEqual(self.status(*line.split()), 1, line)
+        for words in (["--log=yes"], ["--log", "--log"], ["--flush", "0"]):
+            self.assertEqual(self.status("--dir", self.folder, *words), 1, words)
+        self.assertEqual(self.files(), set())
+        self.new_folder()
+        self.assertEqual(self.status("--log", "--upkeep", "--dir", str(self.path)), 0)
 
     def test_a_log_is_read_with_its_word_and_without(self) -> None:
         for log in (True, False, None):

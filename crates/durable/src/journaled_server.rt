@@ -3,8 +3,8 @@
 ghost use Rattle.std.specs.Prelude.{◌≡◌, ◌≤◌};
 ghost use Rattle.row_atomic.specs.Journals.{IsWithin};
 
-use crate::journaled::Journaled;
 use crate::atomic_put::AtomicPut;
+use crate::journaled::Journaled;
 use cell_key::{Refusal, Stamp};
 use commit_log::laws::logs_edits;
 use metadata_table::one_root;

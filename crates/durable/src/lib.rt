@@ -1,15 +1,15 @@
 //! A server with a log: its answers survive a kill.
 #![tactic(auto)]
 
-mod server;
-mod recovery;
-mod serve;
-mod journaled_server;
-mod journaled;
-mod replay;
-mod stored_mark;
 mod atomic_put;
+mod journaled;
+mod journaled_server;
+mod recovery;
+mod replay;
+mod serve;
+mod server;
+mod stored_mark;
 
-pub use server::DurableServer;
-pub use row_atomic::ROOT_NAME;
 pub use atomic_put::AtomicPut;
+pub use row_atomic::ROOT_NAME;
+pub use server::DurableServer;

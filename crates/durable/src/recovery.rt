@@ -31,11 +31,11 @@ ghost use Rattle.durable.specs.Replay.{FollowsLog, ShowsRoot};
 ghost use Rattle.durable.specs.StoredMarks.{IsMarkOf};
 ghost use Rattle.server_loop.specs.Server.{IsConfig, cluster_of, last_of, machine_places, rows_of, tending_of};
 
-use crate::server::DurableServer;
+use crate::atomic_put::AtomicPut;
 use crate::journaled::Journaled;
 use crate::replay::replay;
+use crate::server::DurableServer;
 use crate::stored_mark::StoredMark;
-use crate::atomic_put::AtomicPut;
 use cell_key::{Edit, MOST_STAMP, Refusal, Stamp};
 use commit_log::laws::{as_many_edits, logs_edits, names_roots};
 use commit_log::{Log, LogFault, edits_in, greatest_stamp, is_over_any, names_root};

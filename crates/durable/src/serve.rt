@@ -7,8 +7,8 @@ ghost use Rattle.server_loop.specs.Server.{cluster_of, rows_of, tending_of};
 ghost use Rattle.row_atomic.specs.Commands.{IsOutcome};
 ghost use Rattle.si_model.specs.Machine.{State};
 
-use crate::server::DurableServer;
 use crate::atomic_put::AtomicPut;
+use crate::server::DurableServer;
 use commit_log::Log;
 use oracle::{MarkStore, MemMark};
 use row_atomic::{Command, Outcome};

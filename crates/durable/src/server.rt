@@ -21,15 +21,15 @@ ghost use Rattle.server_loop.specs.OperationLaws.{StandsForSeveral};
 ghost use Rattle.si_model.specs.Machine.{IsReached, IsStorageRefusal, State, Checkpoint as CheckpointAsked};
 ghost use Rattle.si_model.specs.Transactions.{One, Said};
 
-use crate::recovery::refused_by;
 use crate::journaled::Journaled;
+use crate::recovery::refused_by;
 use crate::stored_mark::StoredMark;
 use cell_key::{MOST_STAMP, Refusal, Stamp};
 use commit_log::laws::{as_many_edits, logs_edits, names_roots};
 use commit_log::{BEFORE_BODY, Log, LogFault, RecordKind, is_over_any, root_sum_bytes};
 use oracle::MarkStore;
 use request_codec::{Answer, Operation, Reply, Request};
-use server_loop::{Handler, Incoming, FrameHandler, ServeFault, answer_incoming};
+use server_loop::{FrameHandler, Handler, Incoming, ServeFault, answer_incoming};
 use std::alloc::Global;
 
 /// The growth of the journal, in bytes, after which a refused root is tried again.

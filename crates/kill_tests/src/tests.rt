@@ -1,9 +1,9 @@
 //! Tests of a server with a log: the log's bytes, and kills at each call of the devices.
 
 mod kills;
-mod servers;
 mod logs;
 mod memory;
+mod servers;
 mod stopping;
 
 use server_loop::FlushLimits;

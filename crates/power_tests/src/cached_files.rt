@@ -9,7 +9,7 @@ ghost use Rattle.power_tests.specs.Meant.{all_last, mixed, set_to, with_root_rea
 ghost use Rattle.power_tests.specs.Views.{AgreeBut, meant_files};
 
 use crate::fates::{Choice, Fates};
-use durable::{ROOT_NAME, AtomicPut};
+use durable::{AtomicPut, ROOT_NAME};
 use file_store::{FileFault, Files, MemFiles, read_whole};
 use std::alloc::Global;
 use std::collections::BTreeSet;

@@ -3,25 +3,25 @@
 
 mod cleaners;
 mod collectors;
+mod frame_loop;
 mod frames;
 mod journals;
 mod laws;
 mod opening;
 mod scans;
 mod server;
-mod frame_loop;
 mod sessions;
 mod statuses;
 mod transactions;
 mod upkeep;
 
 pub use audit::Audit;
+pub use frame_loop::{FrameHandler, Handler, Incoming, Rest, answer_incoming, serve_all};
 pub use laws::{
     commits_keep_collectors, operations_keep_collectors, operations_leave_others, resting_is_kept,
     rests_between,
 };
 pub use row_atomic::FlushLimits;
 pub use server::{Config, Server};
-pub use frame_loop::{Handler, Incoming, FrameHandler, Rest, answer_incoming, serve_all};
 pub use statuses::{End, ServeFault, end_status, open_status};
 pub use upkeep::RootName;

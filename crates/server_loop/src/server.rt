@@ -6,7 +6,7 @@ ghost use Rattle.row_atomic.specs.Clusters.{IsFirstTablet};
 ghost use Rattle.server_loop.specs.Serve.{Serves, ServesStream};
 ghost use Rattle.si_model.specs.Machine.{State, new_machine};
 
-use crate::frame_loop::{Handler, Incoming, FrameHandler, answer_incoming, serve_all};
+use crate::frame_loop::{FrameHandler, Handler, Incoming, answer_incoming, serve_all};
 use crate::statuses::{End, ServeFault};
 use cell_key::{MOST_STAMP, Refusal, Stamp};
 use clean_up::Cleaners;

@@ -1,7 +1,6 @@
 //! The store as its users meet it: streams of requests with their replies.
 
 mod checkpoint_faults;
-mod checkpoints;
 mod faults;
 mod filling;
 mod memory;

@@ -9,7 +9,7 @@ use cell_key::Refusal;
 use clap::error::ErrorKind;
 use command_line::{Options, options};
 use commit_log::{DirLog, Log, LogFault, OpenLog, make_log, open_log};
-use durable::{DurableServer, ROOT_NAME, AtomicPut};
+use durable::{AtomicPut, DurableServer, ROOT_NAME};
 use file_store::{DirFiles, FileFault, Files, MemFiles, read_whole};
 use oracle::{DirMark, MarkStore, MemMark};
 use server_loop::{Config, FlushLimits, Server, end_status, open_status};

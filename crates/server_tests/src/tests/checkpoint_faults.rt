@@ -2,22 +2,24 @@
 //! checkpoint, or at the refused one.
 
 use crate::tests::FLUSH;
-use crate::tests::checkpoints::{HALF, new_folder, opened};
 use crate::tests::script::{Run, Watch, served};
 use cell_key::Refusal;
 use file_store::{DirFiles, Fail as How, FailAt};
 use oracle::DirMark;
 use server_loop::{Config, Server};
-use std::fs;
 use std::test::Fail;
+use std::{fs, io, process};
 use testing::FILE_LIMIT;
 use testing::cleaning::{ROLLED_FORWARD, SESSION_STOPPED};
 use testing::frames::{push_frame, stream_of, streams_of};
-use testing::rows::Row;
+use testing::rows::{COMMITTED, Row};
 use testing::script::{COLLECTED, COLUMNS, MERGED, SPLIT, WRITTEN};
 use testing::streams::Holding;
 
 type FailingServer = Server<FailAt<DirFiles<HostRuntime>>, DirMark<HostRuntime>>;
+
+/// The first checkpoint, after the transfer has committed its first cell.
+const HALF: Row = (COMMITTED, &[&WRITTEN]);
 
 /// The requests after the first checkpoint, made in the middle of a transfer, up to the second.
 const SECOND: Row = (
@@ -69,7 +71,13 @@ const KEPT: [[&[u8]; 7]; 3] = [
     ],
 ];
 
-/// A server of a folder, with one failing call of its files.
+/// A new folder of this name in the machine's temporary folder.
+fn new_folder(rt: &HostRuntime, name: &str) -> io::Result<String> {
+    testing::folders::new_folder(rt, process::id(rt.process()), name)
+}
+
+/// A server of a folder, whose files fail at this call, or never if it is 0. It opens them as the program does when it
+/// is started.
 fn failing_server(
     rt: &HostRuntime,
     path: &str,
@@ -135,7 +143,8 @@ fn read_of(rt: &HostRuntime, path: &str) -> Result<Vec<u8>, Refusal> {
     push_frame(&mut requests, SECOND_TABLET)?;
     let mut reader = requests.as_slice();
     let mut writer = Holding::new(rt.alloc());
-    let _ = opened(rt, path)?.serve(&mut reader, &mut writer, u64::MAX);
+    let mut server = failing_server(rt, path, 0, How::Before)?;
+    let _ = server.serve(&mut reader, &mut writer, u64::MAX);
     Ok(writer.out)
 }
 
