@@ -6,6 +6,9 @@
 // The first part has requests of docs/PROTOCOL.md, one function each, with a session's start as argument. The second
 // part has transactions: dq_run begins one, calls a function, commits, and tries again after a conflict.
 //
+// Protocol 4 is needed: an older program, and a gateway that records, refuse commits and reads of several cells
+// DQ_BAD_REQUEST.
+//
 //     static unsigned char memory[DQ_LEAST_MEMORY];
 //     dq_connection store;
 //     dq_status status = dq_connect(&store, "unix:/run/duqishom/socket", memory, sizeof memory);
@@ -37,14 +40,15 @@
 extern "C" {
 #endif
 
-#define DQ_LONGEST_BODY 1048576  // bytes of a frame's body
-#define DQ_REPLY_ROOM 69632      // bytes of a connection's memory for replies: more than the longest one
-#define DQ_SPARE 8320            // bytes that a transaction's writes leave for other requests, as the commit's steps
-#define DQ_LEAST_MEMORY 151552   // bytes of a connection's memory: for replies, a largest write, and DQ_SPARE
-#define DQ_MOST_CELLS 256        // cells that a session may write
-#define DQ_LOCK_WAIT 1000        // milliseconds
+#define DQ_LONGEST_FRAME 1048580  // bytes of a request or a reply, with its length
+#define DQ_SPARE 8320             // bytes that a transaction's writes leave for other requests
+#define DQ_MOST_CELLS 256         // cells that a session may write
+#define DQ_LOCK_WAIT 1000         // milliseconds
 #define DQ_ATTEMPTS 10
 #define DQ_MOST_STAMP UINT64_C(9223372036854775807)
+
+// The least bytes of a connection's memory: for a reply, a largest write, and DQ_SPARE.
+#define DQ_LEAST_MEMORY (DQ_LONGEST_FRAME + 69632 + DQ_SPARE)
 
 // The result of a call. 1 to 23 are the store's refusals; docs/OPERATIONS.md says what to do at each.
 typedef enum dq_status {
@@ -73,15 +77,14 @@ typedef enum dq_status {
     DQ_BAD_REQUEST,
     DQ_FRAME_TOO_LARGE = 23,
 
-    DQ_CONFLICT = 300,    // another session has locked or committed one of the cells; nothing is committed
-    DQ_LOST,              // a cleaner has rolled the session back; nothing is committed
-    DQ_NOT_CONNECTED,     // nobody serves at the address: errno says more, unless the host is unknown
-    DQ_CONNECTION_LOST,   // the gateway has closed the connection; a request without a reply may be done
-    DQ_OUTCOME_UNKNOWN,   // the same, during a commit: dq_fate tells whether it was made
-    DQ_MALFORMED_REPLY,   // bytes that are no reply; the connection is closed
-    DQ_NO_ROOM,           // the connection's memory is too small for the request, or for the transaction's writes
-    DQ_NESTED,            // dq_run in the work of dq_run, on the same connection
-    DQ_USER = 1000,       // from here on to DQ_LAST_USER: statuses of the caller's, which dq_run passes on
+    DQ_CONFLICT = 300,   // another session has locked or committed one of the cells; nothing is committed
+    DQ_NOT_CONNECTED,    // nobody serves at the address: errno says more, unless the host is unknown
+    DQ_CONNECTION_LOST,  // the gateway has closed the connection; a request without a reply may be done
+    DQ_OUTCOME_UNKNOWN,  // the same, during the commit of dq_run: dq_fate tells whether it was made
+    DQ_MALFORMED_REPLY,  // bytes that are no reply; the connection is closed
+    DQ_NO_ROOM,          // the request, or the transaction's writes, are too long for the memory or for one frame
+    DQ_NESTED,           // dq_run in the work of dq_run, on the same connection
+    DQ_USER = 1000,      // from here on to DQ_LAST_USER: statuses of the caller's, which dq_run passes on
     DQ_LAST_USER = 65535
 } dq_status;
 
@@ -92,7 +95,7 @@ static inline const char *dq_status_name(dq_status status) {
         "EmptyCommit", "UnknownCleaner", "UnknownCollector", "UnknownTablet", "BadSplit", "UnknownServer", "BadCount",
         "MemtableFull", "TooManyFiles", "FileTooLarge", "Exhausted", "Device", "NoMemory", "Damaged", "BadRequest",
         "FrameTooLarge"};
-    static const char *const others[] = {"Conflict", "Lost", "NotConnected", "ConnectionLost", "OutcomeUnknown",
+    static const char *const others[] = {"Conflict", "NotConnected", "ConnectionLost", "OutcomeUnknown",
                                          "MalformedReply", "NoRoom", "Nested"};
     unsigned number = (unsigned)status;
     if (number <= DQ_FRAME_TOO_LARGE) return refusals[number];
@@ -126,11 +129,10 @@ typedef struct dq_connection {
     int socket;          // -1 when it is closed. SO_RCVTIMEO limits the wait for a reply: then the connection is lost
     unsigned lock_wait;  // milliseconds that a lock is waited for before it is cleaned: its session may still run
     unsigned attempts;   // of dq_run
-    uint8_t *in;         // replies that have come: those from in_at to in_end aren't taken yet
-    size_t in_at, in_end;
-    uint8_t *out;        // frames: the writes of a transaction, and behind them the request that is being made
+    uint8_t *in;         // the last reply
+    uint8_t *out;        // frames: the Commit of a transaction, and behind it the request that is being made
     size_t out_end, out_room;
-    size_t frame;        // where the last frame begins
+    size_t frame;        // where the frame begins that is being made
     int is_full;         // whether that frame found no room
     int is_running;      // whether dq_run has it
 } dq_connection;
@@ -161,9 +163,14 @@ static inline void dqi_number(dq_connection *c, uint64_t value, unsigned width) 
 }
 
 static inline void dqi_bytes(dq_connection *c, dq_bytes bytes) {
-    if (bytes.size > DQ_LONGEST_BODY) c->is_full = 1;
+    if (bytes.size > DQ_LONGEST_FRAME) c->is_full = 1;
     dqi_number(c, bytes.size, 4);
     dqi_put(c, bytes.data, bytes.size);
+}
+
+static inline void dqi_option(dq_connection *c, dq_bytes bytes) {
+    dqi_number(c, bytes.data != NULL, 1);
+    if (bytes.data != NULL) dqi_bytes(c, bytes);
 }
 
 static inline void dqi_open(dq_connection *c, uint8_t operation) {
@@ -176,7 +183,7 @@ static inline void dqi_open(dq_connection *c, uint8_t operation) {
 // Completes the frame. If it had no room, nothing of it stays.
 static inline dq_status dqi_complete(dq_connection *c) {
     size_t size = c->out_end - c->frame;
-    if (c->is_full || size > 4 + (size_t)DQ_LONGEST_BODY) {
+    if (c->is_full || size > DQ_LONGEST_FRAME) {
         c->out_end = c->frame;
         return DQ_NO_ROOM;
     }
@@ -184,10 +191,10 @@ static inline dq_status dqi_complete(dq_connection *c) {
     return DQ_OK;
 }
 
-static inline dq_status dqi_send(dq_connection *c, size_t from) {
-    while (c->socket >= 0 && from < c->out_end) {
-        ssize_t sent = send(c->socket, c->out + from, c->out_end - from, MSG_NOSIGNAL);
-        if (sent > 0) from += (size_t)sent;
+static inline dq_status dqi_send(dq_connection *c) {
+    for (size_t at = c->frame; c->socket >= 0 && at < c->out_end;) {
+        ssize_t sent = send(c->socket, c->out + at, c->out_end - at, MSG_NOSIGNAL);
+        if (sent > 0) at += (size_t)sent;
         else if (sent == 0 || errno != EINTR) return dqi_close(c, DQ_CONNECTION_LOST);
     }
     return c->socket < 0 ? DQ_CONNECTION_LOST : DQ_OK;
@@ -224,28 +231,20 @@ static inline dq_status dqi_end(dq_connection *c, const dqi_reader *reader) {
     return reader->is_bad || reader->left > 0 ? dqi_close(c, DQ_MALFORMED_REPLY) : DQ_OK;
 }
 
-// The next reply's body, which stays until the next one is read.
+// The body of a reply, which stays until the next one comes. Nothing may come behind it.
 static inline dq_status dqi_receive(dq_connection *c, dqi_reader *body) {
-    for (;;) {
-        dqi_reader came = {c->in + c->in_at, c->in_end - c->in_at, 0};
-        if (came.left >= 4) {
-            size_t size = (size_t)dqi_take(&came, 4);
-            if (size == 0 || size > DQ_REPLY_ROOM - 4) return dqi_close(c, DQ_MALFORMED_REPLY);
-            if (came.left >= size) {
-                *body = came;
-                body->left = size;
-                c->in_at += 4 + size;
-                return DQ_OK;
-            }
-        }
-        memmove(c->in, c->in + c->in_at, c->in_end - c->in_at);
-        c->in_end -= c->in_at;
-        c->in_at = 0;
-        if (c->socket < 0) return DQ_CONNECTION_LOST;
-        ssize_t got = recv(c->socket, c->in + c->in_end, DQ_REPLY_ROOM - c->in_end, 0);
-        if (got > 0) c->in_end += (size_t)got;
+    for (size_t came = 0; c->socket >= 0;) {
+        dqi_reader frame = {c->in, came, 0};
+        size_t size = (size_t)dqi_take(&frame, 4);
+        int is_wrong = size > DQ_LONGEST_FRAME - 4 || size < frame.left;
+        if (!frame.is_bad && is_wrong) return dqi_close(c, DQ_MALFORMED_REPLY);
+        *body = frame;
+        if (!frame.is_bad && size == frame.left) return DQ_OK;
+        ssize_t got = recv(c->socket, c->in + came, DQ_LONGEST_FRAME - came, 0);
+        if (got > 0) came += (size_t)got;
         else if (got == 0 || errno != EINTR) return dqi_close(c, DQ_CONNECTION_LOST);
     }
+    return DQ_CONNECTION_LOST;
 }
 
 // Reads the reply to an operation up to its fields. A refusal is the status.
@@ -268,7 +267,7 @@ static inline dq_status dqi_ask(dq_connection *c, dqi_reader *fields) {
     dq_status status = dqi_complete(c);
     if (status != DQ_OK) return status;
     uint8_t operation = c->out[c->frame + 4];
-    status = dqi_send(c, c->frame);
+    status = dqi_send(c);
     c->out_end = c->frame;
     return status == DQ_OK ? dqi_reply(c, operation, fields) : status;
 }
@@ -322,8 +321,8 @@ static inline int dqi_connect_host(const char *address, const char *colon) {
 }
 
 // Connects to the gateway at `unix:PATH`, at the path of a socket, or at HOST:PORT, with memory of at least
-// DQ_LEAST_MEMORY bytes, which is the connection's until dq_close. The bytes above DQ_REPLY_ROOM are for the writes of
-// a transaction: 25 for each, and its row, family and value.
+// DQ_LEAST_MEMORY bytes, which is the connection's until dq_close. The bytes above DQ_LONGEST_FRAME + DQ_SPARE are for
+// the writes of a transaction, which are one frame: 17, and 13 for each, and its row, family and value.
 // DQ_NO_ROOM, DQ_NOT_CONNECTED.
 static inline dq_status dq_connect(dq_connection *c, const char *address, void *memory, size_t size) {
     const char *colon = strrchr(address, ':');
@@ -333,8 +332,8 @@ static inline dq_status dq_connect(dq_connection *c, const char *address, void *
     c->attempts = DQ_ATTEMPTS;
     if (size < DQ_LEAST_MEMORY) return DQ_NO_ROOM;
     c->in = (uint8_t *)memory;
-    c->out = c->in + DQ_REPLY_ROOM;
-    c->out_room = size - DQ_REPLY_ROOM;
+    c->out = c->in + DQ_LONGEST_FRAME;
+    c->out_room = size - DQ_LONGEST_FRAME;
     if (strncmp(address, "unix:", 5) == 0) c->socket = dqi_connect_unix(address + 5);
     else if (colon == NULL || strchr(address, '/') != NULL) c->socket = dqi_connect_unix(address);
     else c->socket = dqi_connect_host(address, colon);
@@ -390,25 +389,23 @@ static inline dq_status dq_get(dq_connection *c, uint64_t start, dq_bytes row, d
     return dqi_end(c, &fields);
 }
 
-// Puts a Set, or a Delete if the value is none, into the memory, and leaves it open.
-static inline void dqi_open_write(dq_connection *c, uint64_t start, dq_bytes row, dq_bytes family, dq_bytes value) {
-    dqi_open(c, value.data == NULL ? 0x13 : 0x03);
+// Buffers a write in the session. The first cell that a session writes is its primary. If this is refused, the
+// session's other writes stay: don't commit them, but stop it.
+static inline dq_status dq_set(dq_connection *c, uint64_t start, dq_bytes row, dq_bytes family, dq_bytes value) {
+    dqi_open(c, 0x03);
     dqi_number(c, start, 8);
     dqi_bytes(c, row);
     dqi_bytes(c, family);
-    if (value.data != NULL) dqi_bytes(c, value);
-}
-
-// Buffers a write in the session. The first cell that a session writes is its primary. If this is refused, the
-// session's other writes stay: don't send its steps, which would commit them, but stop it.
-static inline dq_status dq_set(dq_connection *c, uint64_t start, dq_bytes row, dq_bytes family, dq_bytes value) {
-    dqi_open_write(c, start, row, family, value.data == NULL ? dq_text("") : value);
+    dqi_bytes(c, value);
     return dqi_tell(c);
 }
 
 // Buffers the deletion of a cell, a write like any other.
 static inline dq_status dq_delete(dq_connection *c, uint64_t start, dq_bytes row, dq_bytes family) {
-    dqi_open_write(c, start, row, family, dq_none());
+    dqi_open(c, 0x13);
+    dqi_number(c, start, 8);
+    dqi_bytes(c, row);
+    dqi_bytes(c, family);
     return dqi_tell(c);
 }
 
@@ -428,9 +425,12 @@ typedef struct dq_progress {
     uint64_t stamp;
 } dq_progress;
 
-static inline dq_status dqi_step_reply(dq_connection *c, dq_progress *progress) {
+// Takes the session's next step. A session that has written n cells takes 2n + 1 of them.
+static inline dq_status dq_step(dq_connection *c, uint64_t start, dq_progress *progress) {
     dqi_reader fields;
-    dq_status status = dqi_reply(c, 0x04, &fields);
+    dqi_open(c, 0x04);
+    dqi_number(c, start, 8);
+    dq_status status = dqi_ask(c, &fields);
     if (status != DQ_OK) return status;
     memset(progress, 0, sizeof *progress);
     unsigned stage = (unsigned)dqi_take(&fields, 1);
@@ -444,34 +444,86 @@ static inline dq_status dqi_step_reply(dq_connection *c, dq_progress *progress) 
     return dqi_end(c, &fields);
 }
 
-// Puts some steps of a session into the memory, as complete frames. DQ_NO_ROOM: then there are none.
-static inline dq_status dqi_put_steps(dq_connection *c, uint64_t start, unsigned count) {
-    size_t from = c->out_end;
-    for (unsigned i = 0; i < count; i++) {
-        dqi_open(c, 0x04);
-        dqi_number(c, start, 8);
-        if (dqi_complete(c) != DQ_OK) {
-            c->out_end = from;
-            return DQ_NO_ROOM;
-        }
-    }
-    return DQ_OK;
-}
-
-// Takes the session's next step. A session that has written n cells takes 2n + 1 of them.
-static inline dq_status dq_step(dq_connection *c, uint64_t start, dq_progress *progress) {
-    size_t from = c->out_end;
-    dq_status status = dqi_put_steps(c, start, 1);
-    if (status == DQ_OK) status = dqi_send(c, from);
-    c->out_end = from;
-    return status == DQ_OK ? dqi_step_reply(c, progress) : status;
-}
-
 // Ends the session. Cells that it holds stay locked until they are cleaned.
 static inline dq_status dq_stop(dq_connection *c, uint64_t start) {
     dqi_open(c, 0x05);
     dqi_number(c, start, 8);
     return dqi_tell(c);
+}
+
+// A write of a commit: a deletion, if the value is none.
+typedef struct dq_cell_write {
+    dq_bytes row, family, value;
+} dq_cell_write;
+
+// The answer to a commit, after which the session has ended. What isn't told is 0.
+typedef struct dq_committed {
+    uint64_t start;  // of the session
+    uint64_t stamp;  // of the commit
+    unsigned place;  // of DQ_CONFLICT: the session's first cell that is another's, counted from 1
+} dq_committed;
+
+static inline void dqi_open_commit(dq_connection *c, uint64_t start, unsigned count) {
+    dqi_open(c, 0x32);
+    dqi_number(c, start, 8);
+    dqi_number(c, count, 4);
+}
+
+static inline void dqi_put_write(dq_connection *c, dq_bytes row, dq_bytes family, dq_bytes value) {
+    dqi_bytes(c, row);
+    dqi_bytes(c, family);
+    dqi_option(c, value);
+}
+
+static inline dq_status dqi_ask_commit(dq_connection *c, dq_committed *answer) {
+    dqi_reader fields;
+    memset(answer, 0, sizeof *answer);
+    dq_status status = dqi_ask(c, &fields);
+    if (status != DQ_OK) return status;
+    unsigned kind = (unsigned)dqi_take(&fields, 1);
+    if (kind != 1 && kind != 2) fields.is_bad = 1;
+    if (kind == 1) answer->start = dqi_take(&fields, 8);
+    if (kind == 1) answer->stamp = dqi_take(&fields, 8);
+    if (kind == 2) answer->place = (unsigned)dqi_take(&fields, 2);
+    status = dqi_end(c, &fields);
+    return status == DQ_OK && kind == 2 ? DQ_CONFLICT : status;
+}
+
+// Puts writes behind those that a session has, and commits it: a new session, if `start` is 0. It leaves no locks. At
+// DQ_CONFLICT nothing is committed. If the connection is lost, dq_fate tells whether it was made, but not of a new one.
+static inline dq_status dq_commit(dq_connection *c, uint64_t start, const dq_cell_write *writes, unsigned count,
+                                  dq_committed *answer) {
+    dqi_open_commit(c, start, count);
+    for (unsigned i = 0; i < count; i++) dqi_put_write(c, writes[i].row, writes[i].family, writes[i].value);
+    return dqi_ask_commit(c, answer);
+}
+
+// A cell, and what is found there.
+typedef struct dq_item {
+    dq_bytes row, family;
+    dq_found found;
+} dq_item;
+
+// Reads 1 to 256 cells, which the items have, as of the start of a session: `*start`, or of a new one if that is 0, and
+// then it is given there. The session stays open or ends. The items get what is found: DQ_UNSENT where a value would
+// make the reply too long, so that dq_get reads it.
+static inline dq_status dq_read_cells(dq_connection *c, uint64_t *start, int stays_open, dq_item *items,
+                                      unsigned count) {
+    dqi_reader fields;
+    dqi_open(c, 0x33);
+    dqi_number(c, *start, 8);
+    dqi_number(c, stays_open != 0, 1);
+    dqi_number(c, count, 4);
+    for (unsigned i = 0; i < count; i++) {
+        dqi_bytes(c, items[i].row);
+        dqi_bytes(c, items[i].family);
+    }
+    dq_status status = dqi_ask(c, &fields);
+    if (status != DQ_OK) return status;
+    *start = dqi_take(&fields, 8);
+    if (dqi_take(&fields, 4) != count) fields.is_bad = 1;
+    for (unsigned i = 0; i < count; i++) items[i].found = dqi_take_found(&fields);
+    return dqi_end(c, &fields);
 }
 
 // The cells of a scan: all, if everything is 0 or none.
@@ -482,11 +534,6 @@ typedef struct dq_range {
     int keys_only;                     // whether values aren't sent
     unsigned cells;                    // how many cells a request may look at: 1 to 1,000; 0 is 1,000
 } dq_range;
-
-typedef struct dq_item {
-    dq_bytes row, family;
-    dq_found found;
-} dq_item;
 
 // A batch of a scan. Unless `is_end`, the next one begins after the cell `upto_row`, `upto_family`.
 typedef struct dq_scanned {
@@ -504,11 +551,6 @@ static inline int dq_next(dq_scanned *scanned, dq_item *item) {
     item->family = dqi_take_bytes(&scanned->items);
     item->found = dqi_take_found(&scanned->items);
     return !scanned->items.is_bad;
-}
-
-static inline void dqi_option(dq_connection *c, dq_bytes bytes) {
-    dqi_number(c, bytes.data != NULL, 1);
-    if (bytes.data != NULL) dqi_bytes(c, bytes);
 }
 
 // Reads a batch of cells as of the session's start. Cells without a value aren't among its items, and locked ones are
@@ -615,7 +657,8 @@ static inline dq_status dq_free(dq_connection *c, dq_bytes row, dq_bytes family)
 }
 
 // The fate of a commit whose reply was lost, asked on a new connection: by the session's start, and the first cell that
-// it wrote. `commit` is its stamp, or 0 if nothing is committed and nothing will be.
+// it wrote. `commit` is its stamp, or 0 if nothing is committed and nothing will be. But if this side has closed the
+// old connection, as after SO_RCVTIMEO, the gateway may still have the request, and 0 may come too early.
 static inline dq_status dq_fate(dq_connection *c, uint64_t start, dq_bytes row, dq_bytes family, uint64_t *commit) {
     uint64_t stamp = 0, above = DQ_MOST_STAMP;
     dq_bytes value;
@@ -637,36 +680,35 @@ static inline dq_status dq_fate(dq_connection *c, uint64_t start, dq_bytes row, 
 
 // ---- Transactions ----
 
-// A transaction in the work of dq_run. Its writes are in the connection's memory until the commit.
+// A transaction in the work of dq_run. Its writes are in the connection's memory, as a Commit that isn't sent yet.
 typedef struct dq_transaction {
     dq_connection *connection;
-    uint64_t start;    // its session, for dq_get and dq_scan, which don't show its writes
+    uint64_t start;    // its session, for dq_get, dq_read_cells and dq_scan, which don't show its writes
     unsigned writes;   // calls of dq_write and dq_erase
     unsigned cells;    // different cells among them
     dq_status failed;  // the first of these calls that didn't succeed: then nothing is committed
 } dq_transaction;
 
-// The cell of a write in the memory, and where the next one begins.
-static inline size_t dqi_written(const dq_connection *c, size_t at, dq_bytes *row, dq_bytes *family, dq_bytes *value) {
-    dqi_reader frame = {c->out + at, c->out_end - at, 0};
-    size_t size = (size_t)dqi_take(&frame, 4);
-    int is_set = dqi_take(&frame, 1) == 0x03;
-    (void)dqi_take(&frame, 8);
-    *row = dqi_take_bytes(&frame);
-    *family = dqi_take_bytes(&frame);
-    *value = is_set ? dqi_take_bytes(&frame) : dq_none();
-    return at + 4 + size;
+#define DQI_COMMIT_HEAD 17  // bytes before the writes of a Commit
+
+// The write at a place in the memory. Returns where the next one begins.
+static inline size_t dqi_written(const dq_connection *c, size_t at, dq_cell_write *write) {
+    dqi_reader rest = {c->out + at, c->out_end - at, 0};
+    write->row = dqi_take_bytes(&rest);
+    write->family = dqi_take_bytes(&rest);
+    write->value = dqi_take(&rest, 1) == 1 ? dqi_take_bytes(&rest) : dq_none();
+    return c->out_end - rest.left;
 }
 
 // Whether the transaction has written a cell before the place `end` in the memory, and its last value.
 static inline int dqi_has(const dq_connection *c, size_t end, dq_bytes row, dq_bytes family, dq_bytes *value) {
     int has = 0;
-    for (size_t at = 0; at < end;) {
-        dq_bytes a_row, a_family, a_value;
-        at = dqi_written(c, at, &a_row, &a_family, &a_value);
-        if (!dq_equal(a_row, row) || !dq_equal(a_family, family)) continue;
+    for (size_t at = DQI_COMMIT_HEAD; at < end;) {
+        dq_cell_write write;
+        at = dqi_written(c, at, &write);
+        if (!dq_equal(write.row, row) || !dq_equal(write.family, family)) continue;
         has = 1;
-        *value = a_value;
+        *value = write.value;
     }
     return has;
 }
@@ -698,10 +740,11 @@ static inline dq_status dqi_write(dq_transaction *t, dq_bytes row, dq_bytes fami
     size_t from = c->out_end;
     dq_bytes before;
     unsigned is_new = !dqi_has(c, from, row, family, &before);
-    dqi_open_write(c, t->start, row, family, value);
-    dq_status status = dqi_complete(c);
-    if (status == DQ_OK && c->out_room - c->out_end < DQ_SPARE) status = DQ_NO_ROOM;
-    if (status == DQ_OK && t->cells + is_new > DQ_MOST_CELLS) status = DQ_TOO_MANY_WRITES;
+    c->is_full = 0;
+    dqi_put_write(c, row, family, value);
+    int is_too_long = c->is_full || c->out_end > DQ_LONGEST_FRAME || c->out_room - c->out_end < DQ_SPARE;
+    int is_too_many = t->cells + is_new > DQ_MOST_CELLS;
+    dq_status status = is_too_long ? DQ_NO_ROOM : is_too_many ? DQ_TOO_MANY_WRITES : DQ_OK;
     if (status != DQ_OK) {
         c->out_end = from;
         if (t->failed == DQ_OK) t->failed = status;
@@ -722,115 +765,39 @@ static inline dq_status dq_erase(dq_transaction *t, dq_bytes row, dq_bytes famil
     return dqi_write(t, row, family, dq_none());
 }
 
-// A commit as it goes on.
-typedef struct dqi_commit {
-    unsigned left;      // steps that are still to be taken
-    unsigned held;      // cells that were locked
-    unsigned conflict;  // the place of the cell in conflict, or 0
-    int has_stepped;    // whether steps were sent
-    uint64_t stamp;     // of the commit, or 0
-} dqi_commit;
-
-// Notes a step that was taken. DQ_CONFLICT, DQ_LOST.
-static inline dq_status dqi_note(dqi_commit *commit, const dq_progress *progress) {
-    commit->left--;
-    if (progress->stage == DQ_HELD) commit->held = progress->place;
-    if (progress->stage == DQ_COMMITTED) commit->stamp = progress->stamp;
-    if (progress->stage != DQ_CONFLICTING && progress->stage != DQ_ROLLED_BACK) return DQ_OK;
-    commit->left = 0;
-    commit->conflict = progress->place;
-    return progress->stage == DQ_CONFLICTING ? DQ_CONFLICT : DQ_LOST;
-}
-
-// Reads the replies to the steps that are left. DQ_CONFLICT, DQ_LOST, or the last refusal if steps are left.
-static inline dq_status dqi_read_steps(dq_connection *c, dqi_commit *commit) {
-    dq_status result = DQ_OK;
-    for (unsigned asked = commit->left; asked > 0; asked--) {
-        dq_progress progress;
-        dq_status status = dqi_step_reply(c, &progress);
-        if (c->socket < 0) return status;
-        if (commit->left == 0) continue;  // the session has ended: the steps behind are refused
-        if (status == DQ_OK) status = dqi_note(commit, &progress);
-        if (status != DQ_OK || commit->left == 0) result = status;
-    }
-    return result;
-}
-
-// Sends the writes, and reads their replies: the first refusal. A single write takes its steps along, for these are
-// refused if it is. Several go alone: steps beside a refused one would commit the others.
-static inline dq_status dqi_send_writes(dq_transaction *t, dqi_commit *commit) {
+// Frees the cell in conflict, which has this place among the transaction's cells.
+static inline void dqi_free_place(dq_transaction *t, unsigned place) {
     dq_connection *c = t->connection;
-    size_t end = c->out_end, at = 0;
-    dq_status refused = DQ_OK;
-    commit->has_stepped = t->writes == 1;
-    dq_status status = commit->has_stepped ? dqi_put_steps(c, t->start, commit->left) : DQ_OK;
-    if (status == DQ_OK) status = dqi_send(c, 0);
-    c->out_end = end;
-    while (status == DQ_OK && at < end) {
-        dqi_reader fields;
-        dq_bytes row, family, value;
-        uint8_t operation = c->out[at + 4];
-        at = dqi_written(c, at, &row, &family, &value);
-        dq_status answer = dqi_reply(c, operation, &fields);
-        if (answer == DQ_OK) answer = dqi_end(c, &fields);
-        if (c->socket < 0) return answer;
-        if (refused == DQ_OK) refused = answer;
-    }
-    if (status == DQ_OK && commit->has_stepped) status = dqi_read_steps(c, commit);
-    return refused != DQ_OK ? refused : status;
-}
-
-// Takes the steps that are left, and those that are refused again, as long as that gets further.
-static inline dq_status dqi_take_steps(dq_transaction *t, dqi_commit *commit) {
-    dq_connection *c = t->connection;
-    size_t end = c->out_end;
-    dq_status status = DQ_OK;
-    for (unsigned before = commit->left + 1; c->socket >= 0 && commit->left > 0 && commit->left < before;) {
-        before = commit->left;
-        commit->has_stepped = 1;
-        status = dqi_put_steps(c, t->start, commit->left);
-        if (status == DQ_OK) status = dqi_send(c, end);
-        c->out_end = end;
-        if (status == DQ_OK) status = dqi_read_steps(c, commit);
-    }
-    return status;
-}
-
-// Cleans the cells that a commit held and left locked, and frees the cell in conflict.
-static inline void dqi_clean_up(dq_transaction *t, const dqi_commit *commit) {
-    dq_connection *c = t->connection;
-    unsigned place = 0;
-    for (size_t at = 0, next; at < c->out_end; at = next) {
-        dq_bytes row, family, value, before;
-        next = dqi_written(c, at, &row, &family, &value);
-        if (dqi_has(c, at, row, family, &before)) continue;
-        place++;
-        if (place <= commit->held) (void)dq_clean(c, row, family);
-        else if (place == commit->conflict) (void)dq_free(c, row, family);
+    for (size_t at = DQI_COMMIT_HEAD, next; place > 0 && at < c->out_end; at = next) {
+        dq_cell_write write;
+        dq_bytes before;
+        next = dqi_written(c, at, &write);
+        if (!dqi_has(c, at, write.row, write.family, &before)) place--;
+        if (place == 0) (void)dq_free(c, write.row, write.family);
     }
 }
 
 // Commits the writes, or stops the session if there are none or one is refused.
-static inline dq_status dqi_commit_all(dq_transaction *t, uint64_t *stamp) {
+static inline dq_status dqi_commit(dq_transaction *t, uint64_t *stamp) {
     dq_connection *c = t->connection;
-    dqi_commit commit;
-    if (t->cells == 0) return dq_stop(c, t->start);
-    memset(&commit, 0, sizeof commit);
-    commit.left = 2 * t->cells + 1;
-    dq_status status = dqi_send_writes(t, &commit);
-    int goes_on = status == DQ_OK || (c->socket >= 0 && commit.has_stepped && commit.left < 3);
-    if (goes_on && commit.left > 0) status = dqi_take_steps(t, &commit);
-    *stamp = commit.stamp;
-    if (commit.left > 0) (void)dq_stop(c, t->start);
-    if (commit.stamp != 0) return DQ_OK;
-    if (c->socket < 0) return commit.has_stepped ? DQ_OUTCOME_UNKNOWN : status;
-    dqi_clean_up(t, &commit);
+    size_t end = c->out_end;
+    dq_committed answer;
+    if (t->writes == 0 || c->socket < 0) return dq_stop(c, t->start);
+    dqi_encode(c->out + DQI_COMMIT_HEAD - 4, t->writes, 4);
+    c->frame = 0;
+    c->is_full = 0;
+    dq_status status = dqi_ask_commit(c, &answer);
+    c->out_end = end;
+    if (c->socket < 0) return DQ_OUTCOME_UNKNOWN;
+    *stamp = answer.stamp;
+    if (status == DQ_CONFLICT) dqi_free_place(t, answer.place);
+    else if (status != DQ_OK) (void)dq_stop(c, t->start);
     return status;
 }
 
 // The work of a transaction. It may be called several times, so it does nothing that can't be done twice. It reads by
-// dq_read, dq_get and dq_scan, writes by dq_write and dq_erase, and returns DQ_OK to commit. Anything else stops the
-// transaction, and dq_run returns it, but DQ_CONFLICT and DQ_LOST begin the next attempt.
+// dq_read, dq_get, dq_read_cells and dq_scan, writes by dq_write and dq_erase, and returns DQ_OK to commit. Anything
+// else stops the transaction, and dq_run returns it, but DQ_CONFLICT begins the next attempt.
 typedef dq_status dq_work(dq_transaction *t, void *context);
 
 typedef struct dq_outcome {
@@ -839,9 +806,9 @@ typedef struct dq_outcome {
     unsigned attempts;
 } dq_outcome;
 
-// Does work in a transaction: begins a session, calls the work, and commits. After DQ_CONFLICT or DQ_LOST it pauses and
-// tries again, `attempts` times in all. The transaction's own locks are cleaned by then, unless that was refused too.
-// The outcome may be NULL. At DQ_OUTCOME_UNKNOWN, connect anew and call dq_fate.
+// Does work in a transaction: begins a session, calls the work, and commits. After DQ_CONFLICT it waits until the lock
+// of the cell in conflict is gone, or cleans it, pauses, and tries again, `attempts` times in all. The outcome may be
+// NULL. At DQ_OUTCOME_UNKNOWN, connect anew and call dq_fate.
 static inline dq_status dq_run(dq_connection *c, dq_work *work, void *context, dq_outcome *outcome) {
     dq_outcome unused, *made = outcome == NULL ? &unused : outcome;
     dq_status status = DQ_OK;
@@ -857,11 +824,12 @@ static inline dq_status dq_run(dq_connection *c, dq_work *work, void *context, d
         if (status != DQ_OK) break;
         made->start = t.start;
         made->attempts++;
+        dqi_open_commit(c, t.start, 0);
         status = work(&t, context);
         if (status == DQ_OK) status = t.failed;
-        if (status == DQ_OK) status = dqi_commit_all(&t, &made->commit);
+        if (status == DQ_OK) status = dqi_commit(&t, &made->commit);
         else (void)dq_stop(c, t.start);
-        if ((status != DQ_CONFLICT && status != DQ_LOST) || made->attempts >= c->attempts) break;
+        if (status != DQ_CONFLICT || made->attempts >= c->attempts) break;
         uint64_t longest = made->attempts < 7 ? UINT64_C(10) << made->attempts : 1000;
         dqi_sleep((unsigned)((t.start * UINT64_C(0x9E3779B97F4A7C15) >> 33) % longest));  // as if by chance
     }

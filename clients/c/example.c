@@ -91,19 +91,26 @@ static dq_status list_accounts(dq_transaction *t, void *context) {
     return DQ_OK;
 }
 
-// The deletion of a cell, request by request. The conflict afterwards is with this deletion.
+// The deletion of a cell in two requests: a read that begins a session, and a commit in it. The conflict afterwards is
+// with this deletion.
 static dq_status delete_by_hand(dq_connection *store) {
-    uint64_t old, start;
-    dq_progress progress = {DQ_HELD, 0, 0, 0};
-    dq_bytes row = dq_text("Eve"), family = dq_text("bal");
+    uint64_t old, start = 0;
+    dq_item item;
+    dq_committed answer;
+    memset(&item, 0, sizeof item);
+    item.row = dq_text("Eve");
+    item.family = dq_text("bal");
+    dq_cell_write deletion = {dq_text("Eve"), dq_text("bal"), dq_none()};
     dq_status status = dq_begin(store, &old);
-    if (status == DQ_OK) status = dq_begin(store, &start);
-    if (status == DQ_OK) status = dq_delete(store, start, row, family);
-    while (status == DQ_OK && progress.stage != DQ_COMMITTED) status = dq_step(store, start, &progress);
-    if (status == DQ_OK) status = dq_set(store, old, row, family, dq_text("9"));
-    if (status == DQ_OK) status = dq_step(store, old, &progress);
-    if (status == DQ_OK) printf("deleted; stage %d at the cell %u\n", (int)progress.stage, progress.place);
-    return status;
+    if (status == DQ_OK) status = dq_read_cells(store, &start, 1, &item, 1);
+    if (status != DQ_OK) return status;
+    dq_bytes value = item.found.kind == DQ_VALUE ? item.found.value : dq_text("nothing");
+    printf("has %.*s; ", (int)value.size, (const char *)value.data);
+    status = dq_commit(store, start, &deletion, 1, &answer);
+    if (status != DQ_OK) return status;
+    status = dq_commit(store, old, &deletion, 1, &answer);
+    printf("deleted; %s at the cell %u\n", dq_status_name(status), answer.place);
+    return status == DQ_CONFLICT ? DQ_OK : status;
 }
 
 int main(int count, char **words) {

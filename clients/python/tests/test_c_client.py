@@ -8,13 +8,14 @@ import subprocess
 import tempfile
 import threading
 import unittest
-from collections.abc import Callable
+from collections.abc import Callable, Sequence
+from itertools import groupby
 from pathlib import Path
 
 from duqishom import Store
 from duqishom.fields import counted
 from tests.gateways import PATIENCE, Gateway, folder_of, stand_in
-from tests.pages import TOP
+from tests.pages import TOP, Ends, exchanges
 
 SOURCES = TOP / "clients" / "c"
 COMPILER = next((name for name in ("cc", "gcc", "clang") if shutil.which(name)), "")
@@ -37,7 +38,7 @@ a bad write: BadColumn
 Bob: 9
 Eve: 1
 Joe: 12
-deleted; stage 2 at the cell 1
+has 1; deleted; Conflict at the cell 1
 by hand: OK
 end the gateway, then press return
 """
@@ -49,11 +50,25 @@ again: NotConnected
 # The cases of checks.c, each with its output.
 CASES = {
     "many": "many: OK\nmany: TooManyWrites\n\nfirst: OK\n55\nmany: OK\n",
-    "room": "largest: OK\nlargest: NoRoom\n65536 bytes\nroom: OK\n",
-    "lock": "over a lock: OK\nattempts: 2\nstage: 5\ncommitted: 0\ncommitted: 1\n2\nlock: OK\n",
+    "room": "largest: OK\nlargest: NoRoom\n15 values, and Unsent\nlongest: OK\n65536 bytes\nroom: OK\n",
+    "frame": "writes: OK\nframe: OK\nwrites: NoRoom\nframe: NoRoom\nframe: OK\n",
+    "lock": "over a lock: OK\nattempts: 2\nstage: 5\n1 2 0\ncommitted: 0\ncommitted: 1\n2\nlock: OK\n",
+    "fate": "unheard: OutcomeUnknown\ncommitted: 1\n3\nfate: OK\n",
+    "closed": "closed: ConnectionLost\n",
     "nested": "nested: Nested\n",
     "write": "write: OK\n",
 }
+
+# The output of the case `examples`, whose requests and replies are those of docs/PROTOCOL.md, "Commit" and "Read".
+EXAMPLES = """\
+Commit 0: OK 1002 1003
+Commit 1001: Conflict at 1
+Read 0: OK 1004 Value 11 Nothing Pending 6
+Commit 1004: OK 1004 1005
+Commit 0: EmptyCommit
+Read 77: BadCount 77
+examples: OK
+"""
 
 # The bytes that a server sends after a Begin before it closes the connection, each with the status of the call.
 ANSWERS = (
@@ -71,27 +86,27 @@ ANSWERS = (
     ("00000002 FF 00", "MalformedReply"),
 )
 
-BEGUN, STAMPED, COMMITTED = "81 0000000000000001", "84 03 0000000000000002", "84 04 0000000000000002"
-HELD, HELD_TWO, FINISHED = "84 01 0001 0001", "84 01 0001 0002, 84 01 0002 0002", "84 06 0002 0002"
-ONE_MADE = f"{BEGUN}, 83, {HELD}, {STAMPED}, {COMMITTED}"
-TWO_MADE = f"{BEGUN}, 83, 93, {HELD_TWO}, {STAMPED}, {COMMITTED}, {FINISHED}"
+# Requests and their replies. A Commit of one cell, one of two cells and three writes, and the look for the lock of the
+# second cell.
+BEGUN, STOPPED = ("01", "81 0000000000000001"), ("05 0000000000000001", "85")
+BOB, JOE = "00000003 426F62 00000003 62616C 01 00000001 31", "00000003 4A6F65 00000003 62616C 00"
+ONE, TWO = f"32 0000000000000001 00000001 {BOB}", f"32 0000000000000001 00000003 {BOB} {BOB} {JOE}"
+DONE = "B2 01 0000000000000001 0000000000000002"
+LOOK = "11 00000003 4A6F65 00000003 62616C 02 0000000000000000 7FFFFFFFFFFFFFFF"
+LOCKED, FREE = "91 01 0000000000000003 0000000B 4A6F65000062616C000053", "91 00"
 
-# Commits of one cell or two: the requests by their operations, a server's replies, and the status. In order: a refused
-# step that is sent again, steps that are refused again and again, refused writes, a lost commit, conflicts.
+# Transactions of these cells: the requests, each with a server's reply, and the status. In order: commits, refused ones,
+# also by an older program, conflicts with a lock that goes and with a commit, and answers that are none.
 COMMITS = (
-    ("write", "01 03 04 04 04 04", f"{BEGUN}, 83, FF 0F, {HELD}, {STAMPED}, {COMMITTED}", "OK"),
-    ("write", "01 03 04 04 04 05", f"{BEGUN}, 83, FF 0F, FF 0F, FF 0F, 85", "MemtableFull"),
-    ("write", "01 03 04 04 04 05", f"{BEGUN}, FF 14, FF 08, FF 08, FF 08, 85", "NoMemory"),
-    ("two", "01 03 13 05", f"{BEGUN}, 83, FF 14, 85", "NoMemory"),
-    ("write", "01 03 04 04 04 06 01 03 04 04 04", f"{BEGUN}, 83, {HELD}, {STAMPED}, 84 05, 86 00, {ONE_MADE}", "OK"),
-    ("write", "01 03 04 04 04 11 01 03 04 04 04", f"{BEGUN}, 83, 84 02 0001, FF 01, FF 01, 91 00, {ONE_MADE}", "OK"),
-    (
-        "two",
-        "01 03 13 04 04 04 04 04 06 07 07 11 01 03 13 04 04 04 04 04",
-        f"{BEGUN}, 83, 93, 84 01 0001 0002, 84 02 0002, FF 01, FF 01, FF 01, 86 01 0000000000000001 0000000000000001, "
-        f"87 01, 87 03, 91 00, {TWO_MADE}",
-        "OK",
-    ),
+    ("write", (BEGUN, (ONE, DONE)), "OK"),
+    ("two", (BEGUN, (TWO, DONE)), "OK"),
+    ("write", (BEGUN, (ONE, "FF 0F"), STOPPED), "MemtableFull"),
+    ("write", (BEGUN, (ONE, "FF 16"), STOPPED), "BadRequest"),
+    ("two", (BEGUN, (TWO, "B2 02 0002"), (LOOK, LOCKED), (LOOK, FREE), BEGUN, (TWO, DONE)), "OK"),
+    ("two", (BEGUN, (TWO, "B2 02 0002"), (LOOK, FREE), BEGUN, (TWO, DONE)), "OK"),
+    ("write", (BEGUN, (ONE, "B2 03")), "OutcomeUnknown"),
+    ("write", (BEGUN, (ONE, f"{DONE} 00")), "OutcomeUnknown"),
+    ("write", (BEGUN, (ONE, "")), "OutcomeUnknown"),
 )
 
 
@@ -157,7 +172,7 @@ class Client(unittest.TestCase):
             self.assertEqual(store.get(b"counter", b"bal"), b"100")
 
     def test_connection_lost_in_a_commit(self) -> None:
-        for operation, status in ((1, "ConnectionLost"), (3, "OutcomeUnknown"), (4, "OutcomeUnknown")):
+        for operation, status in ((1, "ConnectionLost"), (0x32, "OutcomeUnknown")):
             with self.subTest(operation):
                 program = stand_in(self, f"return sys.exit(3) if body[0] == {operation} else plain(body)")
                 gateway = Gateway(self, ["--program", program])
@@ -195,21 +210,32 @@ class Client(unittest.TestCase):
 
                 self.assertEqual(self.check_served("begin", serve), f"begin: {status}\n")
 
+    def check_exchanges(self, case: str, exchanged: Sequence[tuple[bytes, bytes]]) -> str:
+        """The output of a case of checks.c whose requests must be these bytes, and get these replies."""
+        asked: list[bytes] = []
+
+        def serve(client: socket.socket) -> None:
+            with client.makefile("rwb") as stream:
+                for request, reply in exchanged:
+                    asked.append(stream.read(len(request)))
+                    stream.write(reply)
+                    stream.flush()
+
+        output = self.check_served(case, serve)
+        self.assertEqual(asked, [request for request, _ in exchanged])
+        return output
+
     def test_commits(self) -> None:
-        for case, operations, replies, status in COMMITS:
-            with self.subTest(case=case, operations=operations, status=status):
-                asked: list[int] = []
+        for case, pairs, status in COMMITS:
+            with self.subTest(case=case, pairs=pairs):
+                exchanged = [(counted(bytes.fromhex(asked)), counted(bytes.fromhex(reply))) for asked, reply in pairs]
+                self.assertEqual(self.check_exchanges(case, exchanged), f"{case}: {status}\n")
 
-                def serve(client: socket.socket, replies: str = replies, asked: list[int] = asked) -> None:
-                    with client.makefile("rwb") as stream:
-                        for reply in map(bytes.fromhex, replies.split(", ")):
-                            length = int.from_bytes(stream.read(4), "big")
-                            asked.append(stream.read(length)[0])
-                            stream.write(counted(reply))
-                            stream.flush()
-
-                self.assertEqual(self.check_served(case, serve), f"{case}: {status}\n")
-                self.assertEqual(bytes(asked), bytes.fromhex(operations))
+    def test_examples(self) -> None:
+        blocks = [[line for line in block.lines if not isinstance(line, Ends)] for block in exchanges("docs/PROTOCOL.md")]
+        lines = [line for block in blocks if block and block[0].frame[4:5].hex() in ("32", "33") for line in block]
+        frames = [b"".join(line.frame for line in group) for _, group in groupby(lines, type)]
+        self.assertEqual(self.check_exchanges("examples", list(zip(frames[::2], frames[1::2]))), EXAMPLES)
 
 
 if __name__ == "__main__":
