@@ -4,7 +4,7 @@ use Rattle.row_atomic.specs.Recorded.{Follows}
 use Rattle.server_loop.specs.Server.{cluster_of, tending_of}
 use Rattle.server_loop.specs.Tending.{MergesWhere, merged_to}
 use Rattle.server_loop.proofs.Tended.{keeps_both, still_shown, tends_follow}
-use Rattle.server_loop.proofs.server.ServerAnswering.tend.Goals as goal
+use Rattle.server_loop.proofs.server.ServerHandler.tend.Goals as goal
 
 pub returns-then-due-clause-between : goal.returns-then-due-clause-between
 returns-then-due-clause-between g c = record {

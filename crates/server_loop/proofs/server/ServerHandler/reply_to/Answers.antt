@@ -2,7 +2,7 @@ use Rattle.std.proofs.Common.{ℕ, subst}
 use Rattle.oracle.specs.Marks.{IsWithinMark}
 use Rattle.server_loop.specs.Server.{marks_of}
 use Rattle.server_loop.proofs.Rested.{keeps_resting}
-use Rattle.server_loop.proofs.server.ServerAnswering.reply_to.Goals as goal
+use Rattle.server_loop.proofs.server.ServerHandler.reply_to.Goals as goal
 
 pub returns-clause-says : goal.returns-clause-says
 returns-clause-says g c = record {

@@ -1,6 +1,6 @@
 use Rattle.server_loop.specs.Server.{Shows}
 use Rattle.server_loop.proofs.SessionSteps.{goes_one}
-use Rattle.server_loop.proofs.server.ServerAnswering.answer_to.Goals as goal
+use Rattle.server_loop.proofs.server.ServerHandler.answer_to.Goals as goal
 
 pub returns-in-One-clause-goes : goal.returns-in-One-clause-goes
 returns-in-One-clause-goes g c = rw c.in-One.is (goes_one (Shows g.F.Files.contents) c.args.self.now c.reply_to.new.self _ _ c.reply_to.ensures.step)
