@@ -51,6 +51,13 @@ class Client(asyncio.BufferedProtocol):
     A request that the gateway answers itself is answered when all before it are, so replies keep their order.
     """
 
+    __slots__ = (
+        *("exchange", "is_admin", "peer", "user", "number", "asked", "began", "came_at", "since", "heard", "idle_looks"),
+        *("things", "counts", "watches", "is_queued", "needs_idle", "waiting", "in_flight", "room", "untaken", "kept"),
+        *("kept_size", "is_alive", "transport", "_kept_times", "_out", "_out_size", "_written", "_taken", "_copying"),
+        *("_copying_since", "_has_ended", "_is_reading"),
+    )
+
     def __init__(self, exchange: Exchange, is_admin: bool) -> None:
         self.exchange, self.is_admin = exchange, is_admin
         self.peer = Peer()
