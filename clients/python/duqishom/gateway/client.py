@@ -24,10 +24,8 @@ from duqishom.gateway.passages import (
     STATISTICS,
     TOO_LARGE,
     TURN_WEIGHT,
-    OfCells,
     Passage,
     frame,
-    of_cells,
 )
 from duqishom.gateway.things import Thing
 from duqishom.gateway.upstream import Run
@@ -178,7 +176,7 @@ class Client(asyncio.BufferedProtocol):
 
     def has_whole_frame(self) -> bool:
         """Whether the first waiting frame is whole, or too long ever to be."""
-        return self._frame_end(0) is not None
+        return len(self.waiting) >= HEAD and self._frame_end(0) is not None
 
     def _frame_end(self, at: int) -> int | None:
         """The end of the frame that begins here, or None if it isn't whole. If it is too long, the end of its length
@@ -240,52 +238,48 @@ class Client(asyncio.BufferedProtocol):
             end = at + HEAD + length
             if length > LONGEST_BODY:
                 return at, TOO_LARGE
-            passage = table[waiting[at + HEAD] if 0 < length and end <= size else 0]
-            needs = passage.room
-            if isinstance(passage, OfCells):
-                body = self.body(at, end)
-                passage = of_cells(passage, body)
-                needs = passage.room_of(body)
-            if end > size or needs > room:
-                if needs > READ_ROOM and at == 0 and self._held() == 0:
-                    return at, NO_MEMORY
+            if end > size:
                 break
+            passage, body = table[waiting[at + HEAD] if length > 0 else 0], b""
+            weighs, needs = passage.weight, passage.room
+            if passage.weight_each > 0:
+                body = bytes(waiting[at + HEAD : end])
+                passage = passage.of(body)
+                weighs, needs = passage.weight_of(body), passage.room_of(body)
+            if needs > room:
+                return at, NO_MEMORY if needs > READ_ROOM and at == 0 and self._held() == 0 else None
             if passage.is_judged and (verdict := verdict_on(self, passage, at, end)) is not None:
                 return at, verdict
             if passage.is_noted:
-                run, plain = self._noted(passage, at, end), None
-                self.needs_idle = run.weight > TURN_WEIGHT and bool(runs or self.exchange.upstream.weight)
+                self.needs_idle = weighs > TURN_WEIGHT and bool(runs or self.exchange.upstream.weight)
                 if self.needs_idle:
                     break
-                if passage.opens is not None:
-                    self.exchange.things.note_begin(passage.opens, self)
-                runs.append(run)
-                weight += run.weight
+                runs.append(self._noted(passage, at, body, weighs, needs))
+                plain = None
             else:
                 if plain is None or plain.passage is not passage:
                     plain = Run(self, passage, b"", 0, 0, 0, self.since)
                     runs.append(plain)
                 plain.add()
-                weight += passage.weight
             counts[passage.code] += 1
+            weight += weighs
             room -= needs
             at = end
         return at, None
 
-    def _noted(self, passage: Passage, at: int, end: int) -> Run:
-        """The run of a request whose reply is looked at."""
-        name = bytes(self.waiting[at + HEAD + 1 : at + HEAD + NAME_END])
-        body = self.body(at, end) if passage.weight_each else b""
-        weight = passage.weight_of(body) if body else passage.weight
-        room = passage.room_of(body) if isinstance(passage, OfCells) else passage.room
-        run = Run(self, passage, name, 1, weight, room, self.since)
-        if passage.code == COMMIT:
-            run.body = body
-        return run
+    def _noted(self, passage: Passage, at: int, body: bytes, weight: int, room: int) -> Run:
+        """The run of a request whose reply is looked at. From here on what it opens counts."""
+        if passage.opens is not None and not passage.ends:
+            self.exchange.things.note_begin(passage.opens, self)
+        name = body[1:NAME_END] or bytes(self.waiting[at + HEAD + 1 : at + HEAD + NAME_END])
+        return Run(self, passage, name, 1, weight, room, self.since, body if passage.code == COMMIT else b"")
 
     def _send(self, at: int, runs: list[Run]) -> None:
         """Sends the gathered requests."""
-        room, count = sum(run.room for run in runs), sum(run.left for run in runs)
+        room = count = 0
+        for run in runs:
+            room += run.room
+            count += run.left
         self.asked += count
         self.in_flight += count
         self.room += room
@@ -432,8 +426,10 @@ class Client(asyncio.BufferedProtocol):
             self._written += len(frames)
             self.transport.write(frames)
             self._measure(self.transport.get_write_buffer_size())
-            self._end_where_done()
-            self._catch_up()
+            if self._has_ended:
+                self._end_where_done()
+            if self.watches:
+                self._catch_up()
 
     def replies_held(self) -> int:
         """The bytes of replies that wait for the client, or for a checkpoint."""

@@ -91,7 +91,8 @@ class Passage:
     """An operation as the gateway passes it on: its number, its weight, the maximum length of its reply, the kind of
     thing that it names or opens, the fields after that (the number of counted fields, the number of bytes 00 or 01, the
     numbers of counted fields after each option's byte 01, and the number of other bytes), the weight of each unit of
-    its last number, whether its reply is looked at, whether it is only for the administrator's socket, whether the
+    its last number, whether the session that it names or begins ends with each answer that is no refusal, whether its
+    reply is looked at, whether it is only for the administrator's socket, whether the
     gateway may answer it, and whether it always refuses it."""
 
     code: int
@@ -104,6 +105,7 @@ class Passage:
     options: tuple[int, ...] = ()
     tail: int = 0
     weight_each: int = 0
+    ends: bool = False
     is_noted: bool = False
     is_for_admin: bool = False
     is_judged: bool = False
@@ -119,6 +121,14 @@ class Passage:
             at = past_counted(body, at + 1, count * body[at]) if is_there else NOWHERE
         return len(body) == at + self.tail
 
+    def of(self, body: bytes) -> Passage:
+        """The passage of a request with this body: the body of a Commit or a Read tells more of it."""
+        return self
+
+    def room_of(self, body: bytes) -> int:
+        """The maximum length of the reply to a request with this body."""
+        return self.room
+
     def weight_of(self, body: bytes) -> int:
         """The weight of a request with this body."""
         if self.weight_each == 0 or len(body) < NAME_END + LENGTH.size:
@@ -130,10 +140,9 @@ class Passage:
 @dataclass(frozen=True, slots=True)
 class OfCells(Passage):
     """A Commit or a Read: its fields are a start, which names a session or begins one, whether that stays open (of a
-    Read), and a list of cells, which in a Commit are followed by values. `ends` is whether its session ends with an
-    answer that is no refusal."""
+    Read), and a list of cells, which in a Commit are followed by values. `count_at` is the offset of their number."""
 
-    ends: bool = True
+    count_at: int = NAME_END
 
     def has_form(self, body: bytes) -> bool:
         """Whether a body has exactly the fields of this operation. Of a Read with a number of cells that is refused it
@@ -149,6 +158,12 @@ class OfCells(Passage):
             return 1 <= count <= MOST_CELLS and len(body) == past_counted(body, at, 2 * count)
         return len(body) == past_writes(body, at, count)
 
+    def of(self, body: bytes) -> OfCells:
+        """The Commit or the Read with this body: whether it names a session or begins one, and whether that stays
+        open."""
+        stays_open = self.code == READ and body[NAME_END : NAME_END + 1] == b"\1"
+        return OF_CELLS[self.code, body[1:NAME_END] == NEW, stays_open]
+
     def weight_of(self, body: bytes) -> int:
         """The weight of a request with this body, by its cells and its bytes."""
         return 1 + self.weight_each * self._cells(body) + len(body) // SIZE_OF_WEIGHT
@@ -159,15 +174,8 @@ class OfCells(Passage):
 
     def _cells(self, body: bytes) -> int:
         """The number of cells of a request with this body, as far as they count."""
-        at = NAME_END + (self.code == READ)
+        at = self.count_at
         return min(int(LENGTH.unpack_from(body, at)[0]), MOST_CELLS) if len(body) >= at + LENGTH.size else 0
-
-
-def of_cells(passage: Passage, body: bytes) -> OfCells:
-    """The Commit or the Read with this body: whether it names a session or begins one, and whether that stays open."""
-    code, is_new = passage.code, body[1:NAME_END] == NEW
-    stays_open = code == READ and body[NAME_END : NAME_END + 1] == b"\1"
-    return OF_CELLS[code, is_new, stays_open]
 
 
 # The values of a boolean byte, and an offset behind the end of any body.
@@ -230,6 +238,7 @@ OF_CELLS = {
         is_noted=True,
         is_judged=True,
         ends=not stays_open,
+        count_at=NAME_END + (code == READ),
     )
     for code in (COMMIT, READ)
     for is_new in (False, True)

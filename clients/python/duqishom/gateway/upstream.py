@@ -41,7 +41,15 @@ class Run:
     __slots__ = ("asker", "passage", "name", "left", "weight", "room", "since", "body")
 
     def __init__(
-        self, asker: Asker, passage: Passage, name: bytes, left: int, weight: int, room: int, since: float = 0.0
+        self,
+        asker: Asker,
+        passage: Passage,
+        name: bytes,
+        left: int,
+        weight: int,
+        room: int,
+        since: float = 0.0,
+        body: bytes = b"",
     ) -> None:
         self.asker = asker
         self.passage = passage
@@ -50,7 +58,7 @@ class Run:
         self.weight = weight
         self.room = room
         self.since = since
-        self.body = b""
+        self.body = body
 
     def add(self) -> None:
         """Adds one more request."""
@@ -100,8 +108,9 @@ class Upstream(asyncio.SubprocessProtocol):
         """Takes frames to be written with the next flush, and their runs."""
         self._gathered.append(frames)
         self.runs.extend(runs)
-        self.weight += sum(run.weight for run in runs)
-        self.sent += sum(run.left for run in runs)
+        for run in runs:
+            self.weight += run.weight
+            self.sent += run.left
 
     def flush(self) -> None:
         """Writes the gathered frames, in one piece."""

@@ -108,7 +108,7 @@ class Watches:
 
     def note(self, run: Run, reply: bytes) -> None:
         """Tells of a commit, by the reply to a Step or a Commit, before its session is closed here."""
-        stamp = stamp_of_commit(reply) if self.by_number else None
+        stamp = stamp_of_commit(reply)
         if stamp is None:
             return
         session = self._things.by_name[Kind.SESSION].get(run.name)
@@ -117,7 +117,7 @@ class Watches:
         for cell in {**(before or {}), **dict.fromkeys(cells_of(run.body))}:
             for watch in self._watching(cell):
                 cells.setdefault(watch, []).append(cell)
-        for watch in self._unsure(session) if run.passage.opens is None else ():
+        for watch in self._unsure(session) if run.passage.names is not None else ():
             cells.pop(watch, None)
             self._tell_unnamed(watch)
         for watch, written in cells.items():
