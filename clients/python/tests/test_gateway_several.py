@@ -199,8 +199,8 @@ class Costs(unittest.TestCase):
             (read(NEW, *rows), 257, 1_048_580),
             (frame(b"\x33" + NEW), 1, 17),
         ):
-            passage = table[request[4]].of(request[4:])
-            self.assertEqual((passage.weight_of(request[4:]), passage.room_of(request[4:])), (weight, room))
+            passage = table[request[4]].of(request, 4, len(request))
+            self.assertEqual(passage.costs_of(request, 4, len(request)), (weight, room))
             self.assertLess(weight, MOST_WEIGHT)
 
     def test_no_memory_for_a_reply(self) -> None:
@@ -264,9 +264,10 @@ class Watches(unittest.TestCase):
         self.assertEqual(wire.ask(set_(start, b"ac", b"v")), b"\x83")
         self.assertEqual(wire.ask(commit(start, (b"ad", b"v"), (b"ac", b"w")))[:2], DONE)
         self.assertEqual(watcher.told(), [changed(1, 4, b"ac", b"ad")])
-        self.assertEqual(wire.ask(commit(NEW, (b"b", b"v")))[:2], DONE)
-        self.assertEqual(watcher.told(), [])
-        self.assertEqual(gateway.statistics()["watches"], {"open": 1, "changes": 2, "unnamed": 0})
+        wire.send(commit(NEW, (b"b", b"v")) + commit(NEW, (b"ae", b"v")))
+        self.assertEqual([wire.reply()[:2] for _ in range(2)], 2 * [DONE])
+        self.assertEqual(watcher.told(), [changed(1, 8, b"ae")])
+        self.assertEqual(gateway.statistics()["watches"], {"open": 1, "changes": 3, "unnamed": 0})
 
     def test_what_is_not_committed(self) -> None:
         gateway = Gateway(self)

@@ -14,7 +14,6 @@ from duqishom.gateway.bounds import CHANGES_OF_CLIENT, READ_AHEAD, READ_SIZE, RE
 from duqishom.gateway.passages import (
     BACKUP,
     BACKUP_REPLY,
-    COMMIT,
     HEAD,
     LENGTH,
     NAME_END,
@@ -240,12 +239,11 @@ class Client(asyncio.BufferedProtocol):
                 return at, TOO_LARGE
             if end > size:
                 break
-            passage, body = table[waiting[at + HEAD] if length > 0 else 0], b""
+            passage = table[waiting[at + HEAD] if length > 0 else 0]
             weighs, needs = passage.weight, passage.room
             if passage.weight_each > 0:
-                body = bytes(waiting[at + HEAD : end])
-                passage = passage.of(body)
-                weighs, needs = passage.weight_of(body), passage.room_of(body)
+                passage = passage.of(waiting, at + HEAD, end)
+                weighs, needs = passage.costs_of(waiting, at + HEAD, end)
             if needs > room:
                 return at, NO_MEMORY if needs > READ_ROOM and at == 0 and self._held() == 0 else None
             if passage.is_judged and (verdict := verdict_on(self, passage, at, end)) is not None:
@@ -254,7 +252,7 @@ class Client(asyncio.BufferedProtocol):
                 self.needs_idle = weighs > TURN_WEIGHT and bool(runs or self.exchange.upstream.weight)
                 if self.needs_idle:
                     break
-                runs.append(self._noted(passage, at, body, weighs, needs))
+                runs.append(self._noted(passage, at, weighs, needs))
                 plain = None
             else:
                 if plain is None or plain.passage is not passage:
@@ -267,12 +265,12 @@ class Client(asyncio.BufferedProtocol):
             at = end
         return at, None
 
-    def _noted(self, passage: Passage, at: int, body: bytes, weight: int, room: int) -> Run:
+    def _noted(self, passage: Passage, at: int, weight: int, room: int) -> Run:
         """The run of a request whose reply is looked at. From here on what it opens counts."""
         if passage.opens is not None and not passage.ends:
             self.exchange.things.note_begin(passage.opens, self)
-        name = body[1:NAME_END] or bytes(self.waiting[at + HEAD + 1 : at + HEAD + NAME_END])
-        return Run(self, passage, name, 1, weight, room, self.since, body if passage.code == COMMIT else b"")
+        name = b"" if passage.names is None else bytes(self.waiting[at + HEAD + 1 : at + HEAD + NAME_END])
+        return Run(self, passage, name, 1, weight, room, self.since, at)
 
     def _send(self, at: int, runs: list[Run]) -> None:
         """Sends the gathered requests."""
@@ -300,8 +298,9 @@ class Client(asyncio.BufferedProtocol):
         to come, but for a Read of so much that there is no memory for it."""
         if self.untaken > 0:
             self._measure(self.transport.get_write_buffer_size())
-        held = self._held()
-        room = min(REPLIES_OF_CLIENT - held, REPLIES_OF_ALL - self.exchange.bounds.replies)
+        held, room = self._held(), REPLIES_OF_ALL - self.exchange.bounds.replies
+        if room > REPLIES_OF_CLIENT - held:
+            return REPLIES_OF_CLIENT - held
         return max(room, READ_ROOM) if held == 0 else room
 
     def _held(self) -> int:
