@@ -28,6 +28,7 @@ WAYS = {
     "64 ahead": "reads, 64 ahead",
     "five trips": "commits in five trips",
     "two trips": "commits in two trips",
+    "one trip": "commits by a Commit",
 }
 PIPE = 0.3
 

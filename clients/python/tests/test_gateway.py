@@ -155,7 +155,7 @@ class Weights(unittest.TestCase):
             (collect_step(one, 10), 31),
             (SWEEP, 2048),
         ):
-            self.assertEqual(table[request[4]].weight_of(request[4:]), weight)
+            self.assertEqual(table[request[4]].costs_of(request, 4, len(request))[0], weight)
 
 
 class Belongings(unittest.TestCase):

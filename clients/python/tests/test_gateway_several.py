@@ -12,7 +12,7 @@ from duqishom.frames import whole_frames
 from duqishom.gateway.bounds import REPLIES_OF_ALL, Bounds
 from duqishom.gateway.client import Client
 from duqishom.gateway.counts import Counts
-from duqishom.gateway.passages import MOST_WEIGHT, NO_MEMORY, READ_ROOM, of_cells, passages
+from duqishom.gateway.passages import MOST_WEIGHT, NO_MEMORY, READ_ROOM, passages
 from tests.gateways import (
     BEGIN,
     COLUMN,
@@ -199,14 +199,14 @@ class Costs(unittest.TestCase):
             (read(NEW, *rows), 257, 1_048_580),
             (frame(b"\x33" + NEW), 1, 17),
         ):
-            passage = of_cells(table[request[4]], request[4:])
-            self.assertEqual((passage.weight_of(request[4:]), passage.room_of(request[4:])), (weight, room))
+            passage = table[request[4]].of(request, 4, len(request))
+            self.assertEqual(passage.costs_of(request, 4, len(request)), (weight, room))
             self.assertLess(weight, MOST_WEIGHT)
 
     def test_no_memory_for_a_reply(self) -> None:
         """A Read of so much is refused if the replies of all clients take what they may; of one cell it is passed on."""
         exchange = mock.Mock(table=passages(notes_reads=False), bounds=Bounds(), counts=Counts())
-        exchange.shares.allow.return_value = True
+        exchange.shares.has_left.return_value = True
         exchange.watches.by_number = {}
         exchange.upstream.weight = 0
         exchange.bounds.replies = REPLIES_OF_ALL - 70_000
@@ -264,9 +264,10 @@ class Watches(unittest.TestCase):
         self.assertEqual(wire.ask(set_(start, b"ac", b"v")), b"\x83")
         self.assertEqual(wire.ask(commit(start, (b"ad", b"v"), (b"ac", b"w")))[:2], DONE)
         self.assertEqual(watcher.told(), [changed(1, 4, b"ac", b"ad")])
-        self.assertEqual(wire.ask(commit(NEW, (b"b", b"v")))[:2], DONE)
-        self.assertEqual(watcher.told(), [])
-        self.assertEqual(gateway.statistics()["watches"], {"open": 1, "changes": 2, "unnamed": 0})
+        wire.send(commit(NEW, (b"b", b"v")) + commit(NEW, (b"ae", b"v")))
+        self.assertEqual([wire.reply()[:2] for _ in range(2)], 2 * [DONE])
+        self.assertEqual(watcher.told(), [changed(1, 8, b"ae")])
+        self.assertEqual(gateway.statistics()["watches"], {"open": 1, "changes": 3, "unnamed": 0})
 
     def test_what_is_not_committed(self) -> None:
         gateway = Gateway(self)

@@ -1,6 +1,6 @@
 //! The cache of places: the tablets of the rows located last.
 
-ghost use Rattle.std.specs.Prelude.{◌≡◌, ◌+◌, [], IfOk, IfSome, option_map, slice_get, IsOkUnless};
+ghost use Rattle.std.specs.Prelude.{◌≡◌, ◌≢◌, ◌+◌, [], length, IfOk, IfSome, option_map, slice_get, IsOkUnless};
 ghost use Rattle.metadata_table.specs.Table.{IsTable};
 ghost use Rattle.lru.specs.LruCache.{promoted};
 ghost use Rattle.row_atomic.specs.PlaceCaches.{AddsOnly, AreHeld, IsLocatedLast, IsHeldBy, hits_after, is_key_of, number_kept};
@@ -110,16 +110,20 @@ impl PlaceCache {
     }
 }
 
-/// The index of the tablet that holds a row, from the cache, or else from the table, and then it is cached.
+/// The index of the tablet that holds a row, from the cache, or else from the table, and then it is cached. A table's only
+/// tablet holds every row: then the cache isn't asked.
 pub(crate) fn index_of(table: &MetadataTable, cache: &mut PlaceCache, row: &Row) -> usize
     requires { AreHeld table.now cache.old.numbers.entries }
     ensures holder { IsHeldBy table.now row.now (result + 1) }
     ensures table { IsTable table.now }
     ensures right { AreHeld table.now cache.new.numbers.entries }
-    ensures hits { cache.new.hits
+    ensures only { length table.now ≡ 1 → cache.new ≡ cache.old }
+    ensures hits { length table.now ≢ 1 → cache.new.hits
         ≡ hits_after (number_kept row.now cache.old.numbers.entries) cache.old.hits }
 {
-    let _ = table.len();
+    if table.len() == 1 {
+        return table.locate(row).tablet as usize - 1;
+    }
     let number = match cache.find(row) {
         Some(number) => number,
         None => {

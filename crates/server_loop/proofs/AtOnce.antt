@@ -31,6 +31,7 @@ use Rattle.txn_client.specs.CellReads.{IsShortAnswer, said_in}
 use Rattle.txn_client.specs.Commits.{CommitDoes}
 use Rattle.txn_client.specs.Shows as clients
 use Rattle.txn_client.specs.Transactions as clients_goes
+use Rattle.txn_client.specs.Writes.{write_of}
 use Rattle.server_loop.specs.OperationLaws.{StandsForSeveral}
 use Rattle.server_loop.specs.Operations.{LeavesOthers}
 use Rattle.server_loop.specs.Runs.{GoesFrom, IfAnswerRefused}
@@ -125,8 +126,8 @@ module _ {F M : Type 0} (contents : F → Option Contents) (old new : Server F M
   commits_collected : (start : ℕ) (writes : Writes) (reply : CommitReply) → CommitDoes (seen_recorded contents) old.clients (last_of old) start writes (rows_of old) (rows_of new) reply
       → (st next : State) → IsReached st → Shows contents old st → Goes st (Commit start writes) (commit_answer reply) next → ShowsCollectors (server_cells contents new) old.collectors next
   commits_collected start writes (commits.Committed s c) does st next reached shown goes =
-      subst (λ (cells : Cells). ShowsCollectors cells old.collectors next) (sym (does.made shown.in_order)) (commits_keep_collectors (server_cells contents old) old.collectors st next start s c writes does.all reached shown.shows.store goes shown.collectors)
-  commits_collected start writes (commits.Conflict place) reads st next reached shown goes = reads_collected (Commit start writes) _ tt reads st next reached shown goes
+      subst (λ (cells : Cells). ShowsCollectors cells old.collectors next) (sym (does.made shown.in_order)) (commits_keep_collectors (server_cells contents old) old.collectors st next start s c writes (map write_of does.all) reached shown.shows.store goes shown.collectors)
+  commits_collected start writes (commits.Conflict place) does st next reached shown goes = reads_collected (Commit start writes) _ tt does.reads st next reached shown goes
 
   -- a Commit or a Read, which leaves the tablets' places, the cleaners and the collectors unchanged
   goes_from : (operation : Operation) (answer : Answer) → StandsForSeveral operation → new.cleaners ≡ old.cleaners → new.collectors ≡ old.collectors → (seen_recorded contents).storage new.rows ≡ (seen_recorded contents).storage old.rows

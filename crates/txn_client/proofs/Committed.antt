@@ -8,17 +8,12 @@ use Rattle.rows.specs.RowEdits.{all_edits}
 use Rattle.rows.specs.declared.row_edits.RowEdits.{RowEdits}
 use Rattle.si_model.specs.Machine.{Writes}
 use Rattle.si_model.specs.PutCells.{all_put_cells}
-use Rattle.txn_client.specs.Commits.{Commits, CommitsIn, HasNoRoomToCommit, HasNoRoomToPut, IsCommitStamp, IsTransaction, PutsWith}
+use Rattle.txn_client.specs.Commits.{Commits, CommitsIn, HasNoRoomToCommit, HasNoRoomToPut, HasWrites, IsCommitStamp, IsTransaction, MeetsConflict, PutsWith}
 use Rattle.txn_client.specs.Puts.{ArePuttings}
-use Rattle.txn_client.specs.Reads.{IsFree}
-use Rattle.txn_client.specs.Takings.{AreFree, TakesAll}
+use Rattle.txn_client.specs.Takings.{AreFree, AreReadable, IsFirstTaken, TakesAll}
 use Rattle.txn_client.specs.Writes.{write_of}
 use Rattle.txn_client.specs.declared.sessions.Clients.{Clients}
 use Rattle.txn_client.specs.declared.writes.Write.{Write}
-
-pub free_each : (cells : Cells) (s : ℕ) (ws : List Write) → AreFree cells s ws (length ws) → AllByRecursion (λ (w : _). IsFree cells w.0 s) (map write_of ws)
-free_each cells s [] free = tt
-free_each cells s (w ∷ ws) free = (free 0 w (omega arith) refl, free_each cells s ws (λ k u less is. free (suc k) u (omega (arith, less)) is))
 
 module _ {R : Type 0} (seen : View R) (old mid new : R) (reads : OnlyReads seen old mid) where
   each_still : (changes : List RowEdits) → AllByRecursion (λ (change : RowEdits). seen.readable old change.row) changes → AllByRecursion (λ (change : RowEdits). seen.readable mid change.row) changes
@@ -35,24 +30,34 @@ module _ {R : Type 0} (seen : View R) (old mid new : R) (reads : OnlyReads seen 
   }
 
   module _ (clients : Clients) (last start : ℕ) (asked : Writes) (before ws : List Write) (s n : ℕ) (same : n ≡ last) (has : CommitsIn clients n start s before) (takes : TakesAll (map write_of before) asked (map write_of ws)) where
-    transaction_of : (c : ℕ) (changes : List RowEdits) → IsCommitStamp last start c → ArePuttings s c (map write_of ws) changes → IsTransaction clients last start asked s c (map write_of ws) changes
-    transaction_of c changes stamp puts = record {
+    writes : HasWrites clients last start asked s ws
+    writes = record {
       before = before;
       session = subst (λ (m : ℕ). CommitsIn clients m start s before) same has;
       takes = takes;
-      stamp = stamp;
-      puts = puts;
     }
 
-    pub commits_by : (slice slice' : List Write) (c s' key : ℕ) → slice ≡ ws → slice' ≡ ws → s' ≡ s → key ≡ s → IsCommitStamp last start c → (seen.holds old → AreFree (seen.cells old) key slice (length slice)) → PutsWith seen (map write_of slice') s c mid new → Commits seen clients last start asked s' c old new
+    transaction_of : (c : ℕ) (changes : List RowEdits) → IsCommitStamp last start c → ArePuttings s c (map write_of ws) changes → IsTransaction clients last start asked s c ws changes
+    transaction_of c changes stamp puts = record { writes = writes; stamp = stamp; puts = puts }
+
+    pub conflicts_by : (slice : List Write) (key place : ℕ) → slice ≡ ws → key ≡ s → (AreReadable seen old slice → IsFirstTaken (seen.cells old) key slice place) → MeetsConflict seen clients last start asked place old mid
+    conflicts_by slice key place is key_is taken = record {
+      s = s;
+      all = ws;
+      writes = writes;
+      taken = subst (λ (p : ℕ × List Write). AreReadable seen old p.1 → IsFirstTaken (seen.cells old) p.0 p.1 place) (λ j. (key_is j, is j)) taken;
+      reads = reads;
+    }
+
+    pub commits_by : (slice slice' : List Write) (c s' key : ℕ) → slice ≡ ws → slice' ≡ ws → s' ≡ s → key ≡ s → IsCommitStamp last start c → (AreReadable seen old slice → AreFree (seen.cells old) key slice (length slice)) → PutsWith seen (map write_of slice') s c mid new → Commits seen clients last start asked s' c old new
     commits_by slice slice' c s' key is is' began key_is stamp free puts =
         subst (λ (n : ℕ). Commits seen clients last start asked n c old new) (sym began) (
         let now = subst (λ (l : List Write). PutsWith seen (map write_of l) s c mid new) is' puts in
         record {
-          all = map write_of ws;
+          all = ws;
           changes = now.changes;
           transaction = transaction_of c now.changes stamp now.puts;
-          free = λ held. free_each (seen.cells old) s ws (subst (λ (p : ℕ × List Write). AreFree (seen.cells old) p.0 p.1 (length p.1)) (λ j. (key_is j, is j)) (free held));
+          free = subst (λ (p : ℕ × List Write). AreReadable seen old p.1 → AreFree (seen.cells old) p.0 p.1 (length p.1)) (λ j. (key_is j, is j)) free;
           applied = applies_after now.changes now.applied;
           made = λ held. now.made (reads.still held) ∙ ap (λ (m : Cells). all_put_cells m (map write_of ws) s c) reads.kept;
         })
@@ -63,7 +68,7 @@ module _ {R : Type 0} (seen : View R) (old mid new : R) (reads : OnlyReads seen 
         record {
           s = s;
           c = c;
-          all = map write_of ws;
+          all = ws;
           changes = now.0;
           transaction = transaction_of c now.0 stamp now.1;
           over = record { change = now.2.change; among = now.2.among; over = reads.room _ _ now.2.over };

@@ -1,11 +1,13 @@
 -- The edits of writes that are put with their records.
-use Rattle.std.proofs.Common.{◌≡◌, ◌∙◌, ℕ, ◌+◌, ◌<◌, [], ◌∷◌, ◌++◌, List, map, take, length, get_or, Option, Some, None, refl, sym, subst, ap, arith}
+use Rattle.std.proofs.Common.{◌≡◌, ◌∙◌, ℕ, ◌+◌, ◌<◌, [], ◌∷◌, ◌++◌, ◌+◌, zero, suc, List, map, length, Option, Some, None, refl, sym, subst, ap, arith}
+use Rattle.std.specs.Prelude.{option_to_list}
 use Rattle.std.specs.List.{AllByRecursion, flat_map}
 use Rattle.std.proofs.lemmas.Grind.{flat_map-append}
-use Rattle.std.proofs.lemmas.List.{map-append}
+use Rattle.std.proofs.lemmas.List.{append_assoc, append-nil, length-append}
 use Rattle.cell_key.specs.Cells.{Cells, after_edits}
 use Rattle.cell_key.specs.declared.edits.Edit.{Edit}
 use Rattle.cell_key.specs.declared.edits.Edit.TheVariants.{Put, Erase}
+use Rattle.rows.specs.Room.{OverfillsOne}
 use Rattle.rows.specs.RowEdits.{AreOfTheirRow, all_edits}
 use Rattle.rows.specs.declared.row_edits.RowEdits.{RowEdits}
 use Rattle.si_model.specs.Machine.{Change, Writes}
@@ -31,22 +33,17 @@ edits_then [] fs cells = refl
 edits_then (Put k v ∷ es) fs cells = edits_then es fs _
 edits_then (Erase k ∷ es) fs cells = edits_then es fs _
 
-put_then : (s c : ℕ) (ws : Writes) (w : Cell × Change) (cells : Cells) → all_put_cells cells (ws ++ w ∷ []) s c ≡ put_cells (all_put_cells cells ws s c) w.0 w.1 s c
-put_then s c [] w cells = refl
-put_then s c (u ∷ ws) w cells = put_then s c ws w (put_cells cells u.0 u.1 s c)
-
--- the edits of one more write
-pub made_more : (s c : ℕ) (ws : List Write) (i : ℕ) (d : Write) (changes now : List RowEdits) (change : RowEdits) (w : Write) → i < length ws → w ≡ get_or ws i d → IsPutting w.cell s c w.value change.edits.items → now ≡ changes ++ change ∷ []
-    → ((cells : Cells) → after_edits cells (all_edits changes) ≡ all_put_cells cells (map write_of (take i ws)) s c) → (cells : Cells) → after_edits cells (all_edits now) ≡ all_put_cells cells (map write_of (take (i + 1) ws)) s c
-made_more s c ws i d changes now change w less here putting is made cells =
-    ap (λ (l : List RowEdits). after_edits cells (all_edits l)) is
+-- the edits of one more write, and then those of the writes that are left
+pub made_more : (s c : ℕ) (w : Write) (rest all : Writes) (changes now : List RowEdits) (change : RowEdits) → IsPutting w.cell s c w.value change.edits.items → now ≡ changes ++ change ∷ []
+    → ((cells : Cells) → all_put_cells (after_edits cells (all_edits changes)) (write_of w ∷ rest) s c ≡ all_put_cells cells all s c) → (cells : Cells) → all_put_cells (after_edits cells (all_edits now)) rest s c ≡ all_put_cells cells all s c
+made_more s c w rest all changes now change putting is made cells =
+    ap (λ (m : Cells). all_put_cells m rest s c)
+    (ap (λ (l : List RowEdits). after_edits cells (all_edits l)) is
     ∙ (ap (after_edits cells) (flat_map-append (λ (k : RowEdits). k.edits.items) changes (change ∷ []))
     ∙ (edits_then (all_edits changes) (all_edits (change ∷ [])) cells
-    ∙ (ap (λ (m : Cells). after_edits m (all_edits (change ∷ []))) (made cells)
-    ∙ (edits_then change.edits.items [] (all_put_cells cells (map write_of (take i ws)) s c)
-    ∙ (putting_makes (all_put_cells cells (map write_of (take i ws)) s c) (get_or ws i d).cell s c (get_or ws i d).value change.edits.items (subst (λ (u : Write). IsPutting u.cell s c u.value change.edits.items) here putting)
-    ∙ (sym (put_then s c (map write_of (take i ws)) (write_of (get_or ws i d)) cells)
-    ∙ ap (λ (us : Writes). all_put_cells cells us s c) (sym (ap (λ (l : List Write). map write_of l) (next_taken ws i d less).0 ∙ map-append write_of (take i ws) (get_or ws i d ∷ [])))))))))
+    ∙ (edits_then change.edits.items [] (after_edits cells (all_edits changes))
+    ∙ putting_makes (after_edits cells (all_edits changes)) w.cell s c w.value change.edits.items putting))))
+    ∙ made cells
 
 pub under_more : (changes now : List RowEdits) (change : RowEdits) → now ≡ changes ++ change ∷ [] → AllByRecursion AreOfTheirRow changes → AreOfTheirRow change → AllByRecursion AreOfTheirRow now
 under_more changes now change is all one = subst (AllByRecursion AreOfTheirRow) (sym is) (joined changes all)
@@ -55,18 +52,23 @@ under_more changes now change is all one = subst (AllByRecursion AreOfTheirRow) 
     joined [] h = (one, tt)
     joined (k ∷ l) h = (h.0, joined l h.1)
 
-puttings_then : (s c : ℕ) (ws : Writes) (w : Cell × Change) (changes : List RowEdits) (change : RowEdits) → ArePuttings s c ws changes → change.row ≡ w.0.row → IsPutting w.0 s c w.1 change.edits.items → ArePuttings s c (ws ++ w ∷ []) (changes ++ change ∷ [])
-puttings_then s c [] w [] change h row putting = (row, putting, tt)
-puttings_then s c [] w (k ∷ ks) change h row putting = absurd h
-puttings_then s c (u ∷ ws) w [] change h row putting = absurd h
-puttings_then s c (u ∷ ws) w (k ∷ ks) change h row putting = (h.0, h.1, puttings_then s c ws w ks change h.2 row putting)
+pub puttings_more : (s c : ℕ) (w : Write) (rest all : Writes) (changes now : List RowEdits) (change : RowEdits) → change.row ≡ w.cell.row → IsPutting w.cell s c w.value change.edits.items → now ≡ changes ++ change ∷ []
+    → ((more : List RowEdits) → ArePuttings s c (write_of w ∷ rest) more → ArePuttings s c all (changes ++ more)) → (more : List RowEdits) → ArePuttings s c rest more → ArePuttings s c all (now ++ more)
+puttings_more s c w rest all changes now change row putting is so more h =
+    subst (ArePuttings s c all) (sym (ap (λ (l : List RowEdits). l ++ more) is ∙ append_assoc changes (change ∷ []) more)) (so (change ∷ more) (row, putting, h))
 
-pub puttings_more : (s c : ℕ) (ws : List Write) (i : ℕ) (d : Write) (changes now : List RowEdits) (change : RowEdits) (w : Write) → i < length ws → w ≡ get_or ws i d → change.row ≡ w.cell.row → IsPutting w.cell s c w.value change.edits.items → now ≡ changes ++ change ∷ []
-    → ArePuttings s c (map write_of (take i ws)) changes → ArePuttings s c (map write_of (take (i + 1) ws)) now
-puttings_more s c ws i d changes now change w less here row putting is so =
-    let same = ap (λ (l : List Write). map write_of l) (next_taken ws i d less).0 ∙ map-append write_of (take i ws) (get_or ws i d ∷ []) in
-    let one = puttings_then s c (map write_of (take i ws)) (write_of (get_or ws i d)) changes change so (row ∙ ap (λ (u : Write). u.cell.row) here) (subst (λ (u : Write). IsPutting u.cell s c u.value change.edits.items) here putting) in
-    subst (λ (p : Writes × List RowEdits). ArePuttings s c p.0 p.1) (λ j. (sym same j, sym is j)) one
+-- the only change of a list is the one that was taken from its end
+pub only_change : (changes rest : List RowEdits) (last : Option RowEdits) (change : RowEdits) → length changes ≡ 1 → changes ≡ rest ++ option_to_list last → last ≡ Some change → changes ≡ change ∷ []
+only_change changes [] last change one is some = is ∙ ap option_to_list some
+only_change changes (y ∷ ys) last change one is some =
+    let n = ap length is in
+    let m = length-append ys (option_to_list last) in
+    let k = ap (λ (o : Option RowEdits). length (option_to_list o)) some in
+    absurd (omega (arith, one, n, m, k))
+
+-- the edits of one row exceed a limit
+pub overfills_one : {R : Type 0} (overfills : R → List ℕ → List Edit → Type 0) (rows : R) (change : RowEdits) → overfills rows change.row change.edits.items → OverfillsOne overfills (change ∷ []) rows
+overfills_one overfills rows change over = record { change = change; among = (zero, omega arith, refl); over = subst (overfills rows change.row) (sym (append-nil change.edits.items)) over }
 
 -- each row of the edits is readable
 pub each_row : (Readable : List ℕ → Type 0) → ((row : List ℕ) → Readable row) → (changes : List RowEdits) → AllByRecursion (λ (change : RowEdits). Readable change.row) changes

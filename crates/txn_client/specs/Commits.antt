@@ -1,6 +1,5 @@
 -- Transactions in one call: their session, their writes, the edits that put them, and their stamps.
-use Rattle.std.specs.Prelude.{◌≡◌, ◌≢◌, ⊤, ℕ, ◌+◌, ◌-◌, ◌<◌, ◌^◌, List, [], map, Some, None}
-use Rattle.std.specs.List.{AllByRecursion}
+use Rattle.std.specs.Prelude.{◌≡◌, ◌≢◌, ⊤, ℕ, ◌+◌, ◌-◌, ◌<◌, ◌^◌, List, [], length, map, Some, None}
 use Rattle.std.specs.Ordering.{nat_cmp}
 use Rattle.std.specs.BTreeMap as btree
 use Rattle.std.specs.BTreeMap.{Updates}
@@ -14,9 +13,8 @@ use Rattle.si_model.specs.PutCells.{all_put_cells}
 use Rattle.si_model.specs.declared.transactions.CommitReply.{CommitReply}
 use Rattle.si_model.specs.declared.transactions.CommitReply.TheVariants.{Committed, Conflict}
 use Rattle.txn_client.specs.Puts.{ArePuttings}
-use Rattle.txn_client.specs.Reads.{IsFree}
 use Rattle.txn_client.specs.Shows.{IsOpenSession}
-use Rattle.txn_client.specs.Takings.{TakesAll}
+use Rattle.txn_client.specs.Takings.{AreFree, AreReadable, IsFirstTaken, TakesAll}
 use Rattle.txn_client.specs.Transactions.{IsSessionRefusal}
 use Rattle.txn_client.specs.Writes.{write_of}
 use Rattle.txn_client.specs.declared.session.Phase.TheVariants.{Open}
@@ -52,15 +50,19 @@ pub record LacksStamps (last start : ℕ) : Type 0 where
   pub named : start ≢ 0 → 2 ^ 63 - 1 < last + 1
   pub new : start ≡ 0 → 2 ^ 63 - 1 < last + 2
 
--- its session began at s, and it puts all these writes with records at c by these edits: the session's writes, and then
--- the ones asked for
-pub record IsTransaction (clients : Clients) (last start : ℕ) (asked : Writes) (s c : ℕ)
-    (all : Writes) (changes : List RowEdits) : Type 0 where
+-- its session began at s, and all these are its writes: the session's, and then the ones asked for
+pub record HasWrites (clients : Clients) (last start : ℕ) (asked : Writes) (s : ℕ)
+    (all : List Write) : Type 0 where
   pub before : List Write
   pub session : CommitsIn clients last start s before
-  pub takes : TakesAll (map write_of before) asked all
+  pub takes : TakesAll (map write_of before) asked (map write_of all)
+
+-- it puts its writes with records at c by these edits
+pub record IsTransaction (clients : Clients) (last start : ℕ) (asked : Writes) (s c : ℕ)
+    (all : List Write) (changes : List RowEdits) : Type 0 where
+  pub writes : HasWrites clients last start asked s all
   pub stamp : IsCommitStamp last start c
-  pub puts : ArePuttings s c all changes
+  pub puts : ArePuttings s c (map write_of all) changes
 
 -- writes of s were put with their records at c
 pub record PutsWith {R : Type 0} (seen : View R) (all : Writes) (s c : ℕ) (old new : R)
@@ -79,26 +81,37 @@ HasNoRoomToPut seen all s c old =
 -- A transaction is committed: its cells were free, and its edits are made and take their room.
 pub record Commits {R : Type 0} (seen : View R) (clients : Clients) (last start : ℕ)
     (asked : Writes) (s c : ℕ) (old new : R) : Type 0 where
-  pub all : Writes
+  pub all : List Write
   pub changes : List RowEdits
   pub transaction : IsTransaction clients last start asked s c all changes
-  pub free : seen.holds old → AllByRecursion (λ w. IsFree (seen.cells old) w.0 s) all
+  pub free : AreReadable seen old all → AreFree (seen.cells old) s all (length all)
   pub applied : AppliesAll seen changes old new
-  pub made : seen.holds old → seen.cells new ≡ all_put_cells (seen.cells old) all s c
+  pub made : seen.holds old
+      → seen.cells new ≡ all_put_cells (seen.cells old) (map write_of all) s c
+
+-- A transaction meets a conflict: the cell at this place is the first of its writes that isn't free. Nothing is changed.
+pub record MeetsConflict {R : Type 0} (seen : View R) (clients : Clients) (last start : ℕ)
+    (asked : Writes) (place : ℕ) (old new : R) : Type 0 where
+  pub s : ℕ
+  pub all : List Write
+  pub writes : HasWrites clients last start asked s all
+  pub taken : AreReadable seen old all → IsFirstTaken (seen.cells old) s all place
+  pub reads : OnlyReads seen old new
 
 -- what a transaction that isn't refused does to the rows
 abbrev pub CommitDoes : {R : Type 0}
     → View R → Clients → ℕ → ℕ → Writes → R → R → CommitReply → Type 0
 CommitDoes seen clients last start asked old new (Committed s c) =
     Commits seen clients last start asked s c old new
-CommitDoes seen clients last start asked old new (Conflict place) = OnlyReads seen old new
+CommitDoes seen clients last start asked old new (Conflict place) =
+    MeetsConflict seen clients last start asked place old new
 
 -- the edits of the transaction would exceed a limit of the memory
 pub record HasNoRoomToCommit {R : Type 0} (seen : View R) (clients : Clients) (last start : ℕ)
     (asked : Writes) (old : R) : Type 0 where
   pub s : ℕ
   pub c : ℕ
-  pub all : Writes
+  pub all : List Write
   pub changes : List RowEdits
   pub transaction : IsTransaction clients last start asked s c all changes
   pub over : OverfillsOne seen.overfills changes old

@@ -4,6 +4,7 @@ use Rattle.cell_key.specs.Cells.{Cells}
 use Rattle.cell_key.specs.Names.{IsRow, IsFamily}
 use Rattle.cell_key.specs.declared.refusals.Refusal.{Refusal}
 use Rattle.cell_key.specs.declared.refusals.Refusal.TheVariants.{BadRow, BadColumn, BadValue, TooManyWrites, NoMemory}
+use Rattle.rows.specs.Calls.{View}
 use Rattle.si_model.specs.Machine.{Change, Writes, Names, Sets, most_value, most_writes}
 use Rattle.si_model.specs.declared.replies.Cell.{Cell}
 use Rattle.txn_client.specs.Reads.{IsFree, IsTaken}
@@ -53,6 +54,11 @@ pub record IsRefusedWrite (before asked : Writes) (refusal : Refusal) : Type 0 w
   pub mid : Writes
   pub taken : TakesAll before first mid
   pub why : IsWriteRefusal mid write refusal
+
+-- the rows of all writes can be read
+abbrev pub AreReadable : {R : Type 0} → View R → R → List Write → Type 0
+AreReadable seen rows ws =
+    (k : ℕ) (w : Write) → slice_get ws k ≡ Some w → seen.readable rows w.cell.row
 
 -- the cells of the writes before the place are free
 abbrev pub AreFree : Cells → ℕ → List Write → ℕ → Type 0

@@ -62,9 +62,9 @@ pub(crate) fn read_cell<R: Rows>(rows: &mut R, cell: &Cell, start: Stamp) -> Res
 /// Whether a lock, or a write record at or after `start`, keeps a session that began at `start` from holding the cell
 /// (Percolator, Prewrite).
 pub(crate) fn is_taken<R: Rows>(rows: &mut R, cell: &Cell, start: Stamp) -> Result<bool, Refusal>
-    ensures taken { R.seen.holds rows.old
+    ensures taken { R.seen.readable rows.old cell.now.row
         → IfOk result (λ taken. OnTrue taken (IsTaken (R.seen.cells rows.old) cell.now start)) }
-    ensures free { R.seen.holds rows.old
+    ensures free { R.seen.readable rows.old cell.now.row
         → IfOk result (λ taken. OnFalse taken (IsFree (R.seen.cells rows.old) cell.now start)) }
     ensures reads { OnlyReads R.seen rows.old rows.new }
     ensures refusal { IfErr result (IsRefusalOfRead (R.seen.readable rows.old cell.now.row)) }

@@ -9,7 +9,9 @@ ghost use Rattle.cell_key.specs.LockEdits.{IsPut};
 ghost use Rattle.cell_key.specs.declared.keys.Qualifier.TheVariants as qualifier;
 ghost use Rattle.oracle.specs.Marks.{MayHold};
 ghost use Rattle.oracle.specs.Ranges.{next_range_end};
-ghost use Rattle.rows.specs.Calls.{OnlyReads};
+ghost use Rattle.rows.specs.Calls.{AppliesAll, OnlyReads};
+ghost use Rattle.rows.specs.Refusals.{IsApplyRefusal};
+ghost use Rattle.rows.specs.Room.{OverfillsOne};
 ghost use Rattle.rows.specs.RowEdits.{AreOfTheirRow, all_edits};
 ghost use Rattle.si_model.specs.PutCells.{all_put_cells};
 ghost use Rattle.si_model.specs.ShowsCells.{key_of};
@@ -17,6 +19,7 @@ ghost use Rattle.txn_client.specs.Commits.{HasNoRoomToPut, PutsWith};
 ghost use Rattle.txn_client.specs.Puts.{ArePuttings, IsPutting, IsPutRefusal};
 ghost use Rattle.txn_client.specs.Writes.{write_of};
 
+use crate::value::Value;
 use crate::writes::Write;
 use cell_key::{CellKey, Edit, MOST_STAMP, Moment, Qualifier, Record, Refusal, Stamp, WriteKind};
 use oracle::{MarkStore, Oracle};
@@ -88,64 +91,80 @@ fn putting_deletion(
 /// The edits that put a write with its record: its data, if it has a value, and the record.
 fn putting(
     alloc: Global,
-    write: &Write,
+    cell: &Cell,
     start: Moment,
     commit: Moment,
+    value: Option<Value>,
 ) -> Result<Vec<Edit>, Refusal>
     ensures putting { IfOk result (λ edits.
-        IsPutting write.now.cell start commit write.now.value edits.items) }
-    ensures under { IfOk result (λ edits.
-        AllByRecursion (IsEditOf write.now.cell.row) edits.items) }
+        IsPutting cell.now start commit value edits.items) }
+    ensures under { IfOk result (λ edits. AllByRecursion (IsEditOf cell.now.row) edits.items) }
     ensures refusal { IfErr result (λ refusal. refusal ≡ Refusal.NoMemory) }
 {
-    match &write.value {
-        Some(value) => {
-            let value = value.to_vec()?;
-            putting_value(alloc, &write.cell, start, commit, value)
-        }
-        None => putting_deletion(alloc, &write.cell, start, commit),
+    match value {
+        Some(value) => putting_value(alloc, cell, start, commit, value.into_vec()),
+        None => putting_deletion(alloc, cell, start, commit),
     }
 }
 
 /// The edits of a write, with their row.
 fn putting_row(
     alloc: Global,
-    write: &Write,
+    write: Write,
     start: Moment,
     commit: Moment,
 ) -> Result<RowEdits, Refusal>
     ensures putting { IfOk result (λ change.
-        IsPutting write.now.cell start commit write.now.value change.edits.items) }
+        IsPutting write.cell start commit write.value change.edits.items) }
     ensures under { IfOk result AreOfTheirRow }
-    ensures row { IfOk result (λ change. change.row ≡ write.now.cell.row) }
+    ensures row { IfOk result (λ change. change.row ≡ write.cell.row) }
     ensures refusal { IfErr result (λ refusal. refusal ≡ Refusal.NoMemory) }
 {
-    let edits = putting(alloc, write, start, commit)?;
-    let row = write.cell.row.clone()?;
+    let Write { cell, value } = write;
+    let edits = putting(alloc, &cell, start, commit, value)?;
+    let Cell { row, family: _ } = cell;
     Ok(RowEdits { row, edits })
 }
 
 /// The edits of all writes, in their order. Answers `NoMemory` if allocation fails.
 pub(crate) fn putting_all(
     alloc: Global,
-    writes: &[Write],
+    writes: Vec<Write>,
     start: Moment,
     commit: Moment,
 ) -> Result<Vec<RowEdits>, Refusal>
     ensures made { IfOk result (λ changes. (cells : Cells)
         → after_edits cells (all_edits changes.items)
-        ≡ all_put_cells cells (map write_of writes.now) start commit) }
+        ≡ all_put_cells cells (map write_of writes.items) start commit) }
     ensures under { IfOk result (λ changes. AllByRecursion AreOfTheirRow changes.items) }
     ensures puttings { IfOk result (λ changes. ArePuttings
-        start commit (map write_of writes.now) changes.items) }
+        start commit (map write_of writes.items) changes.items) }
     ensures refusal { IfErr result (λ refusal. refusal ≡ Refusal.NoMemory) }
 {
     let mut changes = Vec::with_capacity(alloc, writes.len())?;
-    for write in writes.iter() {
+    for write in writes {
         let change = putting_row(alloc, write, start, commit)?;
         changes.push(change)?;
     }
     Ok(changes)
+}
+
+/// Applies edits of several rows in order, all of them or none. If there is one row, it is a row's edits that are
+/// applied, which costs less. Refusals: as of `Rows::apply_all`.
+fn apply_changes<R: Rows>(rows: &mut R, mut changes: Vec<RowEdits>) -> Result<(), Refusal>
+    requires { AllByRecursion AreOfTheirRow changes.items }
+    ensures ok { OnOk result (AppliesAll R.seen changes.items rows.old rows.new) }
+    ensures err { OnErr result (OnlyReads R.seen rows.old rows.new) }
+    ensures refusal { IfErr result IsApplyRefusal }
+    ensures full { IsErrOf result Refusal.MemtableFull
+        → OverfillsOne R.seen.overfills changes.items rows.old }
+    ensures untouched { R.faults rows.new ≡ R.faults rows.old }
+{
+    if changes.len() == 1 {
+        let RowEdits { row, edits } = changes.pop().unwrap();
+        return rows.apply(&row, edits);
+    }
+    rows.apply_all(changes)
 }
 
 /// Puts writes of a session that began at `start`, with their records at the last of the next `count` stamps, which are
@@ -156,13 +175,13 @@ pub(crate) fn put_at_once<R: Rows, M: MarkStore>(
     oracle: &mut Oracle<M>,
     start: Moment,
     count: Stamp,
-    writes: &[Write],
+    writes: Vec<Write>,
 ) -> Result<Stamp, Refusal>
     requires some { 1 ≤ count }
     requires few { count ≤ 2 }
     requires limit { oracle.old.last + count ≤ 2 ^ 63 }
     ensures puts { IfOk result (λ commit. PutsWith
-        R.seen (map write_of writes.now) start commit rows.old rows.new) }
+        R.seen (map write_of writes.items) start commit rows.old rows.new) }
     ensures commit { IfOk result (λ commit. commit ≡ oracle.old.last + count) }
     ensures served { IfOk result (λ commit. oracle.new.last ≡ commit) }
     ensures limit { IfOk result (λ commit. commit < 2 ^ 63) }
@@ -175,14 +194,14 @@ pub(crate) fn put_at_once<R: Rows, M: MarkStore>(
     ensures refusal { IfErr result IsPutRefusal }
     ensures exhausted { IsErrOf result Refusal.Exhausted → MOST_STAMP < oracle.old.last + count }
     ensures full { IsErrOf result Refusal.MemtableFull → HasNoRoomToPut R.seen
-        (map write_of writes.now) start (oracle.old.last + count) rows.old }
+        (map write_of writes.items) start (oracle.old.last + count) rows.old }
     ensures reason { HasReason (M.faults oracle.old.marks) (M.faults oracle.new.marks) result }
     ensures untouched { R.faults rows.new ≡ R.faults rows.old }
 {
     let commit = Moment::after(oracle.last() + (count - 1))?;
     let changes = putting_all(alloc, writes, start, commit)?;
     oracle.ready(count)?;
-    rows.apply_all(changes)?;
+    apply_changes(rows, changes)?;
     oracle.serve(count);
     Ok(commit.stamp())
 }

@@ -5,7 +5,7 @@ ghost use Rattle.cell_key.specs.Faults.{HasReason};
 ghost use Rattle.rows.specs.Calls.{AreReadableFrom, OnlyReads};
 ghost use Rattle.rows.specs.Refusals.{IsReadRefusal};
 ghost use Rattle.si_model.specs.Answers.{write_named};
-ghost use Rattle.txn_client.specs.Takings.{AreFree, HasShortValue, IsFirstTaken, IsRefusedWrite, IsValueRefusal, IsWriteRefusal, TakesAll, TakesWrite};
+ghost use Rattle.txn_client.specs.Takings.{AreFree, AreReadable, HasShortValue, IsFirstTaken, IsRefusedWrite, IsValueRefusal, IsWriteRefusal, TakesAll, TakesWrite};
 ghost use Rattle.txn_client.specs.Writes.{write_of};
 
 use crate::cells;
@@ -71,9 +71,9 @@ pub(crate) fn first_taken<R: Rows>(
     start: Stamp,
 ) -> Result<Option<u16>, Refusal>
     requires { length writes.now ≤ 256 }
-    ensures taken { R.seen.holds rows.old → IfOk result (λ place. IfSome place
+    ensures taken { AreReadable R.seen rows.old writes.now → IfOk result (λ place. IfSome place
         (IsFirstTaken (R.seen.cells rows.old) start writes.now)) }
-    ensures free { R.seen.holds rows.old → IfOk result (λ place. IfNone place
+    ensures free { AreReadable R.seen rows.old writes.now → IfOk result (λ place. IfNone place
         (AreFree (R.seen.cells rows.old) start writes.now (length writes.now))) }
     ensures reads { OnlyReads R.seen rows.old rows.new }
     ensures refusal { IfErr result IsReadRefusal }

@@ -329,7 +329,7 @@ impl Clients {
             return Ok(CommitReply::Conflict(place));
         }
         let count = stamps_drawn(start);
-        let commit = puts::put_at_once(self.alloc, rows, oracle, began, count, writes.as_slice())?;
+        let commit = puts::put_at_once(self.alloc, rows, oracle, began, count, writes.into_vec())?;
         self.end(start, commit);
         Ok(CommitReply::Committed(began.stamp(), commit))
     }

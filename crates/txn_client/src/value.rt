@@ -58,6 +58,14 @@ impl Value {
         Ok(Value { bytes })
     }
 
+    /// The bytes.
+    pub(crate) fn into_vec(self) -> Vec<u8>
+        ensures bytes { result.items ≡ self }
+        ensures few { length self ≤ 65536 }
+    {
+        self.bytes
+    }
+
     /// A copy of the bytes.
     pub(crate) fn to_vec(&self) -> Result<Vec<u8>, Refusal>
         ensures bytes { IfOk result (λ bytes. bytes.items ≡ self.now) }

@@ -150,6 +150,14 @@ impl Writes {
         Ok(Writes { entries, order })
     }
 
+    /// The writes in their order, as a vector.
+    pub(crate) fn into_vec(self) -> Vec<Write>
+        ensures { result.items ≡ self }
+    {
+        let Writes { entries, order: _ } = self;
+        entries
+    }
+
     /// The writes in their order.
     pub(crate) fn as_slice(&self) -> &[Write]
         ensures writes { result.now ≡ self.now }

@@ -14,7 +14,6 @@ from duqishom.gateway.bounds import CHANGES_OF_CLIENT, READ_AHEAD, READ_SIZE, RE
 from duqishom.gateway.passages import (
     BACKUP,
     BACKUP_REPLY,
-    COMMIT,
     HEAD,
     LENGTH,
     NAME_END,
@@ -24,10 +23,8 @@ from duqishom.gateway.passages import (
     STATISTICS,
     TOO_LARGE,
     TURN_WEIGHT,
-    OfCells,
     Passage,
     frame,
-    of_cells,
 )
 from duqishom.gateway.things import Thing
 from duqishom.gateway.upstream import Run
@@ -50,6 +47,13 @@ class Client(asyncio.BufferedProtocol):
 
     A request that the gateway answers itself is answered when all before it are, so replies keep their order.
     """
+
+    __slots__ = (
+        *("exchange", "is_admin", "peer", "user", "number", "asked", "began", "came_at", "since", "heard", "idle_looks"),
+        *("things", "counts", "watches", "is_queued", "needs_idle", "waiting", "in_flight", "room", "untaken", "kept"),
+        *("kept_size", "is_alive", "transport", "_kept_times", "_out", "_out_size", "_written", "_taken", "_copying"),
+        *("_copying_since", "_has_ended", "_is_reading"),
+    )
 
     def __init__(self, exchange: Exchange, is_admin: bool) -> None:
         self.exchange, self.is_admin = exchange, is_admin
@@ -171,7 +175,7 @@ class Client(asyncio.BufferedProtocol):
 
     def has_whole_frame(self) -> bool:
         """Whether the first waiting frame is whole, or too long ever to be."""
-        return self._frame_end(0) is not None
+        return len(self.waiting) >= HEAD and self._frame_end(0) is not None
 
     def _frame_end(self, at: int) -> int | None:
         """The end of the frame that begins here, or None if it isn't whole. If it is too long, the end of its length
@@ -233,52 +237,47 @@ class Client(asyncio.BufferedProtocol):
             end = at + HEAD + length
             if length > LONGEST_BODY:
                 return at, TOO_LARGE
-            passage = table[waiting[at + HEAD] if 0 < length and end <= size else 0]
-            needs = passage.room
-            if isinstance(passage, OfCells):
-                body = self.body(at, end)
-                passage = of_cells(passage, body)
-                needs = passage.room_of(body)
-            if end > size or needs > room:
-                if needs > READ_ROOM and at == 0 and self._held() == 0:
-                    return at, NO_MEMORY
+            if end > size:
                 break
+            passage = table[waiting[at + HEAD] if length > 0 else 0]
+            weighs, needs = passage.weight, passage.room
+            if passage.weight_each > 0:
+                passage = passage.of(waiting, at + HEAD, end)
+                weighs, needs = passage.costs_of(waiting, at + HEAD, end)
+            if needs > room:
+                return at, NO_MEMORY if needs > READ_ROOM and at == 0 and self._held() == 0 else None
             if passage.is_judged and (verdict := verdict_on(self, passage, at, end)) is not None:
                 return at, verdict
             if passage.is_noted:
-                run, plain = self._noted(passage, at, end), None
-                self.needs_idle = run.weight > TURN_WEIGHT and bool(runs or self.exchange.upstream.weight)
+                self.needs_idle = weighs > TURN_WEIGHT and bool(runs or self.exchange.upstream.weight)
                 if self.needs_idle:
                     break
-                if passage.opens is not None:
-                    self.exchange.things.note_begin(passage.opens, self)
-                runs.append(run)
-                weight += run.weight
+                runs.append(self._noted(passage, at, weighs, needs))
+                plain = None
             else:
                 if plain is None or plain.passage is not passage:
                     plain = Run(self, passage, b"", 0, 0, 0, self.since)
                     runs.append(plain)
                 plain.add()
-                weight += passage.weight
             counts[passage.code] += 1
+            weight += weighs
             room -= needs
             at = end
         return at, None
 
-    def _noted(self, passage: Passage, at: int, end: int) -> Run:
-        """The run of a request whose reply is looked at."""
-        name = bytes(self.waiting[at + HEAD + 1 : at + HEAD + NAME_END])
-        body = self.body(at, end) if passage.weight_each else b""
-        weight = passage.weight_of(body) if body else passage.weight
-        room = passage.room_of(body) if isinstance(passage, OfCells) else passage.room
-        run = Run(self, passage, name, 1, weight, room, self.since)
-        if passage.code == COMMIT:
-            run.body = body
-        return run
+    def _noted(self, passage: Passage, at: int, weight: int, room: int) -> Run:
+        """The run of a request whose reply is looked at. From here on what it opens counts."""
+        if passage.opens is not None and not passage.ends:
+            self.exchange.things.note_begin(passage.opens, self)
+        name = b"" if passage.names is None else bytes(self.waiting[at + HEAD + 1 : at + HEAD + NAME_END])
+        return Run(self, passage, name, 1, weight, room, self.since, at)
 
     def _send(self, at: int, runs: list[Run]) -> None:
         """Sends the gathered requests."""
-        room, count = sum(run.room for run in runs), sum(run.left for run in runs)
+        room = count = 0
+        for run in runs:
+            room += run.room
+            count += run.left
         self.asked += count
         self.in_flight += count
         self.room += room
@@ -299,8 +298,9 @@ class Client(asyncio.BufferedProtocol):
         to come, but for a Read of so much that there is no memory for it."""
         if self.untaken > 0:
             self._measure(self.transport.get_write_buffer_size())
-        held = self._held()
-        room = min(REPLIES_OF_CLIENT - held, REPLIES_OF_ALL - self.exchange.bounds.replies)
+        held, room = self._held(), REPLIES_OF_ALL - self.exchange.bounds.replies
+        if room > REPLIES_OF_CLIENT - held:
+            return REPLIES_OF_CLIENT - held
         return max(room, READ_ROOM) if held == 0 else room
 
     def _held(self) -> int:
@@ -425,8 +425,10 @@ class Client(asyncio.BufferedProtocol):
             self._written += len(frames)
             self.transport.write(frames)
             self._measure(self.transport.get_write_buffer_size())
-            self._end_where_done()
-            self._catch_up()
+            if self._has_ended:
+                self._end_where_done()
+            if self.watches:
+                self._catch_up()
 
     def replies_held(self) -> int:
         """The bytes of replies that wait for the client, or for a checkpoint."""

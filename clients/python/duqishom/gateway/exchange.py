@@ -190,7 +190,8 @@ class Exchange:
     def note(self, client: Client, run: Run, reply: bytes) -> None:
         """Records the effects of a reply, before the client gets it."""
         self.keeper.note(client, run, reply)
-        self.watches.note(run, reply)
+        if self.watches.by_number:
+            self.watches.note(run, reply)
         self.things.note(run.passage, run.name, reply, client, self.upstream.sent)
         if reply == MEMTABLE_FULL and self.rules.has_admin and not client.is_admin:
             self.need_room.add(client)

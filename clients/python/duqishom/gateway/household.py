@@ -64,7 +64,7 @@ class Household:
     def take_turn(self) -> bool:
         if self._waiting:
             body, reply, then = self._waiting[0]
-            weight = self._table[body[0] if body else 0].weight_of(body)
+            weight, _ = self._table[body[0] if body else 0].costs_of(body, 0, len(body))
             self.needs_idle = weight > TURN_WEIGHT and self._upstream.weight > 0
             if not self.needs_idle:
                 self._waiting.popleft()
@@ -80,8 +80,8 @@ class Household:
         self._asked.append((reply, then))
         if passage.opens is not None:
             self._all.note_begin(passage.opens, self)
-        name = body[1:NAME_END]
-        self._upstream.send(frame(body), [Run(self, passage, name, 1, passage.weight_of(body), 0)])
+        weight, _ = passage.costs_of(body, 0, len(body))
+        self._upstream.send(frame(body), [Run(self, passage, body[1:NAME_END], 1, weight, 0)])
 
     def receive(self, run: Run, frames: bytes, count: int) -> None:
         self._all.note(run.passage, run.name, frames, self, self._upstream.sent)

@@ -57,9 +57,10 @@ class Keeper:
     def note(self, client: Client, run: Run, reply: bytes) -> None:
         """Records a reply, and holds the client's replies back from this one on if it shows a commit that isn't
         durable."""
-        self._see(reply)
-        if self._is_durable and self._shows(run, reply):
-            self.hold(client)
+        if self._is_durable or reply == CHECKPOINT_MADE:
+            self._see(reply)
+            if self._is_durable and self._shows(run, reply):
+                self.hold(client)
 
     def hold(self, client: Client) -> None:
         """Holds a client's replies back from now on, if answers are durable and there are commits that aren't."""

@@ -41,6 +41,9 @@ LONGEST_ROOM = 1_048_580
 CELLS_AT = 17
 CELL_ROOM = 65_541
 
+# Bytes with requests in them.
+Data = bytes | bytearray
+
 
 def frame(body: bytes) -> bytes:
     """A body in its frame."""
@@ -91,8 +94,9 @@ class Passage:
     """An operation as the gateway passes it on: its number, its weight, the maximum length of its reply, the kind of
     thing that it names or opens, the fields after that (the number of counted fields, the number of bytes 00 or 01, the
     numbers of counted fields after each option's byte 01, and the number of other bytes), the weight of each unit of
-    its last number, whether its reply is looked at, whether it is only for the administrator's socket, whether the
-    gateway may answer it, and whether it always refuses it."""
+    its last number, whether the session that it names or begins ends with each answer that is no refusal, whether its
+    reply is looked at, whether it is only for the administrator's socket, whether the gateway may answer it, and
+    whether it always refuses it."""
 
     code: int
     weight: int = 1
@@ -104,6 +108,7 @@ class Passage:
     options: tuple[int, ...] = ()
     tail: int = 0
     weight_each: int = 0
+    ends: bool = False
     is_noted: bool = False
     is_for_admin: bool = False
     is_judged: bool = False
@@ -119,21 +124,26 @@ class Passage:
             at = past_counted(body, at + 1, count * body[at]) if is_there else NOWHERE
         return len(body) == at + self.tail
 
-    def weight_of(self, body: bytes) -> int:
-        """The weight of a request with this body."""
-        if self.weight_each == 0 or len(body) < NAME_END + LENGTH.size:
-            return self.weight
-        count = int(LENGTH.unpack_from(body, len(body) - LENGTH.size)[0])
-        return 1 + self.weight_each * min(count, MOST_COUNT)
+    def of(self, data: Data, at: int, end: int) -> Passage:
+        """The passage of a request, by the offsets of its body: that of a Commit or a Read tells more."""
+        return self
+
+    def costs_of(self, data: Data, at: int, end: int) -> tuple[int, int]:
+        """The weight of a request, by the offsets of its body, and the maximum length of its reply."""
+        if self.weight_each == 0 or end - at < NAME_END + LENGTH.size:
+            return self.weight, self.room
+        count: int = LENGTH.unpack_from(data, end - LENGTH.size)[0]
+        return 1 + self.weight_each * min(count, MOST_COUNT), self.room
 
 
 @dataclass(frozen=True, slots=True)
 class OfCells(Passage):
     """A Commit or a Read: its fields are a start, which names a session or begins one, whether that stays open (of a
-    Read), and a list of cells, which in a Commit are followed by values. `ends` is whether its session ends with an
-    answer that is no refusal."""
+    Read), and a list of cells, which in a Commit are followed by values. `count_at` is the offset of their number in
+    the body, and `room_each` the maximum length of each one in the reply."""
 
-    ends: bool = True
+    count_at: int = NAME_END
+    room_each: int = 0
 
     def has_form(self, body: bytes) -> bool:
         """Whether a body has exactly the fields of this operation. Of a Read with a number of cells that is refused it
@@ -149,25 +159,19 @@ class OfCells(Passage):
             return 1 <= count <= MOST_CELLS and len(body) == past_counted(body, at, 2 * count)
         return len(body) == past_writes(body, at, count)
 
-    def weight_of(self, body: bytes) -> int:
-        """The weight of a request with this body, by its cells and its bytes."""
-        return 1 + self.weight_each * self._cells(body) + len(body) // SIZE_OF_WEIGHT
+    def of(self, data: Data, at: int, end: int) -> OfCells:
+        """The Commit or the Read of a body: whether it names a session or begins one, and whether that stays open."""
+        stays_open = self.code == READ and data.startswith(b"\1", at + NAME_END, end)
+        return OF_CELLS[self.code, data.startswith(NEW, at + 1, end), stays_open]
 
-    def room_of(self, body: bytes) -> int:
-        """The maximum length of the reply to a request with this body."""
-        return self.room if self.code == COMMIT else min(LONGEST_ROOM, self.room + CELL_ROOM * self._cells(body))
-
-    def _cells(self, body: bytes) -> int:
-        """The number of cells of a request with this body, as far as they count."""
-        at = NAME_END + (self.code == READ)
-        return min(int(LENGTH.unpack_from(body, at)[0]), MOST_CELLS) if len(body) >= at + LENGTH.size else 0
-
-
-def of_cells(passage: Passage, body: bytes) -> OfCells:
-    """The Commit or the Read with this body: whether it names a session or begins one, and whether that stays open."""
-    code, is_new = passage.code, body[1:NAME_END] == NEW
-    stays_open = code == READ and body[NAME_END : NAME_END + 1] == b"\1"
-    return OF_CELLS[code, is_new, stays_open]
+    def costs_of(self, data: Data, at: int, end: int) -> tuple[int, int]:
+        """The weight of a request, by its cells, as far as they count, and its bytes, and the maximum length of its
+        reply."""
+        count_at = at + self.count_at
+        count: int = LENGTH.unpack_from(data, count_at)[0] if end >= count_at + LENGTH.size else 0
+        cells = count if count < MOST_CELLS else MOST_CELLS
+        weight, room = 1 + self.weight_each * cells + (end - at) // SIZE_OF_WEIGHT, self.room + self.room_each * cells
+        return weight, room if room < LONGEST_ROOM else LONGEST_ROOM
 
 
 # The values of a boolean byte, and an offset behind the end of any body.
@@ -230,6 +234,8 @@ OF_CELLS = {
         is_noted=True,
         is_judged=True,
         ends=not stays_open,
+        count_at=NAME_END + (code == READ),
+        room_each=0 if code == COMMIT else CELL_ROOM,
     )
     for code in (COMMIT, READ)
     for is_new in (False, True)

@@ -41,16 +41,20 @@ class Shares:
         the user that has most, which must have at least two more; the administrator takes one from any user. Cleaners
         and collectors can't be taken, so a user gets one more only if it has fewer than are left.
         """
-        is_admin = user is self.administrator
-        left, has = self._most[kind] - self._totals[kind], user.counts[kind]
-        if not is_admin:
-            left -= self._kept[kind]
-            if 0 < self._of_user[kind] <= has:
-                return False
-        if kind in (Kind.CLEANER, Kind.COLLECTOR):
-            return left > (0 if is_admin else has)
-        if left > 0:
+        if self.has_left(user, kind):
             return True
+        is_admin, has = user is self.administrator, user.counts[kind]
+        if kind in (Kind.CLEANER, Kind.COLLECTOR) or (not is_admin and 0 < self._of_user[kind] <= has):
+            return False
         richest = max(self.users.values(), key=lambda each: each.counts[kind], default=None)
         least = 1 if is_admin else has + 2
         return richest is not None and richest.counts[kind] >= least and self._take(kind, richest)
+
+    def has_left(self, user: User, kind: int) -> bool:
+        """Whether a user may have one more of a kind that needn't be taken from another user."""
+        left, has = self._most[kind] - self._totals[kind], user.counts[kind]
+        if user is self.administrator:
+            return left > 0
+        if 0 < self._of_user[kind] <= has:
+            return False
+        return left - self._kept[kind] > (has if kind in (Kind.CLEANER, Kind.COLLECTOR) else 0)

@@ -6,7 +6,7 @@ from time import monotonic
 from typing import Protocol
 
 from duqishom.gateway.bounds import CELL_SIZE, WRITTEN_OF_ALL
-from duqishom.gateway.passages import HEAD, NAME, PLACES, STEP, STOP, Kind, OfCells, Passage
+from duqishom.gateway.passages import HEAD, NAME, PLACES, STEP, STOP, Kind, Passage
 from duqishom.gateway.users import User
 
 # The offsets in a reply's frame of the body's first byte, of its tag or refusal, and of the fields after that.
@@ -77,7 +77,8 @@ class Things:
         """Records a reply's news of a thing: that it has opened, continues, or has ended. The program has got `sent`
         requests so far."""
         if passage.opens is not None:
-            self._note_opening(passage.opens, None if has_ended_at_once(passage) else opened(passage.opens, reply), asker, sent)
+            if not passage.ends:
+                self._note_opening(passage.opens, opened(passage.opens, reply), asker, sent)
         elif passage.names is not None:
             thing = self.by_name[passage.names].get(name)
             if thing is not None and self._has_ended(thing, passage, reply):
@@ -120,18 +121,13 @@ class Things:
             return reply[TAG] != DECIDED
         if thing.kind == Kind.COLLECTOR:
             return reply[TAG] == COLLECTED
-        return passage.code == STOP or has_ended_at_once(passage) or (passage.code == STEP and has_ended_by_step(thing, reply))
+        return passage.code == STOP or passage.ends or (passage.code == STEP and has_ended_by_step(thing, reply))
 
 
 def size_of(cell: tuple[bytes, bytes]) -> int:
     """The size of a recorded cell."""
     row, family = cell
     return len(row) + len(family) + CELL_SIZE
-
-
-def has_ended_at_once(passage: Passage) -> bool:
-    """Whether the session of a request ends with each answer that is no refusal."""
-    return isinstance(passage, OfCells) and passage.ends
 
 
 def opened(kind: Kind, reply: bytes) -> bytes | None:

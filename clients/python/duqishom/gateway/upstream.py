@@ -35,13 +35,21 @@ class Asker(Protocol):
 class Run:
     """Consecutive requests of one asker for one operation, whose replies go back in one piece: the number of requests
     without a reply yet, their total weight, the maximum total length of their replies, and when they came, if they are
-    a client's. A request whose reply is looked at is a run of its own, with the name in it, and with its body if it is a
-    Commit."""
+    a client's. A request whose reply is looked at is a run of its own, with the name in it, and its frame begins at `at`
+    in the `frames` that were sent together."""
 
-    __slots__ = ("asker", "passage", "name", "left", "weight", "room", "since", "body")
+    __slots__ = ("asker", "passage", "name", "left", "weight", "room", "since", "at", "frames")
 
     def __init__(
-        self, asker: Asker, passage: Passage, name: bytes, left: int, weight: int, room: int, since: float = 0.0
+        self,
+        asker: Asker,
+        passage: Passage,
+        name: bytes,
+        left: int,
+        weight: int,
+        room: int,
+        since: float = 0.0,
+        at: int = 0,
     ) -> None:
         self.asker = asker
         self.passage = passage
@@ -50,13 +58,19 @@ class Run:
         self.weight = weight
         self.room = room
         self.since = since
-        self.body = b""
+        self.at = at
+        self.frames = b""
 
     def add(self) -> None:
         """Adds one more request."""
         self.left += 1
         self.weight += self.passage.weight
         self.room += self.passage.room
+
+    def body(self) -> bytes:
+        """The body of the request that is a run of its own."""
+        length: int = LENGTH.unpack_from(self.frames, self.at)[0]
+        return self.frames[self.at + HEAD : self.at + HEAD + length]
 
 
 class Upstream(asyncio.SubprocessProtocol):
@@ -100,8 +114,10 @@ class Upstream(asyncio.SubprocessProtocol):
         """Takes frames to be written with the next flush, and their runs."""
         self._gathered.append(frames)
         self.runs.extend(runs)
-        self.weight += sum(run.weight for run in runs)
-        self.sent += sum(run.left for run in runs)
+        for run in runs:
+            run.frames = frames
+            self.weight += run.weight
+            self.sent += run.left
 
     def flush(self) -> None:
         """Writes the gathered frames, in one piece."""

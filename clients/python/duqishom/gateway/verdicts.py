@@ -52,6 +52,8 @@ def verdict_on(client: Client, passage: Passage, at: int, end: int) -> bytes | N
             exchange.watches.note_write(thing, passage, client.body(at, end))
         return None
     if passage.opens is not None:
+        if has_left(client, passage.opens):
+            return None
         return TOO_MANY if passage.has_form(client.body(at, end)) and not may_open(client, passage.opens) else None
     if passage.is_for_admin and exchange.rules.has_admin and not client.is_admin:
         return BAD_REQUEST
@@ -97,6 +99,12 @@ def named(client: Client, kind: Kind, at: int) -> Thing | None:
         return None
     thing.asked = exchange.upstream.sent
     return thing
+
+
+def has_left(client: Client, kind: Kind) -> bool:
+    """Whether a client may open one more thing of a kind, and none has to be taken from another user."""
+    exchange = client.exchange
+    return client.counts[kind] < exchange.bounds.open[kind] and exchange.shares.has_left(client.user, kind)
 
 
 def may_open(client: Client, kind: Kind) -> bool:

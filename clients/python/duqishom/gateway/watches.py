@@ -13,6 +13,7 @@ from duqishom.gateway.passages import (
     BAD_COLUMN,
     BAD_REQUEST,
     BAD_ROW,
+    COMMIT,
     NAME_END,
     TOO_MANY,
     WATCH,
@@ -108,16 +109,17 @@ class Watches:
 
     def note(self, run: Run, reply: bytes) -> None:
         """Tells of a commit, by the reply to a Step or a Commit, before its session is closed here."""
-        stamp = stamp_of_commit(reply) if self.by_number else None
+        stamp = stamp_of_commit(reply)
         if stamp is None:
             return
         session = self._things.by_name[Kind.SESSION].get(run.name)
         before = {} if session is None else session.written
         cells: dict[Watch, list[Cell]] = {}
-        for cell in {**(before or {}), **dict.fromkeys(cells_of(run.body))}:
+        with_it: Iterable[Cell] = cells_of(run.body()) if run.passage.code == COMMIT else ()
+        for cell in {**(before or {}), **dict.fromkeys(with_it)}:
             for watch in self._watching(cell):
                 cells.setdefault(watch, []).append(cell)
-        for watch in self._unsure(session) if run.passage.opens is None else ():
+        for watch in self._unsure(session) if run.passage.names is not None else ():
             cells.pop(watch, None)
             self._tell_unnamed(watch)
         for watch, written in cells.items():
@@ -168,9 +170,9 @@ class Watches:
 
 
 def cells_of(commit: bytes) -> Iterator[Cell]:
-    """The cells of the writes in the body of a Commit, which the program has taken, or none of an empty body."""
+    """The cells of the writes in the body of a Commit, which the program has taken."""
     fields = FieldReader(commit[NAME_END:])
-    for _ in range(fields.number(4) if commit else 0):
+    for _ in range(fields.number(4)):
         yield fields.counted(), fields.counted()
         if fields.number(1):
             fields.counted()

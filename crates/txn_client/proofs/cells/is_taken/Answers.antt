@@ -51,8 +51,8 @@ returns-in_err-is_locked g c =
     let by = c.from_residual.ensures.1 in
     let at = c.in_err-is_locked.ensures in
     record {
-      taken = λ held. passed_none r e _ by;
-      free = λ held. passed_none r e _ by;
+      taken = λ readable. passed_none r e _ by;
+      free = λ readable. passed_none r e _ by;
       reads = at.reads;
       refusal = passed_err r e _ by at.refusal;
       reason = reason_passed r e _ _ by at.reason;
@@ -60,10 +60,10 @@ returns-in_err-is_locked g c =
 
 pub returns-then-is_locked : goal.returns-then-is_locked
 returns-then-is_locked g c = record {
-  taken = λ held.
-      let lock = there (g.R.Rows.seen.cells c.args.rows.now) _ 0 _ c.in_ok-is_locked.is_locked c.if-is_locked.true (c.in_ok-is_locked.ensures.found (g.R.Rows.seen.each_readable c.args.rows.now held c.args.cell.now.row)) in
+  taken = λ readable.
+      let lock = there (g.R.Rows.seen.cells c.args.rows.now) _ 0 _ c.in_ok-is_locked.is_locked c.if-is_locked.true (c.in_ok-is_locked.ensures.found readable) in
       inl (lock.0, lock.2);
-  free = λ held. tt;
+  free = λ readable. tt;
   reads = c.in_ok-is_locked.ensures.reads;
   refusal = tt;
   reason = reason_kept _ _ _ _ (not_refused _ _) c.in_ok-is_locked.ensures.reason;
@@ -76,10 +76,10 @@ returns g c =
     let later = c.has_version-2.ensures in
     let r = c.has_version-2.result in
     record {
-      taken = λ held. if_ok r (later.found (first.reads.readable c.args.cell.now.row (g.R.Rows.seen.each_readable c.args.rows.now held c.args.cell.now.row))) (λ has h. on_true has (λ some.
+      taken = λ readable. if_ok r (later.found (first.reads.readable c.args.cell.now.row readable)) (λ has h. on_true has (λ some.
           inr (subst (λ (cells : Cells). (s : ℕ) × (c.args.start ≤ s) × IsThere cells c.args.cell.now Write s) first.reads.kept (there cells _ c.args.start _ has some h))));
-      free = λ held. if_ok r (later.found (first.reads.readable c.args.cell.now.row (g.R.Rows.seen.each_readable c.args.rows.now held c.args.cell.now.row))) (λ has h. on_false has (λ none. (
-        nothing (g.R.Rows.seen.cells c.args.rows.now) _ 0 _ c.in_ok-is_locked.is_locked c.if-is_locked.false (first.found (g.R.Rows.seen.each_readable c.args.rows.now held c.args.cell.now.row)),
+      free = λ readable. if_ok r (later.found (first.reads.readable c.args.cell.now.row readable)) (λ has h. on_false has (λ none. (
+        nothing (g.R.Rows.seen.cells c.args.rows.now) _ 0 _ c.in_ok-is_locked.is_locked c.if-is_locked.false (first.found readable),
         λ s lo hi. ap (λ (cs : Cells). get cs (key_of c.args.cell.now Write s)) (sym first.reads.kept) ∙ nothing cells _ c.args.start _ has none h s lo hi,
       )));
       reads = reads_then first.reads later.reads;

@@ -9,13 +9,13 @@ pub returns-clause-puts : goal.returns-clause-puts
 returns-clause-puts g c =
     let rows = c.args.rows.now in
     let changes = c.in_ok-changes.changes.items in
-    let all = map write_of c.args.writes.now in
+    let all = map write_of c.args.writes.items in
     let stamp = c.stamp.ensures.stamp in
     record {
       changes = changes;
       puts = subst (λ (n : ℕ). ArePuttings c.args.start n all changes) (sym stamp) c.in_ok-changes.ensures.puttings;
-      applied = c.in_ok-apply_all.ensures.ok;
+      applied = c.in_ok-apply_changes.ensures.ok;
       made = λ held.
-          c.in_ok-apply_all.ensures.ok.made (each_row (g.R.Rows.seen.readable rows) (λ row. g.R.Rows.seen.each_readable rows held row) changes)
+          c.in_ok-apply_changes.ensures.ok.made (each_row (g.R.Rows.seen.readable rows) (λ row. g.R.Rows.seen.each_readable rows held row) changes)
           ∙ (c.in_ok-changes.ensures.made (g.R.Rows.seen.cells rows) ∙ ap (λ (n : ℕ). all_put_cells (g.R.Rows.seen.cells rows) all c.args.start n) (sym stamp));
     }

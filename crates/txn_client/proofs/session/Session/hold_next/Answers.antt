@@ -65,7 +65,7 @@ returns-then-branch g c =
     record {
       step = λ held last.
           advance_conflict (g.R.Rows.seen.cells c.args.rows.now) c.args.self.now last c.args.k write c.requires c.in-Some.ensures.found
-          (subst (λ (n : ℕ). IsTaken (g.R.Rows.seen.cells c.args.rows.now) write.cell n) c.stamp-start.ensures.stamp (rw c.if-branch.true at (at.taken held))) (g.R.Rows.seen.cells c.is_taken.new.rows) at.reads.kept;
+          (subst (λ (n : ℕ). IsTaken (g.R.Rows.seen.cells c.args.rows.now) write.cell n) c.stamp-start.ensures.stamp (rw c.if-branch.true at (at.taken (g.R.Rows.seen.each_readable c.args.rows.now held write.cell.row)))) (g.R.Rows.seen.cells c.is_taken.new.rows) at.reads.kept;
       draws = λ last. (tt, refl);
       start = refl;
       writes = refl;
@@ -106,7 +106,7 @@ returns-in_err-hold g c =
               c.in-Some-get.first.now,
               c.in-Some.ensures.found,
               c.in-Some-get.ensures.found,
-              (λ held. subst (λ (n : ℕ). IsFree cells write.cell n) c.stamp-start.ensures.stamp (rw c.if-branch.false at (first.free held))),
+              (λ held. subst (λ (n : ℕ). IsFree cells write.cell n) c.stamp-start.ensures.stamp (rw c.if-branch.false at (first.free (g.R.Rows.seen.each_readable c.args.rows.now held write.cell.row)))),
               lack.2,
             ),
             first.reads.room _ _ lack.3,
@@ -125,7 +125,7 @@ returns g c =
     record {
       step = λ held last.
           advance_held cells c.args.self.now last c.args.k c.len.result write head c.requires c.in-Some.ensures.found c.in-Some-get.ensures.found
-          (subst (λ (n : ℕ). IsFree cells write.cell n) c.stamp-start.ensures.stamp (rw c.if-branch.false at (first.free held)))
+          (subst (λ (n : ℕ). IsFree cells write.cell n) c.stamp-start.ensures.stamp (rw c.if-branch.false at (first.free (g.R.Rows.seen.each_readable c.args.rows.now held write.cell.row))))
           c.len.ensures.len (g.R.Rows.seen.cells c.hold.new.rows)
           (made.applied.made (first.reads.readable made.row (g.R.Rows.seen.each_readable c.args.rows.now held made.row)) ∙ (ap (λ (cs : Cells). after_edits cs made.edits) first.reads.kept ∙ holding_makes cells write.cell head.cell start write.value made.edits made.such.1));
       draws = λ last. (tt, refl);
@@ -137,7 +137,7 @@ returns g c =
         head,
         c.in-Some.ensures.found,
         c.in-Some-get.ensures.found,
-        (λ held. subst (λ (n : ℕ). IsFree cells write.cell n) c.stamp-start.ensures.stamp (rw c.if-branch.false at (first.free held))),
+        (λ held. subst (λ (n : ℕ). IsFree cells write.cell n) c.stamp-start.ensures.stamp (rw c.if-branch.false at (first.free (g.R.Rows.seen.each_readable c.args.rows.now held write.cell.row)))),
         such,
       )) (such_after first.reads made);
       same = tt;
