@@ -104,7 +104,7 @@ module _ {M : Type 0} (names : NamesRoots) where
   covers_last mark records stamp top body small low = covers_low mark (records ++ spelled_record kind.Edits stamp body ∷ []) top stamp low (inr (names.reached records kind.Edits stamp body (omega (arith, small))))
 
 module _ {S L : Type 0} (view : View S) (device : Log L) (laws : LogsEdits) (names : NamesRoots) where
-  -- the records after the view.waiting edits were appended
+  -- the records after the waiting edits were appended
   pub record Gained (old : S) (stamp : ℕ) (records : List (List ℕ)) : Type 0 where
     pub edits : List Edit
     pub held : HoldEdits (records ++ spelled_record kind.Edits stamp (view.waiting old) ∷ []) edits
@@ -138,7 +138,7 @@ module _ {S M L : Type 0} (view : View S) (device : Log L) (laws : LogsEdits) (n
   abbrev Stays : DurableServer S M L → DurableServer S M L → Type 0
   Stays old new = StaysStored view old.server new.server × (old.marks.stored ≤ new.marks.stored)
 
-  -- a state lasts if the log device.holds records of the same edits, over the same root
+  -- a state lasts if the log holds records of the same edits, over the same root
   lasts_with : (old new : DurableServer S M L) (st : State) → Stays old new → (lasts : Lasting old st) → (records : List (List ℕ)) → device.holds new.log records → IsOver records lasts.kept.root → AreUpTo most_stamp records
       → CoversStamp new.marks records st.top → HoldEdits records lasts.kept.edits → (new.is_stopped ≡ true) ⊎ (flat_map edit_bytes records ≡ view.logged new.server) → Lasting new st
   lasts_with old new st stays lasts records in_log over up_to covers held bytes = record {
@@ -160,7 +160,7 @@ module _ {S M L : Type 0} (view : View S) (device : Log L) (laws : LogsEdits) (n
     };
   }
 
-  -- a state lasts as long as the log device.holds its records
+  -- a state lasts as long as the log holds its records
   pub lasts_on : (old new : DurableServer S M L) (st : State) → Stays old new → (lasts : Lasting old st) → device.holds new.log lasts.kept.records
       → (new.is_stopped ≡ true) ⊎ (flat_map edit_bytes lasts.kept.records ≡ view.logged new.server) → Lasting new st
   lasts_on old new st stays lasts in_log bytes = lasts_with old new st stays lasts lasts.kept.records in_log lasts.kept.over lasts.kept.stamps
@@ -176,7 +176,7 @@ module _ {S M L : Type 0} (view : View S) (device : Log L) (laws : LogsEdits) (n
       (laws.any lasts.kept.records lasts.kept.edits lasts.kept.held)
       (elim bytes [ inl stopped ↦ inl stopped | inr is ↦ inr (any_adds_none lasts.kept.records ∙ is) ])
 
-  -- a state that is shown lasts if the log device.holds all edits of the journal, and its stamps are covered
+  -- a state that is shown lasts if the log holds all edits of the journal, and its stamps are covered
   pub shown_lasts : (old : S) (new : DurableServer S M L) (root : RootView) (st : State) → Follows view old root st → StaysStored view old new.server → root.top ≤ new.marks.stored → (records : List (List ℕ)) → device.holds new.log records → IsOver records root → AreUpTo most_stamp records
       → CoversStamp new.marks records (view.last old) → (edits : List Edit) → HoldEdits records edits
       → AllByRecursion IsStoredEdit edits → HasRoomFor empty_journal edits → flat_map edit_bytes records ≡ view.logged old ++ view.waiting old → (new.is_stopped ≡ true) ⊎ (flat_map edit_bytes records ≡ view.logged new.server) → Lasting new st
@@ -202,7 +202,7 @@ module _ {S M L : Type 0} (view : View S) (device : Log L) (laws : LogsEdits) (n
         };
       }
 
-  -- a new root's state lasts if the log device.holds the root's name alone
+  -- a new root's state lasts if the log holds the root's name alone
   pub emptied_lasts : (old : S) (new : DurableServer S M L) (root : RootView) (st : State) → (put : HasNewRoot view root old st) → StaysStored view old new.server → root.top ≤ new.marks.stored → new.marks.stored ≤ most_stamp → view.last old ≤ new.marks.stored
       → device.holds new.log (named root ∷ []) → (new.is_stopped ≡ true) ⊎ ([] ≡ view.logged new.server) → Lasting new st
   emptied_lasts old new root st put stays low limit covered is bytes = record {
@@ -241,7 +241,7 @@ module _ {S M L : Type 0} (view : View S) (device : Log L) (laws : LogsEdits) (n
     bytes = sym none;
   }
 
-  -- the log still agrees with a server that counts the same edits as view.logged
+  -- the log still agrees with a server that counts the same edits as logged
   pub holds_on : (mid : DurableServer S M L) (next : S) (root : RootView) → HoldsLogged view device mid root → view.logged next ≡ view.logged mid.server → HoldsLogged view device (record mid { server = next }) root
   holds_on mid next root h same = record { records = h.records; in_log = h.in_log; over = h.over; stamps = h.stamps; low = h.low; limit = h.limit; covered = h.covered; edits = h.edits; held = h.held; stored = h.stored; room = h.room; bytes = h.bytes ∙ sym same }
 
@@ -263,7 +263,7 @@ module _ {S M L : Type 0} (view : View S) (device : Log L) (laws : LogsEdits) (n
     bytes = any_adds_none h.records ∙ h.bytes ∙ sym same;
   }
 
-  -- what is shown lasts while the log has all edits and covers the view.last stamp
+  -- what is shown lasts while the log has all edits and covers the last stamp
   pub root_lasts : (new : DurableServer S M L) (root : RootView) (now : State) → Follows view new.server root now → HoldsLogged view device new root → view.waiting new.server ≡ [] → view.last new.server ≤ new.marks.covered → Lasting new now
   root_lasts new root now f h none covered =
       shown_lasts new.server new root now f (λ other base places is. is) h.low h.records h.in_log h.over h.stamps (covers_low names new.marks h.records (view.last new.server) new.marks.covered covered h.covered) h.edits h.held h.stored h.room (none_waits h.records (view.logged new.server) (view.waiting new.server) none h.bytes) (inr h.bytes)
@@ -276,7 +276,7 @@ module _ {S M L : Type 0} (view : View S) (device : Log L) (laws : LogsEdits) (n
   logs_on old next stays same (inl stopped) = inl stopped
   logs_on old next stays same (inr h) = inr (h.0, stays.rooted h.0 h.1, holds_on old next h.0 h.2 same)
 
-  -- a log that device.holds the same, of the same server
+  -- a log that holds the same, of the same server
   pub held_still : (old : DurableServer S M L) (log : L) (root : RootView) → Keeps (device.holds old.log) (device.holds log) → HoldsLogged view device old root → HoldsLogged view device (record old { log = log }) root
   held_still old log root keeps h = record { records = h.records; in_log = keeps h.records h.in_log; over = h.over; stamps = h.stamps; low = h.low; limit = h.limit; covered = h.covered; edits = h.edits; held = h.held; stored = h.stored; room = h.room; bytes = h.bytes }
 
@@ -286,7 +286,7 @@ module _ {S M L : Type 0} (view : View S) (device : Log L) (laws : LogsEdits) (n
     elim logs [ inl stopped ↦ inl stopped | inr h ↦ inr (h.0, h.1, held_still old log h.0 keeps h.2) ],
   )
 
-  -- the same server with other counts, over a log that device.holds the same records
+  -- the same server with other counts, over a log that holds the same records
   pub recounted : (old new : DurableServer S M L) → new.server ≡ old.server → new.marks ≡ old.marks → ((records : List (List ℕ)) → device.holds old.log records → device.holds new.log records) → new.is_stopped ≡ old.is_stopped → (shows : S → State → Type 0) → Settles (shown_by shows) Lasting (Logs view device) old new
   recounted old new server marks log stop shows = record {
     shown = λ st s. subst (λ (x : S). shows x st) (sym server) s;
