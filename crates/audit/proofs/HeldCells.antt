@@ -1,12 +1,10 @@
 -- The map of marks: its members, a mark that is put in, and one that is removed.
-use Rattle.std.proofs.Common.{◌≡◌, ◌≢◌, ◌↔◌, ◌⊎◌, inl, inr, ℕ, ◌<◌, Bool, true, false, not, cond, List, [], ◌∷◌, map, Option, Some, None, refl, sym, ap, subst, ◌∙◌, is_eq, Ordering, Equal}
-use Rattle.std.specs.Prelude.{is_some, slice_get}
+use Rattle.std.proofs.Common.{◌≡◌, ◌≢◌, ◌↔◌, inl, inr, ℕ, Bool, true, false, not, cond, List, [], ◌∷◌, map, Option, Some, None, refl, sym, ap, subst, ◌∙◌, is_eq}
 use Rattle.std.specs.BTreeMap as btree
 use Rattle.std.specs.BTreeMap.{is_at}
 use Rattle.std.specs.BTreeMap.Range.{entries_between, range_contains}
 use Rattle.std.specs.declared.ops.Bound.{Bound}
 use Rattle.std.specs.List.{AllByRecursion, filter}
-use Rattle.std.proofs.lemmas.Bool.{true≢false}
 use Rattle.std.proofs.lemmas.Cmp.{tied_itself}
 use Rattle.std.specs.Map.{lookup}
 use Rattle.std.proofs.lemmas.Map.Entries.{btree_map_get_place, lookup-filter-keys, place_from_lookup}
@@ -22,7 +20,7 @@ use Rattle.audit.specs.Histories.{name_cmp}
 use Rattle.audit.specs.Audits.{SameMembers}
 use Rattle.audit.specs.Marks.{Holders, mark_of}
 use Rattle.audit.specs.Spans.{Name, Spans, name_of}
-use Rattle.audit.proofs.JudgedScans.{all_at, all_of}
+use Rattle.audit.proofs.JudgedScans.{all_of}
 use Rattle.audit.proofs.Searches.{member_at, place_of_map, place_of_member}
 use Rattle.audit.proofs.SpannedCells.{all_kept, name_total}
 use Rattle.audit.proofs.VersionMaps.{cases_cell, exact_names, is_equal}

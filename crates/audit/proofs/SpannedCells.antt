@@ -22,12 +22,12 @@ use Rattle.si_model.specs.declared.replies.Cell.{Cell}
 use Rattle.si_model.specs.declared.scans.ScanItem.{ScanItem}
 use Rattle.audit.specs.Audits.{commit_of}
 use Rattle.audit.specs.AuditScans.{AreSoUnnamed, IsSoUnnamed}
-use Rattle.audit.specs.Histories.{AreHistories, Histories, IsVersion, name_cmp, versions_at, versions_of}
+use Rattle.audit.specs.Histories.{AreHistories, Histories, IsVersion, name_cmp, versions_of}
 use Rattle.audit.specs.Spans.{BeginsBefore, EndsBehind, Name, Spans, after, name_of, up_to}
 use Rattle.audit.specs.declared.audit.parts.Commit.{Commit}
 use Rattle.audit.specs.declared.audit.parts.Version.{Version}
 use Rattle.audit.specs.declared.audit.parts.Write.{Write}
-use Rattle.audit.proofs.JudgedScans.{all_at, all_of, each_unnamed}
+use Rattle.audit.proofs.JudgedScans.{all_of, each_unnamed}
 use Rattle.audit.proofs.VersionMaps.{exact_names, is_equal}
 
 -- ---- the order of names

@@ -81,9 +81,9 @@ pub data ComesTo (st : State) : ℕ → Writes → State → Request → Type 0 
   to_write : {start s : ℕ} {before : Writes} {mid far : State} {ws : Writes} (x : Cell)
       (v : Change) (after : Writes) → ws ≡ before ++ (x, v) ∷ after → Opens st start s mid
       → Buffers s mid before far → ComesTo st start ws far (request_of s x v)
-  to_step : {start s : ℕ} {ws : Writes} {ps : List Progress} {mid written far : State}
-      → Opens st start s mid → Buffers s mid ws written → Advances s written ps far
-      → ((c : ℕ) → ¬ (progress.Committed c ∈ ps)) → ComesTo st start ws far (Advance s)
+  -- its first step: a later one is refused only by the store
+  to_step : {start s : ℕ} {ws : Writes} {mid written : State} → Opens st start s mid
+      → Buffers s mid ws written → ComesTo st start ws written (Advance s)
 
 -- The answers of a transaction in st, and the states to which they lead: what Begin, Sets and Deletes, and all steps
 -- in a row may do.

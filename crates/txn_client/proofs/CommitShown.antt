@@ -277,7 +277,7 @@ module _ (cells cells' : Cells) (clients : Clients) (last last' start : ℕ) (as
     pub empty_at : cells' ≡ cells → last ≤ last' → TakesAll (map write_of before) asked [] → Answers (Said (Refused EmptyCommit)) clients
     empty_at same le is_taken st reached shown =
         let far = take_all cells s asked (mid st reached shown) (map write_of before) [] (o st reached shown) (on st reached shown).wrote is_taken in
-        (st, transacts (refuses (to_step (on st reached shown).opens far.1 rests (λ c i. elim i [ ])) (advance_empty_first Open far.2.opened.active far.2.wrote)), kept st same le shown)
+        (st, transacts (refuses (to_step (on st reached shown).opens far.1) (advance_empty_first Open far.2.opened.active far.2.wrote)), kept st same le shown)
 
     module _ (ws : List Write) (is_taken : TakesAll (map write_of before) asked (map write_of ws)) where
       pub conflict_at : cells' ≡ cells → (clients' : Clients) (now place : ℕ) → EndsAt clients clients' start now → (start ≢ 0 → now ≡ clients.top) → (start ≡ 0 → now ≡ last + 1) → (start ≢ 0 → last' ≡ last) → (start ≡ 0 → last' ≡ last + 1)

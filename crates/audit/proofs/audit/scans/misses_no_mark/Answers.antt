@@ -1,11 +1,8 @@
 use Rattle.std.proofs.Common.{◌≡◌, ◌↔◌, ℕ, true, List, refl, subst}
-use Rattle.std.specs.BTreeMap.Range.{entries_between}
 use Rattle.std.specs.List.{AllByRecursion}
 use Rattle.si_model.specs.Replies.{range_of, reach_of}
 use Rattle.si_model.specs.declared.replies.Cell.{Cell}
 use Rattle.audit.specs.AuditScans.{IsMissedMark}
-use Rattle.audit.specs.Histories.{name_cmp}
-use Rattle.audit.specs.Marks.{mark_of}
 use Rattle.audit.proofs.HeldCells.{all_marks, marks_between, marks_uncovered}
 use Rattle.audit.proofs.audit.scans.misses_no_mark.Goals as goal
 

@@ -1,0 +1,9 @@
+use Rattle.std.proofs.Common.{map, take}
+use Rattle.si_model.specs.Answers.{write_named}
+use Rattle.audit.specs.Audits.{write_of}
+use Rattle.audit.specs.Takings.{TakesAll}
+use Rattle.audit.proofs.audit.takings.take_all.Given as goal
+
+-- the writes so far are taken
+abbrev pub invariant-loop-write : goal.invariant-loop-write
+invariant-loop-write l = TakesAll (map write_of l.initial.taken.items) (map write_named (take l.write-index l.asked)) (map write_of l.taken.items)
