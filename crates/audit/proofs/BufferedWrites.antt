@@ -12,7 +12,7 @@ use Rattle.si_model.specs.declared.replies.Cell.{Cell}
 use Rattle.si_model.proofs.Acceptable.{set_ok, delete_ok}
 use Rattle.si_model.proofs.FirstRefusals.{set_row_first, set_family_first, set_long_first, set_full_first, delete_row_first, delete_family_first, delete_full_first}
 use Rattle.si_model.proofs.Tools.{get_same, get_other, same_entry}
-use Rattle.audit.specs.Takings.{IsWriteRefusal, TakesAll, TakesWrite}
+use Rattle.si_model.specs.Takings.{IsWriteRefusal, TakesAll, TakesWrite}
 use Rattle.audit.proofs.JudgedRefusals.{only_first}
 
 -- ---- the outcome of taking writes

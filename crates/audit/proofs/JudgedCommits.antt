@@ -29,7 +29,7 @@ use Rattle.audit.specs.Audits.{Keeps, KeepsReached, SameMembers, commit_of, phas
 use Rattle.audit.specs.AuditOperations.{AreFree, ClashesAt, HasBefore, MayOpen, OpensLeast, RefusesOnly}
 use Rattle.audit.specs.AuditRefusals.{RefusesFirst, RefusesUnlessOpen}
 use Rattle.audit.specs.AuditSteps.{ClashesSo}
-use Rattle.audit.specs.Takings.{IsRefusedWrite, TakesAll}
+use Rattle.si_model.specs.Takings.{IsRefusedWrite, TakesAll}
 use Rattle.audit.specs.declared.audit.Audit.{Audit}
 use Rattle.audit.specs.declared.audit.parts.Commit.{Commit as Kept}
 use Rattle.audit.specs.declared.audit.parts.Phase.{Phase}

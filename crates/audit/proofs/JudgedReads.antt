@@ -27,7 +27,7 @@ use Rattle.audit.specs.Audits.{Keeps, KeepsReached, SameMembers, commit_of}
 use Rattle.audit.specs.AuditOperations.{MayOpen, MayRead, MayTell, MayTellAll, RefusesFirstName, RefusesOnly}
 use Rattle.audit.specs.AuditRefusals.{RefusesFirst, RefusesName, RefusesUnlessOpen}
 use Rattle.audit.specs.AuditScans.{seen}
-use Rattle.audit.specs.Takings.{IsNamed}
+use Rattle.si_model.specs.Takings.{IsNamed}
 use Rattle.audit.specs.declared.audit.Audit.{Audit}
 use Rattle.audit.specs.declared.audit.parts.Phase.{Phase}
 use Rattle.audit.proofs.JudgedCommits.{late_phase}

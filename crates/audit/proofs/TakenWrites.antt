@@ -14,7 +14,7 @@ use Rattle.audit.specs.AuditOperations.{HasBefore}
 use Rattle.audit.specs.Audits.{write_of}
 use Rattle.audit.specs.declared.audit.Audit.{Audit}
 use Rattle.audit.specs.declared.audit.parts.Write.{Write}
-use Rattle.audit.specs.Takings.{IsRefusedWrite, IsWriteRefusal, TakesAll, TakesWrite}
+use Rattle.si_model.specs.Takings.{IsRefusedWrite, IsWriteRefusal, TakesAll, TakesWrite}
 
 next_of : {X : Type 0} (xs : List X) (i : ℕ) (x : X) → slice_get xs i ≡ Some x → (take (suc i) xs ≡ take i xs ++ x ∷ []) × (xs ≡ take i xs ++ x ∷ drop (suc i) xs)
 next_of [] i x e = absurd (none-some x e)

@@ -21,7 +21,7 @@ use Rattle.audit.specs.Audits.{commit_of}
 use Rattle.audit.specs.AuditOperations.{HasUnsent, MayRead, MayTell, MayTellAll, RefusesFirstName}
 use Rattle.audit.specs.AuditRefusals.{RefusesName}
 use Rattle.audit.specs.AuditScans.{HasValue, seen}
-use Rattle.audit.specs.Takings.{IsNamed}
+use Rattle.si_model.specs.Takings.{IsNamed}
 use Rattle.audit.specs.declared.audit.Audit.{Audit}
 
 -- ---- names

@@ -12,7 +12,7 @@ use Rattle.audit.specs.AuditRefusals.{RefusesName}
 use Rattle.audit.specs.AuditScans.{seen}
 use Rattle.audit.specs.AuditSteps.{ClashesSo, HasWrites}
 use Rattle.audit.specs.Audits.{KeepsReached, commit_of, writes_of}
-use Rattle.audit.specs.Takings.{IsNamed}
+use Rattle.si_model.specs.Takings.{IsNamed}
 use Rattle.audit.specs.declared.audit.Audit.{Audit}
 use Rattle.audit.specs.declared.audit.parts.Commit.{Commit as Kept}
 use Rattle.audit.specs.declared.audit.parts.Phase.TheVariants as phase

@@ -21,3 +21,4 @@ pub mod PutCells
 pub mod Transactions
 pub mod TransactionLaws
 pub mod Answers
+pub mod Takings

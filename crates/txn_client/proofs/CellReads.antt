@@ -13,7 +13,7 @@ use Rattle.si_model.specs.declared.replies.Cell.{Cell}
 use Rattle.si_model.specs.declared.scans.ScanFound.{ScanFound}
 use Rattle.si_model.specs.declared.transactions.CellName.{CellName}
 use Rattle.txn_client.specs.CellReads.{AreRead, IsReadingRefusal, IsReadSo, IsRefusedAmong, IsShortAnswer, IsShortOf, said_in}
-use Rattle.txn_client.specs.Scans.{IsNamed}
+use Rattle.si_model.specs.Takings.{IsNamed}
 
 pub said_next : (old new : List (Option ScanFound)) (said : Option ScanFound) → new ≡ old ++ said ∷ [] → said_in new ≡ said_in old ++ option_map found_item said ∷ []
 said_next old new said is = ap said_in is ∙ map-append (λ (s : Option ScanFound). option_map found_item s) old (said ∷ [])

@@ -32,7 +32,8 @@ use Rattle.si_model.proofs.Tools.{get_same, get_other, get_removed, get_remains}
 use Rattle.txn_client.specs.Commits.{CommitsIn, EndsAt, IsCommitStamp, IsCopyRefusal}
 use Rattle.txn_client.specs.Reads.{IsFree}
 use Rattle.txn_client.specs.Shows.{phase_of, Shows, ShowsAt, ShowsClients, ShowsSession, writes_of}
-use Rattle.txn_client.specs.Takings.{AreFree, IsFirstTaken, IsRefusedWrite, IsWriteRefusal, TakesAll, TakesWrite}
+use Rattle.txn_client.specs.Takings.{AreFree, IsFirstTaken}
+use Rattle.si_model.specs.Takings.{IsRefusedWrite, IsWriteRefusal, TakesAll, TakesWrite}
 use Rattle.txn_client.specs.Transactions.{GoesAs, HasSession}
 use Rattle.txn_client.specs.Writes.{write_of}
 use Rattle.txn_client.specs.declared.session.Session.{Session}

@@ -10,7 +10,8 @@ use Rattle.si_model.specs.Machine.{Writes}
 use Rattle.si_model.specs.PutCells.{all_put_cells}
 use Rattle.txn_client.specs.Commits.{Commits, CommitsIn, HasNoRoomToCommit, HasNoRoomToPut, HasWrites, IsCommitStamp, IsTransaction, MeetsConflict, PutsWith}
 use Rattle.txn_client.specs.Puts.{ArePuttings}
-use Rattle.txn_client.specs.Takings.{AreFree, AreReadable, IsFirstTaken, TakesAll}
+use Rattle.txn_client.specs.Takings.{AreFree, AreReadable, IsFirstTaken}
+use Rattle.si_model.specs.Takings.{TakesAll}
 use Rattle.txn_client.specs.Writes.{write_of}
 use Rattle.txn_client.specs.declared.sessions.Clients.{Clients}
 use Rattle.txn_client.specs.declared.writes.Write.{Write}

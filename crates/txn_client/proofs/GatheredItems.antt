@@ -18,7 +18,8 @@ use Rattle.si_model.specs.declared.scans.ScanReply.{ScanReply}
 use Rattle.txn_client.specs.Gathering.{Gathers, HasCome, HasGathered, IsInLimits, IsNextIn, items_in, last_of}
 use Rattle.txn_client.specs.Ranges.{range_named}
 use Rattle.txn_client.specs.Reads.{IsFound}
-use Rattle.txn_client.specs.Scans.{DoesNotFit, IsLastCell, IsNamed, IsReadAs, IsScanFound}
+use Rattle.txn_client.specs.Scans.{DoesNotFit, IsLastCell, IsReadAs, IsScanFound}
+use Rattle.si_model.specs.Takings.{IsNamed}
 use Rattle.txn_client.specs.declared.scan.Batch.{Batch}
 use Rattle.txn_client.specs.declared.scan.Gathered.{Gathered}
 use Rattle.txn_client.specs.declared.scan.Scan.{Scan}

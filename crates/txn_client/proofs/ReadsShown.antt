@@ -27,7 +27,7 @@ use Rattle.si_model.proofs.FirstRefusals.{begin_full_first, get_row_first, get_f
 use Rattle.si_model.proofs.Steps.{reached_step}
 use Rattle.txn_client.specs.CellReads.{AreRead, IsReadingRefusal, IsReadSo, IsRefusedAmong}
 use Rattle.txn_client.specs.Reads.{IsFound}
-use Rattle.txn_client.specs.Scans.{IsNamed}
+use Rattle.si_model.specs.Takings.{IsNamed}
 use Rattle.txn_client.specs.Shows.{phase_of, IsCrowded, IsOpenSession, Shows, ShowsAt, ShowsClients, Steps}
 use Rattle.txn_client.specs.Transactions.{GoesAs, HasSession, IsSessionRefusal}
 use Rattle.txn_client.specs.declared.session.Session.{Session}

@@ -8,8 +8,7 @@ use Rattle.si_model.specs.Answers.{write_named}
 use Rattle.si_model.specs.Machine.{Change, Writes, Names, Sets}
 use Rattle.si_model.specs.declared.replies.Cell.{Cell}
 use Rattle.si_model.specs.declared.transactions.CellWrite.{CellWrite}
-use Rattle.txn_client.specs.Scans.{IsNamed}
-use Rattle.txn_client.specs.Takings.{HasShortValue, IsRefusedWrite, IsWriteRefusal, TakesAll, TakesWrite}
+use Rattle.si_model.specs.Takings.{HasShortValue, IsNamed, IsRefusedWrite, IsWriteRefusal, TakesAll, TakesWrite}
 use Rattle.txn_client.proofs.CellReads.{next_taken}
 
 pub takes_at : {A : Type 0} (r : Result A Refusal) (before after : Writes) (x y : Cell) (v w : Change) (n : ℕ) → n ≡ length before → OnOk r (Sets x v before after) → OnOk r (Names before x ⊎ (n < 256)) → x ≡ y → v ≡ w → IsNamed y → HasShortValue w

@@ -11,7 +11,7 @@ use Rattle.si_model.specs.declared.replies.Cell.{Cell}
 use Rattle.si_model.specs.declared.replies.Found.{Found}
 use Rattle.si_model.specs.declared.scans.ScanFound.{ScanFound}
 use Rattle.txn_client.specs.Reads.{IsFound}
-use Rattle.txn_client.specs.Scans.{IsNamed}
+use Rattle.si_model.specs.Takings.{IsNamed}
 use Rattle.txn_client.specs.declared.cell_reads.Told.{Told}
 
 abbrev pub said_in : List (Option ScanFound) → List (Option Item)

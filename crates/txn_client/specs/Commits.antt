@@ -14,7 +14,8 @@ use Rattle.si_model.specs.declared.transactions.CommitReply.{CommitReply}
 use Rattle.si_model.specs.declared.transactions.CommitReply.TheVariants.{Committed, Conflict}
 use Rattle.txn_client.specs.Puts.{ArePuttings}
 use Rattle.txn_client.specs.Shows.{IsOpenSession}
-use Rattle.txn_client.specs.Takings.{AreFree, AreReadable, IsFirstTaken, TakesAll}
+use Rattle.txn_client.specs.Takings.{AreFree, AreReadable, IsFirstTaken}
+use Rattle.si_model.specs.Takings.{TakesAll}
 use Rattle.txn_client.specs.Transactions.{IsSessionRefusal}
 use Rattle.txn_client.specs.Writes.{write_of}
 use Rattle.txn_client.specs.declared.session.Phase.TheVariants.{Open}

@@ -10,7 +10,8 @@ use Rattle.si_model.specs.Scans.{IsAfterCell, IsBetween, IsOfFamily, IsUpToRow, 
 use Rattle.si_model.specs.Sets.{◌∈◌}
 use Rattle.si_model.specs.declared.replies.Cell.{Cell}
 use Rattle.txn_client.specs.Ranges.{range_named}
-use Rattle.txn_client.specs.Scans.{DoesNotFit, IsLastCell, IsNamed, IsReadAs, LooksAt}
+use Rattle.txn_client.specs.Scans.{DoesNotFit, IsLastCell, IsReadAs, LooksAt}
+use Rattle.si_model.specs.Takings.{IsNamed}
 use Rattle.txn_client.specs.declared.scan.Batch.{Batch}
 use Rattle.txn_client.specs.declared.scan.Batch.TheVariants.{Done, End, Full}
 use Rattle.txn_client.specs.declared.scan.Gathered.{Gathered}

@@ -91,9 +91,6 @@ IsScanDamaged cells range s = (x : Cell) × IsBetween range x × IsDamaged cells
 
 -- ---- its limits
 
-abbrev pub IsNamed : Cell → Type 0
-IsNamed x = IsRow x.row × IsFamily x.family
-
 -- Its items take at most 61,440 bytes in a reply, and all names are within their limits.
 pub record IsInScanLimits (items : List (Cell × Item)) (reach : Reach) : Type 0 where
   pub bytes : items_length items ≤ most_items

@@ -10,7 +10,7 @@ ghost use Rattle.si_model.specs.ShowsCells.{ShowsCells};
 ghost use Rattle.si_model.specs.Transactions.{IsTold, told_length, told_lengths};
 ghost use Rattle.txn_client.specs.CellReads.{AreRead, IsReadingRefusal, IsReadsRefusal, IsRefusedAmong, IsShortAnswer, IsShortOf, ReadsNext, said_in};
 ghost use Rattle.txn_client.specs.Reads.{IsShort};
-ghost use Rattle.txn_client.specs.Scans.{IsNamed};
+ghost use Rattle.si_model.specs.Takings.{IsNamed};
 
 use crate::cells;
 use cell_key::{Refusal, Stamp};

@@ -5,7 +5,8 @@ ghost use Rattle.cell_key.specs.Faults.{HasReason};
 ghost use Rattle.rows.specs.Calls.{AreReadableFrom, OnlyReads};
 ghost use Rattle.rows.specs.Refusals.{IsReadRefusal};
 ghost use Rattle.si_model.specs.Answers.{write_named};
-ghost use Rattle.txn_client.specs.Takings.{AreFree, AreReadable, HasShortValue, IsFirstTaken, IsRefusedWrite, IsValueRefusal, IsWriteRefusal, TakesAll, TakesWrite};
+ghost use Rattle.txn_client.specs.Takings.{AreFree, AreReadable, IsFirstTaken};
+ghost use Rattle.si_model.specs.Takings.{HasShortValue, IsRefusedWrite, IsValueRefusal, IsWriteRefusal, TakesAll, TakesWrite};
 ghost use Rattle.txn_client.specs.Writes.{write_of};
 
 use crate::cells;

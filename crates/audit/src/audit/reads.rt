@@ -10,7 +10,7 @@ ghost use Rattle.si_model.specs.Transactions.{IsReadCount, Read, Said, most_told
 ghost use Rattle.audit.specs.AuditOperations.{HasUnsent, MayTell, MayTellAll, RefusesFirstName, RefusesOnly};
 ghost use Rattle.audit.specs.AuditScans.{seen};
 ghost use Rattle.audit.specs.Audits.{JudgesOperation, commit_of};
-ghost use Rattle.audit.specs.Takings.{IsNamed};
+ghost use Rattle.si_model.specs.Takings.{IsNamed};
 
 use crate::audit::refusals::{is_same, is_storage};
 use crate::audit::{Audit, names, scans, snapshots};

@@ -3,7 +3,7 @@
 ghost use Rattle.std.specs.Prelude.{◌≡◌, map, option_map, IfErr, IfOk, OnErr, OnOk};
 ghost use Rattle.si_model.specs.Answers.{write_named};
 ghost use Rattle.audit.specs.Audits.{change_of, write_of};
-ghost use Rattle.audit.specs.Takings.{HasShortValue, IsRefusedWrite, IsValueRefusal, IsWriteRefusal, TakesAll, TakesWrite};
+ghost use Rattle.si_model.specs.Takings.{HasShortValue, IsRefusedWrite, IsValueRefusal, IsWriteRefusal, TakesAll, TakesWrite};
 
 use crate::audit::parts::Write;
 use crate::audit::session_refusals::{MOST_VALUE, MOST_WRITES};

@@ -8,7 +8,7 @@ ghost use Rattle.si_model.specs.Machine.{Refused, Writes};
 ghost use Rattle.si_model.specs.Transactions.{Commit, CommitConflict, CommitDone, Said};
 ghost use Rattle.audit.specs.AuditOperations.{AreFree, ClashesAt, HasBefore, HasCommitted, IsRewritten, RefusesOnly};
 ghost use Rattle.audit.specs.Audits.{JudgesOperation, Stays, write_of};
-ghost use Rattle.audit.specs.Takings.{IsRefusedWrite, TakesAll};
+ghost use Rattle.si_model.specs.Takings.{IsRefusedWrite, TakesAll};
 
 use crate::audit::parts::Write;
 use crate::audit::refusals::{is_same, is_storage};

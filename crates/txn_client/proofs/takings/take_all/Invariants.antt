@@ -1,6 +1,6 @@
 use Rattle.std.proofs.Common.{map, take}
 use Rattle.si_model.specs.Answers.{write_named}
-use Rattle.txn_client.specs.Takings.{TakesAll}
+use Rattle.si_model.specs.Takings.{TakesAll}
 use Rattle.txn_client.specs.Writes.{write_of}
 use Rattle.txn_client.proofs.takings.take_all.Given as goal
 

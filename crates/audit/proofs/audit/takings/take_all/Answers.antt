@@ -1,5 +1,5 @@
 use Rattle.cell_key.proofs.Passed.{passed_err}
-use Rattle.audit.specs.Takings.{IsRefusedWrite}
+use Rattle.si_model.specs.Takings.{IsRefusedWrite}
 use Rattle.audit.proofs.TakenWrites.{taken_more, write_refused}
 use Rattle.audit.proofs.audit.takings.take_all.Goals as goal
 

@@ -1,7 +1,7 @@
 use Rattle.std.proofs.Common.{map, take}
 use Rattle.si_model.specs.Answers.{write_named}
 use Rattle.audit.specs.Audits.{write_of}
-use Rattle.audit.specs.Takings.{TakesAll}
+use Rattle.si_model.specs.Takings.{TakesAll}
 use Rattle.audit.proofs.audit.takings.take_all.Given as goal
 
 -- the writes so far are taken
