@@ -6,8 +6,7 @@
 // The first part has requests of docs/PROTOCOL.md, one function each, with a session's start as argument. The second
 // part has transactions: dq_run begins one, calls a function, commits, and tries again after a conflict.
 //
-// Protocol 4 is needed: an older program, and a gateway that records, refuse commits and reads of several cells
-// DQ_BAD_REQUEST.
+// Protocol 4 is needed: an older program refuses commits and reads of several cells DQ_BAD_REQUEST.
 //
 //     static unsigned char memory[DQ_LEAST_MEMORY];
 //     dq_connection store;

@@ -131,8 +131,7 @@ class Store(AutoCommit):
 
         A lock is waited for `lock_wait` seconds, and then cleaned: 1 s at a gateway, and 0.03 s alone. A patience says more.
 
-        With `record`, a folder, all frames sent and received are recorded there for `tablet_audit`: see `Recording`. As that
-        doesn't judge Commit and Read, the store doesn't use them then.
+        With `record`, a folder, all frames sent and received are recorded there for `tablet_audit`: see `Recording`.
         """
         self._owner = os.getpid()
         self._turn = threading.RLock()
@@ -152,7 +151,7 @@ class Store(AutoCommit):
             program, self.folder, words, None if record is None else Recording(record, self.folder), log
         )
         self._is_closed = False
-        self._support = Support(record is None)
+        self._support = Support()
         self._unsaved = Unsaved(self.folder is not None, self.has_log)
         self._tablets = TabletMap(NEW_STORE if self.folder is None else tablets_of(self.folder))
         self._plans = StorePlans(self._patience, None if self._is_remote else self._tablets, lambda: self.has_log)

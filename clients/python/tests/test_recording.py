@@ -49,6 +49,8 @@ class Recordings(unittest.TestCase):
             with store.transaction() as transaction:
                 transaction.get(b"Bob", b"bal")
                 transaction.delete(b"Ann", b"bal")
+            store.put(b"Joe", b"bal", b"3")
+            store.get_many([(b"Bob", b"bal"), (b"Joe", b"bal")])
             store.clean(b"Ann", b"bal")
             store.collect()
 
@@ -58,6 +60,10 @@ class Recordings(unittest.TestCase):
         self.assertEqual(bodies(self.place / "requests"), [b"", b"\x01"])
         self.assertEqual(bodies(self.place / "replies"), [b"\xff\x16", b"\x81" + bytes(7) + b"\x01"])
         self.assertFalse((self.place / "reopened-at").exists())
+
+    def test_commits_and_reads_are_kept(self) -> None:
+        self.record()
+        self.assertLessEqual({0x32, 0x33}, {body[0] for body in bodies(self.place / "requests") if body})
 
     def test_its_owner_alone_may_read_it(self) -> None:
         Store(record=self.place).close()
@@ -102,6 +108,43 @@ class Recordings(unittest.TestCase):
                 self.record(folder, log)
             self.assertEqual(judged(self.place)[0], 1)
             self.assertEqual(judged(self.place, f"--{option}", (self.place / option).read_text().strip())[0], 0)
+
+
+# A Commit of the cell r c in a new session, a Read of it in one that ends, and their answers' numbers.
+COMMIT, READ, COMMITTED, CONFLICT, TOLD = b"\x32" + bytes(8), b"\x33" + bytes(9), b"\xb2\x01", b"\xb2\x02", b"\xb3"
+CELL = b"\0\0\0\x01r\0\0\0\x01c"
+SET = COMMIT + b"\0\0\0\x01" + CELL + b"\x01\0\0\0\x01v"
+
+
+def number(value: int) -> bytes:
+    """A stamp in a reply."""
+    return value.to_bytes(8, "big")
+
+
+def framed(frames: list[bytes]) -> bytes:
+    """Bodies as frames."""
+    return b"".join(len(body).to_bytes(4, "big") + body for body in frames)
+
+
+@unittest.skipUnless(os.access(AUDIT, os.X_OK), "tablet_audit isn't built")
+class WrittenRecordings(unittest.TestCase):
+    def test_a_wrong_answer_is_found(self) -> None:
+        done = (SET, COMMITTED + number(1) + number(2))
+        cases = [
+            ("Committed 3 4", [done, (SET, COMMITTED + number(3) + number(4))], 0),
+            ("Conflict 1", [done, (SET, CONFLICT + b"\0\x01")], 1),
+            ("Committed 1 3", [done, (SET, COMMITTED + number(1) + number(3))], 1),
+            ("1 cells", [done, (READ + b"\0\0\0\x01" + CELL, TOLD + number(3) + b"\0\0\0\x01\x01\0\0\0\x01v")], 0),
+            ("1 cells", [done, (READ + b"\0\0\0\x01" + CELL, TOLD + number(3) + b"\0\0\0\x01\0")], 1),
+        ]
+        for words, exchanges, status in cases:
+            with self.subTest(words, status=status):
+                place = Path(folder_of(self))
+                (place / "requests").write_bytes(framed([request for request, _ in exchanges]))
+                (place / "replies").write_bytes(framed([reply for _, reply in exchanges]))
+                code, line = judged(place)
+                self.assertEqual(code, status)
+                self.assertIn(words if status else "2 replies", line)
 
 
 class RecordedGateways(unittest.TestCase):

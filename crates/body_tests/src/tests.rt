@@ -3,4 +3,5 @@
 mod bodies;
 mod memory;
 mod operations;
+mod recorded_operations;
 mod recordings;

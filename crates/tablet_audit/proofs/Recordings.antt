@@ -1,21 +1,23 @@
 -- The progress of a judgement over a recording, and its end.
 use Rattle.std.proofs.Common.{◌≡◌, ◌≢◌, ℕ, ◌+◌, ◌<◌, ◌≤◌, ◌⊎◌, inl, inr, Bool, true, false, List, [], ◌∷◌, ◌++◌, length, Option, Some, None, Result, Ok, Err, refl, sym, ap, ◌∙◌, subst, arith, append_assoc, length-append}
-use Rattle.std.specs.Prelude.{IfOk, IfSome}
+use Rattle.std.specs.Prelude.{IfErr, IfOk, IfSome}
 use Rattle.std.specs.List.{AllByRecursion}
 use Rattle.std.specs.Int.{to_be_bytes, w32}
 use Rattle.std.proofs.lemmas.List.{flat_map_more}
 use Rattle.cell_key.specs.declared.refusals.Refusal.{Refusal}
-use Rattle.cell_key.specs.declared.refusals.Refusal.TheVariants.{BadRequest as TheBadRequest}
-use Rattle.si_model.specs.Machine.{State, Request, Reply, Refused, new_machine}
+use Rattle.cell_key.specs.declared.refusals.Refusal.TheVariants.{BadRequest as TheBadRequest, NoMemory}
+use Rattle.si_model.specs.Machine.{State, Refused, begins_new, new_machine, reopens}
+use Rattle.si_model.specs.Transactions.{Operation, Answer, Said}
 use Rattle.request_codec.specs.Stream.{IsBody, frame, frames}
-use Rattle.request_codec.specs.Requests.{IsRequest, IsMalformed}
-use Rattle.request_codec.specs.Replies.{IsReply}
-use Rattle.audit.specs.Audits.{JudgesMark, JudgesStep, Keeps, Reopens}
+use Rattle.request_codec.specs.Answers.{IsAnswerBody}
+use Rattle.request_codec.specs.Operations.{IsOperation, IsNoOperation}
+use Rattle.audit.specs.Audits.{JudgesMark, JudgesOperation, Keeps, Reopens}
 use Rattle.audit.specs.declared.audit.Audit.{Audit}
 use Rattle.tablet_audit.specs.Frames.{BeginsWith, IsFlawed, Splits}
 use Rattle.tablet_audit.specs.Pairs.{EndsWith, GoesOn, IsAtEnd, JudgesBodies, StopsAt}
 use Rattle.tablet_audit.specs.Reopenings.{JudgesReopening}
-use Rattle.tablet_audit.specs.Runs.{Answers, OpensAgain, OpensOver, Run, begins_new, goes_on, reopening_behind}
+use Rattle.tablet_audit.specs.Runs.{Answers, OpensAgain, OpensOver, Run, goes_on, reopening_behind}
+use Rattle.tablet_audit.specs.Runs as runs
 use Rattle.tablet_audit.specs.Verdicts.{EndsAt, Follows, IsVerdict, Passes}
 use Rattle.tablet_audit.specs.declared.frames.Flaw.{Flaw}
 use Rattle.tablet_audit.specs.declared.reopenings.Reopening.{Reopening}
@@ -34,23 +36,34 @@ opened found reopening mark old new is over follows =
 
 pub opened_clean : (found : Option Reopening) (reopening : Reopening) (old new : Audit) → found ≡ Some reopening → reopening.mark ≡ None
     → Reopens old new → JudgesReopening found old new true
-opened_clean found reopening old new is over reopens = opened found reopening None old new is over (λ st keeps. (_, refl, reopens st keeps))
+opened_clean found reopening old new is over opens = opened found reopening None old new is over (λ st k. (_, refl, (reopens k.0, opens st k.1)))
 
 pub opened_over : (found : Option Reopening) (reopening : Reopening) (mark : ℕ) (old new : Audit) (yes : Bool) → found ≡ Some reopening → reopening.mark ≡ Some mark
-    → JudgesMark mark old new yes → JudgesReopening found old new yes
+    → JudgesMark mark old new (Ok yes) → JudgesReopening found old new yes
 opened_over found reopening mark old new true is over judges = opened found reopening (Some mark) old new is over judges
-opened_over found reopening mark old new false is over judges = (mark, (reopening, is, over), judges.0)
+opened_over found reopening mark old new false is over judges = (mark, (reopening, is, over), λ st k. judges.0 st k.1)
+
+pub judged_mark : (found : Option Reopening) (reopening : Reopening) (mark : ℕ) (old new : Audit) (r : Result Bool Refusal) → found ≡ Some reopening → reopening.mark ≡ Some mark
+    → JudgesMark mark old new r → IfOk r (JudgesReopening found old new)
+judged_mark found reopening mark old new (Ok true) is over judges = opened_over found reopening mark old new true is over judges
+judged_mark found reopening mark old new (Ok false) is over judges = opened_over found reopening mark old new false is over judges
+judged_mark found reopening mark old new (Err e) is over judges = tt
+
+pub mark_memory : (mark : ℕ) (old new : Audit) (r : Result Bool Refusal) → JudgesMark mark old new r → IfErr r (λ e. e ≡ NoMemory)
+mark_memory mark old new (Ok true) judges = tt
+mark_memory mark old new (Ok false) judges = tt
+mark_memory mark old new (Err e) judges = judges.0
 
 -- ---- one request and its reply
 
-pub passes_malformed : (audit : Audit) (body answer : List ℕ) (reply : Reply) → IsReply reply answer → IsMalformed body → reply ≡ Refused TheBadRequest
+pub passes_malformed : (audit : Audit) (body answer : List ℕ) (reply : Answer) → IsAnswerBody reply answer → IsNoOperation body → reply ≡ Said (Refused TheBadRequest)
     → Follows audit audit (Answers body answer)
 passes_malformed audit body answer reply is malformed refused = λ st keeps. (st, (reply, is, inr (malformed, refused, refl)), keeps)
 
-pub passes_step : (old new : Audit) (body answer : List ℕ) (request : Request) (reply : Reply) (result : Result Bool Refusal) → result ≡ Ok true
-    → JudgesStep old new request reply result → IsRequest request body → IsReply reply answer → Follows old new (Answers body answer)
+pub passes_step : (old new : Audit) (body answer : List ℕ) (request : Operation) (reply : Answer) (result : Result Bool Refusal) → result ≡ Ok true
+    → JudgesOperation old new request reply result → IsOperation request body → IsAnswerBody reply answer → Follows old new (Answers body answer)
 passes_step old new body answer request reply result is judges asks answers =
-    let steps = subst (JudgesStep old new request reply) is judges in
+    let steps = subst (JudgesOperation old new request reply) is judges in
     λ st keeps. let s = steps st keeps in (s.0, (reply, answers, inl (request, asks, s.1)), s.2)
 
 -- ---- the end of the judgement
@@ -108,8 +121,8 @@ passes_none reopenings requests replies audit keeps = record {
   bodies_count = refl;
   answers_count = refl;
   state = new_machine;
-  run = begins_new;
-  keeps = keeps;
+  run = runs.begins_new;
+  keeps = (begins_new, keeps);
 }
 
 pub passes_more : (reopenings : List Reopening) (requests replies : List ℕ) (count : ℕ) (rest more left after : List ℕ) (old mid new : Audit)

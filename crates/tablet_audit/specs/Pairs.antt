@@ -1,7 +1,7 @@
 -- The judgement of one request and its reply.
 use Rattle.std.specs.Prelude.{◌≡◌, ℕ, List, [], Option, Some, None}
-use Rattle.request_codec.specs.Requests.{IsRequest, asked}
-use Rattle.request_codec.specs.Replies.{IsReply, IsNoReply, replied}
+use Rattle.request_codec.specs.Answers.{IsAnswerBody, IsNoAnswer, answer_of}
+use Rattle.request_codec.specs.Operations.{IsOperation, operation_of}
 use Rattle.audit.specs.declared.audit.Audit.{Audit}
 use Rattle.tablet_audit.specs.Frames.{Splits}
 use Rattle.tablet_audit.specs.Runs.{Answers}
@@ -13,13 +13,13 @@ use Rattle.tablet_audit.specs.declared.verdicts.Verdict.TheVariants.{NoStep, Bad
 
 -- the meaning of a verdict on two bodies
 abbrev pub EndsWith : Audit → ℕ → List ℕ → List ℕ → Verdict → Type 0
-EndsWith audit number body answer (NoStep k request reply) = (k ≡ number)
-    × IsRequest (asked request) body × IsReply (replied reply) answer
-    × IsNoStep audit (asked request) (replied reply)
+EndsWith audit number body answer (NoStep k operation said) = (k ≡ number)
+    × IsOperation (operation_of operation) body × IsAnswerBody (answer_of said) answer
+    × IsNoStep audit (operation_of operation) (answer_of said)
 EndsWith audit number body answer (BadRequest k flaw) =
     (k ≡ number) × (flaw ≡ OutsideGrammar) × IsWronglyRead body answer
 EndsWith audit number body answer (BadReply k flaw) =
-    (k ≡ number) × (flaw ≡ OutsideGrammar) × IsNoReply answer
+    (k ≡ number) × (flaw ≡ OutsideGrammar) × IsNoAnswer answer
 EndsWith audit number body answer other = ⊥
 
 -- Without a verdict, the audit continues from the reply.

@@ -1,19 +1,21 @@
--- A run of the machine over a recording: requests, their replies, and the places at which the store was reopened.
+-- A run of the machine over a recording: requests, their answers, and the places at which the store was reopened. A
+-- request may stand for several of the machine's.
 use Rattle.std.specs.Prelude.{◌≡◌, ◌⊎◌, ℕ, ◌+◌, List, [], ◌∷◌, ◌++◌, length, nat_eq, Option, Some, None}
 use Rattle.std.specs.List.{find}
 use Rattle.cell_key.specs.declared.refusals.Refusal.TheVariants.{BadRequest}
-use Rattle.si_model.specs.Machine.{State, Request, Reply, Refused, Step, new_machine, reopened}
+use Rattle.si_model.specs.Machine.{State, Refused, new_machine, reopened}
+use Rattle.si_model.specs.Transactions.{Operation, Answer, Said, Goes}
 use Rattle.audit.specs.Audits.{ReopensOver}
-use Rattle.request_codec.specs.Requests.{IsRequest, IsMalformed}
-use Rattle.request_codec.specs.Replies.{IsReply}
+use Rattle.request_codec.specs.Answers.{IsAnswerBody}
+use Rattle.request_codec.specs.Operations.{IsOperation, IsNoOperation}
 use Rattle.tablet_audit.specs.declared.reopenings.Reopening.{Reopening}
 
--- A body in the grammar and the body of its reply are a step of the machine. Any other body is answered BadRequest, and
--- the machine is unchanged.
+-- The machine may give the answer of a body in the grammar, and goes on from there. Any other body is answered
+-- BadRequest, and the machine is unchanged.
 abbrev pub Answers : List ℕ → List ℕ → State → State → Type 0
-Answers body answer st next = (reply : Reply) × IsReply reply answer
-    × (((request : Request) × IsRequest request body × Step st request reply next)
-    ⊎ (IsMalformed body × (reply ≡ Refused BadRequest) × (next ≡ st)))
+Answers body answer st next = (said : Answer) × IsAnswerBody said answer
+    × (((operation : Operation) × IsOperation operation body × Goes st operation said next)
+    ⊎ (IsNoOperation body × (said ≡ Said (Refused BadRequest)) × (next ≡ st)))
 
 -- the first of the reopenings after the reply with this number
 abbrev pub reopening_behind : ℕ → List Reopening → Option Reopening

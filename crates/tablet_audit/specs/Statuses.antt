@@ -7,7 +7,7 @@ use Rattle.tablet_audit.specs.declared.verdicts.Verdict.TheVariants.{Steps, NoSt
 
 abbrev pub status_of : Verdict → ℕ
 status_of (Steps count) = 0
-status_of (NoStep number request reply) = 1
+status_of (NoStep number operation said) = 1
 status_of (BadMark number) = 1
 status_of (BadRequest number flaw) = 2
 status_of (BadReply number flaw) = 2
@@ -15,7 +15,7 @@ status_of (BadReply number flaw) = 2
 -- for a reply that is no step the line has more text
 abbrev pub verdict_text : Verdict → Option (List ℕ)
 verdict_text (Steps count) = Some (decimal count ++ codes " replies, each a step of the machine")
-verdict_text (NoStep number request reply) = None
+verdict_text (NoStep number operation said) = None
 verdict_text (BadRequest number flaw) =
     Some (codes "request " ++ decimal number ++ codes " " ++ flaw_text flaw)
 verdict_text (BadReply number flaw) =

@@ -2,11 +2,12 @@
 use Rattle.std.specs.Prelude.{◌≡◌, ◌≢◌, ◌⊎◌, ℕ, ◌+◌, ◌<◌, ◌≤◌, List, [], ◌++◌, length, Option, Some, None}
 use Rattle.std.specs.List.{AllByRecursion}
 use Rattle.cell_key.specs.declared.refusals.Refusal.TheVariants.{BadRequest as TheBadRequest}
-use Rattle.si_model.specs.Machine.{State, Request, Reply, Refused, Step, end_of_stamps}
+use Rattle.si_model.specs.Machine.{State, Refused, end_of_stamps}
+use Rattle.si_model.specs.Transactions.{Operation, Answer, Said, Goes}
 use Rattle.request_codec.specs.Stream.{IsBody, frames}
-use Rattle.request_codec.specs.Requests.{IsRequest, IsMalformed, asked}
-use Rattle.request_codec.specs.Replies.{IsReply, IsNoReply, replied}
-use Rattle.audit.specs.Audits.{Keeps}
+use Rattle.request_codec.specs.Answers.{IsAnswerBody, IsNoAnswer, answer_of}
+use Rattle.request_codec.specs.Operations.{IsOperation, IsNoOperation, operation_of}
+use Rattle.audit.specs.Audits.{KeepsReached}
 use Rattle.audit.specs.declared.audit.Audit.{Audit}
 use Rattle.tablet_audit.specs.Frames.{BeginsWith, IsFlawed}
 use Rattle.tablet_audit.specs.Runs.{Answers, Run, reopening_behind}
@@ -30,15 +31,17 @@ pub record Passes (reopenings : List Reopening) (requests replies : List ℕ) (c
   pub answers_count : length answers ≡ count
   pub state : State
   pub run : Run reopenings bodies answers state
-  pub keeps : Keeps audit state
+  pub keeps : KeepsReached audit state
 
--- from each state that the old audit keeps, the machine can go in this way to one that the new audit keeps
+-- from each reached state that the old audit keeps, the machine can go in this way to one that the new audit keeps
 abbrev pub Follows : Audit → Audit → (State → State → Type 0) → Type 0
-Follows old new goes = (st : State) → Keeps old st → (next : State) × goes st next × Keeps new next
+Follows old new goes =
+    (st : State) → KeepsReached old st → (next : State) × goes st next × KeepsReached new next
 
--- the machine can't take this step from any state that the audit keeps
-abbrev pub IsNoStep : Audit → Request → Reply → Type 0
-IsNoStep audit request reply = (st next : State) → Keeps audit st → Step st request reply next → ⊥
+-- the machine can't give this answer from any reached state that the audit keeps
+abbrev pub IsNoStep : Audit → Operation → Answer → Type 0
+IsNoStep audit operation answer =
+    (st next : State) → KeepsReached audit st → Goes st operation answer next → ⊥
 
 -- a stamp that was answered is above the mark, or the mark is not below the end of stamps
 abbrev pub IsBadMark : ℕ → State → Type 0
@@ -51,16 +54,17 @@ HasMark found mark = (it : Reopening) × (found ≡ Some it) × (it.mark ≡ Som
 -- a body outside the grammar, with a reply other than BadRequest
 abbrev pub IsWronglyRead : List ℕ → List ℕ → Type 0
 IsWronglyRead body answer =
-    IsMalformed body × (reply : Reply) × IsReply reply answer × (reply ≢ Refused TheBadRequest)
+    IsNoOperation body × (said : Answer) × IsAnswerBody said answer
+    × (said ≢ Said (Refused TheBadRequest))
 
 module _ (reopenings : List Reopening) (audit : Audit) (number : ℕ) (rest more : List ℕ) where
   -- The meaning of a verdict for the next request and its reply, in terms of the rest of both files.
   abbrev pub EndsAt : Verdict → Type 0
   EndsAt (Steps count) = (count + 1 ≡ number) × (rest ≡ []) × (more ≡ [])
-  EndsAt (NoStep k request reply) = (k ≡ number)
+  EndsAt (NoStep k operation said) = (k ≡ number)
       × (body answer : List ℕ) × BeginsWith rest body × BeginsWith more answer
-      × IsRequest (asked request) body × IsReply (replied reply) answer
-      × IsNoStep audit (asked request) (replied reply)
+      × IsOperation (operation_of operation) body × IsAnswerBody (answer_of said) answer
+      × IsNoStep audit (operation_of operation) (answer_of said)
   EndsAt (BadRequest k flaw) = (k ≡ number)
       × ((IsFlawed rest flaw × (rest ≡ [] → more ≢ []))
       ⊎ ((flaw ≡ OutsideGrammar)
@@ -69,11 +73,11 @@ module _ (reopenings : List Reopening) (audit : Audit) (number : ℕ) (rest more
   EndsAt (BadReply k flaw) = (k ≡ number)
       × (body : List ℕ) × BeginsWith rest body
       × (IsFlawed more flaw
-      ⊎ ((flaw ≡ OutsideGrammar) × (answer : List ℕ) × BeginsWith more answer × IsNoReply answer))
+      ⊎ ((flaw ≡ OutsideGrammar) × (answer : List ℕ) × BeginsWith more answer × IsNoAnswer answer))
   EndsAt (BadMark k) = (k ≡ number)
       × (body answer : List ℕ) × BeginsWith rest body × BeginsWith more answer
       × (mark : ℕ) × HasMark (reopening_behind number reopenings) mark
-      × ((st : State) → Keeps audit st
+      × ((st : State) → KeepsReached audit st
       → (next : State) × Answers body answer st next × IsBadMark mark next)
 
 -- All requests and replies before the verdict are a run.

@@ -2,8 +2,9 @@
 
 ghost use Rattle.std.specs.Prelude.{◌≡◌, ◌↔◌, IfErr, IfOk, IfNone, IfSome, IsTrue};
 ghost use Rattle.cell_key.specs.declared.refusals.Refusal.TheVariants.{BadRequest};
-ghost use Rattle.request_codec.specs.Replies.{replied};
+ghost use Rattle.request_codec.specs.Answers.{answer_of};
 ghost use Rattle.si_model.specs.Machine.{Refused};
+ghost use Rattle.si_model.specs.Transactions.{Said};
 ghost use Rattle.tablet_audit.specs.Pairs.{GoesOn, IsAtEnd, JudgesBodies, StopsAt};
 ghost use Rattle.tablet_audit.specs.Verdicts.{IsVerdict};
 
@@ -12,18 +13,18 @@ use crate::reopenings::{Reopening, reopen};
 use crate::verdicts::Verdict;
 use audit::Audit;
 use cell_key::Refusal;
-use request_codec::{Reply, Request, decode_reply, decode_request};
+use request_codec::{Answer, Reply, decode_answer, decode_operation};
 use std::alloc::Global;
 
-/// Whether the reply says that a body is outside the grammar.
-fn is_bad_request(reply: &Reply) -> bool
-    ensures { IsTrue result ↔ (replied reply.now ≡ Refused BadRequest) }
+/// Whether the answer says that a body is outside the grammar.
+fn is_bad_request(answer: &Answer) -> bool
+    ensures { IsTrue result ↔ (answer_of answer.now ≡ Said (Refused BadRequest)) }
 {
-    matches!(reply, Reply::Refused(Refusal::BadRequest))
+    matches!(answer, Answer::Said(Reply::Refused(Refusal::BadRequest)))
 }
 
-/// The verdict on the body of a request and the body of its reply. `None` if the reply is a step, or the right one to a
-/// body outside the grammar.
+/// The verdict on the body of a request and the body of its answer. `None` if the machine may give the answer, or if it
+/// is the right one to a body outside the grammar.
 ///
 /// # Errors
 ///
@@ -39,19 +40,19 @@ fn judge_bodies<'a>(
         JudgesBodies audit.old audit.new number request.now reply.now found) }
     ensures refusal { IfErr result (λ refusal. refusal ≡ Refusal.NoMemory) }
 {
-    let Some(reply) = decode_reply(alloc, reply)? else {
+    let Some(answer) = decode_answer(alloc, reply)? else {
         return Ok(Some(Verdict::BadReply(number, Flaw::OutsideGrammar)));
     };
-    let Some(request) = decode_request(request) else {
-        if is_bad_request(&reply) {
+    let Some(operation) = decode_operation(alloc, request)? else {
+        if is_bad_request(&answer) {
             return Ok(None);
         }
         return Ok(Some(Verdict::BadRequest(number, Flaw::OutsideGrammar)));
     };
-    if audit.take(&request, &reply)? {
+    if audit.take_operation(&operation, &answer)? {
         return Ok(None);
     }
-    Ok(Some(Verdict::NoStep(number, request, reply)))
+    Ok(Some(Verdict::NoStep(number, operation, answer)))
 }
 
 /// The remaining frames of a recording.
@@ -126,7 +127,7 @@ pub fn judge<'a>(
         if let Some(verdict) = recording.judge_next(alloc, &mut audit, number)? {
             return Ok(verdict);
         }
-        if !reopen(&mut audit, number, reopenings) {
+        if !reopen(&mut audit, number, reopenings)? {
             return Ok(Verdict::BadMark(number));
         }
         count = number;

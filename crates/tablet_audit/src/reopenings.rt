@@ -1,10 +1,11 @@
 //! The places of a recording at which the store was reopened.
 
-ghost use Rattle.std.specs.Prelude.{◌≡◌};
+ghost use Rattle.std.specs.Prelude.{◌≡◌, IfErr, IfOk};
 ghost use Rattle.tablet_audit.specs.Reopenings.{JudgesReopening};
 ghost use Rattle.tablet_audit.specs.Runs.{reopening_behind};
 
 use audit::Audit;
+use cell_key::Refusal;
 
 /// A reopening of the store: the number of the reply before it, counted from 1, and the mark of the oracle if the store
 /// has a log.
@@ -30,17 +31,23 @@ fn find_behind(number: u64, reopenings: &[Reopening]) -> Option<Reopening>
 
 /// Whether the store may have been reopened after the reply with this number, as the options say. If so, the audit
 /// continues from there.
-pub fn reopen(audit: &mut Audit, number: u64, reopenings: &[Reopening]) -> bool
-    ensures { JudgesReopening (reopening_behind number reopenings.now) audit.old audit.new result }
+///
+/// # Errors
+///
+/// `NoMemory`.
+pub fn reopen(audit: &mut Audit, number: u64, reopenings: &[Reopening]) -> Result<bool, Refusal>
+    ensures judged { IfOk result (JudgesReopening
+        (reopening_behind number reopenings.now) audit.old audit.new) }
+    ensures refusal { IfErr result (λ refusal. refusal ≡ Refusal.NoMemory) }
 {
     let Some(reopening) = find_behind(number, reopenings) else {
-        return true;
+        return Ok(true);
     };
     match reopening.mark {
         Some(mark) => audit.recover(mark),
         None => {
             audit.reopen();
-            true
+            Ok(true)
         }
     }
 }

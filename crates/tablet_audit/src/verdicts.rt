@@ -4,8 +4,8 @@ ghost use Rattle.std.specs.Prelude.{◌≡◌};
 ghost use Rattle.tablet_audit.specs.Statuses.{status_of, verdict_text};
 
 use crate::frames::Flaw;
-use crate::words::{ReplyWords, RequestWords};
-use request_codec::{Reply, Request};
+use crate::words::{AnswerWords, OperationWords};
+use request_codec::{Answer, Operation};
 use std::fmt;
 
 /// The verdict of an audit. Requests and replies are numbered from 1.
@@ -14,7 +14,7 @@ pub enum Verdict<'a> {
     /// Each of this many replies is a step of the machine.
     Steps(u64),
     /// The reply with this number is no step.
-    NoStep(u64, Request<'a>, Reply),
+    NoStep(u64, Operation<'a>, Answer),
     /// The frame of the request with this number is flawed.
     BadRequest(u64, Flaw),
     /// The frame of the reply with this number is flawed.
@@ -43,12 +43,12 @@ impl fmt::Display for Verdict<'_> {
     fn fmt<W: fmt::Write>(&self, f: &mut fmt::Formatter<W>) -> fmt::Result {
         match self {
             Verdict::Steps(count) => write!(f, "{count} replies, each a step of the machine"),
-            Verdict::NoStep(number, request, reply) => {
-                let request = RequestWords(request);
-                let reply = ReplyWords(reply);
+            Verdict::NoStep(number, operation, answer) => {
+                let operation = OperationWords(operation);
+                let answer = AnswerWords(answer);
                 write!(
                     f,
-                    "reply {number} is no step of the machine: {request} -> {reply}"
+                    "reply {number} is no step of the machine: {operation} -> {answer}"
                 )
             }
             Verdict::BadRequest(number, flaw) => write!(f, "request {number} {flaw}"),

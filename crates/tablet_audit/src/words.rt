@@ -1,9 +1,10 @@
-//! Requests and replies in words.
+//! Requests and answers in words.
 
 use cell_key::Qualifier;
-use request_codec::{Reply, Request};
+use request_codec::{Answer, Operation, Reply, Request};
 use si_model::{
-    CleanReply, CleanStart, CollectReply, Found, Progress, ScanRange, ScanReach, ScanReply,
+    CleanReply, CleanStart, CollectReply, CommitReply, Found, Progress, ScanRange, ScanReach,
+    ScanReply,
 };
 use std::fmt;
 
@@ -39,9 +40,58 @@ fn column_name(qualifier: Qualifier) -> &'static str {
     }
 }
 
+/// A request in words, which may stand for several: its name and its fields, and the number of its cells if it has more
+/// than one.
+#[derive(Drop)]
+pub struct OperationWords<'a>(pub &'a Operation<'a>);
+
+impl fmt::Display for OperationWords<'_> {
+    fn fmt<W: fmt::Write>(&self, f: &mut fmt::Formatter<W>) -> fmt::Result {
+        match self.0 {
+            Operation::One(request) => {
+                let request = RequestWords(request);
+                write!(f, "{request}")
+            }
+            Operation::Commit { start, writes } => {
+                write!(f, "Commit {start}, {} writes", writes.len())
+            }
+            Operation::Read {
+                start,
+                cells,
+                stays_open,
+            } => {
+                let then = if *stays_open { "stays open" } else { "ends" };
+                write!(f, "Read {start}, {} cells, {then}", cells.len())
+            }
+        }
+    }
+}
+
+/// An answer in words, without the name of its request.
+#[derive(Drop)]
+pub struct AnswerWords<'a>(pub &'a Answer);
+
+impl fmt::Display for AnswerWords<'_> {
+    fn fmt<W: fmt::Write>(&self, f: &mut fmt::Formatter<W>) -> fmt::Result {
+        match self.0 {
+            Answer::Said(reply) => {
+                let reply = ReplyWords(reply);
+                write!(f, "{reply}")
+            }
+            Answer::Commit(CommitReply::Committed(start, stamp)) => {
+                write!(f, "Committed {start} {stamp}")
+            }
+            Answer::Commit(CommitReply::Conflict(place)) => write!(f, "Conflict {place}"),
+            Answer::Read(reply) => {
+                write!(f, "Read {}, {} cells", reply.start, reply.found.len())
+            }
+        }
+    }
+}
+
 /// A request in words: its name and its fields.
 #[derive(Drop)]
-pub struct RequestWords<'a>(pub &'a Request<'a>);
+struct RequestWords<'a>(&'a Request<'a>);
 
 impl fmt::Display for RequestWords<'_> {
     fn fmt<W: fmt::Write>(&self, f: &mut fmt::Formatter<W>) -> fmt::Result {
@@ -157,7 +207,7 @@ fn write_upkeep_of_tablets<W: fmt::Write>(
 
 /// A reply in words, without the name of its request.
 #[derive(Drop)]
-pub struct ReplyWords<'a>(pub &'a Reply);
+struct ReplyWords<'a>(&'a Reply);
 
 impl fmt::Display for ReplyWords<'_> {
     fn fmt<W: fmt::Write>(&self, f: &mut fmt::Formatter<W>) -> fmt::Result {

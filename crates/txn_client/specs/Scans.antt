@@ -10,6 +10,7 @@ use Rattle.si_model.specs.Machine.{Range, Item, Valued, Locked, Unsent, Reach, T
 use Rattle.si_model.specs.Scans.{Covers, IsAfterCell, IsBetween, IsOfFamily, IsUpToRow, Rise, Says, item_length, items_length, most_items, place_at}
 use Rattle.si_model.specs.Sets.{◌∈◌}
 use Rattle.si_model.specs.ShowsCells.{IsThere}
+use Rattle.si_model.specs.Takings.{IsNamed}
 use Rattle.si_model.specs.declared.replies.Cell.{Cell}
 use Rattle.si_model.specs.declared.replies.Found.TheVariants.{Nothing}
 use Rattle.txn_client.specs.Reads.{IsDamaged, IsFound, ReadsValue}

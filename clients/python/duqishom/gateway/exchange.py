@@ -79,7 +79,7 @@ class Exchange:
         self.latencies = Latencies(OPERATIONS, OTHER)
         self.slow = Slow(rules.slow)
         self.things = Things()
-        self.table = passages(notes_reads=rules.is_durable, is_recorded=recording is not None)
+        self.table = passages(notes_reads=rules.is_durable)
         self.is_closing = False
         self._recording = recording
         self.upstream = Upstream(self.latencies.look, self._taken, self._program_ended, self._eased, recording)

@@ -95,8 +95,7 @@ class Passage:
     thing that it names or opens, the fields after that (the number of counted fields, the number of bytes 00 or 01, the
     numbers of counted fields after each option's byte 01, and the number of other bytes), the weight of each unit of
     its last number, whether the session that it names or begins ends with each answer that is no refusal, whether its
-    reply is looked at, whether it is only for the administrator's socket, whether the gateway may answer it, and
-    whether it always refuses it."""
+    reply is looked at, whether it is only for the administrator's socket, and whether the gateway may answer it."""
 
     code: int
     weight: int = 1
@@ -112,7 +111,6 @@ class Passage:
     is_noted: bool = False
     is_for_admin: bool = False
     is_judged: bool = False
-    is_refused: bool = False
 
     def has_form(self, body: bytes) -> bool:
         """Whether a body has exactly the fields of this operation."""
@@ -263,9 +261,8 @@ KNOWN = (
 )
 
 
-def passages(notes_reads: bool, is_recorded: bool = False) -> tuple[Passage, ...]:
-    """The passage of each first byte of a body. Replies to reads are looked at if `notes_reads` is set. In a recording
-    there are no Commits and Reads."""
+def passages(notes_reads: bool) -> tuple[Passage, ...]:
+    """The passage of each first byte of a body. Replies to reads are looked at if `notes_reads` is set."""
     table = [Passage(code) for code in range(256)]
     for passage in KNOWN:
         is_noted = passage.is_noted or (notes_reads and passage.code in READS)
@@ -273,7 +270,4 @@ def passages(notes_reads: bool, is_recorded: bool = False) -> tuple[Passage, ...
         table[passage.code] = replace(passage, is_noted=is_noted, is_judged=is_judged)
     for code in (STATISTICS, CLIENTS, KILL, WATCH):
         table[code] = replace(table[code], is_judged=True)
-    if is_recorded:
-        for code in (COMMIT, READ):
-            table[code] = Passage(code, is_judged=True, is_refused=True)
     return tuple(table)

@@ -42,8 +42,6 @@ def verdict_on(client: Client, passage: Passage, at: int, end: int) -> bytes | N
     The program answers malformed bodies: BadRequest comes before refusals of unknown or too many things.
     """
     exchange = client.exchange
-    if passage.is_refused:
-        return BAD_REQUEST
     if passage.names is not None:
         thing = named(client, passage.names, at)
         if thing is None:

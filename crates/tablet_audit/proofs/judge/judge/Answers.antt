@@ -24,18 +24,18 @@ returns-in-Some-clause-verdict c =
     let stops = subst (λ (f : Option Verdict). IfSome f (λ verdict. StopsAt c.pairs.audit (c.pairs.count + 1) rest more verdict)) c.in-Some.is c.in_ok-verdict.ensures.ended in
     stopped c.args.reopenings.now c.args.requests.now c.args.replies.now c.pairs.count rest more c.pairs.audit c.in-Some.verdict c.pairs.invariant.passes stops
 
-pub returns-then-not-reopen-clause-verdict : goal.returns-then-not-reopen-clause-verdict
-returns-then-not-reopen-clause-verdict c =
+pub returns-then-not-branch-clause-verdict : goal.returns-then-not-branch-clause-verdict
+returns-then-not-branch-clause-verdict c =
     let rest = c.pairs.recording.requests.now in
     let more = c.pairs.recording.replies.now in
     let left = c.judge_next.new.self.requests.now in
     let after = c.judge_next.new.self.replies.now in
     let none : c.in_ok-verdict.field-0 ≡ None = search rules in
     let goes = subst (λ (f : Option Verdict). IfNone f (GoesOn c.pairs.audit c.judge_next.new.audit rest more left after)) none c.in_ok-verdict.ensures.passed in
-    let bad : c.reopen.result ≡ false = search rules in
+    let bad : c.in_ok-reopen.field-0 ≡ false = search rules in
     let behind = reopening_behind (c.pairs.count + 1) c.args.reopenings.now in
     badly_opened c.args.reopenings.now c.args.requests.now c.args.replies.now c.pairs.count rest more left after c.pairs.audit c.judge_next.new.audit c.reopen.new.audit
-    c.pairs.invariant.passes goes (subst (JudgesReopening behind c.judge_next.new.audit c.reopen.new.audit) bad c.reopen.ensures)
+    c.pairs.invariant.passes goes (subst (JudgesReopening behind c.judge_next.new.audit c.reopen.new.audit) bad c.in_ok-reopen.ensures.judged)
 
 pub pairs-smaller : goal.pairs-smaller
 pairs-smaller c =
@@ -55,12 +55,12 @@ pairs-preserved c =
     let after = c.judge_next.new.self.replies.now in
     let none : c.in_ok-verdict.field-0 ≡ None = search rules in
     let goes = subst (λ (f : Option Verdict). IfNone f (GoesOn c.pairs.audit c.judge_next.new.audit rest more left after)) none c.in_ok-verdict.ensures.passed in
-    let well : c.reopen.result ≡ true = search rules in
+    let well : c.in_ok-reopen.field-0 ≡ true = search rules in
     let behind = reopening_behind (c.pairs.count + 1) c.args.reopenings.now in
     let less : length left < length rest = length-left rest goes.body left goes.request_splits in
     record {
       passes = passes_more c.args.reopenings.now c.args.requests.now c.args.replies.now c.pairs.count rest more left after c.pairs.audit c.judge_next.new.audit c.reopen.new.audit
-          c.pairs.invariant.passes goes (subst (JudgesReopening behind c.judge_next.new.audit c.reopen.new.audit) well c.reopen.ensures);
+          c.pairs.invariant.passes goes (subst (JudgesReopening behind c.judge_next.new.audit c.reopen.new.audit) well c.in_ok-reopen.ensures.judged);
       few = omega (arith, less, c.pairs.invariant.few);
     }
 
