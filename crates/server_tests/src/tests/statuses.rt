@@ -49,6 +49,8 @@ const NO_WORDS: Options<'static> = Options {
     merge: None,
     cache: 8,
     upkeep: false,
+    clients: false,
+    admin: None,
 };
 
 /// The words of a command line, and their options if they are accepted.
@@ -170,6 +172,25 @@ const LINES: [Line; 34] = [
         }),
     ),
     (&["tabletd", "--upkeep"], None),
+    (
+        &["tabletd", "--clients"],
+        Some(Options {
+            clients: true,
+            ..NO_WORDS
+        }),
+    ),
+    (
+        &["tabletd", "--dir", "a", "--clients", "--admin", "1"],
+        Some(Options {
+            dir: Some("a"),
+            clients: true,
+            admin: Some(1),
+            ..NO_WORDS
+        }),
+    ),
+    (&["tabletd", "--admin", "1"], None),
+    (&["tabletd", "--clients", "--admin", "0"], None),
+    (&["tabletd", "--dir", "a", "--log", "--clients"], None),
     (&["tabletd", "--log=yes", "--dir", "a"], None),
     (&["tabletd", "--log", "--log", "--dir", "a"], None),
     (&["tabletd", "more"], None),
