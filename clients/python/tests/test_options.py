@@ -31,6 +31,9 @@ ACCEPTED = (
     "--cache 4096",
     "--log-bytes 4096",
     "--log-bytes 33554432",
+    "--clients",
+    "--clients --admin 1",
+    "--clients --admin 4294967295",
     "--help",
     "--version",
 )
@@ -51,6 +54,9 @@ REFUSED = (
     "--log",
     "--upkeep",
     "--flush 2 --flush 2",
+    "--admin 1",
+    "--clients --admin 0",
+    "--clients --admin 4294967296",
     "more",
 )
 
@@ -105,7 +111,7 @@ class Options(FolderTest):
             self.assertEqual(self.status(*line.split()), 0, line)
         for line in REFUSED:
             self.assertEqual(self.status(*line.split()), 1, line)
-        for words in (["--log=yes"], ["--log", "--log"], ["--flush", "0"]):
+        for words in (["--log=yes"], ["--log", "--log"], ["--log", "--clients"], ["--flush", "0"]):
             self.assertEqual(self.status("--dir", self.folder, *words), 1, words)
         self.assertEqual(self.files(), set())
         self.new_folder()

@@ -1,7 +1,7 @@
 //! The open cleaners.
 
-ghost use Rattle.std.specs.Prelude.{◌≡◌, ◌+◌, ◌<◌, ◌≤◌, ◌^◌, ◌⊎◌, IfErr, IfOk, IsErrOf, OnErr};
-ghost use Rattle.std.specs.FinMap.{empty};
+ghost use Rattle.std.specs.Prelude.{◌≡◌, ◌+◌, ◌<◌, ◌≤◌, ◌^◌, ◌⊎◌, IfErr, IfOk, IsErrOf, OnErr, is_some};
+ghost use Rattle.std.specs.FinMap.{empty, get};
 ghost use Rattle.cell_key.specs.Faults.{HasReason};
 ghost use Rattle.rows.specs.Calls.{KeepsBelow, OnlyReads};
 ghost use Rattle.rows.specs.Room.{HasNoRoom};
@@ -60,6 +60,14 @@ impl Cleaners {
             next: 1,
             cleaners: BTreeMap::new(alloc),
         }
+    }
+
+    /// Whether a cleaner is open.
+    pub fn is_open(&self, number: u64) -> bool
+        ensures { (st : State) → ShowsCleaners self.now st
+            → result ≡ is_some (get st.cleaners number) }
+    {
+        self.cleaners.contains_key(&number)
     }
 
     /// Opens a cleaner for the lock of a cell, whoever holds it. Returns the cleaner's number, from 1 on, and the start

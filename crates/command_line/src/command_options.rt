@@ -50,4 +50,8 @@ pub struct Options<'a> {
     pub cache: u32,
     /// Whether a checkpoint that a log makes due is followed by a sweep of the files that nothing needs.
     pub upkeep: bool,
+    /// Whether several clients share the streams: each body begins with a client's number.
+    pub clients: bool,
+    /// The client that alone may ask for upkeep: 1 or more. None: each may.
+    pub admin: Option<u32>,
 }

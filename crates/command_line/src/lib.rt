@@ -3,7 +3,7 @@
 
 mod command_options;
 
-ghost use Rattle.std.specs.Prelude.{◌≡◌, ◌≤◌, IfOk, IfSome, IsTrue, is_some, true};
+ghost use Rattle.std.specs.Prelude.{◌≡◌, ◌≤◌, IfOk, IfSome, IsTrue, is_some, false, true};
 
 use clap::builder::ValueParser;
 use clap::{Arg, ArgAction, Command, Error};
@@ -50,6 +50,14 @@ const UPKEEP_HELP: &str =
     "In a folder with a log, remove the files that neither a tablet nor the root needs after each checkpoint that comes \
     by itself [default: only a Sweep removes files]";
 
+const CLIENTS_HELP: &str =
+    "Serve several clients, each with its own sessions, cleaners and collectors: the body of each request and reply begins \
+    with a client's number of four bytes. Not with a log [default: one client, without a number]";
+
+const ADMIN_HELP: &str =
+    "The client that alone may compact, merge, split, move, sweep, checkpoint, restart the oracle and read raw: 1 to \
+    4294967295 [default: each client may]";
+
 /// An option that takes a number from `least` to `most`.
 fn number<'a>(
     alloc: Global,
@@ -67,8 +75,8 @@ fn number<'a>(
         .value_parser(ValueParser::unsigned(least as u64, most as u64))
 }
 
-/// The command with its options.
-fn command<'a>(alloc: Global) -> Result<Command<'a>, AllocError> {
+/// The options of the store: where it is, and its log.
+fn store_command<'a>(alloc: Global) -> Result<Command<'a>, AllocError> {
     let dir = Arg::new(alloc, "dir")
         .long("dir")
         .value_name("DIR")
@@ -87,6 +95,16 @@ fn command<'a>(alloc: Global) -> Result<Command<'a>, AllocError> {
         LEAST_LOG_BYTES,
         MOST_LOG_BYTES,
     );
+    Command::new(alloc, "tabletd")
+        .about(ABOUT)
+        .version(VERSION)
+        .arg(dir)?
+        .arg(log)?
+        .arg(log_bytes)
+}
+
+/// The same, with the options of upkeep.
+fn upkeep_command<'a>(alloc: Global) -> Result<Command<'a>, AllocError> {
     let flush = number(alloc, "flush", "N", FLUSH_HELP, 1, MOST_FLUSH);
     let flush_bytes = number(
         alloc,
@@ -103,12 +121,7 @@ fn command<'a>(alloc: Global) -> Result<Command<'a>, AllocError> {
         .help(UPKEEP_HELP)
         .action(ArgAction::SetTrue)
         .requires_arg("dir")?;
-    Command::new(alloc, "tabletd")
-        .about(ABOUT)
-        .version(VERSION)
-        .arg(dir)?
-        .arg(log)?
-        .arg(log_bytes)?
+    store_command(alloc)?
         .arg(flush)?
         .arg(flush_bytes)?
         .arg(merge)?
@@ -116,10 +129,21 @@ fn command<'a>(alloc: Global) -> Result<Command<'a>, AllocError> {
         .arg(upkeep)
 }
 
+/// The command with all its options.
+fn command<'a>(alloc: Global) -> Result<Command<'a>, AllocError> {
+    let clients = Arg::new(alloc, "clients")
+        .long("clients")
+        .help(CLIENTS_HELP)
+        .action(ArgAction::SetTrue)
+        .conflicts_with("log")?;
+    let admin = number(alloc, "admin", "A", ADMIN_HELP, 1, u32::MAX).requires_arg("clients")?;
+    upkeep_command(alloc)?.arg(clients)?.arg(admin)
+}
+
 /// Parses the words of the command line, the program's name first: `tabletd [--dir DIR [--log]] [--log-bytes L]
-/// [--flush N] [--flush-bytes B] [--merge M] [--cache C] [--upkeep]`, where L is 4,096 to 33,554,432, N is 1 to 100,000, B is
-/// 1,048,576 to 67,108,864, M is 2 to 64 and C is 8 to 4,096. An error has the parser's text, which for a request for
-/// help or the version is that.
+/// [--flush N] [--flush-bytes B] [--merge M] [--cache C] [--upkeep] [--clients [--admin A]]`, where L is 4,096 to
+/// 33,554,432, N is 1 to 100,000, B is 1,048,576 to 67,108,864, M is 2 to 64, C is 8 to 4,096 and A is 1 or more. Clients
+/// and a log aren't given together. An error has the parser's text, which for a request for help or the version is that.
 pub fn options<'a>(alloc: Global, words: &'a [&'a str]) -> Result<Options<'a>, Error>
     ensures log { IfOk result (λ options. options.log ≡ true → is_some options.dir ≡ true) }
     ensures log_bytes { IfOk result (λ options.
@@ -131,13 +155,18 @@ pub fn options<'a>(alloc: Global, words: &'a [&'a str]) -> Result<Options<'a>, E
         IfSome options.merge (λ most. (2 ≤ most) × (most ≤ MOST_MERGE))) }
     ensures cache { IfOk result (λ options.
         (LEAST_CACHE ≤ options.cache) × (options.cache ≤ MOST_CACHE)) }
+    ensures clients { IfOk result (λ options. options.clients ≡ true → options.log ≡ false) }
+    ensures admin { IfOk result (λ options. is_some options.admin ≡ true → options.clients ≡ true) }
+    ensures nobody { IfOk result (λ options. IfSome options.admin (λ admin. 1 ≤ admin)) }
 {
     let matches = command(alloc)?.try_get_matches_from(words)?;
     let dir = matches.get_str("dir");
+    // The parser has refused a log without a folder, clients with a log, and an administrator without clients.
+    let log = dir.is_some() && matches.get_flag("log");
+    let clients = !log && matches.get_flag("clients");
     Ok(Options {
         dir,
-        // The parser has refused a log without a folder.
-        log: dir.is_some() && matches.get_flag("log"),
+        log,
         log_bytes: log_bytes_of(matches.get_one::<u32>("log-bytes")),
         flush: flush_of(matches.get_one::<u32>("flush")),
         flush_bytes: within(
@@ -148,6 +177,8 @@ pub fn options<'a>(alloc: Global, words: &'a [&'a str]) -> Result<Options<'a>, E
         merge: within(matches.get_one::<u32>("merge"), 2, MOST_MERGE),
         cache: cache_of(matches.get_one::<u32>("cache")),
         upkeep: matches.get_flag("upkeep"),
+        clients,
+        admin: admin_of(clients, matches.get_one::<u32>("admin")),
     })
 }
 
@@ -157,6 +188,20 @@ fn within(given: Option<u32>, least: u32, most: u32) -> Option<u32>
 {
     match given {
         Some(number) if least <= number && number <= most => Some(number),
+        _ => None,
+    }
+}
+
+/// The administrator that was given, if there are clients.
+fn admin_of(clients: bool, given: Option<u32>) -> Option<u32>
+    ensures clients { is_some result ≡ true → clients ≡ true }
+    ensures nobody { IfSome result (λ admin. 1 ≤ admin) }
+{
+    if !clients {
+        return None;
+    }
+    match given {
+        Some(admin) if admin > 0 => Some(admin),
         _ => None,
     }
 }

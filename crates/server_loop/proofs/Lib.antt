@@ -2,6 +2,7 @@ mod AtOnce
 mod Causes
 mod CellChanges
 mod CleanSteps
+pub mod ClientFrames
 mod CollectSteps
 mod CommitsCollected
 pub mod Filled
@@ -18,6 +19,7 @@ pub mod ReachedRuns
 pub mod Replied
 mod Rested
 pub mod SamePlaces
+pub mod ServesEach
 pub mod ServingLemmas
 pub mod SessionSteps
 mod SplitSteps

@@ -3,6 +3,7 @@ pub mod Refusals
 pub mod Runs
 pub mod Serve
 pub mod Batches
+pub mod Clients
 pub mod Server
 pub mod Commands
 pub mod Sessions

@@ -17,13 +17,16 @@ use crate::frames::{finish, flush, push_frame, write_whole};
 use crate::statuses::{End, ServeFault};
 use cell_key::Refusal;
 use request_codec::{
-    Answer, Framer, LONGEST_ANSWER, Next, Operation, Reply, Request, decode_operation, split_frame,
+    Answer, Framer, Next, Operation, Reply, Request, decode_operation, split_frame,
 };
 use std::alloc::{AllocError, Global};
 use std::io::{Read, Write};
 
 /// The most bytes that one read requests.
 const LONGEST_PIECE: usize = 65_536;
+
+/// The most bytes of the frame of a reply: those of an answer, and four of a client's number.
+pub const LONGEST_FRAME: usize = 1_048_584;
 
 /// What is to be answered.
 #[derive(Clone, Copy)]
@@ -86,7 +89,7 @@ pub trait FrameHandler {
 
     /// Appends the frame of the reply to what is incoming to the replies that wait.
     fn answer(&mut self, incoming: Incoming<'_>, waiting: &mut Vec<u8>)
-        requires room { length waiting.old.items + LONGEST_ANSWER ≤ vec_capacity waiting.old }
+        requires room { length waiting.old.items + LONGEST_FRAME ≤ vec_capacity waiting.old }
         ensures answers { (body : List ℕ) × answers self.old (taken_by incoming.entry) body self.new
             × (waiting.new.items ≡ waiting.old.items ++ frame body) }
         ensures capacity { vec_capacity waiting.old ≤ vec_capacity waiting.new };
@@ -144,7 +147,7 @@ pub fn answer_incoming<A: Handler>(
     incoming: Incoming<'_>,
     waiting: &mut Vec<u8>,
 )
-    requires room { length waiting.old.items + LONGEST_ANSWER ≤ vec_capacity waiting.old }
+    requires room { length waiting.old.items + LONGEST_FRAME ≤ vec_capacity waiting.old }
     ensures answers { (body : List ℕ) × IsAnswered A.shows A.says A.between server.old
         (taken_by incoming.entry) body server.new
         × (waiting.new.items ≡ waiting.old.items ++ frame body) }
@@ -163,7 +166,7 @@ fn answer_held<'p, H: FrameHandler>(
     piece: &'p [u8],
     waiting: &mut Vec<u8>,
 ) -> (Option<Rest>, &'p [u8])
-    requires room { length waiting.old.items + LONGEST_ANSWER ≤ vec_capacity waiting.old }
+    requires room { length waiting.old.items + LONGEST_FRAME ≤ vec_capacity waiting.old }
     ensures answered { (replies : List (List ℕ)) × (length replies ≤ 1)
         × (waiting.new.items ≡ waiting.old.items ++ frames replies)
         × Answered H.answers server.old server.new (framer.old ++ piece.now)
@@ -204,7 +207,7 @@ fn answer_next<'p, H: FrameHandler>(
     piece: &'p [u8],
     waiting: &mut Vec<u8>,
 ) -> (Option<Rest>, &'p [u8])
-    requires room { length waiting.old.items + LONGEST_ANSWER ≤ vec_capacity waiting.old }
+    requires room { length waiting.old.items + LONGEST_FRAME ≤ vec_capacity waiting.old }
     ensures answered { (replies : List (List ℕ)) × (length replies ≤ 1)
         × (waiting.new.items ≡ waiting.old.items ++ frames replies)
         × Answered H.answers server.old server.new (framer.old ++ piece.now)
@@ -234,7 +237,7 @@ fn fill<'p, H: FrameHandler>(
 ) -> (Option<Rest>, &'p [u8])
     requires none { waiting.old.items ≡ [] }
     requires most { 0 < most }
-    requires room { most + LONGEST_ANSWER ≤ vec_capacity waiting.old }
+    requires room { most + LONGEST_FRAME ≤ vec_capacity waiting.old }
     ensures answered { (replies : List (List ℕ)) × IsBatch most replies
         × (waiting.new.items ≡ frames replies)
         × Answered H.answers server.old server.new (framer.old ++ piece.now)
@@ -291,7 +294,7 @@ fn answer_batch<'p, H: FrameHandler, W: Write>(
 ) -> Result<(Option<Rest>, &'p [u8]), ServeFault>
     requires none { waiting.old.items ≡ [] }
     requires most { 0 < most }
-    requires room { most + LONGEST_ANSWER ≤ vec_capacity waiting.old }
+    requires room { most + LONGEST_FRAME ≤ vec_capacity waiting.old }
     ensures delivers { IfOk result (λ ended. Delivers H.answers H.settles H.fails server.old
         server.new (framer.old ++ piece.now) (framer.new ++ ended.1.now) (over_of ended.0)
         (W.contents writer.old) (W.contents writer.new)) }
@@ -325,7 +328,7 @@ fn serve_piece<H: FrameHandler, W: Write>(
 ) -> Result<Rest, ServeFault>
     requires none { waiting.old.items ≡ [] }
     requires most { 0 < most }
-    requires room { most + LONGEST_ANSWER ≤ vec_capacity waiting.old }
+    requires room { most + LONGEST_FRAME ≤ vec_capacity waiting.old }
     ensures delivers { IfOk result (λ ended. (behind : List ℕ)
         × LeavesRest (Some ended) (framer.new ++ behind) behind
         × Delivers H.answers H.settles H.fails server.old server.new (framer.old ++ piece.now)
@@ -359,7 +362,7 @@ fn serve_read<H: FrameHandler, R: Read, W: Write>(
 ) -> Result<Option<End>, ServeFault>
     requires none { waiting.old.items ≡ [] }
     requires most { 0 < most }
-    requires room { most + LONGEST_ANSWER ≤ vec_capacity waiting.old }
+    requires room { most + LONGEST_FRAME ≤ vec_capacity waiting.old }
     requires piece { 0 < length piece.old }
     requires within { length piece.old ≤ LONGEST_PIECE }
     requires partial { IsPartial framer.old }
@@ -405,7 +408,7 @@ pub fn serve_all<H: FrameHandler, R: Read, W: Write>(
     let Ok(mut piece) = zeros(alloc, LONGEST_PIECE) else {
         return Err(ServeFault::NoMemory);
     };
-    let Ok(mut waiting) = Vec::with_capacity(alloc, most + LONGEST_ANSWER) else {
+    let Ok(mut waiting) = Vec::with_capacity(alloc, most + LONGEST_FRAME) else {
         return Err(ServeFault::NoMemory);
     };
     let mut reads_left = most_reads;

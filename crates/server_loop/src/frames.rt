@@ -4,8 +4,10 @@ ghost use Rattle.std.specs.Prelude.{◌≡◌, ℕ, ◌+◌, ◌++◌, ◌<◌, 
 ghost use Rattle.std.specs.Io.KnownBytes.{Appends, Keeps};
 ghost use Rattle.request_codec.specs.Answers.{answer_body, answer_of};
 ghost use Rattle.request_codec.specs.Stream.{frame};
+ghost use Rattle.ownership.specs.Frames.{client_body};
 ghost use Rattle.server_loop.specs.Runs.{AnswerKeepsToLimits};
 
+use crate::frame_loop::LONGEST_FRAME;
 use crate::statuses::{End, ServeFault};
 use request_codec::{Answer, LONGEST_ANSWER, answer_length, push_answer};
 use std::io::Write;
@@ -41,6 +43,21 @@ pub(crate) fn push_frame(answer: &Answer, out: &mut Vec<u8>)
 {
     let length = answer_length(answer) as u32;
     out.extend_from_slice(&length.to_be_bytes()).unwrap();
+    push_answer(answer, out);
+}
+
+/// Appends the frame of an answer to a client to the buffer.
+#[tactic(auto, using(crate::proofs::Lengths::fits_frame), unfolding(request_codec::specs::Stream::frame, request_codec::specs::Fields::number))]
+pub(crate) fn push_client_frame(client: u32, answer: &Answer, out: &mut Vec<u8>)
+    requires room { length out.old.items + LONGEST_FRAME ≤ vec_capacity out.old }
+    requires limits { AnswerKeepsToLimits answer.now }
+    ensures items { out.new.items
+        ≡ out.old.items ++ frame (client_body client (answer_of answer.now)) }
+    ensures capacity { vec_capacity out.old ≤ vec_capacity out.new }
+{
+    let length = answer_length(answer) as u32 + 4;
+    out.extend_from_slice(&length.to_be_bytes()).unwrap();
+    out.extend_from_slice(&client.to_be_bytes()).unwrap();
     push_answer(answer, out);
 }
 

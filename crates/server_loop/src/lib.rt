@@ -2,6 +2,7 @@
 #![tactic(auto)]
 
 mod cleaners;
+mod client_server;
 mod collectors;
 mod frame_loop;
 mod frames;
@@ -16,7 +17,10 @@ mod transactions;
 mod upkeep;
 
 pub use audit::Audit;
-pub use frame_loop::{FrameHandler, Handler, Incoming, Rest, answer_incoming, serve_all};
+pub use client_server::{ClientServer, Lookup};
+pub use frame_loop::{
+    FrameHandler, Handler, Incoming, LONGEST_FRAME, Rest, answer_incoming, serve_all,
+};
 pub use laws::{
     commits_keep_collectors, operations_keep_collectors, operations_leave_others, resting_is_kept,
     rests_between,

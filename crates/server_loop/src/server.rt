@@ -6,12 +6,14 @@ ghost use Rattle.row_atomic.specs.Clusters.{IsFirstTablet};
 ghost use Rattle.server_loop.specs.Serve.{Serves, ServesStream};
 ghost use Rattle.si_model.specs.Machine.{State, new_machine};
 
+use crate::client_server::Lookup;
 use crate::frame_loop::{FrameHandler, Handler, Incoming, answer_incoming, serve_all};
 use crate::statuses::{End, ServeFault};
 use cell_key::{MOST_STAMP, Refusal, Stamp};
 use clean_up::Cleaners;
 use file_store::Files;
 use oracle::{MarkStore, Oracle};
+use ownership::Name;
 use request_codec::{Answer, Operation, Reply, Request};
 use row_atomic::{
     Cluster, Command, FlushLimits, Outcome, Recorded, keeps_following, root_is_stored, root_stays,
@@ -336,6 +338,32 @@ impl<F: Files + Drop, M: MarkStore + Drop> FrameHandler for Server<F, M> {
     /// The answers need no settling.
     fn settle(&mut self) -> Result<(), ServeFault> {
         Ok(())
+    }
+}
+
+impl<F: Files + Drop, M: MarkStore + Drop> Lookup for Server<F, M> {
+    ghost use Rattle.std.proofs.Common.{◌≡◌, inl, inr, subst, sym};
+    ghost use Rattle.server_loop.specs.Server.{Shows};
+    ghost use Rattle.server_loop.specs.Tending.{IsTended};
+
+    ghost stops = { λ old new start reply said. said.plain.step.refusal };
+
+    ghost belongs = { λ first mid new tended after. elim after [
+      | inl same ↦ subst (λ server. IsTended F.contents F.faults first server) (sym same) tended
+      | inr none ↦ absurd none
+    ] };
+
+    ghost stays = { λ old new after. elim after [
+      | inl same ↦ λ st shown. subst (λ server. Shows F.contents server st) (sym same) shown
+      | inr none ↦ absurd none
+    ] };
+
+    fn is_open(&self, name: Name) -> bool {
+        match name {
+            Name::Session(start) => self.clients.is_active(start),
+            Name::Cleaner(number) => self.cleaners.is_open(number),
+            Name::Collector(number) => self.collectors.is_open(number),
+        }
     }
 }
 

@@ -1,6 +1,6 @@
-//! `tabletd [--dir DIR [--log]] [--log-bytes L] [--flush N] [--flush-bytes B] [--merge M] [--cache C] [--upkeep]` serves
-//! framed requests from standard input, and writes a framed reply to each to standard output. The store is in memory, or
-//! in a folder, with or without a log.
+//! `tabletd [--dir DIR [--log]] [--log-bytes L] [--flush N] [--flush-bytes B] [--merge M] [--cache C] [--upkeep]
+//! [--clients [--admin A]]` serves framed requests from standard input, and writes a framed reply to each to standard
+//! output. The store is in memory, or in a folder, with or without a log. Several clients may share the streams.
 #![tactic(auto)]
 
 ghost use Rattle.std.specs.Prelude.{◌≡◌, ◌≤◌, IfErr, IfOk, IfSome, OnOk};
@@ -12,7 +12,7 @@ use commit_log::{DirLog, Log, LogFault, OpenLog, make_log, open_log};
 use durable::{AtomicPut, DurableServer, ROOT_NAME};
 use file_store::{DirFiles, FileFault, Files, MemFiles, read_whole};
 use oracle::{DirMark, MarkStore, MemMark};
-use server_loop::{Config, FlushLimits, Server, end_status, open_status};
+use server_loop::{ClientServer, Config, FlushLimits, Server, end_status, open_status};
 use std::alloc::{AllocError, Global};
 use std::fs::File;
 use std::io::BufWriter;
@@ -31,6 +31,9 @@ const REFUSED: u8 = 1;
 const NO_MEMORY: u8 = 7;
 
 const NO_MEMORY_LINE: &str = "tabletd: no memory";
+
+/// The line on standard error for clients of a folder with a log.
+const CLIENTS_AND_LOG_LINE: &str = "tabletd: --clients serves no folder with a log";
 
 /// The size of the buffer of replies for standard output, in bytes. It is flushed before each read.
 const WAITING: usize = 65_536;
@@ -181,6 +184,23 @@ where
     Ok(Some(log))
 }
 
+/// Serves the clients that share standard input. Returns the exit status, with its line on standard error.
+fn serve_clients<R: AllocGlobal + Input + Print, F: Files + Drop, M: MarkStore + Drop>(
+    rt: &R,
+    server: Server<F, M>,
+    admin: Option<u32>,
+) -> (u8, &'static str) {
+    let mut server = ClientServer::new(rt.alloc(), server, admin);
+    let mut reader = rt.reader();
+    let ended = match BufWriter::with_capacity(rt.alloc(), WAITING, io::writer(rt)) {
+        Ok(mut writer) => end_status(&server.serve(&mut reader, &mut writer, 1, u64::MAX)),
+        Err(_) => (NO_MEMORY, NO_MEMORY_LINE),
+    };
+    // The program ends, and the system frees its memory at once.
+    mem::forget(server);
+    ended
+}
+
 /// Serves standard input with a server that was made or opened. Returns the exit status, with its line on standard
 /// error.
 fn serve<R: AllocGlobal + Input + Print, F: Files + Drop, M: MarkStore + Drop>(
@@ -197,6 +217,9 @@ fn serve<R: AllocGlobal + Input + Print, F: Files + Drop, M: MarkStore + Drop>(
     }
     if let Some(most_blocks) = NonZeroUsize::new(options.cache as usize) {
         server.cache_blocks(most_blocks);
+    }
+    if options.clients {
+        return serve_clients(rt, server, options.admin);
     }
     let mut reader = rt.reader();
     let ended = match BufWriter::with_capacity(rt.alloc(), WAITING, io::writer(rt)) {
@@ -286,6 +309,7 @@ fn serve_folder<R: AllocGlobal + Input + Print + Eprint + Folders<File = File> +
     };
     let alloc = rt.alloc();
     match log_of(rt, folder, options.log, &mut files, &mut marks) {
+        Ok(Some(_)) if options.clients => Ok((REFUSED, CLIENTS_AND_LOG_LINE)),
         Ok(Some(log)) => {
             match renew_root(alloc, &mut files) {
                 Ok(true) => {}

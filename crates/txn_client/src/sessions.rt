@@ -4,7 +4,7 @@ ghost use Rattle.std.specs.Prelude.{◌≡◌, ◌+◌, ◌<◌, ◌^◌, ◌⊎
 ghost use Rattle.std.specs.Prelude.{◌≤◌, Some, is_some, if◌then◌else◌, map};
 ghost use Rattle.std.specs.BTreeMap as btree;
 ghost use Rattle.std.specs.BTreeMap.{Updates, btree_map_len};
-ghost use Rattle.std.specs.FinMap.{empty};
+ghost use Rattle.std.specs.FinMap.{empty, get};
 ghost use Rattle.std.specs.Ordering.{nat_cmp};
 ghost use Rattle.cell_key.specs.Cells.{Cells};
 ghost use Rattle.cell_key.specs.Names.{IsFamily, IsRow};
@@ -201,6 +201,14 @@ impl Clients {
             return Err(Refusal::UnknownSession);
         };
         Ok(())
+    }
+
+    /// Whether a session is active.
+    pub fn is_active(&self, start: Stamp) -> bool
+        ensures { (st : State) → ShowsClients self.now st
+            → result ≡ is_some (get st.active start) }
+    {
+        self.sessions.contains_key(&start)
     }
 
     /// The cell of a request to an open session. Refusals: UnknownSession, WrongPhase, BadRow, BadColumn, NoMemory.

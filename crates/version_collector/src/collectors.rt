@@ -1,6 +1,6 @@
 //! The open collectors.
 
-ghost use Rattle.std.specs.Prelude.{◌≡◌, ◌⊎◌, IfErr, IfOk, IsErrOf, OnErr};
+ghost use Rattle.std.specs.Prelude.{◌≡◌, ◌⊎◌, IfErr, IfOk, IsErrOf, OnErr, is_some};
 ghost use Rattle.std.specs.FinMap.{empty, get};
 ghost use Rattle.cell_key.specs.Cells.{Cells};
 ghost use Rattle.cell_key.specs.Faults.{HasReason};
@@ -67,6 +67,14 @@ impl Collectors {
             greatest_floor: floor,
             collectors: BTreeMap::new(alloc),
         }
+    }
+
+    /// Whether a collector is open.
+    pub fn is_open(&self, number: u64) -> bool
+        ensures { (cells : Cells) (st : State) → ShowsCollectors cells self.now st
+            → result ≡ is_some (get st.collectors number) }
+    {
+        self.collectors.contains_key(&number)
     }
 
     /// The greatest floor that a collector began with, or 0 if none did.

@@ -1,0 +1,118 @@
+"""Several clients over one stream: whose sessions, cleaners and collectors are whose. All bytes are written by hand."""
+
+from __future__ import annotations
+
+import subprocess
+import tempfile
+import unittest
+
+from duqishom.program import default_program
+
+# Each row is a client's request and the reply, as the hexadecimal bodies of two frames. The first four bytes are the
+# client's number.
+ROWS = [
+    # Client 1 and client 2 each begin a session: 1 and 2.
+    ("00000001 01", "00000001 81 0000000000000001"),
+    ("00000002 01", "00000002 81 0000000000000002"),
+    # Client 2 can't set in, step, read in or stop session 1: UnknownSession, as for session 9, which isn't there.
+    ("00000002 03 0000000000000001 00000001 61 00000001 62 00000001 63", "00000002 FF 01"),
+    ("00000002 04 0000000000000001", "00000002 FF 01"),
+    ("00000002 02 0000000000000001 00000001 61 00000001 62", "00000002 FF 01"),
+    ("00000002 05 0000000000000001", "00000002 FF 01"),
+    ("00000002 05 0000000000000009", "00000002 FF 01"),
+    # Nor commit it, nor read in it together; and the number of cells isn't looked at first.
+    ("00000002 32 0000000000000001 00000000", "00000002 FF 01"),
+    ("00000002 33 0000000000000001 01 00000000", "00000002 FF 01"),
+    # Client 1 sets its cell and commits session 1 at 3.
+    ("00000001 03 0000000000000001 00000001 61 00000001 62 00000001 63", "00000001 83"),
+    ("00000001 32 0000000000000001 00000000", "00000001 B2 01 0000000000000001 0000000000000003"),
+    # The session has ended, for client 1 too.
+    ("00000001 05 0000000000000001", "00000001 FF 01"),
+    # A Commit with start 0 names nothing: client 3 commits a cell in session 4, at 5.
+    (
+        "00000003 32 0000000000000000 00000001 00000001 64 00000001 62 01 00000001 65",
+        "00000003 B2 01 0000000000000004 0000000000000005",
+    ),
+    # A Read that leaves its session open gives session 6 to client 3, and to nobody else.
+    (
+        "00000003 33 0000000000000000 01 00000001 00000001 61 00000001 62",
+        "00000003 B3 0000000000000006 00000001 01 00000001 63",
+    ),
+    ("00000001 02 0000000000000006 00000001 61 00000001 62", "00000001 FF 01"),
+    ("00000003 02 0000000000000006 00000001 61 00000001 62", "00000003 82 01 00000001 63"),
+    # A collector is client 1's: number 1, of floor 2, which is the start of client 2's session.
+    ("00000001 08", "00000001 88 0000000000000001 0000000000000002"),
+    ("00000002 09 0000000000000001 00000001", "00000002 FF 0A"),
+    # Only client 7 may ask for upkeep and raw reads: BadRequest.
+    ("00000001 12", "00000001 FF 16"),
+    ("00000001 11 00000001 61 00000001 62 01 0000000000000000 FFFFFFFFFFFFFFFF", "00000001 FF 16"),
+    ("00000007 0F", "00000007 8F 0000000000000000"),
+    # Client 3 is gone: its session 6 is stopped. It has no session then.
+    ("00000003", "00000003 85"),
+    ("00000003 05 0000000000000006", "00000003 FF 01"),
+    # Client 1 is gone: its collector is client 7's, who ends it. Client 2's session 2 is as it was.
+    ("00000001", "00000001 85"),
+    ("00000001 09 0000000000000001 00000001", "00000001 FF 0A"),
+    ("00000007 09 0000000000000001 000003E8", "00000007 89 03"),
+    ("00000002 05 0000000000000002", "00000002 85"),
+    # What is no operation, and what has no client's number.
+    ("00000002 FE", "00000002 FF 16"),
+    ("0000 02", "00000000 FF 16"),
+]
+
+
+def frames(bodies: list[bytes]) -> bytes:
+    """The frames of bodies."""
+    return b"".join(len(body).to_bytes(4, "big") + body for body in bodies)
+
+
+def bodies(frames: bytes) -> list[bytes]:
+    """The bodies of frames."""
+    found = []
+    while frames:
+        end = 4 + int.from_bytes(frames[:4], "big")
+        found.append(frames[4:end])
+        frames = frames[end:]
+    return found
+
+
+def run(words: list[str], requests: list[bytes]) -> tuple[int, list[bytes]]:
+    """The exit status of a program with these options, and its replies to requests."""
+    program = default_program()
+    done = subprocess.run([program, *words], input=frames(requests), capture_output=True, timeout=20)
+    return done.returncode, bodies(done.stdout)
+
+
+class Clients(unittest.TestCase):
+    """A program that serves several clients."""
+
+    def test_rows_of_three_clients(self) -> None:
+        status, replies = run(["--clients", "--admin", "7"], [bytes.fromhex(asked) for asked, _ in ROWS])
+        self.assertEqual([reply.hex() for reply in replies], [bytes.fromhex(reply).hex() for _, reply in ROWS])
+        self.assertEqual(status, 0)
+
+    def test_the_limits_of_a_client(self) -> None:
+        begins = [bytes.fromhex("00000001 01")] * 65 + [bytes.fromhex("00000002 01")]
+        _, replies = run(["--clients"], begins)
+        refused = bytes.fromhex("00000001 FF 07")
+        self.assertEqual([reply == refused for reply in replies], [False] * 64 + [True, False])
+        collects = [bytes.fromhex("00000001 08")] * 5 + [bytes.fromhex("00000002 08")]
+        _, replies = run(["--clients"], collects)
+        self.assertEqual([reply == refused for reply in replies], [False] * 4 + [True, False])
+
+    def test_an_end_closes_sixty_four_sessions(self) -> None:
+        begin, end = bytes.fromhex("00000001 01"), bytes.fromhex("00000001")
+        _, replies = run(["--clients"], ([begin] * 64 + [end]) * 20)
+        self.assertNotIn(bytes.fromhex("00000001 FF 07"), replies)
+        self.assertEqual(len(replies), 1300)
+
+    def test_clients_and_a_log_are_refused(self) -> None:
+        with tempfile.TemporaryDirectory() as folder:
+            self.assertEqual(run(["--clients", "--log", "--dir", folder], []), (1, []))
+            self.assertEqual(run(["--log", "--dir", folder], []), (0, []))
+            self.assertEqual(run(["--clients", "--dir", folder], []), (1, []))
+            self.assertEqual(run(["--admin", "1"], []), (1, []))
+
+
+if __name__ == "__main__":
+    unittest.main()

@@ -1,0 +1,6 @@
+pub mod Bodies
+pub mod Effects
+pub mod Fresh
+pub mod Places
+pub mod Steps
+pub mod Turns

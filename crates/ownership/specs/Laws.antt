@@ -1,0 +1,74 @@
+-- What clients can rely on: each its own.
+use Rattle.std.specs.Prelude.{◌≡◌, ◌≢◌, ◌⊎◌, ℕ, true, false, List, Option, Some}
+use Rattle.std.specs.List.{AllByRecursion}
+use Rattle.cell_key.specs.declared.refusals.Refusal.{Refusal}
+use Rattle.si_model.specs.Machine.{State, IsReached, Refused}
+use Rattle.si_model.specs.Sets.{◌∈◌}
+use Rattle.si_model.specs.Transactions.{Operation, Answer, Said}
+use Rattle.ownership.specs.Effects.{StaysAsItWas}
+use Rattle.ownership.specs.Names.{gives, is_open, is_session, name_of}
+use Rattle.ownership.specs.Tables.{Knows, Table, heir_of, owns}
+use Rattle.ownership.specs.Turns.{Asks, Leaves, Frame, Exchange, Handles, HandlesAll}
+use Rattle.ownership.specs.declared.names.Name.{Name}
+
+abbrev pub IsRefused : Answer → Type 0
+IsRefused answer = (refusal : Refusal) × (answer ≡ Said (Refused refusal))
+
+-- a frame of this client was answered with a name
+abbrev pub WasGiven : List Exchange → ℕ → Name → Type 0
+WasGiven xs client name =
+    (x : Exchange) × (operation : Operation) × (x ∈ xs) × (x.frame ≡ Asks client operation)
+    × (x.to ≡ client) × (gives operation x.answer name ≡ true)
+
+-- it is no frame of the client
+abbrev pub IsOfAnother : ℕ → Frame → Type 0
+IsOfAnother client (Asks other operation) = other ≢ client
+IsOfAnother client (Leaves other) = other ≢ client
+IsOfAnother client frame = Unit {0}
+
+-- Exactly what is open has an owner, after each frame; and the state is reached.
+abbrev pub StaysKnown : Type 0
+StaysKnown =
+    (admin : Option ℕ) (st next : State) (table table' : Table) (xs : List Exchange)
+    → IsReached st → Knows table st → HandlesAll admin st table xs next table'
+    → IsReached next × Knows table' next
+
+-- Own: what names another's is refused, and changes nothing.
+abbrev pub OthersAreRefused : Type 0
+OthersAreRefused =
+    (admin : Option ℕ) (st next : State) (table table' : Table) (client to : ℕ)
+    (operation : Operation) (answer : Answer) (name : Name)
+    → Handles admin st table (Asks client operation) to answer next table'
+    → name_of operation ≡ Some name → owns table client name ≡ false
+    → (next ≡ st) × (table' ≡ table) × (to ≡ client) × IsRefused answer
+
+-- Own: what is a client's was its before, or was given to it by an answer. The heir also has what was left to it.
+abbrev pub EachWasGiven : Type 0
+EachWasGiven =
+    (admin : Option ℕ) (st next : State) (table table' : Table) (xs : List Exchange)
+    (client : ℕ) (name : Name)
+    → HandlesAll admin st table xs next table' → client ≢ heir_of admin
+    → owns table' client name ≡ true
+    → (owns table client name ≡ true) ⊎ WasGiven xs client name
+
+-- Alone: nobody else's frames touch what is a client's. It stays as it was, and the client's.
+abbrev pub IsLeftAlone : Type 0
+IsLeftAlone =
+    (admin : Option ℕ) (st next : State) (table table' : Table) (xs : List Exchange)
+    (client : ℕ) (name : Name)
+    → IsReached st → Knows table st → HandlesAll admin st table xs next table'
+    → AllByRecursion (λ (x : Exchange). IsOfAnother client x.frame) xs
+    → owns table client name ≡ true
+    → StaysAsItWas st next name × (owns table' client name ≡ true)
+
+-- Gone: after its end no session is the client's, and each that was is closed; and unless it is the heir, nothing is
+-- the client's.
+abbrev pub IsGone : Type 0
+IsGone =
+    (admin : Option ℕ) (st next : State) (table table' : Table) (client to : ℕ)
+    (answer : Answer) (name : Name)
+    → IsReached st → Knows table st
+    → Handles admin st table (Leaves client) to answer next table'
+    → ((client ≢ heir_of admin) ⊎ (is_session name ≡ true))
+    → (owns table' client name ≡ false)
+    × (owns table client name ≡ true → is_session name ≡ true → is_open next name ≡ false)

@@ -1,0 +1,161 @@
+//! A sorted list of what clients have of one kind.
+
+ghost use Rattle.std.specs.Prelude.{◌≡◌, ◌≢◌, ◌≤◌, ◌<◌, ◌+◌, ◌&&◌, ◌||◌, not, ℕ, [], true, false, nat_eq, nat_le, length, take, drop, IfSome, IfNone, OnOk, vec_len, vec_capacity, slice_get};
+ghost use Rattle.ownership.specs.Lists.{IsInOrder, IsPlaceOf, held_by, holds, is_before, is_of};
+
+use std::alloc::{AllocError, Global};
+
+/// A number, and the client whose it is.
+#[derive(Clone, Copy, Debug, PartialEq, Eq)]
+pub(crate) struct Holding {
+    pub(crate) client: u32,
+    pub(crate) number: u64,
+}
+
+/// What clients have of one kind, in the order of their numbers, and each client's in the order of its own.
+#[derive(Drop)]
+pub struct Holdings {
+    pub(crate) list: Vec<Holding>,
+    ghost order: { IsInOrder list.items },
+}
+
+/// Whether this comes before a number of a client.
+fn comes_before(holding: &Holding, client: u32, number: u64) -> bool
+    ensures { result ≡ is_before client number holding.now }
+{
+    holding.client < client || (holding.client == client && holding.number < number)
+}
+
+/// Whether this is a number of a client.
+fn is_number_of(holding: &Holding, client: u32, number: u64) -> bool
+    ensures { result ≡ is_of client number holding.now }
+{
+    holding.client == client && holding.number == number
+}
+
+/// The number, if it is this client's.
+fn number_of(holding: &Holding, client: u32) -> Option<u64>
+    ensures some { IfSome result (λ number. (nat_eq holding.now.client client ≡ true)
+        × (number ≡ holding.now.number)) }
+    ensures none { IfNone result (nat_eq holding.now.client client ≡ false) }
+{
+    if holding.client == client {
+        return Some(holding.number);
+    }
+    None
+}
+
+impl Holdings {
+    /// Nothing.
+    pub fn new(alloc: Global) -> Holdings
+        ensures { result.list.items ≡ [] }
+    {
+        Holdings {
+            list: Vec::new(alloc),
+        }
+    }
+
+    /// The place of a client's number.
+    fn place(&self, client: u32, number: u64) -> usize
+        ensures { IsPlaceOf client number self.now.list.items result }
+    {
+        self.list
+            .partition_point(|holding| comes_before(holding, client, number))
+    }
+
+    /// Whether it is there, at its place.
+    fn is_at(&self, place: usize, client: u32, number: u64) -> bool
+        requires { IsPlaceOf client number self.now.list.items place }
+        ensures { result ≡ holds self.now.list.items client number }
+    {
+        match self.list.get(place) {
+            Some(holding) => is_number_of(holding, client, number),
+            None => false,
+        }
+    }
+
+    /// Whether a number is this client's.
+    pub fn has(&self, client: u32, number: u64) -> bool
+        ensures { result ≡ holds self.now.list.items client number }
+    {
+        self.is_at(self.place(client, number), client, number)
+    }
+
+    /// Takes room for one more.
+    pub fn reserve(&mut self) -> Result<(), AllocError>
+        ensures items { self.new.list.items ≡ self.old.list.items }
+        ensures room { OnOk result (vec_len self.new.list < vec_capacity self.new.list) }
+    {
+        self.list.reserve(1)
+    }
+
+    /// Notes that a number is a client's, for which there is room.
+    pub fn insert(&mut self, client: u32, number: u64)
+        requires room { vec_len self.old.list < vec_capacity self.old.list }
+        ensures held { (c n : ℕ) → holds self.new.list.items c n
+            ≡ (holds self.old.list.items c n || (nat_eq client c && nat_eq number n)) }
+        ensures others { (c : ℕ) → c ≢ client
+            → held_by c self.new.list.items ≡ held_by c self.old.list.items }
+    {
+        let place = self.place(client, number);
+        if self.is_at(place, client, number) {
+            return;
+        }
+        self.list.insert(place, Holding { client, number }).unwrap();
+    }
+
+    /// Notes that a number is a client's no more.
+    pub fn remove(&mut self, client: u32, number: u64)
+        ensures held { (c n : ℕ) → holds self.new.list.items c n
+            ≡ (holds self.old.list.items c n && not (nat_eq client c && nat_eq number n)) }
+        ensures fewer { holds self.old.list.items client number ≡ true
+            → held_by client self.new.list.items < held_by client self.old.list.items }
+        ensures room { holds self.old.list.items client number ≡ true
+            → vec_len self.new.list < vec_capacity self.new.list }
+        ensures kept { vec_len self.old.list < vec_capacity self.old.list
+            → vec_len self.new.list < vec_capacity self.new.list }
+    {
+        let place = self.place(client, number);
+        if self.is_at(place, client, number) {
+            self.list.remove(place);
+        }
+    }
+
+    /// A number of a client, if it has one: the least.
+    pub fn first_of(&self, client: u32) -> Option<u64>
+        ensures some { IfSome result (λ number. holds self.now.list.items client number ≡ true) }
+        ensures none { IfNone result ((number : ℕ)
+            → holds self.now.list.items client number ≡ false) }
+    {
+        let place = self.place(client, 0);
+        match self.list.get(place) {
+            Some(holding) => number_of(holding, client),
+            None => None,
+        }
+    }
+
+    /// Whether a client has at least so many. `most` is 1 or more.
+    pub fn has_as_many(&self, client: u32, most: u32) -> bool
+        requires { 1 ≤ most }
+        ensures { result ≡ nat_le most (held_by client self.now.list.items) }
+    {
+        let (_, rest) = self.list.split_at(self.place(client, 0));
+        match rest.get(most as usize - 1) {
+            Some(holding) => holding.client == client,
+            None => false,
+        }
+    }
+
+    /// What is one client's becomes another's.
+    pub fn pass(&mut self, from: u32, to: u32)
+        requires { from ≢ to }
+        ensures { (c n : ℕ) → holds self.new.list.items c n
+            ≡ ((holds self.old.list.items c n && not (nat_eq from c))
+            || (nat_eq to c && holds self.old.list.items from n)) }
+    {
+        while let Some(number) = self.first_of(from) {
+            self.remove(from, number);
+            self.insert(to, number);
+        }
+    }
+}

@@ -1,0 +1,273 @@
+//! A server for several clients over one stream: each has its own sessions, cleaners and collectors.
+
+ghost use Rattle.std.specs.Prelude.{◌≡◌, ◌≤◌, ◌<◌, ◌+◌, ◌++◌, ◌&&◌, ◌⊎◌, List, ℕ, true, false, not, length, vec_capacity};
+ghost use Rattle.cell_key.specs.declared.refusals.Refusal.TheVariants.{UnknownSession};
+ghost use Rattle.si_model.specs.Machine.{State};
+ghost use Rattle.request_codec.specs.Answers.{answer_of};
+ghost use Rattle.request_codec.specs.Operations.{operation_of};
+ghost use Rattle.request_codec.specs.Replies.{replied};
+ghost use Rattle.request_codec.specs.Stream.{frame};
+ghost use Rattle.request_codec.specs.declared.answers.Answer.TheVariants as told;
+ghost use Rattle.request_codec.specs.declared.operations.Operation.TheVariants as lent;
+ghost use Rattle.request_codec.specs.declared.replies.Reply.{Reply as CodecReply};
+ghost use Rattle.request_codec.specs.declared.requests.Request.TheVariants as sent;
+ghost use Rattle.ownership.specs.Frames.{IsBodyOf, frame_of};
+ghost use Rattle.ownership.specs.Names.{is_name, is_open};
+ghost use Rattle.ownership.specs.Tables.{held_in, owns, table_of};
+ghost use Rattle.ownership.specs.Turns.{Frame as FrameOf, Asks};
+ghost use Rattle.ownership.specs.declared.names.Name.{Name as NameOf};
+ghost use Rattle.server_loop.specs.Batches.{taken_by};
+ghost use Rattle.server_loop.specs.Clients.{AnswersFrame, EndsClient, HandlesFrame, IsAnsweredTo, ServesClients, SettlesOwned, ShowsOwned, StopsEach, StopsOne};
+ghost use Rattle.server_loop.specs.Runs.{AnswerKeepsToLimits, IfRefused};
+
+use crate::frame_loop::{FrameHandler, Handler, Incoming, LONGEST_FRAME, serve_all};
+use crate::frames::push_client_frame;
+use crate::statuses::{End, ServeFault};
+use cell_key::Refusal;
+use ownership::{Frame, Name, Owners, decode_frame, given, leaves_open, may_end, named};
+use request_codec::{Answer, Operation, Reply, Request};
+use std::alloc::Global;
+use std::io::{Read, Write};
+
+/// An answering server that says what is open.
+pub trait Lookup: Handler + FrameHandler {
+    /// Whether this is open.
+    fn is_open(&self, name: Name) -> bool
+        ensures { (st : State) → Self.shows self.now st → result ≡ is_open st name };
+
+    /// Only a Stop of a session that isn't there is refused.
+    ghost stops: { (old new : Self) (start : ℕ) (reply : CodecReply)
+        → Self.says old (lent.One (sent.Stop start)) (told.Said reply) new
+        → IfRefused (λ refusal. refusal ≡ UnknownSession) (replied reply) };
+
+    /// Settling belongs to the upkeep before it.
+    ghost belongs: { (first mid new : Self) → Self.between first mid
+        → Self.settles mid new ⊎ Self.fails mid new → Self.between first new };
+
+    /// It keeps showing each state that it shows.
+    ghost stays: { (old new : Self) → Self.settles old new ⊎ Self.fails old new
+        → (st : State) → Self.shows old st → Self.shows new st };
+}
+
+/// A server, and which client's is what is open there.
+#[derive(Drop)]
+pub struct ClientServer<A> {
+    pub(crate) alloc: Global,
+    pub(crate) server: A,
+    pub(crate) owners: Owners,
+    /// The client that may ask for upkeep, if no other may.
+    pub(crate) admin: Option<u32>,
+}
+
+impl<A: Lookup> ClientServer<A> {
+    /// A server where nothing is open. With an administrator, only that client may ask for upkeep and raw reads.
+    pub fn new(alloc: Global, server: A, admin: Option<u32>) -> ClientServer<A>
+        ensures shown { (st : State) → A.shows server st
+            → ((name : NameOf) → is_open st name ≡ false) → ShowsOwned A.shows result st }
+        ensures server { result.server ≡ server }
+        ensures admin { result.admin ≡ admin }
+    {
+        ClientServer {
+            alloc,
+            server,
+            owners: Owners::new(alloc),
+            admin,
+        }
+    }
+
+    /// What was named, if the operation may have ended it and it is open no more.
+    fn closed(&self, ends: bool, name: Option<Name>) -> Option<Name>
+        ensures { (st : State) → A.shows self.now.server st → (n : NameOf)
+            → is_name result n ≡ (ends && (is_name name n && not (is_open st n))) }
+    {
+        let name = name?;
+        if !ends || self.server.is_open(name) {
+            return None;
+        }
+        Some(name)
+    }
+
+    /// Answers an operation of a client.
+    fn ask(&mut self, client: u32, operation: Operation<'_>) -> Answer
+        ensures handled { HandlesFrame A.shows A.says self.old self.new
+            (Asks client (operation_of operation.entry)) client (answer_of result) }
+        ensures limits { AnswerKeepsToLimits result }
+        ensures admin { self.new.admin ≡ self.old.admin }
+    {
+        if let Some(refusal) = self.owners.refusal_for(self.admin, client, &operation) {
+            return Answer::Said(Reply::Refused(refusal));
+        }
+        if self.owners.reserve().is_err() {
+            return Answer::Said(Reply::Refused(Refusal::NoMemory));
+        }
+        let name = named(&operation);
+        let opens = leaves_open(&operation);
+        let ends = may_end(&operation);
+        let answer = self.server.answer_to(operation);
+        let closed = self.closed(ends, name);
+        self.owners.note(client, closed, given(opens, &answer));
+        answer
+    }
+
+    /// Stops a session of a client, and says whether there was one.
+    fn stop_one(&mut self, client: u32) -> bool
+        ensures stopped { result ≡ true → (start : ℕ)
+            × StopsOne A.shows A.says client self.old start self.new }
+        ensures none { result ≡ false → (start : ℕ)
+            → owns (table_of self.new.owners) client (NameOf.Session start) ≡ false }
+        ensures same { result ≡ false → self.new ≡ self.old }
+        ensures fewer { result ≡ true → held_in (table_of self.new.owners) client
+            < held_in (table_of self.old.owners) client }
+        ensures admin { self.new.admin ≡ self.old.admin }
+    {
+        let Some(start) = self.owners.session_of(client) else {
+            return false;
+        };
+        let _reply = self.server.reply_to(Request::Stop { start });
+        self.owners.remove(client, Name::Session(start));
+        true
+    }
+
+    /// Stops all sessions of a client.
+    fn stop_all(&mut self, client: u32)
+        ensures stopped { (starts : List ℕ)
+            × StopsEach A.shows A.says client self.old starts self.new }
+        ensures none { (start : ℕ)
+            → owns (table_of self.new.owners) client (NameOf.Session start) ≡ false }
+        ensures admin { self.new.admin ≡ self.old.admin }
+    {
+        while self.stop_one(client) {}
+    }
+
+    /// A client is gone.
+    fn leave(&mut self, client: u32)
+        ensures ends { EndsClient A.shows A.says client self.old self.new }
+        ensures admin { self.new.admin ≡ self.old.admin }
+    {
+        self.stop_all(client);
+        self.owners.pass(client, self.admin.unwrap_or(0));
+    }
+
+    /// The answer to what a frame says, and the client that it is answered to.
+    fn answer_frame(&mut self, said: Frame<'_>) -> (u32, Answer)
+        ensures handled { HandlesFrame A.shows A.says self.old self.new (frame_of said.entry)
+            result.0 (answer_of result.1) }
+        ensures limits { AnswerKeepsToLimits result.1 }
+        ensures admin { self.new.admin ≡ self.old.admin }
+    {
+        match said {
+            Frame::Asks(client, operation) => (client, self.ask(client, operation)),
+            Frame::Leaves(client) => {
+                self.leave(client);
+                (client, Answer::Said(Reply::Stop))
+            }
+            Frame::Malformed(client) => {
+                (client, Answer::Said(Reply::Refused(Refusal::BadRequest)))
+            }
+            Frame::NoClient => (0, Answer::Said(Reply::Refused(Refusal::BadRequest))),
+        }
+    }
+
+    /// The answer to a body, whatever is in it.
+    fn answer_body(&mut self, body: &[u8]) -> (u32, Answer)
+        ensures handled { (said : FrameOf) × IsBodyOf said body.now
+            × HandlesFrame A.shows A.says self.old self.new said result.0 (answer_of result.1) }
+        ensures limits { AnswerKeepsToLimits result.1 }
+        ensures admin { self.new.admin ≡ self.old.admin }
+    {
+        match decode_frame(self.alloc, body) {
+            Ok(said) => self.answer_frame(said),
+            Err(client) => (client, Answer::Said(Reply::Refused(Refusal::NoMemory))),
+        }
+    }
+
+    /// The answer to what is incoming.
+    fn answer_to(&mut self, incoming: Incoming<'_>) -> (u32, Answer)
+        ensures answered { AnswersFrame A.shows A.says self.old (taken_by incoming.entry) result.0
+            (answer_of result.1) self.new }
+        ensures limits { AnswerKeepsToLimits result.1 }
+    {
+        match incoming {
+            Incoming::Body(body) => self.answer_body(body),
+            Incoming::TooLarge => (0, Answer::Said(Reply::Refused(Refusal::FrameTooLarge))),
+        }
+    }
+
+    /// Appends the frame of the answer to what is incoming to those that wait, and lets the server do its upkeep.
+    pub fn answer_incoming(&mut self, incoming: Incoming<'_>, waiting: &mut Vec<u8>)
+        requires room { length waiting.old.items + LONGEST_FRAME ≤ vec_capacity waiting.old }
+        ensures answers { (body : List ℕ) × IsAnsweredTo A.shows A.says A.between self.old
+            (taken_by incoming.entry) body self.new
+            × (waiting.new.items ≡ waiting.old.items ++ frame body) }
+        ensures capacity { vec_capacity waiting.old ≤ vec_capacity waiting.new }
+    {
+        let (client, answer) = self.answer_to(incoming);
+        push_client_frame(client, &answer, waiting);
+        self.server.tend();
+    }
+
+    /// Serves framed requests of several clients until the input ends, with at most `most_reads` reads: the body of each
+    /// frame begins with a client's number, and so does that of each reply. Frames are answered until `most` bytes of
+    /// replies wait, or all that was read is answered; then the answers are settled, and the replies written.
+    ///
+    /// Each frame is answered to its client: by one step of the machine, by none, or by the Stops of a client that is
+    /// gone. From each reached state that is shown, the machine handled all of them so, and what each client has is what
+    /// the definitions of `ownership` say.
+    pub fn serve<I: Read, O: Write>(
+        &mut self,
+        reader: &mut I,
+        writer: &mut O,
+        most: usize,
+        most_reads: u64,
+    ) -> Result<End, ServeFault>
+        requires some { 0 < most }
+        requires few { most ≤ 1048576 }
+        ensures { ServesClients A.shows A.says A.between most self.old self.new
+            (I.remaining reader.old) (I.remaining reader.new)
+            (O.contents writer.old) (O.contents writer.new) most_reads result }
+    {
+        serve_all(self.alloc, self, reader, writer, most, most_reads)
+    }
+}
+
+impl<A: Lookup> FrameHandler for ClientServer<A> {
+    ghost use Rattle.std.proofs.Common.{◌∙◌, inl, inr};
+
+    ghost answers = { IsAnsweredTo A.shows A.says A.between };
+
+    ghost settles = { SettlesOwned A.settles };
+
+    ghost fails = { SettlesOwned A.fails };
+
+    ghost joins = { λ first mid new taken body is after. record {
+      to = is.to;
+      answer = is.answer;
+      is_body = is.is_body;
+      mid = is.mid;
+      answered = is.answered;
+      tended = A.belongs is.mid.server mid.server new.server is.tended (elim after [
+        | inl done ↦ inl done.settled
+        | inr failed ↦ inr failed.settled
+      ]);
+      shown = λ st shows. A.stays mid.server new.server (elim after [
+        | inl done ↦ inl done.settled
+        | inr failed ↦ inr failed.settled
+      ]) st (is.shown st shows);
+      owners = elim after [
+        | inl done ↦ done.owners ∙ is.owners
+        | inr failed ↦ failed.owners ∙ is.owners
+      ];
+      admin = elim after [
+        | inl done ↦ done.admin ∙ is.admin
+        | inr failed ↦ failed.admin ∙ is.admin
+      ];
+    } };
+
+    fn answer(&mut self, incoming: Incoming<'_>, waiting: &mut Vec<u8>) {
+        self.answer_incoming(incoming, waiting);
+    }
+
+    fn settle(&mut self) -> Result<(), ServeFault> {
+        self.server.settle()
+    }
+}
