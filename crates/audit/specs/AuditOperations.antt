@@ -36,7 +36,8 @@ HasBefore audit start before =
 
 -- the cells of the writes before the place, counted from 0, don't clash
 abbrev pub AreFree : Audit → ℕ → List Write → ℕ → Type 0
-AreFree audit s ws n = (k : ℕ) (w : Write) → k < n → slice_get ws k ≡ Some w → ¬ ClashesSo audit w.cell s
+AreFree audit s ws n =
+    (k : ℕ) (w : Write) → k < n → slice_get ws k ≡ Some w → ¬ ClashesSo audit w.cell s
 
 -- the cell of the write at this place is the first that clashes
 abbrev pub ClashesAt : Audit → ℕ → List Write → ℕ → Type 0
