@@ -13,7 +13,7 @@ returns-then-is_bad_request-clause-judged c =
 pub returns-then-branch-clause-judged : goal.returns-then-branch-clause-judged
 returns-then-branch-clause-judged c =
     let answers : IsAnswerBody (answer_of c.in-Some.answer) c.args.reply.now = search rules in
-    let asks : IsOperation (operation_of c.in-Some-decode_operation.operation) c.args.request.now = search rules in
+    let asks : IsOperation (operation_of c.in-Some-2.operation) c.args.request.now = search rules in
     let yes : c.take_operation.result ≡ Ok true = search rules in
-    passes_step c.args.audit.now c.take_operation.new.self c.args.request.now c.args.reply.now (operation_of c.in-Some-decode_operation.operation) (answer_of c.in-Some.answer)
+    passes_step c.args.audit.now c.take_operation.new.self c.args.request.now c.args.reply.now (operation_of c.in-Some-2.operation) (answer_of c.in-Some.answer)
     c.take_operation.result yes c.take_operation.ensures asks answers
