@@ -17,7 +17,7 @@ use Rattle.ownership.specs.Effects.{TouchesItsOwn, may_end}
 use Rattle.ownership.specs.Frames.{client_body}
 use Rattle.ownership.specs.Names.{gives, is_name, is_open, is_session, name_of, same_name}
 use Rattle.ownership.specs.Tables.{Knows, Table, heir_of, owned_after, owned_without, owns, refusal_for, table_of}
-use Rattle.ownership.specs.Turns.{Frame, Exchange, Turn, Stops, none, one_more, Ends, Handles, HandlesAll}
+use Rattle.ownership.specs.Turns.{Frame, Asks, Leaves, Exchange, Turn, Stops, none, one_more, Ends, Handles, HandlesAll}
 use Rattle.ownership.specs.Turns as turned
 use Rattle.ownership.specs.declared.names.Name.{Name}
 use Rattle.ownership.specs.declared.names.Name.TheVariants.{Session, Cleaner, Collector}
@@ -91,7 +91,7 @@ is_done (steps (refuses_step f)) known live = absurd (differ (sym live ∙ refus
 is_done (steps (accepts ok (stops h))) known live = refl
 is_done (steps (accepts ok (tells t))) known live = elim t [ ]
 
-done_step : {st next : State} {start : ℕ} → Goes st (One (Stop start)) (Said StopDone) next → Step st (Stop start) StopDone next
+pub done_step : {st next : State} {start : ℕ} → Goes st (One (Stop start)) (Said StopDone) next → Step st (Stop start) StopDone next
 done_step (steps step) = step
 
 out : (own asked named live : Bool) → (named ≡ true → live ≡ false) → (own && not (asked && named)) ≡ ((own && not (asked && (true && (named && not live)))) || (asked && false))
@@ -103,17 +103,24 @@ out false true named live h = refl
 out false false named live h = refl
 
 module _ {S : Type 0} (shows : S → State → Type 0) (says : S → Lent → CodecAnswer → S → Type 0) where
-  stopped_one : (client start : ℕ) (old new : ClientServer S) → StopsOne shows says client old start new → (before : State) → IsReached before → ShowsOwned shows old before
-      → (after : State) × Goes before (One (Stop start)) (Said StopDone) after × IsReached after × ShowsOwned shows new after
-  stopped_one client start old new one before reached shown =
-      let (after, goes, shows_after) = one.said.goes before reached shown.0 in
+  -- a Stop that the machine took
+  pub stopped_by : (client start : ℕ) (old new : ClientServer S) (one : StopsOne shows says client old start new) (before : State) → IsReached before → ShowsOwned shows old before → (after : State) → Goes before (One (Stop start)) one.answer after → shows new.server after
+      → Goes before (One (Stop start)) (Said StopDone) after × ShowsOwned shows new after
+  stopped_by client start old new one before reached shown after goes shows_after =
       let live = shown.1.is_there client (Session start) one.its in
       let done : Goes before (One (Stop start)) (Said StopDone) after = subst (λ (a : Answer). Goes before (One (Stop start)) a after) (is_done goes one.known live) goes in
       let closed : (name : Name) → same_name (Session start) name ≡ true → is_open after name ≡ false = λ name e. subst (λ (n : Name). is_open after n ≡ false) (same (Session start) name e) (stop_closes (done_step done)) in
       let turn : Turn before (table_of old.owners) client (One (Stop start)) (Said StopDone) after (table_of new.owners) =
       turn_of reached shown.1 (λ name e. subst (λ (n : Name). owns (table_of old.owners) client n ≡ true) (same_Some (Session start) name e) one.its) done
       (λ other name. one.noted other name ∙ out (owns (table_of old.owners) other name) (nat_eq client other) (same_name (Session start) name) (is_open after name) (closed name)) in
-      (after, done, stays_reached before after (One (Stop start)) (Said StopDone) reached done, (shows_after, turn_knows reached shown.1 turn))
+      (done, (shows_after, turn_knows reached shown.1 turn))
+
+  stopped_one : (client start : ℕ) (old new : ClientServer S) → StopsOne shows says client old start new → (before : State) → IsReached before → ShowsOwned shows old before
+      → (after : State) × Goes before (One (Stop start)) (Said StopDone) after × IsReached after × ShowsOwned shows new after
+  stopped_one client start old new one before reached shown =
+      let (after, goes, shows_after) = one.said.goes before reached shown.0 in
+      let (done, shown_after) = stopped_by client start old new one before reached shown after goes shows_after in
+      (after, done, stays_reached before after (One (Stop start)) (Said StopDone) reached done, shown_after)
 
   stopped_each : (client : ℕ) (old new : ClientServer S) (starts : List ℕ) → StopsEach shows says client old starts new → (before : State) → IsReached before → ShowsOwned shows old before
       → (after : State) × Stops before starts after × ShowsOwned shows new after
@@ -216,34 +223,41 @@ module _ {S : Type 0} (shows : S → State → Type 0) (says : S → Lent → Co
   -- ---- a frame
 
   -- from a state that is shown before the machine handles it, to one that is shown after
-  abbrev HandledFrom : State → ClientServer S → ClientServer S → Frame → ℕ → Answer → Type 0
+  abbrev pub HandledFrom : State → ClientServer S → ClientServer S → Frame → ℕ → Answer → Type 0
   HandledFrom before old new frame to answer = (after : State) × Handles old.admin before (table_of old.owners) frame to answer after (table_of new.owners) × shows new.server after
 
-  same_state : (before : State) (old new : ClientServer S) (frame : Frame) (to : ℕ) (answer : Answer) → Unchanged old new → shows old.server before → Handles old.admin before (table_of old.owners) frame to answer before (table_of old.owners) → HandledFrom before old new frame to answer
+  pub same_state : (before : State) (old new : ClientServer S) (frame : Frame) (to : ℕ) (answer : Answer) → Unchanged old new → shows old.server before → Handles old.admin before (table_of old.owners) frame to answer before (table_of old.owners) → HandledFrom before old new frame to answer
   same_state before old new frame to answer same shown handled =
       (before, subst (λ (t : Table). Handles old.admin before (table_of old.owners) frame to answer before t) (sym same.table) handled, subst (λ (s : S). shows s before) (sym same.server) shown)
 
-  handled_from : {old new : ClientServer S} {frame : Frame} {to : ℕ} {answer : Answer} → HandlesFrame shows says old new frame to answer → (before : State) → IsReached before → ShowsOwned shows old before → HandledFrom before old new frame to answer
+  -- an operation that the machine took
+  pub asked_by : (client : ℕ) (operation : Operation) (answer : Answer) (old new : ClientServer S) → refusal_for old.admin (table_of old.owners) client operation ≡ None → NotesAnswer shows says client operation answer old new → (before : State) → IsReached before → ShowsOwned shows old before
+      → (after : State) → Goes before operation answer after → shows new.server after → Handles old.admin before (table_of old.owners) (Asks client operation) client answer after (table_of new.owners)
+  asked_by client operation answer old new free notes before reached shown after goes shows_after =
+      turned.turns free (turn_of reached shown.1 (λ name e. asked_own old.admin (table_of old.owners) client operation name free e) goes (notes after shows_after))
+
+  -- a client that is gone
+  pub ended_by : (client : ℕ) (old new : ClientServer S) (e : EndsClient shows says client old new) (before after : State) → Stops before e.starts after → Handles old.admin before (table_of old.owners) (Leaves client) client (Said StopDone) after (table_of new.owners)
+  ended_by client old new e before after stopped = turned.leaves (record {
+    starts = e.starts;
+    stopped = stopped;
+    its = all_its client old e.mid e.starts e.stopped;
+    each = each_stopped client old e.mid e.starts e.stopped e.none;
+    noted = ends_noted client old new e;
+  })
+
+  pub handled_from : {old new : ClientServer S} {frame : Frame} {to : ℕ} {answer : Answer} → HandlesFrame shows says old new frame to answer → (before : State) → IsReached before → ShowsOwned shows old before → HandledFrom before old new frame to answer
   handled_from {old} {new} (asks {client = client} {operation = operation} {answer = answer} free said notes) before reached shown =
       let (after, goes, shows_after) = said.goes before reached shown.0 in
-      (after, turned.turns free (turn_of reached shown.1 (λ name e. asked_own old.admin (table_of old.owners) client operation name free e) goes (notes after shows_after)), shows_after)
+      (after, asked_by client operation answer old new free notes before reached shown after goes shows_after, shows_after)
   handled_from {old} {new} (refuses is same) before reached shown = same_state before old new _ _ _ same shown.0 (turned.refuses is)
   handled_from {old} {new} (lacks_memory same) before reached shown = same_state before old new _ _ _ same shown.0 turned.lacks_memory
   handled_from {old} {new} (is_malformed same) before reached shown = same_state before old new _ _ _ same shown.0 turned.is_malformed
   handled_from {old} {new} (has_no_client same) before reached shown = same_state before old new _ _ _ same shown.0 turned.has_no_client
   handled_from {old} {new} (is_too_large same) before reached shown = same_state before old new _ _ _ same shown.0 turned.is_too_large
   handled_from {old} {new} (leaves {client = client} e) before reached shown =
-      let (after, stopped, shown_after) = stopped_each client old e.mid e.starts e.stopped before reached shown in (
-        after,
-        turned.leaves (record {
-          starts = e.starts;
-          stopped = stopped;
-          its = all_its client old e.mid e.starts e.stopped;
-          each = each_stopped client old e.mid e.starts e.stopped e.none;
-          noted = ends_noted client old new e;
-        }),
-        subst (λ (s : S). shows s after) (sym e.server) shown_after.0,
-      )
+      let (after, stopped, shown_after) = stopped_each client old e.mid e.starts e.stopped before reached shown in
+      (after, ended_by client old new e before after stopped, subst (λ (s : S). shows s after) (sym e.server) shown_after.0)
 
   -- ---- frames, one after the other
 

@@ -16,7 +16,7 @@ use Rattle.server_loop.proofs.ServingLemmas.{Answered-joins, Answered-then}
 module _ {S : Type 0} (answers : S → Taken → List ℕ → S → Type 0) (settles fails : S → S → Type 0)
     (joins : (first mid new : S) (taken : Taken) (body : List ℕ) → answers first taken body mid → settles mid new ⊎ fails mid new → answers first taken body new) (most : ℕ) where
   -- all was settled and written
-  all_written : (result : Result End ServeFault) (over : List Taken) (a e : S) (read rest : List ℕ) (l m h i : Option (List ℕ)) (r : ℕ) → Consumes l m read → (as_write result ≢ Err faults.Write → BeginsNoFrame rest) → (p : Delivers answers settles fails a e read rest over h i)
+  abbrev pub all_written : (result : Result End ServeFault) (over : List Taken) (a e : S) (read rest : List ℕ) (l m h i : Option (List ℕ)) (r : ℕ) → Consumes l m read → (as_write result ≢ Err faults.Write → BeginsNoFrame rest) → (p : Delivers answers settles fails a e read rest over h i)
       → TakesBodies (as_write result) p.answered.bodies rest (map Body p.answered.bodies ++ over) → EndsBy (as_write result) r read rest m h i → WritesAll result [] → ServesFrames answers most a e l m h i r result
   all_written result over a e read rest l m h i r consumed open_rest p takes ending all = record {
     read = read;
@@ -41,7 +41,7 @@ module _ {S : Type 0} (answers : S → Taken → List ℕ → S → Type 0) (set
   }
 
   -- a batch was cut
-  cut_short : (result : Result End ServeFault) (fault : ServeFault) (a e : S) (read rest : List ℕ) (l m h i : Option (List ℕ)) (r : ℕ) → Consumes l m read → (as_write result ≢ Err faults.Write → BeginsNoFrame rest) → (c : Cuts answers settles fails most fault a e read rest h i) → settles c.last e ⊎ fails c.last e
+  abbrev pub cut_short : (result : Result End ServeFault) (fault : ServeFault) (a e : S) (read rest : List ℕ) (l m h i : Option (List ℕ)) (r : ℕ) → Consumes l m read → (as_write result ≢ Err faults.Write → BeginsNoFrame rest) → (c : Cuts answers settles fails most fault a e read rest h i) → settles c.last e ⊎ fails c.last e
       → ((bodies : List (List ℕ)) → TakesBodies (as_write result) bodies rest (map Body bodies ++ c.over)) → EndsBy (as_write result) r read rest m h i → ((more : List ℕ) → WritesAll result more) → ServesFrames answers most a e l m h i r result
   cut_short result fault a e read rest l m h i r consumed open_rest c is takes ending any =
       let p = Answered-then answers a c.mid e read c.behind rest c.over c.front.replies c.replies c.front.answered (Answered-joins answers settles fails joins c.mid c.last e c.behind rest c.over c.replies is c.some c.batch) in
