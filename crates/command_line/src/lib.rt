@@ -52,7 +52,7 @@ const UPKEEP_HELP: &str =
 
 const CLIENTS_HELP: &str =
     "Serve several clients, each with its own sessions, cleaners and collectors: the body of each request and reply begins \
-    with a client's number of four bytes. Not with a log [default: one client, without a number]";
+    with a client's number of four bytes [default: one client, without a number]";
 
 const ADMIN_HELP: &str =
     "The client that alone may compact, merge, split, move, sweep, checkpoint, restart the oracle and read raw: 1 to \
@@ -134,16 +134,14 @@ fn command<'a>(alloc: Global) -> Result<Command<'a>, AllocError> {
     let clients = Arg::new(alloc, "clients")
         .long("clients")
         .help(CLIENTS_HELP)
-        .action(ArgAction::SetTrue)
-        .conflicts_with("log")?;
+        .action(ArgAction::SetTrue);
     let admin = number(alloc, "admin", "A", ADMIN_HELP, 1, u32::MAX).requires_arg("clients")?;
     upkeep_command(alloc)?.arg(clients)?.arg(admin)
 }
 
 /// Parses the words of the command line, the program's name first: `tabletd [--dir DIR [--log]] [--log-bytes L]
 /// [--flush N] [--flush-bytes B] [--merge M] [--cache C] [--upkeep] [--clients [--admin A]]`, where L is 4,096 to
-/// 33,554,432, N is 1 to 100,000, B is 1,048,576 to 67,108,864, M is 2 to 64, C is 8 to 4,096 and A is 1 or more. Clients
-/// and a log aren't given together. An error has the parser's text, which for a request for help or the version is that.
+/// 33,554,432, N is 1 to 100,000, B is 1,048,576 to 67,108,864, M is 2 to 64, C is 8 to 4,096 and A is 1 or more. An error has the parser's text, which for a request for help or the version is that.
 pub fn options<'a>(alloc: Global, words: &'a [&'a str]) -> Result<Options<'a>, Error>
     ensures log { IfOk result (λ options. options.log ≡ true → is_some options.dir ≡ true) }
     ensures log_bytes { IfOk result (λ options.
@@ -155,15 +153,14 @@ pub fn options<'a>(alloc: Global, words: &'a [&'a str]) -> Result<Options<'a>, E
         IfSome options.merge (λ most. (2 ≤ most) × (most ≤ MOST_MERGE))) }
     ensures cache { IfOk result (λ options.
         (LEAST_CACHE ≤ options.cache) × (options.cache ≤ MOST_CACHE)) }
-    ensures clients { IfOk result (λ options. options.clients ≡ true → options.log ≡ false) }
     ensures admin { IfOk result (λ options. is_some options.admin ≡ true → options.clients ≡ true) }
     ensures nobody { IfOk result (λ options. IfSome options.admin (λ admin. 1 ≤ admin)) }
 {
     let matches = command(alloc)?.try_get_matches_from(words)?;
     let dir = matches.get_str("dir");
-    // The parser has refused a log without a folder, clients with a log, and an administrator without clients.
+    // The parser has refused a log without a folder, and an administrator without clients.
     let log = dir.is_some() && matches.get_flag("log");
-    let clients = !log && matches.get_flag("clients");
+    let clients = matches.get_flag("clients");
     Ok(Options {
         dir,
         log,

@@ -1,3 +1,4 @@
+mod KeptFrames
 mod FromLogs
 mod Kept
 mod KeptAnswers

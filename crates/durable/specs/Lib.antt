@@ -1,3 +1,4 @@
+pub mod Clients
 pub mod Durability
 pub mod Devices
 pub mod Due

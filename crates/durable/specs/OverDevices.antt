@@ -1,4 +1,4 @@
--- The effect of a call of `serve` over files, a mark store and a log.
+-- The effect of a call of `serve`, and of `serve_clients`, over files, a mark store and a log.
 use Rattle.std.specs.Prelude.{ℕ, List, Option, Result}
 use Rattle.commit_log.specs.declared.logs.Log.{Ghosts as Log}
 use Rattle.file_store.specs.declared.files.Files.{Ghosts as Files}
@@ -7,12 +7,14 @@ use Rattle.request_codec.specs.declared.answers.Answer.{Answer}
 use Rattle.request_codec.specs.declared.operations.Operation.{Operation}
 use Rattle.si_model.specs.Machine.{State}
 use Rattle.server_loop.specs.Operations.{IsAnswerTo}
+use Rattle.durable.specs.Clients.{ServesClientsDurably}
 use Rattle.durable.specs.Durability.{IsSettled, ServesDurably}
 use Rattle.durable.specs.Answers.{IsDurableAnswer, IsDurablyTended, LastsIn, Logs, shown_by}
 use Rattle.server_loop.specs.Server.{Shows}
 use Rattle.durable.specs.Stored.{calls_of, view_of}
 use Rattle.server_loop.specs.Tending.{IsTended}
 use Rattle.durable.specs.declared.server.DurableServer.{DurableServer}
+use Rattle.server_loop.specs.declared.client_server.ClientServer.{ClientServer}
 use Rattle.server_loop.specs.declared.server.Server.{Server}
 use Rattle.server_loop.specs.declared.statuses.End.{End}
 use Rattle.server_loop.specs.declared.statuses.ServeFault.{ServeFault}
@@ -49,3 +51,10 @@ module _ {F N M L : Type 0} (files : Files F) (inside : MarkStore N) (marks : Ma
   ServesOver =
       ServesDurably (shown_by (Shows files.contents)) IsAnswerOver IsTendedOver
       (LastsOver files log) (LogsOver files log)
+
+  abbrev pub ServesClientsOver : ClientServer (DurableServer (Server F N) M L)
+      → ClientServer (DurableServer (Server F N) M L) → Option (List ℕ) → Option (List ℕ)
+      → Option (List ℕ) → Option (List ℕ) → ℕ → Result End ServeFault → Type 0
+  ServesClientsOver =
+      ServesClientsDurably (shown_by (Shows files.contents)) IsAnswerOver IsTendedOver
+      (LastsOver files log) (LogsOver files log) 1_048_576

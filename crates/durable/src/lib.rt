@@ -2,6 +2,7 @@
 #![tactic(auto)]
 
 mod atomic_put;
+mod clients;
 mod journaled;
 mod journaled_server;
 mod recovery;
@@ -11,5 +12,6 @@ mod server;
 mod stored_mark;
 
 pub use atomic_put::AtomicPut;
+pub use clients::serve_clients;
 pub use row_atomic::ROOT_NAME;
 pub use server::DurableServer;

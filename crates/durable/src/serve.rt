@@ -17,7 +17,7 @@ use std::io::{Read, Write};
 use std::num::NonZeroUsize;
 
 /// The bytes of waiting replies at which a batch ends: no further request is answered before it is settled.
-const MOST_WAITING: usize = 1_048_576;
+pub(crate) const MOST_WAITING: usize = 1_048_576;
 
 impl<F: AtomicPut + Drop, M: MarkStore + Drop, L: Log + Drop> DurableServer<
     Server<F, MemMark>,

@@ -32,9 +32,6 @@ const NO_MEMORY: u8 = 7;
 
 const NO_MEMORY_LINE: &str = "tabletd: no memory";
 
-/// The line on standard error for clients of a folder with a log.
-const CLIENTS_AND_LOG_LINE: &str = "tabletd: --clients serves no folder with a log";
-
 /// The size of the buffer of replies for standard output, in bytes. It is flushed before each read.
 const WAITING: usize = 65_536;
 
@@ -231,6 +228,36 @@ fn serve<R: AllocGlobal + Input + Print, F: Files + Drop, M: MarkStore + Drop>(
     ended
 }
 
+/// Serves the clients that share standard input with a server that has opened its log. Returns the exit status, with its
+/// line on standard error.
+fn serve_logged_clients<R, F, M, L>(
+    rt: &R,
+    server: DurableServer<Server<F, MemMark>, M, L>,
+    admin: Option<u32>,
+) -> (u8, &'static str)
+where
+    R: AllocGlobal + Input + Print,
+    F: AtomicPut + Drop,
+    M: MarkStore + Drop,
+    L: Log + Drop,
+{
+    let mut server = ClientServer::new(rt.alloc(), server, admin);
+    let mut reader = rt.reader();
+    let ended = match BufWriter::with_capacity(rt.alloc(), WAITING, io::writer(rt)) {
+        Ok(mut writer) => end_status(&durable::serve_clients(
+            rt.alloc(),
+            &mut server,
+            &mut reader,
+            &mut writer,
+            u64::MAX,
+        )),
+        Err(_) => (NO_MEMORY, NO_MEMORY_LINE),
+    };
+    // The program ends, and the system frees its memory at once.
+    mem::forget(server);
+    ended
+}
+
 /// Serves standard input with a server that has opened its log. Returns the exit status, with its line on standard
 /// error.
 fn serve_logged<
@@ -259,6 +286,9 @@ fn serve_logged<
     }
     if let Some(most_blocks) = NonZeroUsize::new(options.cache as usize) {
         server.cache_blocks(most_blocks);
+    }
+    if options.clients {
+        return serve_logged_clients(rt, server, options.admin);
     }
     let mut reader = rt.reader();
     let ended = match BufWriter::with_capacity(rt.alloc(), WAITING, io::writer(rt)) {
@@ -309,7 +339,6 @@ fn serve_folder<R: AllocGlobal + Input + Print + Eprint + Folders<File = File> +
     };
     let alloc = rt.alloc();
     match log_of(rt, folder, options.log, &mut files, &mut marks) {
-        Ok(Some(_)) if options.clients => Ok((REFUSED, CLIENTS_AND_LOG_LINE)),
         Ok(Some(log)) => {
             match renew_root(alloc, &mut files) {
                 Ok(true) => {}
