@@ -106,12 +106,21 @@ class Clients(unittest.TestCase):
         self.assertNotIn(bytes.fromhex("00000001 FF 07"), replies)
         self.assertEqual(len(replies), 1300)
 
-    def test_clients_and_a_log_are_refused(self) -> None:
+    def test_an_administrator_without_clients(self) -> None:
+        self.assertEqual(run(["--admin", "1"], []), (1, []))
+
+    def test_a_folder_with_a_log(self) -> None:
+        """The same rows, and what was committed is there for a later program's client. Its stamps go on from 1,001, the
+        end of a range."""
+        later = [
+            ("00000001 33 0000000000000000 00 00000001 00000001 64 00000001 62", "00000001 B3 00000000000003E9 00000001 01 00000001 65"),
+        ]
         with tempfile.TemporaryDirectory() as folder:
-            self.assertEqual(run(["--clients", "--log", "--dir", folder], []), (1, []))
-            self.assertEqual(run(["--log", "--dir", folder], []), (0, []))
-            self.assertEqual(run(["--clients", "--dir", folder], []), (1, []))
-            self.assertEqual(run(["--admin", "1"], []), (1, []))
+            words = ["--clients", "--admin", "7", "--dir", folder, "--log"]
+            for rows in (ROWS, later):
+                status, replies = run(words, [bytes.fromhex(asked) for asked, _ in rows])
+                self.assertEqual([reply.hex() for reply in replies], [bytes.fromhex(reply).hex() for _, reply in rows])
+                self.assertEqual(status, 0)
 
 
 if __name__ == "__main__":

@@ -111,7 +111,7 @@ class Options(FolderTest):
             self.assertEqual(self.status(*line.split()), 0, line)
         for line in REFUSED:
             self.assertEqual(self.status(*line.split()), 1, line)
-        for words in (["--log=yes"], ["--log", "--log"], ["--log", "--clients"], ["--flush", "0"]):
+        for words in (["--log=yes"], ["--log", "--log"], ["--flush", "0"]):
             self.assertEqual(self.status("--dir", self.folder, *words), 1, words)
         self.assertEqual(self.files(), set())
         self.new_folder()

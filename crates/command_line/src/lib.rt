@@ -141,7 +141,8 @@ fn command<'a>(alloc: Global) -> Result<Command<'a>, AllocError> {
 
 /// Parses the words of the command line, the program's name first: `tabletd [--dir DIR [--log]] [--log-bytes L]
 /// [--flush N] [--flush-bytes B] [--merge M] [--cache C] [--upkeep] [--clients [--admin A]]`, where L is 4,096 to
-/// 33,554,432, N is 1 to 100,000, B is 1,048,576 to 67,108,864, M is 2 to 64, C is 8 to 4,096 and A is 1 or more. An error has the parser's text, which for a request for help or the version is that.
+/// 33,554,432, N is 1 to 100,000, B is 1,048,576 to 67,108,864, M is 2 to 64, C is 8 to 4,096 and A is 1 or more. An
+/// error has the parser's text, which for a request for help or the version is that.
 pub fn options<'a>(alloc: Global, words: &'a [&'a str]) -> Result<Options<'a>, Error>
     ensures log { IfOk result (λ options. options.log ≡ true → is_some options.dir ≡ true) }
     ensures log_bytes { IfOk result (λ options.
