@@ -22,7 +22,7 @@ returns-then-is_root_due-clause-between g c =
               (subst (λ m. HasRisen (g.M.MarkStore.faults c.args.self.now.marks.marks) (g.M.MarkStore.faults m.marks)) (sym c.sweep_after.ensures.marks)) _ _ _ c.root-done.ensures.answered;
           last = c.sweep_after.new.self.server;
           is_same = g.met.S.Journaled.same_self c.sweep_after.new.self.server;
-          swept = subst (λ (upkeep : Bool). SweepsAfter g.S.Journaled.calls.sweeps (c.sweep_after.new.self.is_stopped ≡ true) upkeep (checkpointed c.root-done.result) c.root-done.new.self.server c.sweep_after.new.self.server) c.root-done.ensures.due.2 c.sweep_after.ensures.swept;
+          swept = subst (λ (upkeep : Bool). SweepsAfter g.S.Journaled.calls (c.sweep_after.new.self.is_stopped ≡ true) upkeep (checkpointed c.root-done.result) c.root-done.new.self.server c.sweep_after.new.self.server) c.root-done.ensures.due.2 c.sweep_after.ensures.swept;
           tried = c.sweep_after.ensures.due.1 ∙ c.tried_after-self.ensures ∙ ap (tried_at (checkpointed c.root-done.result)) c.written-written.ensures;
         },
       );
