@@ -35,7 +35,8 @@ pub record ServesClientsDurably {S : Type 0} (shows : S → State → Type 0)
     (lasts : S → State → Type 0) (logs : S → Type 0) (most : ℕ) (old new : ClientServer S)
     (left left' held held' : Option (List ℕ)) (most_reads : ℕ) (result : Result End ServeFault)
     : Type 0 where
-  pub clients : ServesClients shows says between most old new left left' held held' most_reads result
+  pub clients : ServesClients shows says between most old new left left' held held' most_reads
+      result
   pub kept : IsSettled shows lasts logs old.server → (before : State) → IsReached before
       → ShowsOwned shows old before
       → KeepsFrames (lasts new.server) old.admin before (table_of old.owners)

@@ -20,8 +20,8 @@ use Rattle.server_loop.specs.declared.server.Server.{Server}
 
 module _ {F M : Type 0} (contents : F → Option Contents) where
   -- The files keep these cells under a root that names these places.
-  pub record StoresCells (server : Server F M) (root : RootView) (base : Cells) (places : List Place)
-      : Type 0 where
+  pub record StoresCells (server : Server F M) (root : RootView) (base : Cells)
+      (places : List Place) : Type 0 where
     pub has : HasRoot contents root base (cluster_of server)
     pub placed : machine_places root.places ≡ places
 

@@ -182,7 +182,8 @@ impl Owners {
             ≡ (owns (table_of self.old) c n && not (nat_eq client c && names.same_name name n)) }
         ensures room { tables.HasRoom self.old → tables.HasRoom self.new }
         ensures fewer { owns (table_of self.old) client name ≡ true
-            → tables.held_in (table_of self.new) client < tables.held_in (table_of self.old) client }
+            → tables.held_in (table_of self.new) client
+            < tables.held_in (table_of self.old) client }
     {
         match name {
             Name::Session(start) => self.sessions.remove(client, start),

@@ -40,7 +40,8 @@ abbrev pub IsFrameOf : Frame → Taken → Type 0
 IsFrameOf frame (Body body) = IsBodyOf frame body
 IsFrameOf frame Oversize = frame ≡ TooLarge
 
-module _ {S : Type 0} (shows : S → State → Type 0) (says : S → Lent → CodecAnswer → S → Type 0) where
+module _ {S : Type 0} (shows : S → State → Type 0)
+    (says : S → Lent → CodecAnswer → S → Type 0) where
   -- ---- an answer of the server inside
 
   -- It fulfils the contract of an answer, and the machine goes so from each reached state that is shown.

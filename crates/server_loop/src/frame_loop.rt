@@ -131,7 +131,8 @@ fn answer_to_body<A: Handler>(alloc: Global, server: &mut A, body: &[u8]) -> Ans
 fn answer_to_incoming<A: Handler>(alloc: Global, server: &mut A, incoming: Incoming<'_>) -> Answer
     ensures run { RunsAs A.shows server.old server.new (taken_by incoming.entry ∷ [])
         (answer_of result ∷ []) }
-    ensures says { SaysOf A.says server.old (taken_by incoming.entry) (answer_of result) server.new }
+    ensures says { SaysOf A.says server.old (taken_by incoming.entry) (answer_of result)
+        server.new }
     ensures limits { AnswerKeepsToLimits result }
 {
     match incoming {
