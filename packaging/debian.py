@@ -46,9 +46,9 @@ def zipped(text: str) -> File:
     return File(gzip.compress(text.encode(), mtime=0))
 
 
-def files(tabletd: Path, python: dict[str, bytes], manuals: dict[str, str]) -> dict[str, File]:
-    """The files of the package, by their paths, with this program, Python package and manual pages."""
-    found = {"usr/bin/tabletd": File(tabletd.read_bytes(), True), "usr/bin/duqishom": File(COMMAND, True)}
+def files(programs: dict[str, bytes], python: dict[str, bytes], manuals: dict[str, str]) -> dict[str, File]:
+    """The files of the package, by their paths, with these programs, Python package and manual pages."""
+    found = {f"usr/bin/{name}": File(data, True) for name, data in (programs | {"duqishom": COMMAND}).items()}
     found |= {f"{PYTHON}/{path}": File(data) for path, data in python.items()}
     found |= {f"usr/share/man/man1/{name}.1.gz": zipped(text) for name, text in manuals.items()}
     found |= {f"{UNITS}/{unit}": File((HERE / unit).read_bytes()) for unit in SERVICE}

@@ -29,7 +29,7 @@ static void show_commit(dq_connection *c, uint64_t start, const dq_cell_write *w
     dq_status status = dq_commit(c, start, writes, count, &answer);
     printf("Commit %llu: %s", (unsigned long long)start, dq_status_name(status));
     if (status == DQ_OK) printf(" %llu %llu", (unsigned long long)answer.start, (unsigned long long)answer.stamp);
-    if (status == DQ_CONFLICT) printf(" at %u", answer.place);
+    if (status == DQ_CONFLICT) printf(" %llu at %u", (unsigned long long)answer.start, answer.place);
     printf("\n");
 }
 
@@ -156,9 +156,9 @@ static dq_status write_longest(dq_transaction *t, void *context) {
     return DQ_OK;
 }
 
-// 16 writes take 18 bytes each besides their values, and the Commit 13: 1,048,576 - 13 - 16 * 18 - 15 * 65,536.
+// 16 writes take 18 bytes each besides their values, and the Commit 13: 1,048,572 - 13 - 16 * 18 - 15 * 65,536.
 static dq_status check_frame(dq_connection *c) {
-    int lengths[] = {65235, 65236};
+    int lengths[] = {65231, 65232};
     for (int i = 0; i < 2; i++) show("frame", dq_run(c, write_longest, &lengths[i], NULL));
     return DQ_OK;
 }

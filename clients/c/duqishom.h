@@ -39,7 +39,8 @@
 extern "C" {
 #endif
 
-#define DQ_LONGEST_FRAME 1048580  // bytes of a request or a reply, with its length
+#define DQ_LONGEST_FRAME 1048580    // bytes of a reply, with its length
+#define DQ_LONGEST_REQUEST 1048576  // the same of a request, to whose body a gateway adds four bytes
 #define DQ_SPARE 8320             // bytes that a transaction's writes leave for other requests
 #define DQ_MOST_CELLS 256         // cells that a session may write
 #define DQ_LOCK_WAIT 1000         // milliseconds
@@ -182,7 +183,7 @@ static inline void dqi_open(dq_connection *c, uint8_t operation) {
 // Completes the frame. If it had no room, nothing of it stays.
 static inline dq_status dqi_complete(dq_connection *c) {
     size_t size = c->out_end - c->frame;
-    if (c->is_full || size > DQ_LONGEST_FRAME) {
+    if (c->is_full || size > DQ_LONGEST_REQUEST) {
         c->out_end = c->frame;
         return DQ_NO_ROOM;
     }
@@ -481,7 +482,7 @@ static inline dq_status dqi_ask_commit(dq_connection *c, dq_committed *answer) {
     if (status != DQ_OK) return status;
     unsigned kind = (unsigned)dqi_take(&fields, 1);
     if (kind != 1 && kind != 2) fields.is_bad = 1;
-    if (kind == 1) answer->start = dqi_take(&fields, 8);
+    answer->start = dqi_take(&fields, 8);
     if (kind == 1) answer->stamp = dqi_take(&fields, 8);
     if (kind == 2) answer->place = (unsigned)dqi_take(&fields, 2);
     status = dqi_end(c, &fields);
@@ -741,7 +742,7 @@ static inline dq_status dqi_write(dq_transaction *t, dq_bytes row, dq_bytes fami
     unsigned is_new = !dqi_has(c, from, row, family, &before);
     c->is_full = 0;
     dqi_put_write(c, row, family, value);
-    int is_too_long = c->is_full || c->out_end > DQ_LONGEST_FRAME || c->out_room - c->out_end < DQ_SPARE;
+    int is_too_long = c->is_full || c->out_end > DQ_LONGEST_REQUEST || c->out_room - c->out_end < DQ_SPARE;
     int is_too_many = t->cells + is_new > DQ_MOST_CELLS;
     dq_status status = is_too_long ? DQ_NO_ROOM : is_too_many ? DQ_TOO_MANY_WRITES : DQ_OK;
     if (status != DQ_OK) {

@@ -1,6 +1,6 @@
 """Builds the wheel of this package for pip, without any other package, so that it needs no network.
 
-`scripts/package` builds one that has a program in it too, for one kind of machine.
+`scripts/package` builds one that has programs in it too, for one kind of machine.
 """
 
 from __future__ import annotations
@@ -10,13 +10,13 @@ import hashlib
 import runpy
 import tarfile
 import tomllib
+from collections.abc import Collection
 from pathlib import Path
 from zipfile import ZIP_DEFLATED, ZipFile, ZipInfo
 
 HERE = Path(__file__).resolve().parent
 
-# The place of the program in a wheel, and the tag of a wheel without one.
-PROGRAM = "duqishom/tabletd"
+# The tag of a wheel without programs.
 ANY = "py3-none-any"
 
 
@@ -47,14 +47,23 @@ def build_editable(wheel_directory: str, config_settings: object = None, metadat
     return write_wheel(wheel_directory, {"duqishom.pth": f"{HERE}\n".encode()})
 
 
-def build_program_wheel(folder: str, program: bytes, platform: str) -> str:
-    """Writes the wheel with a program for this platform, and a command that runs it, into a folder. Returns its name."""
-    return write_wheel(folder, {**sources(), PROGRAM: program}, f"py3-none-{platform}", {"tabletd": "duqishom.program:run"})
+def build_program_wheel(folder: str, programs: dict[str, bytes], platform: str) -> str:
+    """Writes the wheel with programs for this platform, and a command that runs tabletd, into a folder. Returns its
+    name."""
+    placed = {f"duqishom/{name}": program for name, program in programs.items()}
+    files, commands = {**sources(), **placed}, {"tabletd": "duqishom.program:run"}
+    return write_wheel(folder, files, f"py3-none-{platform}", commands, set(placed))
 
 
-def write_wheel(folder: str, files: dict[str, bytes], tag: str = ANY, more: dict[str, str] | None = None) -> str:
-    """Writes a wheel of these files, with more commands if any are given. It has no times, so that the same files give
-    the same wheel. Returns its name."""
+def write_wheel(
+    folder: str,
+    files: dict[str, bytes],
+    tag: str = ANY,
+    more: dict[str, str] | None = None,
+    programs: Collection[str] = (),
+) -> str:
+    """Writes a wheel of these files, of which some are programs, with more commands if any are given. It has no times,
+    so that the same files give the same wheel. Returns its name."""
     name, metadata, commands = described()
     info = f"{name}.dist-info"
     entries = "".join(f"{command} = {target}\n" for command, target in {**commands, **(more or {})}.items())
@@ -71,7 +80,7 @@ def write_wheel(folder: str, files: dict[str, bytes], tag: str = ANY, more: dict
     with ZipFile(Path(folder) / wheel, "w", ZIP_DEFLATED) as made:
         for file, data in files.items():
             entry = ZipInfo(file)
-            entry.external_attr = (0o100755 if file == PROGRAM else 0o100644) << 16
+            entry.external_attr = (0o100755 if file in programs else 0o100644) << 16
             made.writestr(entry, data, ZIP_DEFLATED)
     return wheel
 

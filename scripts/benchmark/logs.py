@@ -27,7 +27,7 @@ FAMILY = b"c"
 BEGIN, COMMITTED, DONE = b"\x01", b"\x84\x04", b"\xb2\x01"
 
 # The size in bytes of a one-cell commit's edits with such a row and value.
-COMMIT_BYTES = 312
+COMMIT_BYTES = 259
 
 # The entries at which a memtable is compacted, more than a log has when it is filled.
 MANY = "99000"

@@ -8,8 +8,7 @@ import sys
 from collections.abc import Sequence
 from contextlib import nullcontext
 
-from duqishom import backups, dumps, inspection, statistics, watch_command, web
-from duqishom.gateway import command as gateway
+from duqishom import backups, dumps, inspection, serving, statistics, watch_command, web
 from duqishom.program import ProgramEnded
 from duqishom.refusals import Refused
 from duqishom.store import Store
@@ -28,7 +27,7 @@ have options of their own."""
 # The subcommands by their first words, each with the function that runs it on the words after it.
 COMMANDS = {
     "inspect": inspection.main,
-    "serve": gateway.main,
+    "serve": serving.main,
     "stats": statistics.main,
     "watch": watch_command.main,
     "web": web.main,

@@ -38,6 +38,10 @@ FIRST_RECORDS = 2**63
 WINDOW = 131_072
 FAMILY = re.compile(rb"[!-9;-~]{1,64}")
 COLUMNS = {b"data": Qualifier.DATA, b"lock": Qualifier.LOCK, b"write": Qualifier.WRITE}
+NAMES = {column: name for name, column in COLUMNS.items()}
+# The column of an edit of a log, by the last digit of its first byte; with the bit of an erasure it is erased
+EDITED = dict(enumerate(COLUMNS.values()))
+ERASES = 0x10
 
 Bytes = bytes | mmap
 
@@ -117,6 +121,12 @@ def key_of(text: bytes) -> Key:
     if len(text) != at + 8 or not 1 <= stamp <= MOST_STAMP:
         raise BadForm("this is no stamp of 8 bytes", at)
     return Key(row, family, column, stamp)
+
+
+def key_text(key: Key) -> bytes:
+    """The text of a key."""
+    row = key.row.replace(b"\x00", b"\x00\xff")
+    return b"\x00\x00".join((row, key.family, NAMES[key.column], LONG_NUMBER.pack(2**64 - 1 - key.stamp)))
 
 
 class SortedFile:
@@ -314,11 +324,12 @@ def root_sum(root: Root) -> int:
 
 
 class RecordKind(IntEnum):
-    """The kind of a log record: edits, or the root that the log continues."""
+    """The kind of a log record: edits, as entries if an earlier program wrote them, or the root that the log continues."""
 
-    EDITS = 0
+    ENTRIES = 0
     ROOT = 1
     ANY_ROOT = 2
+    EDITS = 3
 
 
 class LogRecord(NamedTuple):
@@ -335,7 +346,7 @@ class LogRecord(NamedTuple):
 class Log:
     """The records of the whole frames of a log, the offset of their end, the offset at which the room begins, which are
     the zeros at the end of the file, and the offset before it at which a later whole frame begins, if one does. In format 1
-    there is no store and no first number, and all records are edits."""
+    there is no store and no first number, and all records are entries."""
 
     format: int
     store: int
@@ -350,6 +361,8 @@ class Log:
         for record in self.records:
             if record.kind is RecordKind.EDITS:
                 yield from edits_in(record.body, record.at)
+            elif record.kind is RecordKind.ENTRIES:
+                yield from entries_in(record.body, record.at)
 
     def is_over_any(self) -> bool:
         """Whether it continues any root."""
@@ -378,7 +391,7 @@ def log_of(data: bytes) -> Log:
         raise BadForm("the head is neither TABLOG01 nor TABLOG02", first_difference(data[:8], near))
     if form == 1:
         frames = list(frames_of(data, len(SIGN_HEAD)))
-        old = tuple(LogRecord(RecordKind.EDITS, 0, at, record) for at, record in frames)
+        old = tuple(LogRecord(RecordKind.ENTRIES, 0, at, record) for at, record in frames)
         end = frames[-1][0] + len(frames[-1][1]) if frames else 8
         return Log(1, 0, 0, old, end, room_of(data, end))
     if len(data) < 16:
@@ -441,10 +454,10 @@ def log_record(record: bytes, at: int) -> LogRecord:
         raise BadForm("the record ends before its body", at + len(record))
     _, kind, stamp = LOG_RECORD.unpack_from(record)
     body = record[LOG_RECORD.size :]
-    lengths = {RecordKind.EDITS: len(body), RecordKind.ROOT: 4, RecordKind.ANY_ROOT: 0}
-    if kind not in lengths:
+    lengths = {RecordKind.ROOT: 4, RecordKind.ANY_ROOT: 0}
+    if kind not in list(RecordKind):
         raise BadForm("this is no kind of a record", at + LONG_NUMBER.size)
-    if len(body) != lengths[RecordKind(kind)] or (kind == RecordKind.ANY_ROOT and stamp):
+    if len(body) != lengths.get(RecordKind(kind), len(body)) or (kind == RecordKind.ANY_ROOT and stamp):
         raise BadForm("the record isn't that of its kind", at + LONG_NUMBER.size)
     if stamp > MOST_STAMP:
         raise BadForm("a record's stamp is no more than the greatest stamp", at + LONG_NUMBER.size + 1)
@@ -482,8 +495,58 @@ def store_of(data: bytes) -> int:
     return store
 
 
+class EditReader:
+    """Reads the fields of the edits in a record that begins at an offset of its log. BadForm at the byte where a field is
+    wrong."""
+
+    def __init__(self, record: bytes, begin: int) -> None:
+        self._record, self._begin, self._at = record, begin, 0
+
+    def is_done(self) -> bool:
+        """Whether all edits were read."""
+        return self._at == len(self._record)
+
+    def edit(self) -> Entry:
+        """The next edit."""
+        at, kind = self._at, self._taken(1)[0]
+        column = EDITED.get(kind & ~ERASES)
+        if column is None:
+            raise BadForm("this is no byte of an edit's column", self._begin + at)
+        at, row = self._at, self._counted(2)
+        if not 1 <= len(row) <= LONGEST_ROW:
+            raise BadForm("a row has 1 to 4,000 bytes", self._begin + at)
+        at, family = self._at, self._counted(1)
+        if not FAMILY.fullmatch(family):
+            raise BadForm("this is no family", self._begin + at)
+        at, stamp = self._at, int.from_bytes(self._taken(8), "big")
+        if not 1 <= stamp <= MOST_STAMP:
+            raise BadForm("this is no stamp of 8 bytes", self._begin + at)
+        at, value = self._at, None if kind & ERASES else self._counted(4)
+        if value is not None and len(value) > LONGEST_VALUE:
+            raise BadForm("a value has more than 65,536 bytes", self._begin + at)
+        return Entry(key_text(Key(row, family, column, stamp)), value)
+
+    def _taken(self, count: int) -> bytes:
+        taken = self._record[self._at : self._at + count]
+        if len(taken) < count:
+            raise BadForm("the record ends inside an edit", self._begin + len(self._record))
+        self._at += count
+        return taken
+
+    def _counted(self, width: int) -> bytes:
+        """Bytes behind their length, a number of `width` bytes."""
+        return self._taken(int.from_bytes(self._taken(width), "big"))
+
+
 def edits_in(record: bytes, begin: int = 0) -> Iterator[Entry]:
     """The edits of a record that begins at an offset of its log."""
+    reader = EditReader(record, begin)
+    while not reader.is_done():
+        yield reader.edit()
+
+
+def entries_in(record: bytes, begin: int = 0) -> Iterator[Entry]:
+    """The same of a record of entries, which earlier programs wrote."""
     at = 0
     while at < len(record):
         text, kind = counted_in(record, at, begin)

@@ -6,7 +6,8 @@ from struct import Struct
 
 from duqishom.refusals import FrameTooLarge
 
-LONGEST_BODY = 1_048_576
+# A gateway adds a number of four bytes, and a program reads no more than 1,048,576.
+LONGEST_BODY = 1_048_572
 
 LENGTH = Struct(">I")
 

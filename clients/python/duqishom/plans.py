@@ -46,7 +46,7 @@ from duqishom.operations import (
     Sweep,
 )
 from duqishom.refusals import BadRequest, MemtableFull, NoMemory, Refused, TooManyFiles, UnknownTablet
-from duqishom.several import MOST_READ, NEW, CommitDone, Read, ReadDone, Support
+from duqishom.several import MOST_READ, NEW, CommitConflict, CommitDone, Read, ReadDone, Support
 from duqishom.tablets import TabletMap
 
 LOG = logging.getLogger("duqishom")
@@ -186,7 +186,7 @@ class Stamps:
             if isinstance(operation, Begin) and isinstance(answer, int):
                 self._was_next = answer == self._last + 1
                 self._last = answer
-            elif isinstance(answer, (CommitDone, ReadDone)):
+            elif isinstance(answer, (CommitDone, CommitConflict, ReadDone)):
                 self._last = max(self._last, answer.start, answer.commit if isinstance(answer, CommitDone) else 0)
                 commits += isinstance(answer, CommitDone)
             elif isinstance(operation, (Step, Steps)):

@@ -227,10 +227,10 @@ class BadRequest(Refused):
 
 
 class FrameTooLarge(Refused):
-    """A frame has a body of at most 1,048,576 bytes. The client sends none that is longer."""
+    """A frame has a body of at most 1,048,572 bytes. The client sends none that is longer."""
 
     number = 23
-    limit = "at most 1,048,576 bytes"
+    limit = "at most 1,048,572 bytes"
 
 
 BY_NUMBER: dict[int, type[Refused]] = {refusal.number: refusal for refusal in Refused.__subclasses__()}

@@ -248,9 +248,9 @@ class Session:
             return None
         if isinstance(answer, Refused):
             raise answer
-        self.is_active = False
+        self.is_active, self._start = False, answer.start
         if isinstance(answer, CommitDone):
-            self._start, self.commit_stamp = answer.start, answer.commit
+            self.commit_stamp = answer.commit
             return None
         failure = TransactionConflict(list({**self._sent, **self._writes})[answer.place - 1])
         LOG.debug("a session came to nothing: %s", failure)

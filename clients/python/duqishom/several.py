@@ -7,6 +7,7 @@ from dataclasses import dataclass
 from typing import ClassVar
 
 from duqishom.answers import Found, Nothing, Pending, Unsent, Value
+from duqishom.cells import Cell
 from duqishom.fields import FieldReader, MalformedReply, counted_argument, number
 
 # The start that names no session: the request begins one.
@@ -29,9 +30,10 @@ class CommitDone:
 
 @dataclass(frozen=True)
 class CommitConflict:
-    """The cell at this place of the session's writes, counted from 1, is locked, or was committed after the session's
-    start. The session has ended and holds nothing."""
+    """The session began at `start`. The cell at this place of its writes, counted from 1, is locked, or was committed
+    since. The session has ended and holds nothing."""
 
+    start: int
     place: int
 
 
@@ -61,7 +63,7 @@ class Commit:
             case 1:
                 return CommitDone(fields.number(8), fields.number(8))
             case 2:
-                return CommitConflict(fields.number(2))
+                return CommitConflict(fields.number(8), fields.number(2))
             case tag:
                 raise MalformedReply(f"no answer to a Commit has the tag {tag}")
 
@@ -108,7 +110,7 @@ def read_cell(fields: FieldReader) -> Found | Unsent:
             raise MalformedReply(f"no cell of a Read has the tag {tag}")
 
 
-def too_many_for_one(writes: Mapping[tuple[bytes, bytes], bytes | None], longest: int) -> int:
+def too_many_for_one(writes: Mapping[Cell, bytes | None], longest: int) -> int:
     """How many of the first writes have to go before a Commit, so that its body is no longer than `longest` bytes."""
     left, room = len(writes), longest - COMMIT_HEAD
     for (row, family), value in reversed(writes.items()):

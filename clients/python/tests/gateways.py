@@ -143,6 +143,17 @@ class Wire:
         self.send(get(start, row) + stop(start))
         return [self.reply() for _ in range(2)][0]
 
+    def read_cleaned(self, row: bytes) -> bytes:
+        """The reply to a read of a cell, after a lock on it is cleaned."""
+        reply = self.read(row)
+        if reply[:2] == b"\x82\x02":
+            cleaner = self.ask(clean_begin(row))[2:10]
+            if cleaner:
+                self.send(2 * clean_step(cleaner))
+                self.reply(), self.reply()
+            reply = self.read(row)
+        return reply
+
     def told(self) -> list[bytes]:
         """What a client was told before the answer to a Statistics that it asks now."""
         self.send(STATISTICS)
@@ -267,18 +278,21 @@ def plain(body):
     return bytes((body[0] | 128,)) + rest
 def answer(body):
     {answer}
-while head := sys.stdin.buffer.read(4):
-    body = sys.stdin.buffer.read(int.from_bytes(head, "big")) or bytes(1)
+def answered(body):
     asked.append(body[0])
-    reply = answer(body)
+    return answer(body)
+while head := sys.stdin.buffer.read(4):
+    client = sys.stdin.buffer.read(4)
+    body = sys.stdin.buffer.read(int.from_bytes(head, "big") - 4)
+    reply = client + (answered(body) if body else bytes((0x85,)))
     sys.stdout.buffer.write(len(reply).to_bytes(4, "big") + reply)
     sys.stdout.buffer.flush()
 """
 
 
 def stand_in(case: unittest.TestCase, answer: str) -> str:
-    """A program that answers each body by this line of Python. `asked` has the operations so far, and `plain` an
-    accepting reply."""
+    """A program with `--clients` that answers each body, without the client's number, by this line of Python. `asked`
+    has the operations so far, and `plain` an accepting reply. It answers by itself that a client is gone."""
     place = Path(folder_of(case), "stand_in")
     place.write_text(STAND_IN.format(python=sys.executable, answer=answer))
     place.chmod(0o755)

@@ -47,9 +47,10 @@ class Ends:
 
 @dataclass(frozen=True)
 class Exchange:
-    """A block of frames, on a new store or on the store of the block before it."""
+    """A block of frames, on a new store of a program with these words, or on the store of the block before it."""
 
     is_new: bool
+    words: list[str]
     lines: list[Sent | Got | Ends] = field(default_factory=list)
 
 
@@ -80,8 +81,11 @@ def line_of_frames(line: str) -> Sent | Got | Ends:
 
 def exchanges(page: str) -> list[Exchange]:
     """The blocks of frames of a page, in order."""
-    blocks = fenced(page, "frames")
-    return [Exchange(block.more == "new", [line_of_frames(line) for line in block.lines()]) for block in blocks]
+    found = []
+    for block in fenced(page, "frames"):
+        first, *words = block.more.split() or [""]
+        found.append(Exchange(first == "new", words, [line_of_frames(line) for line in block.lines()]))
+    return found
 
 
 def commands(page: str) -> list[Command]:

@@ -57,9 +57,9 @@ class Copies(FolderTest):
         copy = self.path / "copy"
         totals: list[int | None] = []
 
-        with Store(folder=self.store) as store:
+        with Store(folder=self.store, words=["--merge", "64"]) as store:
             for value in (b"3", b"4"):
-                store.run(lambda t, value=value: t.set(b"b", FAMILY, value))
+                store.put(b"b", FAMILY, value)
                 store.checkpoint()
 
             def replace(reached: Reached) -> None:

@@ -62,7 +62,7 @@ CASES = {
 # The output of the case `examples`, whose requests and replies are those of docs/PROTOCOL.md, "Commit" and "Read".
 EXAMPLES = """\
 Commit 0: OK 1002 1003
-Commit 1001: Conflict at 1
+Commit 1001: Conflict 1001 at 1
 Read 0: OK 1004 Value 11 Nothing Pending 6
 Commit 1004: OK 1004 1005
 Commit 0: EmptyCommit
@@ -92,6 +92,7 @@ BEGUN, STOPPED = ("01", "81 0000000000000001"), ("05 0000000000000001", "85")
 BOB, JOE = "00000003 426F62 00000003 62616C 01 00000001 31", "00000003 4A6F65 00000003 62616C 00"
 ONE, TWO = f"32 0000000000000001 00000001 {BOB}", f"32 0000000000000001 00000003 {BOB} {BOB} {JOE}"
 DONE = "B2 01 0000000000000001 0000000000000002"
+CONFLICT = "B2 02 0000000000000001 0002"
 LOOK = "11 00000003 4A6F65 00000003 62616C 02 0000000000000000 7FFFFFFFFFFFFFFF"
 LOCKED, FREE = "91 01 0000000000000003 0000000B 4A6F65000062616C000053", "91 00"
 
@@ -102,10 +103,11 @@ COMMITS = (
     ("two", (BEGUN, (TWO, DONE)), "OK"),
     ("write", (BEGUN, (ONE, "FF 0F"), STOPPED), "MemtableFull"),
     ("write", (BEGUN, (ONE, "FF 16"), STOPPED), "BadRequest"),
-    ("two", (BEGUN, (TWO, "B2 02 0002"), (LOOK, LOCKED), (LOOK, FREE), BEGUN, (TWO, DONE)), "OK"),
-    ("two", (BEGUN, (TWO, "B2 02 0002"), (LOOK, FREE), BEGUN, (TWO, DONE)), "OK"),
+    ("two", (BEGUN, (TWO, CONFLICT), (LOOK, LOCKED), (LOOK, FREE), BEGUN, (TWO, DONE)), "OK"),
+    ("two", (BEGUN, (TWO, CONFLICT), (LOOK, FREE), BEGUN, (TWO, DONE)), "OK"),
     ("write", (BEGUN, (ONE, "B2 03")), "OutcomeUnknown"),
     ("write", (BEGUN, (ONE, f"{DONE} 00")), "OutcomeUnknown"),
+    ("write", (BEGUN, (ONE, "B2 02 0001")), "OutcomeUnknown"),
     ("write", (BEGUN, (ONE, "")), "OutcomeUnknown"),
 )
 

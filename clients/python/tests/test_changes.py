@@ -167,9 +167,9 @@ class Twin(unittest.TestCase):
                 async with store.watch(b"r") as changes:
                     self.assertEqual([await changes.wait(PATIENCE), await changes.wait(0.01)], [Change(), None])
                     await store.put(b"r", FAMILY, b"v")
-                    change = await changes.wait(PATIENCE)
-                    assert change is not None
-                    self.assertEqual(change.cells, (Cell(b"r", FAMILY),))
+                    came = await changes.wait(PATIENCE)
+                    assert came is not None
+                    self.assertEqual(came.cells, (Cell(b"r", FAMILY),))
                     gateway.kill()
                     self.assertIsNone(await changes.wait(0.01))
                     Gateway(self, path=gateway.path)

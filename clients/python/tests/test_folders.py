@@ -325,6 +325,15 @@ class Folders(FolderTest):
         sides = {tablet.number: tablet.files for tablet in read_root(self.path).tablets}
         self.assertTrue(sides[1] and sides[2] and not {name for name, _ in sides[1]} & {name for name, _ in sides[2]})
 
+    def test_files_stay_few_by_themselves(self) -> None:
+        """Each of these transactions writes a file, and a tablet takes 64."""
+        with self.opened("--flush", "2") as store:
+            for number in range(200):
+                store.put(b"%d" % (number % 7), FAMILY, b"%d" % number)
+            with self.assertRaises(BadCount):
+                store.merge(1, 10)
+            self.assertEqual(store.get(b"3", FAMILY), b"199")
+
     def test_killed_at_any_moment(self) -> None:
         chance = random.Random(29)
         kept = 0

@@ -6,12 +6,13 @@ from __future__ import annotations
 import io
 import random
 import unittest
-from collections.abc import Callable
+from collections.abc import Callable, Iterable
 from contextlib import redirect_stderr, redirect_stdout
 
 from duqishom import BadForm, Kind, Lock, Patience, Qualifier, Record, Store, read_lock, read_record
 from duqishom.files import (
     MOST_STAMP,
+    Entry,
     FileRef,
     Key,
     RecordKind,
@@ -19,6 +20,7 @@ from duqishom.files import (
     RootTablet,
     SortedFile,
     edits_in,
+    entries_in,
     frame_of,
     key_of,
     log_of,
@@ -37,7 +39,7 @@ from tests.pages import Fenced, fenced
 PAGE = "docs/FORMATS.md"
 COLUMNS = {"data": Qualifier.DATA, "lock": Qualifier.LOCK, "write": Qualifier.WRITE}
 KINDS = {"set": Kind.SET, "delete": Kind.DELETE}
-RECORDS = {"edits": RecordKind.EDITS, "root": RecordKind.ROOT, "any": RecordKind.ANY_ROOT}
+RECORDS = {"edits": RecordKind.EDITS, "entries": RecordKind.ENTRIES, "root": RecordKind.ROOT, "any": RecordKind.ANY_ROOT}
 
 
 def bytes_in(block: Fenced) -> bytes:
@@ -58,7 +60,7 @@ class Examples(unittest.TestCase):
 
     def test_examples(self) -> None:
         blocks = fenced(PAGE, "form")
-        self.assertEqual(len(blocks), 17)
+        self.assertEqual(len(blocks), 18)
         for block in blocks:
             kind, *words = block.more.split()
             with self.subTest(block.more):
@@ -91,7 +93,7 @@ class Examples(unittest.TestCase):
 
     def is_log(self, data: bytes, form: str, *words: str) -> None:
         """A log, however it is cut. In format 2 a record's word has its kind, its stamp, and its body, or the body's
-        length for edits."""
+        length for edits and entries."""
         store, first, *records = words if form == "2" else ("0", "0", *words)
         for cut in range(45 if form == "2" else 8, len(data) + 1):
             log = log_of(data[:cut])
@@ -110,7 +112,13 @@ class Examples(unittest.TestCase):
         self.assertEqual((store_of(data), sign_of(int(store, 16))), (int(store, 16), data))
 
     def is_edits(self, data: bytes, *words: str) -> None:
-        found = [(key_of(text), value) for text, value in edits_in(data)]
+        self.are_edits(edits_in(data), *words)
+
+    def is_entries(self, data: bytes, *words: str) -> None:
+        self.are_edits(entries_in(data), *words)
+
+    def are_edits(self, read: Iterable[Entry], *words: str) -> None:
+        found = [(key_of(text), value) for text, value in read]
         wanted = [words[at : at + 5] for at in range(0, len(words), 5)]
         keys = [Key(bytes_of(row), family.encode(), COLUMNS[column], int(stamp)) for row, family, column, stamp, _ in wanted]
         self.assertEqual(found, [(key, value.encode() if value != "-" else None) for key, (*_, value) in zip(keys, wanted)])
@@ -144,7 +152,7 @@ class OutsideTheForm(unittest.TestCase):
     def test_later_frames(self) -> None:
         """A log with a wrong byte before a whole frame is damaged, and one with a wrong byte in its last frame ends before it."""
         [data] = [bytes_in(block) for block in fenced(PAGE, "form") if block.more.startswith("log 2")]
-        for at, end, later in ((50, 45, 102), (60, 45, 102), (101, 45, 102), (102, 102, 127), (127, 127, None), (151, 127, None)):
+        for at, end, later in ((50, 45, 102), (60, 45, 102), (101, 45, 102), (102, 102, 148), (148, 148, 173), (173, 173, None), (197, 173, None)):
             log = log_of(data[:at] + bytes([data[at] ^ 1]) + data[at + 1 :])
             self.assertEqual((log.end, log.later), (end, later), at)
         for head in (b"", b"TABLOG", b"TABLOG03", data[:8], data[:44], data[:20] + b"\0" + data[21:]):
@@ -175,6 +183,16 @@ class OutsideTheForm(unittest.TestCase):
             with self.subTest(at=at), self.assertRaises(BadForm) as caught:
                 SortedFile(data).check()
             self.assertLessEqual(abs(caught.exception.at - at), 8, caught.exception.what)
+
+
+    def test_wrong_fields_of_an_edit(self) -> None:
+        """The first byte has a column, and row, family and stamp are within their limits."""
+        [edits] = [bytes_in(block) for block in fenced(PAGE, "form") if block.more.startswith("edits")]
+        for at, wrong, told in ((0, 0x03, 0), (0, 0x20, 0), (2, 0, 1), (6, 0x3A, 5), (14, 0, 7), (7, 0x80, 7), (15, 1, 35)):
+            data = edits[:at] + bytes([wrong]) + edits[at + 1 :]
+            with self.subTest(at=at), self.assertRaises(BadForm) as caught:
+                list(edits_in(data))
+            self.assertEqual(caught.exception.at, told)
 
 
 class Inspection(FolderTest):

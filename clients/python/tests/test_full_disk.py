@@ -72,7 +72,7 @@ class FullDisk(FolderTest):
         with self.opened() as store:
             self.put(store, 0)
             for value in (b"1", b"2"):
-                store.run(lambda t, value=value: t.set(b"small", FAMILY, value))
+                store.put(b"small", FAMILY, value)
                 store.minor(1)
             store.merge(1, 2)
             fill()

@@ -3,6 +3,7 @@
 from __future__ import annotations
 
 import doctest
+import json
 import os
 import random
 import socket
@@ -11,7 +12,6 @@ import sys
 import threading
 import unittest
 
-from duqishom.gateway.passages import passages
 from tests.gateways import (
     BEGIN,
     COLLECT_BEGIN,
@@ -30,6 +30,7 @@ from tests.gateways import (
     stand_in,
     step,
     stop,
+    until,
 )
 from tests.pages import fenced
 
@@ -100,14 +101,14 @@ class Frames(unittest.TestCase):
     def test_too_large_ends_one_client_alone(self) -> None:
         gateway = Gateway(self)
         wire, other = gateway.wire(), gateway.wire()
-        wire.send(2 * raw(b"r", 1) + b"\0\x10\0\x01" + BEGIN)
+        wire.send(2 * raw(b"r", 1) + b"\0\x0f\xff\xfd" + BEGIN)
         self.assertEqual([wire.reply() for _ in range(3)], [NOTHING, NOTHING, TOO_LARGE])
         self.assertRaises(EOFError, wire.reply)
         self.assertEqual(other.ask(BEGIN)[0], 0x81)
 
     def test_the_longest_frame_passes(self) -> None:
         wire = Gateway(self).wire()
-        self.assertEqual(wire.ask(frame(b"\x01" + b"\0" * 1_048_575)), BAD_REQUEST)
+        self.assertEqual(wire.ask(frame(b"\x01" + b"\0" * 1_048_571)), BAD_REQUEST)
         self.assertEqual(wire.ask(BEGIN)[0], 0x81)
 
     def test_a_client_that_has_ended_its_input_gets_all_replies(self) -> None:
@@ -138,24 +139,6 @@ class Frames(unittest.TestCase):
             wire.sendall(frame(b"\x71copy"))
             self.assertEqual(wire.recv(100), b"\0\0\0\x02\xff\x16")
         self.assertEqual(gateway.wire().ask(BEGIN)[0], 0x81)
-
-
-class Weights(unittest.TestCase):
-    """The weights of requests."""
-
-    def test_by_count(self) -> None:
-        table, one = passages(notes_reads=False), (1).to_bytes(8, "big")
-        for request, weight in (
-            (BEGIN, 1),
-            (scan(one, cells=1), 2),
-            (scan(one, SCAN_BOUNDS[4], 64), 65),
-            (scan(one, cells=1000), 1001),
-            (scan(one, cells=4_000_000_000), 1001),
-            (frame(b"\x31"), 1),
-            (collect_step(one, 10), 31),
-            (SWEEP, 2048),
-        ):
-            self.assertEqual(table[request[4]].costs_of(request, 4, len(request))[0], weight)
 
 
 class Belongings(unittest.TestCase):
@@ -215,6 +198,30 @@ class Belongings(unittest.TestCase):
         for request in (*(of_tablet(code, 1) for code in (0x0A, 0x0C)), SWEEP, frame(b"\x10"), frame(b"\x12")):
             self.assertEqual(wire.ask(request), BAD_REQUEST)
             self.assertEqual(admin.ask(request)[0], request[4] | 0x80)
+
+    def test_the_administrator_s_connections_are_one_client(self) -> None:
+        """What it has open ends with the last of them, and with no other connection."""
+        gateway = Gateway(self, ["--admin", "ADMIN"])
+        first, second, other = gateway.wire(gateway.admin), gateway.wire(gateway.admin), gateway.wire()
+        start = first.begin()
+        self.assertEqual(second.ask(set_(start, b"r", b"v")), b"\x83")
+        self.assertEqual(other.ask(step(start)), UNKNOWN_SESSION)
+        for wire in (first, other):
+            wire.close()
+        self.assertTrue(until(lambda: len(json.loads(second.ask(frame(b"\x72"))[1:])["clients"]) == 1))
+        self.assertEqual(second.ask(step(start))[:2], b"\x84\x01")
+        second.close()
+        self.assertTrue(until(lambda: gateway.statistics()["open"]["sessions"] == 0))
+
+    def test_what_the_program_knows_by_its_number_alone(self) -> None:
+        """An empty body, by which a client finds out whether the program answers, doesn't end the client there."""
+        gateway = Gateway(self, ["--admin", "ADMIN"])
+        wire = gateway.wire()
+        start = wire.begin()
+        self.assertEqual(wire.ask(frame(b"")), BAD_REQUEST)
+        self.assertEqual(wire.ask(get(start, b"r")), b"\x82\x00")
+        # Clients find out by raw reads what has become of a commit
+        self.assertEqual(wire.ask(raw(b"r", 3)), NOTHING)
 
     def test_room_is_made_where_clients_can_not(self) -> None:
         program = stand_in(

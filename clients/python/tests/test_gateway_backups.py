@@ -89,7 +89,8 @@ class Running(FolderTest):
         for log in ("--log", "--no-log"):
             folder, copies = self.path / f"store{log}", [self.path / f"copy{log}{number}" for number in range(3)]
             folder.mkdir()
-            gateway = Gateway(self, ["--dir", str(folder), "--flush", "40", log])
+            # Files pile up while the one that merges waits for a copy.
+            gateway = Gateway(self, ["--dir", str(folder), "--flush", "40", "--merge", "20", log])
             with Store(socket=gateway.path) as store:
                 with store.transaction() as opening:
                     for account in ACCOUNTS:

@@ -64,7 +64,7 @@ class Bank(unittest.TestCase):
             clients = [self.client(gateway, seed) for seed in range(CLIENTS)]
             ended, kills, sums = [], 0, 0
             end = time.monotonic() + SECONDS
-            while time.monotonic() < end:
+            while time.monotonic() < end or sums < 6:
                 time.sleep(dice.uniform(0, 0.4))
                 place = dice.randrange(CLIENTS)
                 clients[place].kill()
@@ -73,9 +73,11 @@ class Bank(unittest.TestCase):
                 clients[place] = self.client(gateway, 100 + kills)
                 self.assertEqual(store.run(self.sum_of, attempts=50), FIRST * len(ACCOUNTS))
                 sums += 1
+            # The last ones pay once at least, however busy the machine is
+            paid = sum(bool(client.stdout.readline()) for client in clients if client.stdout)
             for client in clients:
                 client.kill()
-            paid = sum(len(client.stdout.read().splitlines()) for client in ended + clients if client.stdout)
+            paid += sum(len(client.stdout.read().splitlines()) for client in ended + clients if client.stdout)
             self.assertEqual(store.run(self.sum_of, attempts=50), FIRST * len(ACCOUNTS))
             self.assertGreater(min(paid, kills, sums), 5)
             self.assertGreater(store.collect(), 0)

@@ -10,7 +10,6 @@ from tests.gateways import (
     Gateway,
     Wire,
     clean_begin,
-    clean_step,
     collect_step,
     get,
     raw,
@@ -22,7 +21,6 @@ from tests.gateways import (
 
 TOO_MANY_SESSIONS = b"\xff\x07"
 NO_LOCK = b"\x86\x00"
-PENDING = b"\x82\x02"
 
 
 class Deaths(unittest.TestCase):
@@ -32,17 +30,6 @@ class Deaths(unittest.TestCase):
         """Waits until exactly these numbers of things are open."""
         wanted = {"sessions": sessions, "cleaners": cleaners, "collectors": collectors}
         self.assertTrue(until(lambda: gateway.statistics()["open"] == wanted), gateway.statistics()["open"])
-
-    def read_cleaned(self, wire: Wire, row: bytes) -> bytes:
-        """The value of a cell, after a lock on it is cleaned."""
-        reply = wire.read(row)
-        if reply[:2] == PENDING:
-            cleaner = wire.ask(clean_begin(row))[2:10]
-            if cleaner:
-                wire.send(2 * clean_step(cleaner))
-                wire.reply(), wire.reply()
-            reply = wire.read(row)
-        return reply
 
     def test_at_any_byte_of_a_commit(self) -> None:
         gateway = Gateway(self)
@@ -55,10 +42,11 @@ class Deaths(unittest.TestCase):
             wire.send(requests[:cut])
             wire.close()
             self.open_are(gateway, 0)
-            values = [self.read_cleaned(reader, row) for row in (b"x", b"y")]
+            values = [reader.read_cleaned(row) for row in (b"x", b"y")]
             self.assertEqual(values[0], values[1])
 
-    def test_a_committed_one_is_finished(self) -> None:
+    def test_a_committed_one_is_there(self) -> None:
+        """Though its session was stopped before it had finished the cells."""
         gateway = Gateway(self)
         wire, reader = gateway.wire(), gateway.wire()
         start = wire.begin()
@@ -67,8 +55,7 @@ class Deaths(unittest.TestCase):
         wire.close()
         self.open_are(gateway, 0)
         for row in (b"x", b"y", b"z"):
-            self.assertEqual(reader.ask(raw(row, 2)), b"\x91\x00")
-            self.assertEqual(reader.read(row)[-1:], b"v")
+            self.assertEqual(reader.read_cleaned(row)[-1:], b"v")
 
     def test_cleaners_and_collectors_come_to_their_ends(self) -> None:
         gateway = Gateway(self)

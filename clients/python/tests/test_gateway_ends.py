@@ -70,7 +70,8 @@ class Ends(unittest.TestCase):
         self.assertRaises((EOFError, ConnectionError), wire.reply)
         self.assertEqual(gateway.process.wait(60), 0)
 
-    def test_what_is_open_at_the_end_is_finished(self) -> None:
+    def test_what_is_committed_at_the_end_is_there(self) -> None:
+        """Though its session was stopped before it had finished the cells."""
         folder = folder_of(self)
         gateway = Gateway(self, ["--dir", folder])
         wire = gateway.wire()
@@ -79,8 +80,7 @@ class Ends(unittest.TestCase):
         self.assertEqual([wire.reply() for _ in range(6)][-1][:2], b"\x84\x04")
         self.assertEqual(gateway.stop(), 0)
         wire = Gateway(self, ["--dir", folder]).wire()
-        self.assertEqual([wire.ask(raw(row, 2)) for row in (b"x", b"y")], 2 * [b"\x91\x00"])
-        self.assertEqual(wire.read(b"y"), VALUE)
+        self.assertEqual(wire.read_cleaned(b"y"), VALUE)
 
     def test_a_client_that_reads_nothing_does_not_hold_up_the_end(self) -> None:
         program = stand_in(self, "return bytes((0x91, 1)) + bytes(9) + bytes((1, 0, 0)) + bytes(65536)")
@@ -246,10 +246,8 @@ class Begins(unittest.TestCase):
         self.assertTrue(Path(folder, "lock").exists())
         self.assertEqual(Gateway(self, ["@/no/such/file"]).process.wait(60), 2)
 
-    def test_durable_or_a_log_without_a_folder(self) -> None:
-        for word in ("--durable", "--log"):
-            gateway = Gateway(self, [word])
-            self.assertEqual(gateway.process.wait(60), 2)
+    def test_a_log_without_a_folder(self) -> None:
+        self.assertEqual(Gateway(self, ["--log"]).process.wait(60), 2)
 
     def test_by_a_service_manager(self) -> None:
         folder = folder_of(self)
@@ -276,13 +274,13 @@ class Begins(unittest.TestCase):
             process = subprocess.Popen(command, cwd=PACKAGE, env=environment, pass_fds=files, stderr=quiet)
             stack.enter_context(process)
             stack.callback(process.kill)
-            self.assertEqual(manager.recv(100), b"READY=1")
+            self.assertEqual(manager.recv(100), b"READY=1\n")
             self.assertEqual(early.reply()[0], 0x81)
             for request in (of_tablet(0x0C, 1), SWEEP, frame(b"\x10")):
                 self.assertEqual(early.ask(request), b"\xff\x16")
                 self.assertEqual(others.ask(request)[0], request[4] | 0x80)
             process.terminate()
-            self.assertEqual(manager.recv(100), b"STOPPING=1")
+            self.assertEqual(manager.recv(100), b"STOPPING=1\n")
             self.assertEqual(process.wait(60), 0)
         self.assertTrue(os.path.exists(path))
 

@@ -5,14 +5,10 @@ from __future__ import annotations
 import os
 import unittest
 from pathlib import Path
-from unittest import mock
 
 from duqishom import Store
+from duqishom.fields import counted, number
 from duqishom.frames import whole_frames
-from duqishom.gateway.bounds import REPLIES_OF_ALL, Bounds
-from duqishom.gateway.client import Client
-from duqishom.gateway.counts import Counts
-from duqishom.gateway.passages import MOST_WEIGHT, NO_MEMORY, READ_ROOM, passages
 from tests.gateways import (
     BEGIN,
     COLUMN,
@@ -21,11 +17,9 @@ from tests.gateways import (
     Gateway,
     Wire,
     commit,
-    counted,
     folder_of,
     frame,
     get,
-    number,
     read,
     set_,
     step,
@@ -76,8 +70,8 @@ class Belongings(unittest.TestCase):
                 self.assertEqual(other.ask(frame(code + start + body)), BAD_REQUEST)
                 self.assertEqual(wire.ask(frame(code + start + body)), BAD_REQUEST)
                 self.assertEqual(wire.ask(frame(code + NEW + body)), BAD_REQUEST)
-        for rows in ([], [b"r"] * 257):
-            self.assertEqual([each.ask(read(start, *rows)) for each in (wire, other)], [BAD_COUNT] * 2)
+        for rows in (list[bytes](), [b"r"] * 257):
+            self.assertEqual([each.ask(read(start, *rows)) for each in (wire, other)], [BAD_COUNT, UNKNOWN_SESSION])
         self.assertEqual(wire.ask(commit(start, ONE)), DONE + start + number(8, 2))
         self.assertEqual(gateway.statistics()["open"]["sessions"], 0)
 
@@ -95,7 +89,7 @@ class Belongings(unittest.TestCase):
             self.assertNotEqual(wire.ask(request)[:1], b"\xff")
             self.assertEqual(gateway.statistics()["open"]["sessions"], open_still)
             self.assertEqual(wire.ask(request)[:1], b"\xff")
-        self.assertEqual(wire.ask(commit(starts[3], ONE)), CONFLICT + b"\0\1")
+        self.assertEqual(wire.ask(commit(starts[3], ONE)), CONFLICT + starts[3] + b"\0\1")
         self.assertEqual(gateway.statistics()["open"]["sessions"], 0)
 
     def test_what_ends_belongs_to_nobody(self) -> None:
@@ -174,45 +168,11 @@ class Belongings(unittest.TestCase):
         self.assertEqual(gateway.stop(), 0)
         bodies: list[bytes] = []
         whole_frames((Path(place) / "requests").read_bytes(), bodies)
-        self.assertLessEqual({0x32, 0x33}, {body[0] for body in bodies if body})
+        self.assertLessEqual({0x32, 0x33}, {body[4] for body in bodies if body[4:]})
 
 
 class Costs(unittest.TestCase):
-    """What a request weighs, the room for its reply, and how it is counted."""
-
-    def test_weights_and_rooms(self) -> None:
-        table = passages(notes_reads=False)
-        rows = [b"%03d" % place for place in range(256)]
-        for request, weight, room in (
-            (commit(NEW), 1, 32),
-            (commit(NEW, ONE), 4, 32),
-            (commit(NEW, *((row, b"") for row in rows)), 1 + 3 * 256 + 1, 32),
-            (commit(NEW, *((row, bytes(65_536)) for row in rows[:15])), 1 + 3 * 15 + 240, 32),
-            (frame(b"\x32" + NEW + b"\xff\xff\xff\xff"), 1 + 3 * 256, 32),
-            (frame(b"\x32"), 1, 32),
-            (read(NEW, b"r"), 2, READ_ROOM),
-            (read(NEW, *rows[:15]), 16, 17 + 15 * 65_541),
-            (read(NEW, *rows), 257, 1_048_580),
-            (frame(b"\x33" + NEW), 1, 17),
-        ):
-            passage = table[request[4]].of(request, 4, len(request))
-            self.assertEqual(passage.costs_of(request, 4, len(request)), (weight, room))
-            self.assertLess(weight, MOST_WEIGHT)
-
-    def test_no_memory_for_a_reply(self) -> None:
-        """A Read of so much is refused if the replies of all clients take what they may; of one cell it is passed on."""
-        exchange = mock.Mock(table=passages(notes_reads=False), bounds=Bounds(), counts=Counts())
-        exchange.shares.has_left.return_value = True
-        exchange.watches.by_number = {}
-        exchange.upstream.weight = 0
-        exchange.bounds.replies = REPLIES_OF_ALL - 70_000
-        client = Client(exchange, False)
-        for request, verdict in ((read(NEW, b"r", b"s"), NO_MEMORY), (read(NEW, b"r"), None), (commit(NEW, ONE), None)):
-            client.waiting = bytearray(request)
-            self.assertEqual(client._gather([]), (0 if verdict else len(request), verdict))
-        client.room = 1
-        client.waiting = bytearray(read(NEW, b"r", b"s"))
-        self.assertEqual(client._gather([]), (0, None))
+    """Long replies, and counts."""
 
     def test_long_replies(self) -> None:
         """Many that are asked for together come in order."""
@@ -315,25 +275,6 @@ class Watches(unittest.TestCase):
             assert change is not None and change.cells is not None
             self.assertEqual([tuple(cell) for cell in change.cells], [(b"ab", COLUMN)])
             self.assertEqual(store._support.is_there, True)
-
-
-class Durable(unittest.TestCase):
-    """Answers that wait for a checkpoint."""
-
-    def test_commits(self) -> None:
-        folder = folder_of(self)
-        gateway = Gateway(self, ["--dir", folder, "--no-log", "--durable"])
-        wire = gateway.wire()
-        self.assertEqual(wire.ask(commit(NEW, ONE))[:2], DONE)
-        self.assertEqual(gateway.statistics()["checkpoints"], 1)
-        wire.send(commit(NEW, (b"s", b"v")) + read(NEW, b"s"))
-        self.assertEqual([wire.reply()[:1] for _ in range(2)], [b"\xb2", b"\xb3"])
-        self.assertEqual(gateway.statistics()["checkpoints"], 2)
-        program = gateway.program()
-        gateway.kill()
-        self.assertTrue(until(lambda: not Path(f"/proc/{program}").exists()))
-        with Store(folder=folder) as store:
-            self.assertEqual(store.get_many([(b"r", COLUMN), (b"s", COLUMN)]), [b"v", b"v"])
 
 
 if __name__ == "__main__":

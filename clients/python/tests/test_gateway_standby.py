@@ -5,13 +5,9 @@ from __future__ import annotations
 import os
 import signal
 import unittest
-from argparse import Namespace
 from contextlib import suppress
-from unittest import mock
 
 from duqishom import Store
-from duqishom.gateway.command import stood_by
-from duqishom.gateway.sockets import Served
 from tests.gateways import BEGIN, Gateway, Wire, folder_of, until
 
 VALUE = b"\x82\x01\0\0\0\x01v"
@@ -95,22 +91,6 @@ class Standby(unittest.TestCase):
         kill(serving)
         self.assertTrue(until(lambda: serves(waiting)))
         self.assertEqual(waiting.wire().read(b"r"), VALUE)
-
-    def test_what_it_waits_for(self) -> None:
-        """If its program comes too late, or its socket is still served, it stands by again."""
-        for outcomes, in_use, status, waits in (
-            ([4, Served("socket"), 4, 0], [True, True], 0, 4),
-            ([4], [False], 4, 1),
-            ([128 + 9], [], 137, 1),
-            ([Served("socket"), 1], [], 1, 2),
-        ):
-            with (
-                mock.patch("duqishom.gateway.command.service_of") as service_of,
-                mock.patch("duqishom.gateway.command.is_in_use", side_effect=in_use),
-                mock.patch("duqishom.gateway.command.wait_for") as wait_for,
-            ):
-                service_of.return_value.run.side_effect = outcomes
-                self.assertEqual((stood_by(Namespace(dir="data")), wait_for.call_count), (status, waits))
 
     def test_a_signal(self) -> None:
         folder = folder_of(self)

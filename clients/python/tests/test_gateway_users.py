@@ -175,23 +175,24 @@ class Shares(unittest.TestCase):
 
     def test_collectors(self) -> None:
         """They can't be taken, so nobody gets the last ones."""
-        gateway = self.gateway("--collectors", "64", "--admin", "ADMIN")
-        cases: tuple[tuple[str | int, int], ...] = ((self.port, 30), (gateway.path, 15), (self.port, 0), (gateway.admin, 19))
+        gateway = self.gateway("--admin", "ADMIN")
+        cases: tuple[tuple[str | int, int], ...] = ((self.port, 30), (gateway.path, 15), (self.port, 0), (gateway.admin, 4))
         for address, count in cases:
-            self.assertEqual(self.had(self.fill(lambda: gateway.wire(address), 1, COLLECT_BEGIN)), count)
+            self.assertEqual(self.had(self.fill(lambda: gateway.wire(address), 16, COLLECT_BEGIN, 4)), count)
 
     def test_administrator(self) -> None:
-        """It has places of its own, and then takes others', whatever a crowd does."""
-        gateway = Gateway(self, ["--admin", "ADMIN", "--clients", "20", "--collectors", "64"])
+        """It has places of its own, and then takes others', whatever a crowd does. Its connections are one client."""
+        gateway = Gateway(self, ["--admin", "ADMIN", "--clients", "20"])
         crowd = self.fill(gateway.wire, 20)
         self.assertEqual(self.had(crowd), 960)
         self.assertEqual(crowd[0][0].ask(COLLECT_BEGIN)[0], 0x88)
         self.assertEqual(gateway.wire().ask(BEGIN), TOO_MANY)
-        # Sixteen connections, and two more, for which none is left that isn't the administrator's own
-        for count, had in ((16, 1024), (2, 0)):
+        # Sixteen connections, and two more, for which places are taken from the crowd
+        for count, had in ((16, 64), (2, 0)):
             admins = self.fill(lambda: gateway.wire(gateway.admin), count)
             self.assertEqual(self.had(admins), had)
-            self.assertEqual({wire.ask(COLLECT_BEGIN)[0] for wire, _ in admins[:4]}, {0x88})
+            self.assertEqual({wire.ask(COLLECT_BEGIN)[0] for wire, _ in admins[:2]}, {0x88})
+        self.assertIn(b'"taken_clients":2', admins[0][0].ask(STATISTICS))
 
     def test_few_files(self) -> None:
         """With few open files it takes fewer clients, and the administrator still gets in."""

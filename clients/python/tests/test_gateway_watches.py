@@ -4,27 +4,15 @@ from __future__ import annotations
 
 import socket
 import unittest
-from pathlib import Path
-from unittest import mock
 
 from duqishom import Store
-from duqishom.gateway import watches as gateway_watches
-from duqishom.gateway.bounds import CELL_SIZE, CHANGE_SIZE, CHANGES_OF_CLIENT, WATCHES_OF_CLIENT, WRITTEN_OF_ALL
-from duqishom.gateway.passages import Kind, passages
-from duqishom.gateway.things import Thing, Things
-from duqishom.gateway.upstream import Run
-from duqishom.gateway.users import User
+from duqishom.fields import counted, number
 from tests.gateways import (
     COLUMN,
-    PATIENCE,
     Gateway,
     Wire,
-    counted,
-    folder_of,
     frame,
-    number,
     set_,
-    stand_in,
     step,
     stop,
     until,
@@ -33,6 +21,9 @@ from tests.gateways import (
 BAD_ROW, BAD_COLUMN, TOO_MANY, BAD_REQUEST = b"\xff\x03", b"\xff\x04", b"\xff\x07", b"\xff\x16"
 COMMITTED = b"\x84\x04"
 ROW = b"a" * 4000
+
+# The most watches of a client, the untaken bytes beyond which it isn't told of cells, and the most bytes of a message's.
+WATCHES_OF_CLIENT, CHANGES_OF_CLIENT, CHANGE_SIZE = 16, 32_768, 32_768
 
 
 def watch(prefix: bytes, family: bytes | None = None) -> bytes:
@@ -141,17 +132,6 @@ class Watches(unittest.TestCase):
         self.assertEqual(watcher.told(), [changed(1, committed, (b"a", COLUMN))])
         self.assertEqual(other.ask(set_(number(8, 77), b"a", b"v")), b"\xff\1")
 
-    def test_a_session_that_is_not_known_any_more(self) -> None:
-        """The gateway has taken it from its user, but its Step was on its way."""
-        client, told = mock.Mock(watches=[], takes_changes=lambda: True), list[bytes]()
-        client.tell = told.append
-        watches = gateway_watches.Watches(passages(notes_reads=False), Things(), lambda client: None)
-        for prefix in (b"a", b"b"):
-            watches.begin(client, watch(prefix)[4:])
-        step_of_none = Run(mock.Mock(), passages(notes_reads=False)[4], number(8, 7), 1, 1, 32)
-        watches.note(step_of_none, frame(COMMITTED + bytes(8)))
-        self.assertEqual(told, [frame(unnamed(1)), frame(unnamed(2))])
-
     def test_clients_that_are_gone(self) -> None:
         """Whatever they had sent: it is told if it is committed, and not else."""
         gateway = Gateway(self)
@@ -171,23 +151,6 @@ class Watches(unittest.TestCase):
                 self.assertIn(counted(row), watcher.reply())
             self.assertEqual(watcher.told(), [])
         self.assertEqual((found[0], found[-1]), (True, False))
-
-    def test_no_checkpoint_yet(self) -> None:
-        """If answers are durable, a client is told of a commit when a checkpoint has it."""
-        file = Path(folder_of(self), "file")
-        hold = f"while body[0] == 18 and not __import__('os').path.exists({str(file)!r}): time.sleep(0.01)"
-        program = stand_in(self, f"{hold}\n    return b'\\x84\\4' + bytes(8) if body[0] == 4 else plain(body)")
-        gateway = Gateway(self, ["--program", program, "--dir", folder_of(self), "--no-log", "--durable"])
-        watcher, wire = self.watching(gateway, watch(b"a")), gateway.wire()
-        start = wire.begin()
-        self.answers(wire, set_(start, b"a", b"v"), 1)
-        wire.send(step(start))
-        self.assertTrue(until(lambda: gateway.statistics()["watches"]["changes"] == 1))
-        watcher.socket.settimeout(0.2)
-        self.assertRaises(TimeoutError, watcher.reply)
-        watcher.socket.settimeout(PATIENCE)
-        file.touch()
-        self.assertEqual(watcher.reply(), changed(1, wire.reply(), (b"a", COLUMN)))
 
     def test_idle_clients(self) -> None:
         """One with a watch isn't idle."""
@@ -267,34 +230,6 @@ class Bounds(unittest.TestCase):
         committed = wire.commit(b"ab", b"v")
         self.assertEqual(watcher.reply(), changed(1, committed, (b"ab", COLUMN)))
         self.assertEqual(gateway.statistics()["watches"], {"open": 1, "changes": told + 1, "unnamed": 1})
-
-    def test_cells_of_all_sessions(self) -> None:
-        """The sessions that would have too many are recorded without them, and the others go on."""
-
-        class Asker:
-            user, counts = User([0] * 4), [0] * 3
-
-            def __init__(self) -> None:
-                self.things: set[Thing] = set()
-
-        things, asker = Things(), Asker()
-        sessions = [Thing(Kind.SESSION, bytes((name,)), asker, 0) for name in range(3)]
-        for session in sessions:
-            things.by_name[Kind.SESSION][session.name] = session
-        things.note_write(sessions[0], (b"r", b"c"))
-        things.note_write(sessions[0], (b"r", b"c"))
-        self.assertEqual(things.written, CELL_SIZE + 2)
-        for place in range(WRITTEN_OF_ALL // (CELL_SIZE + 4001) + 1):
-            things.note_write(sessions[1], (b"%04000d" % place, b"c"))
-        self.assertIsNone(sessions[1].written)
-        self.assertEqual(things.written, CELL_SIZE + 2)
-        things.note_write(sessions[1], (b"r", b"c"))
-        things.note_write(sessions[2], (b"r", b"d"))
-        self.assertEqual((sessions[2].written, things.written), ({(b"r", b"d"): None}, 2 * (CELL_SIZE + 2)))
-        for session in sessions:
-            things.close(session)
-        self.assertEqual(things.written, 0)
-
 
 if __name__ == "__main__":
     unittest.main()

@@ -75,7 +75,7 @@ def told(operation: Operation[Any], wanted: Wanted, reply: bytes) -> Wanted:
         return reply
     if isinstance(wanted, int):
         return reply[1] if reply[0] == 0xFF else 0
-    answer = answer_or_refusal(operation, reply)
+    answer: Any = answer_or_refusal(operation, reply)
     if isinstance(wanted, list):
         return [0 if answer is None else answer.stamp]
     assert isinstance(answer, Scanned)

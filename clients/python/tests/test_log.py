@@ -8,6 +8,7 @@ import random
 import shutil
 import signal
 import subprocess
+import tempfile
 import threading
 import time
 import unittest
@@ -124,7 +125,12 @@ class Logs(FolderTest):
         """It was refused for a tablet's 64 files. After they are merged, and a checkpoint is requested, others follow
         automatically."""
         value = bytes(60_000)
-        with self.opened(None, "--log-bytes", "1048576") as store:
+        # Upkeep would merge the files
+        program = Path(self.enterContext(tempfile.TemporaryDirectory())) / "program"
+        program.write_text(f'#!/bin/sh\nexec {default_program()} $(echo "$@" | sed s/--upkeep//)\n')
+        program.chmod(0o755)
+        words = ("--log-bytes", "1048576")
+        with Store(str(program), folder=self.folder, words=words, checkpoint_at_close=False) as store:
             for _ in range(64):
                 put(store, b"1")
                 store.minor(1)
@@ -338,9 +344,10 @@ class Logs(FolderTest):
             put(store, b"1")
             put(store, b"2")
         log, old = self.path / LOG, b"TABLOG01"
-        for record in log_of(log.read_bytes()).records[1:]:
-            length = NUMBER.pack(len(record.body))
-            old += FRAME.pack(len(record.body), crc32(length + record.body)) + record.body
+        for text, value in log_of(log.read_bytes()).edits():
+            put_to = b"\0" if value is None else b"\1" + NUMBER.pack(len(value)) + value
+            body = NUMBER.pack(len(text)) + text + put_to
+            old += FRAME.pack(len(body), crc32(NUMBER.pack(len(body)) + body)) + body
         # A program that writes format 1 stores the mark before it answers a stamp
         (self.path / MARK).write_bytes(spelled_mark(log_of(log.read_bytes()).mark()))
         (self.path / SIGN).unlink()

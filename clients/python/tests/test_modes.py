@@ -54,7 +54,7 @@ class Modes(FolderTest):
 
     def opened(self, log: bool) -> Store:
         """The store of the folder. Its end makes no checkpoint."""
-        return Store(folder=self.place, checkpoint_at_close=False, log=log)
+        return Store(folder=self.place, words=["--merge", "64"], checkpoint_at_close=False, log=log)
 
     def make(self, log: bool) -> None:
         """Has the folder be that of a new store, with two checkpoints. There is a copy of it."""

@@ -14,7 +14,7 @@ from duqishom import operations
 from tests.pages import TOP
 
 # Folders that builds and runs leave, and git's own.
-LEFT = {".git", "out", "__pycache__", "build", ".mypy_cache", ".ruff_cache"}
+LEFT = {".git", "out", "target", "__pycache__", "build", ".mypy_cache", ".ruff_cache"}
 
 PAGE = re.compile(r"(?:README|CONTRIBUTING|docs/[^/]+|crates/[^/]+/README)\.md")
 

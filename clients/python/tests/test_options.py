@@ -133,7 +133,7 @@ class Options(FolderTest):
 
     def test_log_bytes(self) -> None:
         """An edit counts as at least 671 bytes: a log of 4,096 bytes is emptied at each seventh edit."""
-        for words, least, most in (((), 2_000, 10_000), (("--log-bytes", "4096"), 8, 1_000)):
+        for words, least, most in (((), 1_500, 10_000), (("--log-bytes", "4096"), 8, 1_000)):
             with self.subTest(words=words):
                 self.new_folder()
                 with self.opened(*words, log=True) as store:
@@ -149,7 +149,8 @@ class Options(FolderTest):
         table: tuple[tuple[tuple[str, ...], int, int, range], ...] = (
             (("--flush-bytes", "1048576"), 18, 65_000, range(2, 3)),
             (("--flush", "100"), 10, 1, range(1, 2)),
-            (("--flush", "2"), 10, 1, range(8, 64)),
+            (("--flush", "2", "--merge", "64"), 10, 1, range(8, 64)),
+            (("--flush", "2"), 10, 1, range(1, 6)),
             (("--flush", "2", "--merge", "3"), 10, 1, range(1, 4)),
         )
         for log in (False, True):
@@ -221,7 +222,7 @@ class Options(FolderTest):
             with self.subTest(log=log):
                 self.new_folder()
                 counts = []
-                with self.opened("--flush", "3", log=log) as store:
+                with self.opened("--flush", "3", "--merge", "64", log=log) as store:
                     for _ in range(3):
                         self.put(store, 4)
                         store.merge(1, 2)

@@ -23,6 +23,7 @@ PROGRAM = os.environ.get("TABLETD", "")
 # The files of the Debian package besides the Python package and the pages, each with its mode.
 DEBIAN = {
     "./usr/bin/duqishom": "-rwxr-xr-x",
+    "./usr/bin/duqishom-gateway": "-rwxr-xr-x",
     "./usr/bin/tabletd": "-rwxr-xr-x",
     "./usr/lib/systemd/system/duqishom-admin.socket": "-rw-r--r--",
     "./usr/lib/systemd/system/duqishom-remote.service": "-rw-r--r--",
@@ -42,6 +43,7 @@ PYTHON, PAGES = "./usr/lib/python3/dist-packages/duqishom/", "./usr/share/doc/du
 # The files of the wheel besides the sources, each with whether it can be executed.
 INFO = f"duqishom-{VERSION}.dist-info"
 WHEEL = {
+    "duqishom/duqishom-gateway": True,
     "duqishom/tabletd": True,
     f"{INFO}/METADATA": False,
     f"{INFO}/WHEEL": False,
@@ -101,10 +103,13 @@ class Packages(unittest.TestCase):
             command = [sys.executable, f"{tree}/usr/bin/duqishom", "--dir", str(store), *words]
             said = subprocess.check_output(command, env=place, text=True)
         self.assertEqual(said, "10\n")
-        for name, said in (
-            ("tabletd", subprocess.check_output([tree / "usr/bin/tabletd", "--help"], text=True)),
-            ("duqishom", subprocess.check_output([sys.executable, tree / "usr/bin/duqishom", "--help"], env=place, text=True)),
-        ):
+        helps: tuple[tuple[str, list[str | Path]], ...] = (
+            ("tabletd", [tree / "usr/bin/tabletd", "--help"]),
+            ("duqishom", [sys.executable, tree / "usr/bin/duqishom", "--help"]),
+            ("duqishom", [sys.executable, tree / "usr/bin/duqishom", "serve", "--help"]),
+        )
+        for name, asked in helps:
+            said = subprocess.check_output(asked, env=place, text=True)
             page = subprocess.check_output(["zcat", tree / f"usr/share/man/man1/{name}.1.gz"], text=True)
             options = set(re.findall(r"--[a-z][a-z-]+", said)) - {"--help"}
             self.assertGreater(len(options), 5)
@@ -130,11 +135,16 @@ class Packages(unittest.TestCase):
         self.assertEqual(said, f"tabletd {VERSION}\n")
 
     def test_no_program(self) -> None:
-        """Without a program, the error says where it was looked for."""
+        """Without a program, the error says where it was looked for, and without a gateway, how it is built."""
         shutil.copytree(TOP / "clients" / "python" / "duqishom", self.path / "alone" / "duqishom")
         lines = "from duqishom import Store\ntry: Store()\nexcept FileNotFoundError as failure: print(failure)"
         said = self.run_in(sys.executable, lines, PATH="/nowhere", PYTHONPATH=str(self.path / "alone"))
         self.assertEqual(said, "there is no tabletd: neither on PATH nor in this package, and TABLETD names none\n")
+        lines = "from duqishom.serving import main\nprint(main(['--socket', 'path']))"
+        alone = {"PATH": "/nowhere", "PYTHONPATH": str(self.path / "alone")}
+        ran = subprocess.run([sys.executable, "-c", lines], cwd=self.path, env=alone, capture_output=True, text=True)
+        why = "duqishom: there is no duqishom-gateway: scripts/build_gateway builds it, or DUQISHOM_GATEWAY names one\n"
+        self.assertEqual((ran.returncode, ran.stdout, ran.stderr), (0, "2\n", why))
 
 
 class Service(unittest.TestCase):

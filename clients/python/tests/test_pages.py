@@ -18,9 +18,9 @@ class Conversation:
     """A program that is sent frames, byte by byte as on a page. It has a minute, since it waits forever if a page is
     wrong."""
 
-    def __init__(self) -> None:
+    def __init__(self, words: list[str]) -> None:
         pipe = subprocess.PIPE
-        self._child = subprocess.Popen([default_program()], stdin=pipe, stdout=pipe, stderr=pipe)
+        self._child = subprocess.Popen([default_program(), *words], stdin=pipe, stdout=pipe, stderr=pipe)
         self._limit = threading.Timer(60, self._child.kill)
         self._limit.start()
 
@@ -54,11 +54,11 @@ class Frames(unittest.TestCase):
                     self.assertEqual(conversation.end(), (b"", status, told))
 
     def assert_followed(self, page: str) -> None:
-        conversation = Conversation()
+        conversation = Conversation([])
         for number, exchange in enumerate(exchanges(page), start=1):
             if exchange.is_new:
                 conversation.end()
-                conversation = Conversation()
+                conversation = Conversation(exchange.words)
             with self.subTest(block=number):
                 self.follow(conversation, exchange)
         conversation.end()

@@ -14,6 +14,7 @@ from duqishom import Store
 from duqishom.frames import whole_frames
 from tests.gateways import Gateway, folder_of
 from tests.pages import TOP
+from tests.test_clients import ROWS
 
 # The program that judges a recording: the environment's TABLET_AUDIT, or the proved one, if it is built.
 AUDIT = os.environ.get("TABLET_AUDIT") or str(TOP / "crates" / "tablet_audit" / "out" / "tablet_audit")
@@ -132,7 +133,7 @@ class WrittenRecordings(unittest.TestCase):
         done = (SET, COMMITTED + number(1) + number(2))
         cases = [
             ("Committed 3 4", [done, (SET, COMMITTED + number(3) + number(4))], 0),
-            ("Conflict 1", [done, (SET, CONFLICT + b"\0\x01")], 1),
+            ("Conflict 3 1", [done, (SET, CONFLICT + number(3) + b"\0\x01")], 1),
             ("Committed 1 3", [done, (SET, COMMITTED + number(1) + number(3))], 1),
             ("1 cells", [done, (READ + b"\0\0\0\x01" + CELL, TOLD + number(3) + b"\0\0\0\x01\x01\0\0\0\x01v")], 0),
             ("1 cells", [done, (READ + b"\0\0\0\x01" + CELL, TOLD + number(3) + b"\0\0\0\x01\0")], 1),
@@ -147,11 +148,80 @@ class WrittenRecordings(unittest.TestCase):
                 self.assertIn(words if status else "2 replies", line)
 
 
+# A client's request and its reply, as the hexadecimal bodies of two frames.
+Rows = list[tuple[str, str]]
+BEGUN, GONE = ("00000001 01", "00000001 81 0000000000000001"), ("00000001", "00000001 85")
+
+
+@unittest.skipUnless(os.access(AUDIT, os.X_OK), "tablet_audit isn't built")
+class ClientRecordings(unittest.TestCase):
+    """Recordings over `tabletd --clients`."""
+
+    def judged(self, rows: Rows, *words: str) -> tuple[int, str]:
+        """The judgement of these rows."""
+        place = Path(folder_of(self))
+        (place / "requests").write_bytes(framed([bytes.fromhex(request) for request, _ in rows]))
+        (place / "replies").write_bytes(framed([bytes.fromhex(reply) for _, reply in rows]))
+        return judged(place, *words)
+
+    def test_rows_of_three_clients(self) -> None:
+        self.assertEqual(self.judged(ROWS, "--clients", "--admin", "7"), (0, f"{len(ROWS)} replies, each allowed\n"))
+        self.assertEqual(self.judged(ROWS, "--clients")[0], 1)
+        self.assertEqual(self.judged(ROWS)[0], 2)
+
+    def test_a_wrong_answer_is_found(self) -> None:
+        """Each case has the words of its line, or none if all is well."""
+        cases: list[tuple[Rows, str]] = [
+            # Another's session
+            ([BEGUN, ("00000002 05 0000000000000001", "00000002 FF 01")], ""),
+            ([BEGUN, ("00000002 05 0000000000000001", "00000002 85")], "reply 2 is not allowed: client 2: Stop 1 -> client 2: Stop done"),
+            ([BEGUN, ("00000001 05 0000000000000001", "00000002 85")], "client 1: Stop 1 -> client 2: Stop done"),
+            # An end
+            ([BEGUN, GONE, ("00000001 05 0000000000000001", "00000001 FF 01")], ""),
+            ([BEGUN, GONE, ("00000001 05 0000000000000001", "00000001 85")], "reply 3 is not allowed"),
+            ([BEGUN, ("00000001", "00000001 FF 01")], "client 1: gone -> client 1: refused 1"),
+            # A collector is left to client 0, or to the administrator
+            ([("00000001 08", "00000001 88 0000000000000001 0000000000000001"), GONE, ("00000001 09 0000000000000001 00000001", "00000001 89 01")], "reply 3"),
+            # Refusals without a reason, and for want of memory
+            ([("00000001 01", "00000001 FF 07")], "client 1: Begin -> client 1: refused 7"),
+            ([("00000001 01", "00000001 FF 14")], ""),
+            ([BEGUN, ("00000001 01", "00000001 81 0000000000000001")], "reply 2 is not allowed"),
+            # What only the administrator may ask
+            ([("00000007 0F", "00000007 8F 0000000000000000")], ""),
+            ([("00000001 0F", "00000001 8F 0000000000000000")], "client 1: Sweep"),
+            ([("00000007 0F", "00000007 FF 16")], "client 7: Sweep"),
+            # What is no request, and what has no client
+            ([("00000002 FE", "00000002 FF 16")], ""),
+            ([("00000002 FE", "00000001 FF 16")], "client 2: no request -> client 1: refused 22"),
+            ([("0000 02", "00000000 FF 16")], ""),
+            ([("0000 02", "00000002 FF 16")], "no client -> client 2: refused 22"),
+        ]
+        for rows, words in cases:
+            with self.subTest(rows):
+                code, line = self.judged(rows, "--clients", "--admin", "7")
+                self.assertEqual(code, 1 if words else 0, line)
+                self.assertIn(words, line)
+
+    def test_a_client_has_its_limits(self) -> None:
+        begun = [("00000001 01", f"00000001 81 {start:016x}") for start in range(1, 66)]
+        self.assertEqual(self.judged(begun[:64], "--clients")[0], 0)
+        self.assertEqual(self.judged(begun, "--clients")[0], 1)
+        self.assertEqual(self.judged([*begun[:64], ("00000001 01", "00000001 FF 07")], "--clients")[0], 0)
+
+    def test_nobody_has_anything_after_an_opening(self) -> None:
+        rows = [BEGUN, ("00000001 05 0000000000000001", "00000001 FF 01")]
+        self.assertEqual(self.judged(rows, "--clients")[0], 1)
+        self.assertEqual(self.judged(rows, "--clients", "--reopened-at", "1")[0], 0)
+
+    def test_an_answer_needs_a_client(self) -> None:
+        self.assertEqual(self.judged([("00000001 01", "81 00")], "--clients"), (2, "reply 1 is outside the grammar\n"))
+
+
 class RecordedGateways(unittest.TestCase):
     def test_a_gateway_records(self) -> None:
         place = Path(folder_of(self)) / "recording"
         gateway = Gateway(self, ["--record", str(place)])
         gateway.wire().commit(b"Ann", b"1")
         self.assertEqual(gateway.stop(), 0)
-        self.assertEqual(bodies(place / "requests")[:2], [b"", b"\x01"])
-        self.assertEqual(len(bodies(place / "replies")), len(bodies(place / "requests")))
+        self.assertEqual(bodies(place / "requests")[:2], [b"\xff\xff\xff\xff\0", b"\0\0\0\1\1"])
+        self.assertEqual([body[:4] for body in bodies(place / "replies")], [body[:4] for body in bodies(place / "requests")])

@@ -6,6 +6,7 @@ import asyncio
 import unittest
 from collections.abc import Callable
 from pathlib import Path
+from typing import Any
 
 from duqishom import (
     BadColumn,
@@ -64,7 +65,7 @@ REQUESTS: tuple[tuple[Operation[object], str], ...] = (
 FOUR = Read(3, True, ((b"a", BAL), (b"b", BAL), (b"c", BAL), (b"d", BAL)))
 REPLIES: tuple[tuple[Operation[object], str, object], ...] = (
     (Commit(), "B2 01 0000000000000001 0000000000000002", CommitDone(1, 2)),
-    (Commit(), "B2 02 0100", CommitConflict(256)),
+    (Commit(), "B2 02 0000000000000003 0100", CommitConflict(3, 256)),
     (
         FOUR,
         "B3 0000000000000003 00000004 00 01 00000002 3130 02 0000000000000001 03",
@@ -75,7 +76,8 @@ REPLIES: tuple[tuple[Operation[object], str, object], ...] = (
 MALFORMED: tuple[tuple[Operation[object], str], ...] = (
     (Commit(), "B2 03 0001"),
     (Commit(), "B2 01 0000000000000001"),
-    (Commit(), "B2 02 0001 00"),
+    (Commit(), "B2 02 0001"),
+    (Commit(), "B2 02 0000000000000003 0001 00"),
     (Commit(), "84 02 0001"),
     (FOUR, "B3 0000000000000003 00000003 00 00 00"),
     (FOUR, "B3 0000000000000003 00000004 00 00 00 04"),
@@ -105,7 +107,7 @@ class Bodies(unittest.TestCase):
     def test_what_is_too_long(self) -> None:
         """Of a Commit, its last writes stay as long as its body is no longer than it may be."""
         for size in (0, 100, 4000):
-            writes = {(b"%06d" % number, BAL): None if number % 3 == 0 else b"v" * size for number in range(256)}
+            writes = {Cell(b"%06d" % number, BAL): None if number % 3 == 0 else b"v" * size for number in range(256)}
             for longest in (13, 1000, 100_000, LONGEST_BODY):
                 before = too_many_for_one(writes, longest)
                 for left, fits in ((before, True), (before - 1, False)):
@@ -156,8 +158,8 @@ class Operations(unittest.TestCase):
         asked = (Begin(), Begin(), Set(2, CID, BAL, b"l"), Step(2), Set(1, ANN, BAL, b"1"), Commit(0, ((BOB, BAL, b"2"),)))
         self.answers(*asked)
         cells = tuple((row, BAL) for row in (ANN, BOB, CID))
-        self.assertEqual(self.answers(Commit(1, ((BOB, BAL, b"1"),)), Stop(1)), [CommitConflict(2), UnknownSession])
-        self.assertEqual(self.answers(Commit(0, ((ANN, BAL, b"1"), (CID, BAL, b"1")))), [CommitConflict(2)])
+        self.assertEqual(self.answers(Commit(1, ((BOB, BAL, b"1"),)), Stop(1)), [CommitConflict(1, 2), UnknownSession])
+        self.assertEqual(self.answers(Commit(0, ((ANN, BAL, b"1"), (CID, BAL, b"1")))), [CommitConflict(5, 2)])
         self.assertEqual(self.answers(Read(0, False, cells)), [ReadDone(6, (Nothing(), Value(b"2"), Pending(2)))])
         self.assertEqual([self.store.clean_begin(*cell) is None for cell in cells], [True, True, False])
 
@@ -186,7 +188,7 @@ class Operations(unittest.TestCase):
         for operation, refusal in cases:
             with self.subTest(operation.code, refusal=refusal.__name__):
                 self.assertEqual(self.answers(operation), [refusal])
-        self.assertEqual(self.answers(Commit(2, one), Commit(3)), [CommitDone(2, 4), CommitConflict(1)])
+        self.assertEqual(self.answers(Commit(2, one), Commit(3)), [CommitDone(2, 4), CommitConflict(3, 1)])
 
     def test_texts_of_refusals(self) -> None:
         cases = (
@@ -202,7 +204,8 @@ class Operations(unittest.TestCase):
 
     def test_too_many_sessions(self) -> None:
         self.store.ask_each([Begin()] * 1024)
-        for operation in (Commit(0, ((ANN, BAL, b"1"),)), Read(0, False, ((ANN, BAL),))):
+        both: tuple[Operation[Any], ...] = (Commit(0, ((ANN, BAL, b"1"),)), Read(0, False, ((ANN, BAL),)))
+        for operation in both:
             with self.assertRaisesRegex(TooManySessions, "1,024 sessions are the most"):
                 self.store.ask(operation)
 
@@ -486,7 +489,12 @@ class Losses(unittest.TestCase):
                 other.put(ANN, BAL, b"0")
                 store._connection = losing = Losing(store._connection)
                 losing.is_done = is_done
-                done = store.run(lambda t: (t.put(ANN, BAL, b"1"), t)[1], attempts=1 if is_done else 2)
+
+                def put(transaction: Transaction) -> Transaction:
+                    transaction.put(ANN, BAL, b"1")
+                    return transaction
+
+                done = store.run(put, attempts=1 if is_done else 2)
                 record = other.raw(ANN, BAL, Qualifier.WRITE)
                 assert record is not None
                 self.assertEqual((other.get(ANN, BAL), done.commit_stamp), (b"1", record.stamp))

@@ -19,8 +19,8 @@ from io import StringIO
 from pathlib import Path
 
 from duqishom.__main__ import main
+from duqishom.administration import Counted
 from duqishom.fields import counted
-from duqishom.statistics import Counted
 from duqishom.version import VERSION
 from duqishom.web_charts import Points, small_line, tablet_bar, widths
 from duqishom.web_folder import FolderReader, FolderState, LockState, TabletState

@@ -1,17 +1,17 @@
 -- Writes that a session of the machine takes, and those that it refuses.
-use Rattle.std.proofs.Common.{◌≡◌, ◌≢◌, ◌∙◌, ℕ, ◌<◌, ◌⊎◌, inl, inr, List, [], ◌∷◌, ◌++◌, drop, length, Some, None, refl, sym, subst, ap}
+use Rattle.std.proofs.Common.{◌≡◌, ◌≢◌, ◌∙◌, ℕ, ◌⊎◌, inl, inr, [], ◌∷◌, ◌++◌, drop, Some, None, refl, sym, subst, ap}
 use Rattle.std.specs.Prelude.{Result, Ok, Err, slice_get}
-use Rattle.std.specs.FinMap.{get, insert}
-use Rattle.std.proofs.lemmas.Option.{none-some, same_Some}
+use Rattle.std.specs.FinMap.{insert}
+use Rattle.std.proofs.lemmas.Option.{same_Some}
 use Rattle.cell_key.specs.declared.refusals.Refusal.{Refusal}
 use Rattle.cell_key.specs.declared.refusals.Refusal.TheVariants.{BadRow, BadColumn, BadValue, TooManyWrites, NoMemory}
-use Rattle.si_model.specs.Machine.{State, Change, Writes, Open, InPhase, Wrote, Sets, appends, replaces, passes, Step, accepts, sets, deletes, tells, IsAcceptable, IsFirstRefusal, IsStorageRefusal, Refuses, most_value}
+use Rattle.si_model.specs.Machine.{State, Change, Writes, Open, InPhase, Wrote, Sets, appends, replaces, passes, Step, accepts, sets, deletes, tells, IsAcceptable, IsFirstRefusal, IsStorageRefusal, Refuses}
 use Rattle.si_model.specs.Refusing.Refuses.{applies_first, gives_up}
 use Rattle.si_model.specs.Transactions.{Buffers, all_taken, takes, request_of, reply_of}
 use Rattle.si_model.specs.declared.replies.Cell.{Cell}
 use Rattle.si_model.proofs.Acceptable.{set_ok, delete_ok}
-use Rattle.si_model.proofs.FirstRefusals.{set_row_first, set_family_first, set_long_first, set_full_first, delete_row_first, delete_family_first, delete_full_first}
-use Rattle.si_model.proofs.Tools.{get_same, get_other, same_entry}
+use Rattle.si_model.proofs.TakenWrites.{Taken, refuses_write, taken_here, taken_then}
+use Rattle.si_model.proofs.Tools.{same_entry}
 use Rattle.si_model.specs.Takings.{IsWriteRefusal, TakesAll, TakesWrite}
 use Rattle.audit.proofs.JudgedRefusals.{only_first}
 
@@ -62,34 +62,6 @@ sets_same s s' = sets_alike s s' refl
 -- ---- the steps of the machine
 
 module _ (s : ℕ) where
-  -- a state after writes: nothing but the session's writes has changed
-  pub record Taken (st next : State) (all : Writes) : Type 0 where
-    pub wrote : Wrote next s all
-    pub others : (u : ℕ) → u ≢ s → get next.begun u ≡ get st.begun u
-    pub rest : next ≡ record st { begun = next.begun }
-
-  taken_then : (st mid next : State) (some all : Writes) → Taken st mid some → Taken mid next all → Taken st next all
-  taken_then st mid next some all f g = record {
-    wrote = g.wrote;
-    others = λ u ne. g.others u ne ∙ f.others u ne;
-    rest = g.rest ∙ ap (λ (m : State). record m { begun = next.begun }) f.rest;
-  }
-
-  taken_here : (st : State) (after : Writes) → Taken st (record st { begun = insert st.begun s after }) after
-  taken_here st after = record { wrote = get_same st.begun s after; others = λ u ne. get_other st.begun s after u ne; rest = refl }
-
-  take_one : (st : State) (x : Cell) (v : Change) (before after : Writes) → InPhase st s Open → Wrote st s before → TakesWrite before (x, v) after
-      → Step st (request_of s x v) (reply_of v) (record st { begun = insert st.begun s after })
-  take_one st x (Some value) before after h w t = accepts (set_ok before h t.named.0 t.named.1 t.short w t.room) (sets h w t.sets)
-  take_one st x None before after h w t = accepts (delete_ok before h t.named.0 t.named.1 w t.room) (deletes h w t.sets)
-
-  pub take_all : (ws : Writes) (st : State) (before after : Writes) → InPhase st s Open → Wrote st s before → TakesAll before ws after → (next : State) × Buffers s st ws next × Taken st next after
-  take_all [] st before after h w e = (st, all_taken, record { wrote = subst (λ (l : Writes). Wrote st s l) (sym e) w; others = λ u ne. refl; rest = refl })
-  take_all (u ∷ ws) st before after h w (mid, first, rest) =
-      let next = record st { begun = insert st.begun s mid } in
-      let more = take_all ws next mid after h (get_same st.begun s mid) rest in
-      (more.0, takes (take_one st u.0 u.1 before mid h w first) more.1, taken_then st next more.0 mid after (taken_here st mid) more.2)
-
   -- the refusal of a write is the machine's first
   first_of : (st : State) (x : Cell) (v : Change) (n : Refusal) → Refuses st (request_of s x v) n → ¬ IsStorageRefusal n → IsFirstRefusal st (request_of s x v) n
   first_of st x (Some value) n (applies_first f) not = f
@@ -104,20 +76,6 @@ module _ (s : ℕ) where
   not_storage before w TooManyWrites why g = g
   not_storage before w NoMemory why g = why.1 refl
   not_storage before w _ why g = absurd why.0
-
-  pub refuses_write : (st : State) (x : Cell) (v : Change) (before : Writes) (n : Refusal) → InPhase st s Open → Wrote st s before → IsRefusedBy before (x, v) n → Refuses st (request_of s x v) n
-  refuses_write st x (Some value) before BadRow h w (why, ne) = set_row_first h why
-  refuses_write st x (Some value) before BadColumn h w (why, ne) = set_family_first h why.0 why.1
-  refuses_write st x (Some value) before BadValue h w ((named, (given, is, long)), ne) = set_long_first h named.0 named.1 (subst (λ (l : List ℕ). most_value < length l) (sym (same_Some value given is)) long)
-  refuses_write st x (Some value) before TooManyWrites h w ((named, short, none, full), ne) = set_full_first h named.0 named.1 short before w none full
-  refuses_write st x (Some value) before NoMemory h w (why, ne) = absurd (ne refl)
-  refuses_write st x (Some value) before _ h w (why, ne) = absurd why
-  refuses_write st x None before BadRow h w (why, ne) = delete_row_first h why
-  refuses_write st x None before BadColumn h w (why, ne) = delete_family_first h why.0 why.1
-  refuses_write st x None before BadValue h w ((named, (given, is, long)), ne) = absurd (none-some given is)
-  refuses_write st x None before TooManyWrites h w ((named, short, none, full), ne) = delete_full_first h named.0 named.1 before w none full
-  refuses_write st x None before NoMemory h w (why, ne) = absurd (ne refl)
-  refuses_write st x None before _ h w (why, ne) = absurd why
 
   -- a step that takes a write
   record Takes (st mid : State) (x : Cell) (v : Change) (before : Writes) : Type 0 where
@@ -138,22 +96,22 @@ module _ (s : ℕ) where
   -- what follows a step that takes the first write is told by the outcome for the others
   next_outcome : (st mid : State) (x : Cell) (v : Change) (before : Writes) (ws : Writes) (out : Result Writes Refusal) → Wrote st s before → (t : Takes st mid x v before) → TakesTo before ((x, v) ∷ ws) out → TakesTo t.after ws out
   next_outcome st mid x v before ws out w t (inl (next, one, rest)) = subst (λ (l : Writes). TakesTo l ws out) (sets_same one.sets t.sets) rest
-  next_outcome st mid x v before ws out w t (inr (n, why, e)) = absurd (t.ok n (first_of st x v n (refuses_write st x v before n t.is_open w why) (not_storage before (x, v) n why)).applies)
+  next_outcome st mid x v before ws out w t (inr (n, why, e)) = absurd (t.ok n (first_of st x v n (refuses_write s st x v before n t.is_open w why.0) (not_storage before (x, v) n why)).applies)
 
   open_still : (st mid : State) (x : Cell) (v : Change) (before : Writes) (t : Takes st mid x v before) → InPhase mid s Open
   open_still st mid x v before t = subst (λ (m : State). InPhase m s Open) (sym t.is) t.is_open
 
-  taken_by : (st mid : State) (x : Cell) (v : Change) (before : Writes) (t : Takes st mid x v before) → Taken st mid t.after
-  taken_by st mid x v before t = subst (λ (m : State). Taken st m t.after) (sym t.is) (taken_here st t.after)
+  taken_by : (st mid : State) (x : Cell) (v : Change) (before : Writes) (t : Takes st mid x v before) → Taken s st mid t.after
+  taken_by st mid x v before t = subst (λ (m : State). Taken s st m t.after) (sym t.is) (taken_here s st t.after)
 
   -- all writes were taken
-  pub taken_all : (ws : Writes) (st next : State) (before : Writes) (out : Result Writes Refusal) → Wrote st s before → Buffers s st ws next → TakesTo before ws out → (all : Writes) × (out ≡ Ok all) × Taken st next all
+  pub taken_all : (ws : Writes) (st next : State) (before : Writes) (out : Result Writes Refusal) → Wrote st s before → Buffers s st ws next → TakesTo before ws out → (all : Writes) × (out ≡ Ok all) × Taken s st next all
   taken_all [] st next before out w all_taken h = (before, h, record { wrote = w; others = λ u ne. refl; rest = refl })
   taken_all ((x, v) ∷ ws) st next before out w (takes {mid = mid} step more) h =
       let t = step_takes st mid x v before w step in
       let one = taken_by st mid x v before t in
       let rest = taken_all ws mid next t.after out one.wrote more (next_outcome st mid x v before ws out w t h) in
-      (rest.0, rest.1, taken_then st mid next t.after rest.0 one rest.2)
+      (rest.0, rest.1, taken_then s st mid next t.after rest.0 one rest.2)
 
   -- a write is refused
   refused_here : (st : State) (x : Cell) (v : Change) (before ws : Writes) (n : Refusal) (out : Result Writes Refusal) → InPhase st s Open → Wrote st s before → Refuses st (request_of s x v) n → ¬ IsStorageRefusal n → TakesTo before ((x, v) ∷ ws) out → out ≡ Err n
@@ -163,7 +121,7 @@ module _ (s : ℕ) where
       acceptable st x (Some value) t h w = set_ok before h t.named.0 t.named.1 t.short w t.room
       acceptable st x None t h w = delete_ok before h t.named.0 t.named.1 w t.room
   refused_here st x v before ws n out h w refused not (inr (m, why, e)) =
-      let first = first_of st x v m (refuses_write st x v before m h w why) (not_storage before (x, v) m why) in
+      let first = first_of st x v m (refuses_write s st x v before m h w why.0) (not_storage before (x, v) m why) in
       e ∙ ap Err (only_first st (request_of s x v) m n first not refused)
 
   pub refused_among : (first rest : Writes) (st far : State) (x : Cell) (v : Change) (before : Writes) (n : Refusal) (out : Result Writes Refusal) → InPhase st s Open → Wrote st s before → Buffers s st first far → Refuses far (request_of s x v) n

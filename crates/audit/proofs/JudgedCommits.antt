@@ -12,11 +12,11 @@ use Rattle.cell_key.specs.declared.refusals.Refusal.{Refusal}
 use Rattle.cell_key.specs.declared.refusals.Refusal.TheVariants.{EmptyCommit, NoMemory, UnknownSession, WrongPhase}
 use Rattle.si_model.specs.Sets.{◌∈◌, here, there}
 use Rattle.si_model.specs.Machine as machine
-use Rattle.si_model.specs.Machine.{State, Change, Writes, Open, InPhase, Wrote, Puts, Gives, Clashes, Draws, IsReached, Step, accepts, stops, StopDone, Refused, Refuses, IsFirstRefusal, IsStorageRefusal, Begin, end_of_stamps}
+use Rattle.si_model.specs.Machine.{State, Change, Writes, Open, InPhase, Wrote, Puts, Clashes, Draws, accepts, stops, Refused, Refuses, IsStorageRefusal, Begin, end_of_stamps}
 use Rattle.si_model.specs.Refusing.{advance_unknown, advance_empty}
 use Rattle.si_model.specs.Refusing.Refuses.{applies_first, gives_up}
 use Rattle.si_model.specs.TransactionLaws.{committed_state}
-use Rattle.si_model.specs.Transactions.{Answer, Buffers, ClashesFirst, ComesTo, Commit, CommitConflict, CommitDone, Goes, Opens, is_open, begins, Said, Transacts, commits, conflicts, is_unknown, is_late, refuses, to_begin, to_write, to_step, transacts, request_of}
+use Rattle.si_model.specs.Transactions.{Buffers, ClashesFirst, ComesTo, Commit, CommitConflict, CommitDone, Goes, Opens, Said, commits, conflicts, is_unknown, is_late, refuses, to_begin, to_write, to_step, transacts, request_of}
 use Rattle.si_model.specs.Transactions as several
 use Rattle.si_model.specs.declared.replies.Cell.{Cell}
 use Rattle.si_model.proofs.Acceptable.{begin_ok, no_entry, stop_ok}
@@ -24,9 +24,10 @@ use Rattle.si_model.proofs.AllSteps.{Commits, all_steps}
 use Rattle.si_model.proofs.FirstRefusals.{advance_empty_first}
 use Rattle.si_model.proofs.Reached.{reached_buffers, stays_reached}
 use Rattle.si_model.proofs.Steps.{reached_sound}
+use Rattle.si_model.proofs.TakenWrites.{refuses_write, take_all}
 use Rattle.si_model.proofs.Tools.{get_removed, same_entry}
 use Rattle.audit.specs.Audits.{Keeps, KeepsReached, SameMembers, commit_of, phase_of, write_of, writes_of}
-use Rattle.audit.specs.AuditOperations.{AreFree, ClashesAt, HasBefore, MayOpen, OpensLeast, RefusesOnly}
+use Rattle.audit.specs.AuditOperations.{AreFree, ClashesAt, HasBefore, MayOpen, RefusesOnly}
 use Rattle.audit.specs.AuditRefusals.{RefusesFirst, RefusesUnlessOpen}
 use Rattle.audit.specs.AuditSteps.{ClashesSo}
 use Rattle.si_model.specs.Takings.{IsRefusedWrite, TakesAll}
@@ -35,7 +36,7 @@ use Rattle.audit.specs.declared.audit.parts.Commit.{Commit as Kept}
 use Rattle.audit.specs.declared.audit.parts.Phase.{Phase}
 use Rattle.audit.specs.declared.audit.parts.Phase.TheVariants as phase
 use Rattle.audit.specs.declared.audit.parts.Write.{Write}
-use Rattle.audit.proofs.BufferedWrites.{TakesTo, refused_among, refuses_write, take_all, taken_all, takes_err, takes_ok}
+use Rattle.audit.proofs.BufferedWrites.{TakesTo, refused_among, taken_all, takes_err, takes_ok}
 use Rattle.audit.proofs.CommittedRuns.{commits_from_open, commits_some}
 use Rattle.audit.proofs.JudgedRefusals.{only_first}
 use Rattle.audit.proofs.JudgedSessions.{in_no_phase, in_phase}
@@ -154,16 +155,6 @@ module _ (old : Audit) (start : ℕ) (asked : Writes) where
     puts_there : (ws : List Write) (j : ℕ) (w : Write) → slice_get ws j ≡ Some w → Puts (map write_of ws) j w.cell (write_of w).1
     puts_there ws j w e = slice_get-map write_of ws j ∙ ap (option_map write_of) e
 
-    -- a session with a later start clashes with the same cells, if its start is above each commit
-    same_clash : (s u : ℕ) (x : Cell) → MayOpen old start s → MayOpen old start u → ClashesSo old x s → ClashesSo old x u
-    same_clash s u x may also (inl mark) = inl mark
-    same_clash s u x (inl (ne, e, h)) (inl (ne', e', h')) (inr later) = subst (λ (n : ℕ). ClashesSo old x n) (e ∙ sym e') (inr later)
-    same_clash s u x (inl (ne, e, h)) (inr (is0, low, high, few)) (inr later) = absurd (ne is0)
-    same_clash s u x (inr (is0, low, high, few)) also (inr (a, m, names, lt)) =
-        let top = ((reached_sound k.0).fair a ((k.1.commits a).0 m)).low in
-        let same = k.1.top in
-        absurd (omega (arith, low, lt, top, same))
-
   -- ---- committed
 
   module _ (s c : ℕ) where
@@ -272,8 +263,8 @@ module _ (old : Audit) (start : ℕ) (asked : Writes) where
 
   -- ---- a conflict
 
-  module _ (place s : ℕ) (least : OpensLeast old start s) where
-    -- what each run tells that ends with the conflict, for the least session
+  module _ (s place : ℕ) where
+    -- what each run tells that ends with the conflict
     record Clashed (out : Result Writes Refusal) : Type 0 where
       all : Writes
       out_is : out ≡ Ok all
@@ -285,12 +276,12 @@ module _ (old : Audit) (start : ℕ) (asked : Writes) where
       clash : ClashesSo old cell s
       free : (j : ℕ) (y : Cell) (w : Change) → j < index → Puts all j y w → ¬ ClashesSo old y s
 
-    clashed : (st next : State) (out : Result Writes Refusal) → ComesOut out → KeepsReached old st → Goes st (Commit start asked) (CommitConflict place) next → Clashed out
-    clashed st next out comes k (transacts (conflicts {s = u} {mid = mid} {written = written} o buffers (ws, index, x, v, wrote, puts, is, clash, free) end)) =
-        let b = buffered st k u mid written out comes o buffers in
+    clashed : (st next : State) (out : Result Writes Refusal) → ComesOut out → KeepsReached old st → Goes st (Commit start asked) (CommitConflict s place) next → Clashed out
+    clashed st next out comes k (transacts (conflicts {mid = mid} {written = written} o buffers (ws, index, x, v, wrote, puts, is, clash, free) end)) =
+        let b = buffered st k s mid written out comes o buffers in
         let all = b.1.0 in
         let at = b.1.2 in
-        let same : ws ≡ all = same_entry written.begun u ws all wrote at.wrote in
+        let same : ws ≡ all = same_entry written.begun s ws all wrote at.wrote in
         record {
           all = all;
           out_is = b.1.1;
@@ -299,12 +290,12 @@ module _ (old : Audit) (start : ℕ) (asked : Writes) where
           cell = x;
           change = v;
           puts = subst (λ (l : Writes). Puts l index x v) same puts;
-          clash = same_clash st k u s x b.0 least.0 (clash_so old st k.0 k.1 u written all at x u clash);
-          free = λ j y w less p c. free j y w less (subst (λ (l : Writes). Puts l j y w) (sym same) p) (so_clash old st k.0 k.1 u written all at y u (same_clash st k s u y least.0 b.0 c));
+          clash = clash_so old st k.0 k.1 s written all at x s clash;
+          free = λ j y w less p c. free j y w less (subst (λ (l : Writes). Puts l j y w) (sym same) p) (so_clash old st k.0 k.1 s written all at y s c);
         }
 
     module _ (own : Vec Write) (takes : (before : Writes) → HasBefore old start before → TakesAll before asked (writes_of own)) where
-      clashed_own : (st next : State) → KeepsReached old st → Goes st (Commit start asked) (CommitConflict place) next → Clashed (Ok (writes_of own))
+      clashed_own : (st next : State) → KeepsReached old st → Goes st (Commit start asked) (CommitConflict s place) next → Clashed (Ok (writes_of own))
       clashed_own st next k goes = clashed st next (Ok (writes_of own)) (comes_ok (writes_of own) takes) k goes
 
       own_put : (c : Clashed (Ok (writes_of own))) (j : ℕ) (y : Cell) (v : Change) → Puts c.all j y v → Puts (map write_of own.items) j y v
@@ -313,13 +304,13 @@ module _ (old : Audit) (start : ℕ) (asked : Writes) where
       all_put : (c : Clashed (Ok (writes_of own))) (j : ℕ) (y : Cell) (v : Change) → Puts (map write_of own.items) j y v → Puts c.all j y v
       all_put c j y v = subst (λ (l : Writes). Puts l j y v) (same_ok (writes_of own) c.all c.out_is)
 
-      pub no_clash : AreFree old s own.items (length own.items) → (st next : State) → KeepsReached old st → Goes st (Commit start asked) (CommitConflict place) next → ⊥
+      pub no_clash : AreFree old s own.items (length own.items) → (st next : State) → KeepsReached old st → Goes st (Commit start asked) (CommitConflict s place) next → ⊥
       no_clash free st next k goes =
           let c = clashed_own st next k goes in
           let w = at_index st k own.items c.index c.cell c.change (own_put c c.index c.cell c.change c.puts) in
           free c.index w.0 (slice_get_within own.items c.index w.0 w.1) w.1 (subst (λ (y : Cell). ClashesSo old y s) (sym w.2) c.clash)
 
-      pub another_place : (k : ℕ) → ClashesAt old s own.items k → place ≢ k + 1 → (st next : State) → KeepsReached old st → Goes st (Commit start asked) (CommitConflict place) next → ⊥
+      pub another_place : (k : ℕ) → ClashesAt old s own.items k → place ≢ k + 1 → (st next : State) → KeepsReached old st → Goes st (Commit start asked) (CommitConflict s place) next → ⊥
       another_place i (w, at, clash, free) ne st next k goes =
           let c = clashed_own st next k goes in
           elim (cases_lt c.index i) [
@@ -332,19 +323,19 @@ module _ (old : Audit) (start : ℕ) (asked : Writes) where
             ]
           ]
 
-      pub conflicted : (i : ℕ) → ClashesAt old s own.items i → place ≡ i + 1
+      pub conflicted : MayOpen old start s → (i : ℕ) → ClashesAt old s own.items i → place ≡ i + 1
           → (begun : btree.BTreeMap ℕ (Vec Write)) (active : btree.BTreeMap ℕ Phase)
           → ((q : ℕ) → btree.get nat_cmp begun q ≡ cond (is_eq (nat_cmp s q)) (Some own) (btree.get nat_cmp old.begun q))
           → ((q : ℕ) → btree.get nat_cmp active q ≡ cond (is_eq (nat_cmp s q)) None (btree.get nat_cmp old.active q))
           → btree.btree_map_len active + (if is_some (btree.get nat_cmp old.active s) then 1 else 0) ≡ btree.btree_map_len old.active
-          → (st : State) → KeepsReached old st → (next : State) × Goes st (Commit start asked) (CommitConflict place) next × KeepsReached (record old { top = max old.top s; begun = begun; active = active }) next
-      conflicted i (w, at, clash, free) is begun active at_begun at_active len st k = (next, goes, (stays_reached st next (Commit start asked) (CommitConflict place) k.0 goes, kept))
+          → (st : State) → KeepsReached old st → (next : State) × Goes st (Commit start asked) (CommitConflict s place) next × KeepsReached (record old { top = max old.top s; begun = begun; active = active }) next
+      conflicted may i (w, at, clash, free) is begun active at_begun at_active len st k = (next, goes, (stays_reached st next (Commit start asked) (CommitConflict s place) k.0 goes, kept))
         where
           all : Writes
           all = writes_of own
 
           r : Ready st k s all
-          r = ready st k s all least.0 takes
+          r = ready st k s all may takes
 
           next : State
           next = record r.written { active = remove r.written.active s }
@@ -362,7 +353,7 @@ module _ (old : Audit) (start : ℕ) (asked : Writes) where
             λ j y v less puts c. let u = at_index st k own.items j y v puts in free j u.0 less u.1 (subst (λ (z : Cell). ClashesSo old z s) (sym u.2) (clash_so old st k.0 k.1 s r.written all r.at y s c)),
           )
 
-          goes : Goes st (Commit start asked) (CommitConflict place) next
+          goes : Goes st (Commit start asked) (CommitConflict s place) next
           goes = transacts (conflicts r.opens r.buffers first (accepts (stop_ok Open r.at.active) (stops r.at.active)))
 
           same : SameMembers (map commit_of old.commits) next.commits
@@ -374,19 +365,20 @@ module _ (old : Audit) (start : ℕ) (asked : Writes) where
           kept : Keeps (record old { top = max old.top s; begun = begun; active = active }) next
           kept = ends old st k.0 k.1 s r.written all r.at begun active old.commits own (max old.top s) next at_begun refl at_active len same (ap (λ (n : ℕ). record r.written { top = n; active = remove r.written.active s }) top)
 
-  -- without a session, or with a write that is refused, there is none
-  pub no_conflict : (place : ℕ) → ((s : ℕ) → ¬ MayOpen old start s) → (st next : State) → KeepsReached old st → Goes st (Commit start asked) (CommitConflict place) next → ⊥
-  no_conflict place none st next k (transacts (conflicts {s = s} {mid = mid} o buffers first end)) = none s (opened old st k.0 k.1 start s mid o).0
+    -- without the session there is none
+    pub no_conflict : ¬ MayOpen old start s → (st next : State) → KeepsReached old st → Goes st (Commit start asked) (CommitConflict s place) next → ⊥
+    no_conflict not st next k (transacts (conflicts {mid = mid} o buffers first end)) = not (opened old st k.0 k.1 start s mid o).0
 
+  -- with a write that is refused there is neither
   pub not_taken : (n : Refusal) → ComesOut (Err n) → (st next : State) (s c place : ℕ) → KeepsReached old st
-      → (Goes st (Commit start asked) (CommitDone s c) next → ⊥) × (Goes st (Commit start asked) (CommitConflict place) next → ⊥)
+      → (Goes st (Commit start asked) (CommitDone s c) next → ⊥) × (Goes st (Commit start asked) (CommitConflict s place) next → ⊥)
   not_taken n comes st next s c place k = (done next, conflict next)
     where
       done : (next : State) → Goes st (Commit start asked) (CommitDone s c) next → ⊥
       done next (transacts (commits {mid = mid} {written = written} o buffers run is_in ended)) = let b = buffered st k s mid written (Err n) comes o buffers in ok_err b.1.0 n (sym b.1.1)
 
-      conflict : (next : State) → Goes st (Commit start asked) (CommitConflict place) next → ⊥
-      conflict next (transacts (conflicts {s = u} {mid = mid} {written = written} o buffers first end)) = let b = buffered st k u mid written (Err n) comes o buffers in ok_err b.1.0 n (sym b.1.1)
+      conflict : (next : State) → Goes st (Commit start asked) (CommitConflict s place) next → ⊥
+      conflict next (transacts (conflicts {mid = mid} {written = written} o buffers first end)) = let b = buffered st k s mid written (Err n) comes o buffers in ok_err b.1.0 n (sym b.1.1)
 
   -- ---- refusals
 
@@ -509,7 +501,7 @@ module _ (old : Audit) (start : ℕ) (asked : Writes) where
               | inr r ↦
                   let t = take_all s r.first o.0 h.before r.mid h.at.active h.at.wrote r.taken in
                   transacts (refuses (to_write r.write.0 r.write.1 r.rest r.split o.1 t.1)
-                  (refuses_write s t.0 r.write.0 r.write.1 r.mid n (subst (λ (q : State). InPhase q s Open) (sym t.2.rest) h.at.active) t.2.wrote (r.why, ne)))
+                  (refuses_write s t.0 r.write.0 r.write.1 r.mid n (subst (λ (q : State). InPhase q s Open) (sym t.2.rest) h.at.active) t.2.wrote r.why))
             ])
 
         from : (st : State) (m : Refusal) → KeepsReached old st → ¬ IsStorageRefusal m → Why start asked st m → Some n ≡ Some m

@@ -108,4 +108,4 @@ no_read_reply r not (reads_together (names_late count ne h l)) = not WrongPhase 
 
 pub no_read_commits : {st next : State} {start : ℕ} {xs : List Cell} {b : Bool} (r : CommitReply) → Goes st (Read start xs b) (commit_answer r) next → ⊥
 no_read_commits (commit.Committed s c) (reads_together t) = elim t [ ]
-no_read_commits (commit.Conflict place) (reads_together t) = elim t [ ]
+no_read_commits (commit.Conflict start place) (reads_together t) = elim t [ ]

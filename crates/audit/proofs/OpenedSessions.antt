@@ -10,7 +10,7 @@ use Rattle.std.proofs.lemmas.Bool.{cases_eq, cases_lt}
 use Rattle.std.proofs.lemmas.Cmp.{nat_cmp_total}
 use Rattle.std.proofs.lemmas.Option.{same_Some}
 use Rattle.si_model.specs.Machine as machine
-use Rattle.si_model.specs.Machine.{State, Writes, Open, InPhase, Wrote, Marked, Clashes, IsReached, Step, accepts, Begin, Begun, most_sessions, end_of_stamps}
+use Rattle.si_model.specs.Machine.{State, Writes, Open, InPhase, Wrote, Marked, Clashes, IsReached, Step, accepts, Begin, Begun, most_sessions}
 use Rattle.si_model.specs.Refusing.{begin_full}
 use Rattle.cell_key.specs.declared.refusals.Refusal.{Refusal}
 use Rattle.cell_key.specs.declared.refusals.Refusal.TheVariants.{TooManySessions}
@@ -21,13 +21,13 @@ use Rattle.si_model.proofs.Bounds.{reached_bounds}
 use Rattle.si_model.proofs.Steps.{reached_sound, reached_step}
 use Rattle.si_model.proofs.Tools.{eq_test, ne_test, get_same, get_other, get_removed, get_remains}
 use Rattle.audit.specs.Audits.{JudgesAct, JudgesOpening, Keeps, KeepsReached, SameEach, SameMembers, commit_of, phase_of, writes_of}
-use Rattle.audit.specs.AuditOperations.{HasBefore, MayOpen, OpensLeast}
+use Rattle.audit.specs.AuditOperations.{HasBefore, MayOpen}
 use Rattle.audit.specs.AuditSteps.{ClashesSo}
 use Rattle.audit.specs.declared.audit.Audit.{Audit}
 use Rattle.audit.specs.declared.audit.parts.Commit.{Commit}
 use Rattle.audit.specs.declared.audit.parts.Phase.{Phase}
 use Rattle.audit.specs.declared.audit.parts.Write.{Write}
-use Rattle.audit.proofs.BufferedWrites.{Taken}
+use Rattle.si_model.proofs.TakenWrites.{Taken}
 use Rattle.audit.proofs.JudgedSessions.{in_phase, kept_open}
 use Rattle.audit.proofs.JudgedSteps.{from_clash, to_clash, from_wrote}
 use Rattle.audit.proofs.KeptMaps.{same_removed, count_removed}
@@ -232,6 +232,6 @@ begins_session old new start s is0 (inr (e, low, high, few)) r h = subst (λ (t 
     judged (Err e) failed = failed
 
 -- a session may be opened
-pub some_session : (old : Audit) (start : ℕ) (o : Option ℕ) → is_some o ≡ true → IfSome o (OpensLeast old start) → (s : ℕ) × OpensLeast old start s
+pub some_session : (old : Audit) (start : ℕ) (o : Option ℕ) → is_some o ≡ true → IfSome o (MayOpen old start) → (s : ℕ) × MayOpen old start s
 some_session old start None e h = absurd (cc)
 some_session old start (Some s) e h = (s, h)

@@ -7,8 +7,7 @@ use Rattle.std.proofs.lemmas.Option.{same_Some, slice_get-get_or}
 use Rattle.std.proofs.lemmas.List.{drop_all, drop_more}
 use Rattle.cell_key.specs.declared.refusals.Refusal.{Refusal}
 use Rattle.cell_key.specs.declared.refusals.Refusal.TheVariants.{BadRow, BadColumn, NoMemory}
-use Rattle.request_codec.specs.Answers.{told_item, told_items}
-use Rattle.si_model.specs.Answers.{cell_named, cells_named}
+use Rattle.si_model.specs.Answers.{cell_named, cells_named, told_item, told_items}
 use Rattle.si_model.specs.Machine.{Reply, Item, Value, Valued, Locked, Unsent, IsSnapshot, Answered, Pending}
 use Rattle.si_model.specs.Reads.{IsNameRefusal}
 use Rattle.si_model.specs.Scans.{IsFreeAt}

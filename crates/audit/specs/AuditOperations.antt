@@ -25,10 +25,6 @@ MayOpen audit start s =
     ⊎ ((start ≡ 0) × (audit.top < s) × (s < end_of_stamps)
     × (btree.btree_map_len audit.active < most_sessions))
 
--- s is the least of the sessions that may be opened
-abbrev pub OpensLeast : Audit → ℕ → ℕ → Type 0
-OpensLeast audit start s = MayOpen audit start s × ((u : ℕ) → MayOpen audit start u → s ≤ u)
-
 -- the session's writes before the request: none, if it is new
 abbrev pub HasBefore : Audit → ℕ → Writes → Type 0
 HasBefore audit start before =

@@ -12,21 +12,22 @@ use Rattle.rows.specs.Calls.{AppliesSuch, OnlyReads, View}
 use Rattle.si_model.specs.Deciding.{IsRight, TellsFirst}
 use Rattle.si_model.specs.Sets.{◌∈◌, here, IsWithout}
 use Rattle.si_model.specs.Machine as machine
-use Rattle.si_model.specs.Machine.{State, Commit, Step, accepts, IsAcceptable, IsReached, Gives, Marked, IsDead, IsCommitted, CommittedAt}
+use Rattle.si_model.specs.Machine.{State, Commit, Step, accepts, IsAcceptable, Gives, Marked, IsDead, IsCommitted, CommittedAt}
 use Rattle.si_model.specs.Replies.{clean_reply}
+use Rattle.si_model.specs.Servers.{IsReachedByServers}
 use Rattle.si_model.specs.ShowsCells.{NamesAt, NamesCommit, ShowsCells, ShowsMark, IsThere, at, erased_cells, kind_of_change, recorded_cells}
 use Rattle.si_model.specs.declared.replies.Cell.{Cell}
 use Rattle.si_model.specs.declared.replies.CleanReply.{CleanReply}
 use Rattle.si_model.specs.declared.replies.CleanReply.TheVariants as clean
 use Rattle.si_model.proofs.Acceptable.{clean_step_ok}
-use Rattle.si_model.proofs.Bounds.{reached_bounds}
+use Rattle.si_model.proofs.Bounds.{servers_bounds}
 use Rattle.si_model.proofs.CleanerFates.{first_tells, names_nearest}
 use Rattle.si_model.proofs.EditedCells.{make_cells}
 use Rattle.si_model.proofs.Goes.{goes}
 use Rattle.si_model.proofs.Invariant.{IsFair}
 use Rattle.si_model.proofs.ShownKept.{shows_beside, shows_erased, shows_recorded}
 use Rattle.si_model.proofs.Snapshots.{same_commit}
-use Rattle.si_model.proofs.Steps.{reached_sound}
+use Rattle.si_model.proofs.Steps.{servers_sound}
 use Rattle.si_model.proofs.Tools.{same_entry}
 use Rattle.si_model.proofs.Without.{without}
 use Rattle.clean_up.specs.Fates.{Decides, IsNextRecord, IsToldBy, NamesOther, verdict_of}
@@ -49,7 +50,7 @@ not_open e = cc
 not_named : (b : List ℕ) (t : ℕ) → NamesOther b t → ¬ NamesStart b t
 not_named b t (u, (kind, named), other) (k, names) = other (sym named.start ∙ names.start)
 
-module _ (cells : Cells) (cleaner : Cleaner) (st : State) (i : ℕ) (reached : IsReached st) (store : ShowsCells cells st) (mine : ShowsCleaner cleaner i st) where
+module _ (cells : Cells) (cleaner : Cleaner) (st : State) (i : ℕ) (reached : IsReachedByServers st) (store : ShowsCells cells st) (mine : ShowsCleaner cleaner i st) where
   abbrev t : ℕ
   t = cleaner.lock.start
 
@@ -81,7 +82,7 @@ module _ (cells : Cells) (cleaner : Cleaner) (st : State) (i : ℕ) (reached : I
   no_commit none a is_in e = none (a.stamp, (a.writes, subst (λ (n : ℕ). record { start = n; stamp = a.stamp; writes = a.writes } ∈ st.commits) e is_in))
 
   start_low : t < 2 ^ 64
-  start_low = let to = (reached_bounds reached).start_to t mine.knows.is_first.0 mine.knows.is_first.2 in omega arith
+  start_low = let to = (servers_bounds reached).start_to t mine.knows.is_first.0 mine.knows.is_first.2 in omega arith
 
   -- ---- the first step
 
@@ -121,8 +122,8 @@ module _ (cells : Cells) (cleaner : Cleaner) (st : State) (i : ℕ) (reached : I
 
       low : k.commit.start < 2 ^ 64
       low =
-          let start = (reached_sound reached).start_low k.commit.start k.commit.writes ((reached_sound reached).fair k.commit k.is_in).wrote in
-          let top = (reached_bounds reached).top in
+          let start = (servers_sound reached).start_low k.commit.start k.commit.writes ((servers_sound reached).fair k.commit k.is_in).wrote in
+          let top = (servers_bounds reached).top in
           omega arith
 
       same : k.commit.start ≡ t
@@ -134,7 +135,7 @@ module _ (cells : Cells) (cleaner : Cleaner) (st : State) (i : ℕ) (reached : I
   none_names None none other c above (text, kind, named, is) =
       let k = store.records first c text named in
       let same = k.stamp in
-      let to = (reached_bounds reached).commit_to k.commit k.is_in in
+      let to = (servers_bounds reached).commit_to k.commit k.is_in in
       none-some _ (sym (none c (omega arith) (omega arith)) ∙ named)
   none_names (Some (d, b)) (low, high, there, before) other c above (text, kind, named, is) = elim (cases_lt c d) [
     | inl less ↦ none-some _ (sym (before c (omega arith) less) ∙ named)
@@ -180,7 +181,7 @@ module _ (cells : Cells) (cleaner : Cleaner) (st : State) (i : ℕ) (reached : I
   back_at is there = (cleared, s, shows_erased cells st cleared (goes reached s) store x t less refl (no_commit uncommitted), record { cleaners = refl; next_cleaner = refl; knows = λ e. absurd (not_open e) })
     where
       uncommitted : ¬ IsCommitted st t
-      uncommitted (c, (ws, is_in)) = (reached_sound reached).not_dead (record { start = t; stamp = c; writes = ws }) is_in (right Back is there)
+      uncommitted (c, (ws, is_in)) = (servers_sound reached).not_dead (record { start = t; stamp = c; writes = ws }) is_in (right Back is there)
 
       s : Step st (machine.CleanStep i) machine.RolledBack cleared
       s = accepts able (machine.rolls_back (kept Back is) (marked there) uncommitted less)
@@ -208,7 +209,7 @@ module _ (cells : Cells) (cleaner : Cleaner) (st : State) (i : ℕ) (reached : I
       is_in = committed.1
 
       fair : IsFair st made_of
-      fair = (reached_sound reached).fair made_of is_in
+      fair = (servers_sound reached).fair made_of is_in
 
       gives : Gives committed.0 x mark.change
       gives = subst (λ (ws : machine.Writes). Gives ws x mark.change) (same_entry st.begun t mark.is_change.0 committed.0 mark.is_change.1 fair.wrote) mark.is_change.2
@@ -217,7 +218,7 @@ module _ (cells : Cells) (cleaner : Cleaner) (st : State) (i : ℕ) (reached : I
       s = accepts able (machine.rolls_forward (kept (Forward c) is) (marked there) committed less)
 
       one_start : (b : Commit) → b ∈ st.commits → b.start ≡ t → b ≡ made_of
-      one_start b j e = same_commit st.commits (reached_sound reached).starts_differ b made_of j is_in e
+      one_start b j e = same_commit st.commits (servers_sound reached).starts_differ b made_of j is_in e
 
 -- ---- the effect on the rows
 

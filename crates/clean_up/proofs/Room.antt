@@ -13,15 +13,16 @@ use Rattle.rows.specs.Room.{HasNoRoom, TakesRoomOf}
 use Rattle.rows.proofs.Calls.{such_so}
 use Rattle.si_model.specs.Deciding.{IsRight}
 use Rattle.si_model.specs.Edits.{ErasesCell}
-use Rattle.si_model.specs.Machine.{State, IsReached, Marked}
+use Rattle.si_model.specs.Machine.{State, Marked}
+use Rattle.si_model.specs.Servers.{IsReachedByServers}
 use Rattle.si_model.specs.ShowsCells.{NamesCommit, ShowsCells, ShowsMark, IsThere, Touches, kind_of_change}
 use Rattle.si_model.specs.declared.replies.CleanReply.{CleanReply}
 use Rattle.si_model.specs.declared.replies.CleanReply.TheVariants as clean
 use Rattle.si_model.specs.declared.replies.Cell.{Cell}
-use Rattle.si_model.proofs.Bounds.{reached_bounds}
+use Rattle.si_model.proofs.Bounds.{servers_bounds}
 use Rattle.si_model.proofs.EditedCells.{make_cells}
 use Rattle.si_model.proofs.ShownTouched.{touches_erased, touches_recorded}
-use Rattle.si_model.proofs.Steps.{reached_sound}
+use Rattle.si_model.proofs.Steps.{servers_sound}
 use Rattle.clean_up.specs.Fates.{HasBadRecord, verdict_of}
 use Rattle.clean_up.specs.Room.{ChangesNext, ChangesOf, Does, EditsIn, EditsOf, Makes, TakesRoom}
 use Rattle.clean_up.specs.Shows.{ShowsCleaner, ShowsCleaners, TouchesFor, cleaner_of, is_decided}
@@ -33,7 +34,7 @@ use Rattle.clean_up.proofs.LockTexts.{told_kind}
 use Rattle.clean_up.proofs.Table.{shown_some}
 
 -- shown cells have no bad record
-pub no_bad_record : (cells : Cells) (st : State) → IsReached st → ShowsCells cells st → (x : Cell) → ¬ HasBadRecord cells x
+pub no_bad_record : (cells : Cells) (st : State) → IsReachedByServers st → ShowsCells cells st → (x : Cell) → ¬ HasBadRecord cells x
 no_bad_record cells st reached store x (c, b, there, lacks) = lacks k.commit.start (kind_of_change k.change, names_of k.commit.start (kind_of_change k.change) b low k.is_text)
   where
     k : NamesCommit cells st x c b
@@ -41,8 +42,8 @@ no_bad_record cells st reached store x (c, b, there, lacks) = lacks k.commit.sta
 
     low : k.commit.start < 2 ^ 64
     low =
-        let start = (reached_sound reached).start_low k.commit.start k.commit.writes ((reached_sound reached).fair k.commit k.is_in).wrote in
-        let top = (reached_bounds reached).top in
+        let start = (servers_sound reached).start_low k.commit.start k.commit.writes ((servers_sound reached).fair k.commit k.is_in).wrote in
+        let top = (servers_bounds reached).top in
         omega arith
 
 -- edits with one property have another

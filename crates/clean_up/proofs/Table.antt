@@ -22,22 +22,23 @@ use Rattle.rows.specs.Refusals.{IsReadRefusal}
 use Rattle.si_model.specs.Deciding.{CleanersKnow}
 use Rattle.si_model.specs.Laws.{IsWritable}
 use Rattle.si_model.specs.Machine as machine
-use Rattle.si_model.specs.Machine.{State, Request, Step, accepts, refuses, tells, IsReached, IsStorageRefusal, Marked, Refused}
+use Rattle.si_model.specs.Machine.{State, Request, Step, accepts, refuses, tells, IsStorageRefusal, Marked, Refused}
 use Rattle.si_model.specs.Reads.{IsNameRefusal, IsClear}
 use Rattle.si_model.specs.Refusing.Refuses.{gives_up}
 use Rattle.si_model.specs.Replies.{clean_reply}
+use Rattle.si_model.specs.Servers.{IsReachedByServers}
 use Rattle.si_model.specs.ShowsCells.{ShowsCells, ShowsMark, IsFirstCell, kind_of_change}
 use Rattle.si_model.specs.declared.replies.Cell.{Cell}
 use Rattle.si_model.specs.declared.replies.CleanReply.{CleanReply}
 use Rattle.si_model.specs.declared.replies.CleanStart.TheVariants as begin
 use Rattle.si_model.proofs.Acceptable.{clean_begin_ok}
-use Rattle.si_model.proofs.Bounds.{reached_bounds}
+use Rattle.si_model.proofs.Bounds.{servers_bounds}
 use Rattle.si_model.proofs.CleanerFates.{cleaners_know}
 use Rattle.si_model.proofs.FirstRefusals.{clean_row_first, clean_family_first, clean_full_first, clean_unknown_first}
 use Rattle.si_model.proofs.Goes.{goes}
 use Rattle.si_model.proofs.ChangedParts.{leaves_others}
 use Rattle.si_model.proofs.Limits.{writes_within_limits}
-use Rattle.si_model.proofs.Numbers.{reached_numbers}
+use Rattle.si_model.proofs.Numbers.{servers_numbers}
 use Rattle.si_model.proofs.ShownKept.{shows_beside}
 use Rattle.si_model.proofs.Tools.{eq_test, ne_test, get_same, get_other, get_removed, get_remains}
 use Rattle.clean_up.specs.Fates.{verdict_of}
@@ -183,7 +184,7 @@ advance_storage _ u = absurd u
 
 -- a refused call changes nothing
 pub stays : (cells : Cells) (old new : Cleaners) (q : Request) (e : Refusal) → SameCleaners old new
-    → ((st : State) → IsReached st → ShowsCells cells st → ShowsCleaners old st → Step st q (Refused e) st) → Steps cells old q (Refused e) cells new
+    → ((st : State) → IsReachedByServers st → ShowsCells cells st → ShowsCleaners old st → Step st q (Refused e) st) → Steps cells old q (Refused e) cells new
 stays cells old new q e same s st reached store shown = (st, s st reached store shown, store, shows_same old new st same shown)
 
 pub refused_at : (cells : Cells) (old new : Cleaners) (q : Request) (e : Refusal) → SameCleaners old new → IsStorageRefusal e → Steps cells old q (Refused e) cells new
@@ -204,10 +205,10 @@ pub name_refused_at : (cells : Cells) (old new : Cleaners) (x : Cell) (e : Refus
 name_refused_at cells old new x e same u = stays cells old new (machine.CleanBegin x) e same (λ st reached store shown. name_refused st x e u)
 
 -- if there is no lock, there is no mark
-pub unmarked : (cells : Cells) (st : State) → IsReached st → ShowsCells cells st → (x : Cell) → IsClear cells x column.Lock 0 (2 ^ 64 - 1) → (t : ℕ) → ¬ Marked st x t
+pub unmarked : (cells : Cells) (st : State) → IsReachedByServers st → ShowsCells cells st → (x : Cell) → IsClear cells x column.Lock 0 (2 ^ 64 - 1) → (t : ℕ) → ¬ Marked st x t
 unmarked cells st reached store x clear t m =
     let shows = store.marks x t m in
-    let to = (reached_bounds reached).start_to t shows.is_first.0 shows.is_first.2 in
+    let to = (servers_bounds reached).start_to t shows.is_first.0 shows.is_first.2 in
     none-some _ (sym (clear t (omega arith) (omega arith)) ∙ shows.lock)
 
 pub no_lock_at : (cells : Cells) (cleaners : Cleaners) (x : Cell) → IsRow x.row → IsFamily x.family → IsClear cells x column.Lock 0 (2 ^ 64 - 1)
@@ -225,7 +226,7 @@ full_at cells cleaners x lock row family stands full = stays cells cleaners clea
     (λ st reached store shown. refuses (clean_full_first row family lock.start (stands_marked cells st store x lock stands) (let n = shown.count in omega arith)))
 
 -- the first cell that a lock names is its start's
-stands_first : (cells : Cells) (st : State) → IsReached st → ShowsCells cells st → (x : Cell) (lock : Lock) → Stands cells x lock → IsFirstCell st lock.start lock.first
+stands_first : (cells : Cells) (st : State) → IsReachedByServers st → ShowsCells cells st → (x : Cell) (lock : Lock) → Stands cells x lock → IsFirstCell st lock.start lock.first
 stands_first cells st reached store x lock stands = subst (λ (y : Cell). IsFirstCell st lock.start y) same m.is_first
   where
     m : ShowsMark cells st x lock.start
@@ -244,14 +245,14 @@ abbrev opened_at : State → Cell → ℕ → State
 opened_at st x t = record st { cleaners = finmap.insert st.cleaners st.next_cleaner (record { cell = x; start = t; decided = false }); next_cleaner = st.next_cleaner + 1 }
 
 -- no cleaner has the next number
-fresh : (st : State) → IsReached st → finmap.get st.cleaners st.next_cleaner ≡ None
+fresh : (st : State) → IsReachedByServers st → finmap.get st.cleaners st.next_cleaner ≡ None
 fresh st reached = by (finmap.get st.cleaners st.next_cleaner) refl
   where
     by : (o : Option machine.Cleaner) → finmap.get st.cleaners st.next_cleaner ≡ o → finmap.get st.cleaners st.next_cleaner ≡ None
     by None e = e
-    by (Some k) e = let below = (reached_numbers reached).cleaners.below st.next_cleaner k e in absurd (omega arith)
+    by (Some k) e = let below = (servers_numbers reached).cleaners.below st.next_cleaner k e in absurd (omega arith)
 
-unused : (cleaners : Cleaners) (st : State) → IsReached st → ShowsCleaners cleaners st → btree.get nat_cmp cleaners.cleaners st.next_cleaner ≡ None
+unused : (cleaners : Cleaners) (st : State) → IsReachedByServers st → ShowsCleaners cleaners st → btree.get nat_cmp cleaners.cleaners st.next_cleaner ≡ None
 unused cleaners st reached shown = by (btree.get nat_cmp cleaners.cleaners st.next_cleaner) refl
   where
     by : (o : Option Cleaner) → btree.get nat_cmp cleaners.cleaners st.next_cleaner ≡ o → btree.get nat_cmp cleaners.cleaners st.next_cleaner ≡ None
@@ -350,7 +351,7 @@ pub standing_some : (cells : Cells) (x : Cell) (o : Option Lock) (lock : Lock) �
 standing_some cells x o lock some found = subst (λ (p : Option Lock). IsStanding cells x p) some found
 
 -- the lock of a mark names a cell
-pub no_lacking : (cells : Cells) (st : State) → IsReached st → ShowsCells cells st → (x : Cell) → ¬ LacksPlace cells x
+pub no_lacking : (cells : Cells) (st : State) → IsReachedByServers st → ShowsCells cells st → (x : Cell) → ¬ LacksPlace cells x
 no_lacking cells st reached store x (t, b, there, lacks) = lacks m.first (kind_of_change m.change) limits.row limits.family (subst (IsLockText m.first.row m.first.family (kind_of_change m.change)) (same_Some m.text b (sym m.lock ∙ there)) m.is_text)
   where
     m : ShowsMark cells st x t

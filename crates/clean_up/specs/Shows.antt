@@ -7,8 +7,9 @@ use Rattle.cell_key.specs.Cells.{Cells}
 use Rattle.si_model.specs.Deciding.{Knows}
 use Rattle.si_model.specs.Kinds.{OfCleaners, kind_of}
 use Rattle.si_model.specs.Machine as machine
-use Rattle.si_model.specs.Machine.{State, Request, Reply, Step, IsReached, CommittedAt, end_of_stamps}
+use Rattle.si_model.specs.Machine.{State, Request, Reply, Step, CommittedAt, end_of_stamps}
 use Rattle.si_model.specs.Replies.{clean_reply}
+use Rattle.si_model.specs.Servers.{IsReachedByServers}
 use Rattle.si_model.specs.ShowsCells.{ShowsCells, TouchesOneRow}
 use Rattle.si_model.specs.declared.replies.Cell.{Cell}
 use Rattle.si_model.specs.declared.replies.CleanReply.{CleanReply}
@@ -58,14 +59,14 @@ pub record ShowsCleaners (cleaners : Cleaners) (st : State) : Type 0 where
 -- after.
 abbrev pub Steps : Cells → Cleaners → Request → Reply → Cells → Cleaners → Type 0
 Steps cells cleaners request reply cells' cleaners' =
-    (st : State) → IsReached st → ShowsCells cells st → ShowsCleaners cleaners st
+    (st : State) → IsReachedByServers st → ShowsCells cells st → ShowsCleaners cleaners st
     → (next : State)
     × Step st request reply next × ShowsCells cells' next × ShowsCleaners cleaners' next
 
 -- it holds in each reached state that cells and cleaners show
 abbrev pub InEachShown : Cells → Cleaners → (State → Type 0) → Type 0
 InEachShown cells cleaners IsSo =
-    (st : State) → IsReached st → ShowsCells cells st → ShowsCleaners cleaners st → IsSo st
+    (st : State) → IsReachedByServers st → ShowsCells cells st → ShowsCleaners cleaners st → IsSo st
 
 -- the same cleaners, and the same next number
 pub record SameCleaners (old new : Cleaners) : Type 0 where
@@ -127,14 +128,14 @@ pub record Follows (st next : State) (i : ℕ) (cleaner : Cleaner) (reply : Clea
 
 abbrev pub Advances : Cells → Cleaner → CleanReply → Cells → Cleaner → Type 0
 Advances cells cleaner reply cells' cleaner' =
-    (st : State) (i : ℕ) → IsReached st → ShowsCells cells st → ShowsCleaner cleaner i st
+    (st : State) (i : ℕ) → IsReachedByServers st → ShowsCells cells st → ShowsCleaner cleaner i st
     → (next : State) × Step st (machine.CleanStep i) (clean_reply reply) next
     × ShowsCells cells' next × Follows st next i cleaner' reply
 
 -- steps of others leave the state that cleaners show unchanged
 abbrev pub AreShownOn : Type 0
 AreShownOn =
-    (cleaners : Cleaners) (st next : State) (q : Request) (r : Reply) → IsReached st
+    (cleaners : Cleaners) (st next : State) (q : Request) (r : Reply) → IsReachedByServers st
     → Step st q r next → kind_of q ≢ OfCleaners
     → ShowsCleaners cleaners st → ShowsCleaners cleaners next
 

@@ -44,11 +44,12 @@ pub struct Options<'a> {
     pub flush: u32,
     /// The bytes of entries at which a memtable is compacted too: 1,048,576 to 67,108,864. None: bytes aren't limited.
     pub flush_bytes: Option<u32>,
-    /// The number of files at which a tablet's newest files are merged: 2 to 64. None: never.
+    /// The number of files at which a tablet's newest files are merged: 2 to 64. None: never, or by levels with upkeep.
     pub merge: Option<u32>,
     /// The most blocks cached of each file: 8 to 4,096.
     pub cache: u32,
-    /// Whether a checkpoint that a log makes due is followed by a sweep of the files that nothing needs.
+    /// Whether the store keeps house by itself: files are merged by levels if no number is given, and a checkpoint that a
+    /// log makes due is followed by a sweep of the files that nothing needs.
     pub upkeep: bool,
     /// Whether several clients share the streams: each body begins with a client's number.
     pub clients: bool,

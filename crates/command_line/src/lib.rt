@@ -41,14 +41,16 @@ const FLUSH_BYTES_HELP: &str =
     step [default: bytes don't count]";
 
 const MERGE_HELP: &str =
-    "Files of a tablet at which the newest ones are merged after a file was written: 2 to 64 [default: never]";
+    "Files of a tablet at which the newest ones are merged after a file was written: 2 to 64 [default: never, or with \
+    --upkeep by levels]";
 
 const CACHE_HELP: &str =
     "Blocks of each file that stay in memory, those that were read last: 8 to 4096 [default: 8]";
 
 const UPKEEP_HELP: &str =
-    "In a folder with a log, remove the files that neither a tablet nor the root needs after each checkpoint that comes \
-    by itself [default: only a Sweep removes files]";
+    "Merge a tablet's newest files after a file was written, so that each has more entries than all newer ones together; in \
+    a folder with a log, remove the files that neither a tablet nor the root needs after each checkpoint that comes by \
+    itself [default: only a Merge or a Major merges, and only a Sweep removes files]";
 
 const CLIENTS_HELP: &str =
     "Serve several clients, each with its own sessions, cleaners and collectors: the body of each request and reply begins \

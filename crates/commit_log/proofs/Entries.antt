@@ -1,9 +1,10 @@
--- Entries of edits are read back from their bytes.
-use Rattle.std.proofs.Common.{◌≡◌, ◌≢◌, ℕ, zero, suc, ◌+◌, ◌*◌, ◌≤◌, ◌<◌, ◌^◌, ◌==◌, false, List, [], ◌∷◌, ◌++◌, length, take, drop, refl, sym, ap, ◌∙◌, arith, length-append, append_assoc, take_at, drop_at}
+-- Entries of edits are read back from their bytes; their lengths.
+use Rattle.std.proofs.Common.{◌≡◌, ◌≢◌, ℕ, zero, suc, ◌+◌, ◌*◌, ◌≤◌, ◌<◌, ◌^◌, ◌==◌, false, List, [], ◌∷◌, ◌++◌, length, refl, sym, ap, ◌∙◌, arith, length-append, append_assoc}
 use Rattle.std.specs.Prelude.{Option, Some, None, IfSome}
 use Rattle.std.specs.Int.{w32, to_be_bytes, from_be_bytes}
 use Rattle.std.proofs.lemmas.Nat.{from_be_bytes-to_be_bytes_4}
 use Rattle.std.proofs.lemmas.Bool.Decides.{nat_tests}
+use Rattle.cell_key.specs.Cells.{edited_key}
 use Rattle.cell_key.specs.Entries.{Entry, field, spelled, spelled_value}
 use Rattle.cell_key.specs.Keys.{text, qualifier_name}
 use Rattle.cell_key.specs.Texts.{escaped, escaped_byte, stamp_text}
@@ -12,7 +13,8 @@ use Rattle.cell_key.specs.declared.keys.Qualifier.{Qualifier}
 use Rattle.cell_key.specs.declared.keys.Qualifier.TheVariants.{Data, Lock, Write}
 use Rattle.cell_key.specs.declared.edits.Edit.{Edit}
 use Rattle.cell_key.specs.declared.edits.Edit.TheVariants.{Put, Erase}
-use Rattle.commit_log.specs.Edits.{HasShortParts, IsStoredEdit, edit_entry}
+use Rattle.commit_log.specs.Edits.{HasShortParts, IsStoredEdit, edit_entry, edit_value, spelled_entry}
+use Rattle.commit_log.proofs.Cuts.{same_front}
 
 -- ---- lengths
 
@@ -20,14 +22,19 @@ escaped_byte_len : (b : ℕ) → length (escaped_byte b) ≤ 2
 escaped_byte_len zero = omega arith
 escaped_byte_len (suc b) = let e : (suc b == 0) ≡ false = grind (arith, nat_tests) in rw e (omega arith)
 
-escaped_len : (row : List ℕ) → length (escaped row) ≤ 2 * length row
+pub escaped_len : (row : List ℕ) → length (escaped row) ≤ 2 * length row
 escaped_len [] = omega arith
 escaped_len (b ∷ row) = let one = escaped_byte_len b in let rest = escaped_len row in omega (arith, length-append (escaped_byte b) (escaped row))
 
-name_len : (q : Qualifier) → length (qualifier_name q) ≤ 5
+pub name_len : (q : Qualifier) → length (qualifier_name q) ≤ 5
 name_len Data = omega arith
 name_len Lock = omega arith
 name_len Write = omega arith
+
+pub text_length : (key : CellKey) → length (text key) ≡ length (escaped key.row) + length key.family + length (qualifier_name key.qualifier) + 14
+text_length key =
+    let stamp : length (stamp_text key.stamp) ≡ 8 = refl in
+    simp length-append (omega arith)
 
 pub text_len : (key : CellKey) → length key.row ≤ 4000 → length key.family ≤ 64 → length (text key) ≤ 8083
 text_len key row family =
@@ -36,11 +43,17 @@ text_len key row family =
     let stamp : length (stamp_text key.stamp) ≡ 8 = refl in
     simp length-append (omega arith)
 
-field_length : (bytes : List ℕ) → length (field bytes) ≡ 4 + length bytes
+pub field_length : (bytes : List ℕ) → length (field bytes) ≡ 4 + length bytes
 field_length bytes = length-append (to_be_bytes w32 (length bytes)) bytes
 
 pub spelled_long : (e : Entry) → 4 ≤ length (spelled e)
 spelled_long e = omega (arith, length-append (field e.0) (spelled_value e.1), field_length e.0)
+
+pub put_length : (key : CellKey) (value : List ℕ) → length (spelled (text key, Some value)) ≡ length (text key) + length value + 9
+put_length key value = omega (arith, length-append (field (text key)) (spelled_value (Some value)), field_length (text key), field_length value)
+
+pub erasure_length : (key : CellKey) → length (spelled (text key, None)) ≡ length (text key) + 5
+erasure_length key = omega (arith, length-append (field (text key)) (spelled_value None), field_length (text key))
 
 pub short_edit : (edit : Edit) → IsStoredEdit edit → HasShortParts (edit_entry edit)
 short_edit (Put key value) is = record { text = let t = text_len key is.row.few is.family.few in omega (arith, t); value = let v = is.limits.value in omega (arith, v) }
@@ -48,13 +61,7 @@ short_edit (Erase key) is = record { text = let t = text_len key is.row.few is.f
 
 -- ---- the front of bytes
 
-same_front : (a b x y : List ℕ) → length a ≡ length b → a ++ x ≡ b ++ y → (a ≡ b) × (x ≡ y)
-same_front a b x y size same = (
-  sym (take_at a x (length a) refl) ∙ ap (take (length a)) same ∙ take_at b y (length a) (sym size),
-  sym (drop_at a x (length a) refl) ∙ ap (drop (length a)) same ∙ drop_at b y (length a) (sym size),
-)
-
-field_split : (a b x y : List ℕ) → length a < 2 ^ 32 → length b < 2 ^ 32 → field a ++ x ≡ field b ++ y → (a ≡ b) × (x ≡ y)
+pub field_split : (a b x y : List ℕ) → length a < 2 ^ 32 → length b < 2 ^ 32 → field a ++ x ≡ field b ++ y → (a ≡ b) × (x ≡ y)
 field_split a b x y p q e =
     let whole : to_be_bytes w32 (length a) ++ (a ++ x) ≡ to_be_bytes w32 (length b) ++ (b ++ y) = sym (append_assoc (to_be_bytes w32 (length a)) a x) ∙ e ∙ append_assoc (to_be_bytes w32 (length b)) b y in
     let numbers = same_front (to_be_bytes w32 (length a)) (to_be_bytes w32 (length b)) (a ++ x) (b ++ y) refl whole in
@@ -112,3 +119,10 @@ pub no_value : (bytes key rest after : List ℕ) (kind : ℕ) → length key < 2
     → (e : Entry) (x : List ℕ) → HasShortParts e → bytes ≢ spelled e ++ x
 no_value bytes key rest after kind small f n one h e x is s =
     values e.1 after x is.value h (ap (λ (k : ℕ). k ∷ after) (sym one) ∙ sym n ∙ value_front bytes key rest x e small is f s)
+
+-- an entry that was read is that of the edit that is made of it
+pub entry_joined : (bytes rest name : List ℕ) (value : Option (List ℕ)) (key : CellKey) (edit : Edit) → bytes ≡ spelled (name, value) ++ rest → name ≡ text key → edited_key edit ≡ key → edit_value edit ≡ value → bytes ≡ spelled_entry edit ++ rest
+entry_joined bytes rest name value key edit read named keys values =
+    read
+    ∙ ap (λ (n : List ℕ). spelled (n, value) ++ rest) (named ∙ ap text (sym keys))
+    ∙ ap (λ (v : Option (List ℕ)). spelled (text (edited_key edit), v) ++ rest) (sym values)

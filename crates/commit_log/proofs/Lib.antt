@@ -1,6 +1,7 @@
 mod Tables
 mod Cuts
 mod Entries
+mod FieldParts
 mod Fronts
 mod Holding
 mod Naming

@@ -8,18 +8,21 @@ use Rattle.std.specs.List.{AllByRecursion, flat_map}
 use Rattle.std.proofs.lemmas.List.{get_or-drop, take-append-drop}
 use Rattle.std.proofs.lemmas.List.Concat.{flat_map-append}
 use Rattle.cell_key.specs.Cells.{Cells, after_edit, after_edits, edited_key}
-use Rattle.cell_key.specs.Entries.{Entry}
-use Rattle.cell_key.specs.Keys.{IsStored, OneKeyAText}
+use Rattle.cell_key.specs.Entries.{Entry, spelled}
+use Rattle.cell_key.specs.Keys.{OneKeyAText, text}
 use Rattle.cell_key.specs.declared.keys.CellKey.{CellKey}
 use Rattle.cell_key.specs.declared.edits.Edit.{Edit}
 use Rattle.cell_key.specs.declared.edits.Edit.TheVariants.{Put, Erase}
-use Rattle.commit_log.specs.Edits.{HoldEdits, IsStoredEdit, LogsEdits, Part, edit_entry, made_in, makes, names, names_any, spelled_edit, spelled_edits, spelled_part}
-use Rattle.commit_log.specs.Records.{any_root, edit_bytes, root_record, spelled_number, spelled_record}
+use Rattle.commit_log.specs.Edits.{HoldEdits, IsStoredEdit, LogsEdits, Part, edit_entry, edit_value, form_kind, made_in, makes, names, names_any, spelled_as, spelled_edit, spelled_edits, spelled_entries, spelled_entry, spelled_fields, spelled_part}
+use Rattle.commit_log.specs.Records.{any_root, root_record, spelled_number, spelled_record}
+use Rattle.commit_log.specs.declared.edits.EditForm.{EditForm}
+use Rattle.commit_log.specs.declared.edits.EditForm.TheVariants.{Fields, Entries}
 use Rattle.commit_log.specs.declared.records.RecordKind.{RecordKind}
 use Rattle.commit_log.specs.declared.records.RecordKind.TheVariants as kind
 use Rattle.commit_log.proofs.Naming.{same_parts, same_record}
 use Rattle.commit_log.proofs.Numbering.{length-number, nothing_at}
 use Rattle.commit_log.proofs.Entries.{entry_split, short_edit, spelled_long}
+use Rattle.commit_log.proofs.FieldParts.{edit_long, edit_split, stored_key}
 
 -- bytes that begin with mid begin with each prefix of mid
 pub front_stays : (old mid new more : List ℕ) → mid ≡ old ++ more → take (length mid) new ≡ mid → take (length old) new ≡ old
@@ -27,19 +30,70 @@ front_stays old mid new more is kept =
     ap (take (length old)) (sym (take-append-drop (length mid) new) ∙ ap (λ (l : List ℕ). l ++ drop (length mid) new) (kept ∙ is) ∙ append_assoc old more (drop (length mid) new))
     ∙ take_at old (more ++ drop (length mid) new) (length old) refl
 
-no_edits : (edit : Edit) (x : List ℕ) → [] ≡ spelled_edit edit ++ x → ⊥
-no_edits edit x e = omega (arith, ap length e, length-append (spelled_edit edit) x, spelled_long (edit_entry edit))
+pub front_of_both : (old mid then new a b : List ℕ) → mid ≡ old ++ a → then ≡ mid ++ b → take (length then) new ≡ then → take (length old) new ≡ old
+front_of_both old mid then new a b first second = front_stays old then new (a ++ b) (second ∙ ap (λ (l : List ℕ). l ++ b) first ∙ append_assoc old a b)
+
+-- ---- edits in one form
+
+no_edits : (form : EditForm) (edit : Edit) (x : List ℕ) → [] ≡ spelled_as form edit ++ x → ⊥
+no_edits Fields edit x e = omega (arith, ap length e, length-append (spelled_edit edit) x, edit_long edit)
+no_edits Entries edit x e = omega (arith, ap length e, length-append (spelled_entry edit) x, spelled_long (edit_entry edit))
+
+-- two edits at the front have the same entry
+same_first : (form : EditForm) (a b : Edit) (x y : List ℕ) → IsStoredEdit a → IsStoredEdit b → spelled_as form a ++ x ≡ spelled_as form b ++ y → (edit_entry a ≡ edit_entry b) × (x ≡ y)
+same_first Fields a b x y p q same =
+    let split = edit_split a b x y p q same in
+    (λ i. (text (split.0 i), split.1.0 i), split.1.1)
+same_first Entries a b x y p q same = entry_split (edit_entry a) (edit_entry b) x y (short_edit a p) (short_edit b q) same
 
 -- bytes that continue with no edit encode no list of edits
-pub stuck : (done more : List Edit) (bytes rest : List ℕ) → AllByRecursion IsStoredEdit done → AllByRecursion IsStoredEdit more → bytes ≡ spelled_edits done ++ rest → rest ≢ []
-    → ((edit : Edit) (x : List ℕ) → IsStoredEdit edit → rest ≢ spelled_edit edit ++ x) → bytes ≢ spelled_edits more
-stuck [] [] bytes rest p q s some none t = some (sym s ∙ t)
-stuck [] (m ∷ more) bytes rest p q s some none t = none m (spelled_edits more) q.0 (sym s ∙ t)
-stuck (d ∷ done) [] bytes rest p q s some none t = no_edits d (spelled_edits done ++ rest) (sym t ∙ s ∙ append_assoc (spelled_edit d) (spelled_edits done) rest)
-stuck (d ∷ done) (m ∷ more) bytes rest p q s some none t =
-    let split = entry_split (edit_entry d) (edit_entry m) (spelled_edits done ++ rest) (spelled_edits more) (short_edit d p.0) (short_edit m q.0)
-    (sym (append_assoc (spelled_edit d) (spelled_edits done) rest) ∙ sym s ∙ t) in
-    stuck done more (spelled_edits done ++ rest) rest p.1 q.1 refl some none split.1
+pub stuck : (form : EditForm) (done more : List Edit) (bytes rest : List ℕ) → AllByRecursion IsStoredEdit done → AllByRecursion IsStoredEdit more → bytes ≡ flat_map (spelled_as form) done ++ rest → rest ≢ []
+    → ((edit : Edit) (x : List ℕ) → IsStoredEdit edit → rest ≢ spelled_as form edit ++ x) → bytes ≢ flat_map (spelled_as form) more
+stuck form [] [] bytes rest p q s some none t = some (sym s ∙ t)
+stuck form [] (m ∷ more) bytes rest p q s some none t = none m (flat_map (spelled_as form) more) q.0 (sym s ∙ t)
+stuck form (d ∷ done) [] bytes rest p q s some none t = no_edits form d (flat_map (spelled_as form) done ++ rest) (sym t ∙ s ∙ append_assoc (spelled_as form d) (flat_map (spelled_as form) done) rest)
+stuck form (d ∷ done) (m ∷ more) bytes rest p q s some none t =
+    let split = same_first form d m (flat_map (spelled_as form) done ++ rest) (flat_map (spelled_as form) more) p.0 q.0
+    (sym (append_assoc (spelled_as form d) (flat_map (spelled_as form) done) rest) ∙ sym s ∙ t) in
+    stuck form done more (flat_map (spelled_as form) done ++ rest) rest p.1 q.1 refl some none split.1
+
+-- ---- edits with the same entries
+
+abbrev Alike : List Edit → List Edit → Type 0
+Alike [] [] = Unit {0}
+Alike [] (b ∷ bs) = ⊥
+Alike (a ∷ as') [] = ⊥
+Alike (a ∷ as') (b ∷ bs) = (edit_entry a ≡ edit_entry b) × Alike as' bs
+
+alike : (form : EditForm) (a b : List Edit) → AllByRecursion IsStoredEdit a → AllByRecursion IsStoredEdit b → flat_map (spelled_as form) a ≡ flat_map (spelled_as form) b → Alike a b
+alike form [] [] p q s = tt
+alike form [] (b ∷ bs) p q s = no_edits form b (flat_map (spelled_as form) bs) s
+alike form (a ∷ as') [] p q s = no_edits form a (flat_map (spelled_as form) as') (sym s)
+alike form (a ∷ as') (b ∷ bs) p q s =
+    let split = same_first form a b (flat_map (spelled_as form) as') (flat_map (spelled_as form) bs) p.0 q.0 s in
+    (split.0, alike form as' bs p.1 q.1 split.1)
+
+alike_both : (a b c d : List Edit) → Alike a b → Alike c d → Alike (a ++ c) (b ++ d)
+alike_both [] [] c d first then = then
+alike_both [] (b ∷ bs) c d first then = absurd first
+alike_both (a ∷ as') [] c d first then = absurd first
+alike_both (a ∷ as') (b ∷ bs) c d first then = (first.0, alike_both as' bs c d first.1 then)
+
+many_alike : (a b : List Edit) → Alike a b → length a ≡ length b
+many_alike [] [] s = refl
+many_alike [] (b ∷ bs) s = absurd s
+many_alike (a ∷ as') [] s = absurd s
+many_alike (a ∷ as') (b ∷ bs) s = ap suc (many_alike as' bs s.1)
+
+entries_alike : (a b : List Edit) → Alike a b → spelled_entries a ≡ spelled_entries b
+entries_alike [] [] s = refl
+entries_alike [] (b ∷ bs) s = absurd s
+entries_alike (a ∷ as') [] s = absurd s
+entries_alike (a ∷ as') (b ∷ bs) s =
+    ap (λ (e : Entry). spelled e ++ spelled_entries as') s.0 ∙ ap (λ (l : List ℕ). spelled_entry b ++ l) (entries_alike as' bs s.1)
+
+pub as_many : (a b : List Edit) → AllByRecursion IsStoredEdit a → AllByRecursion IsStoredEdit b → spelled_edits a ≡ spelled_edits b → length a ≡ length b
+as_many a b p q s = many_alike a b (alike Fields a b p q s)
 
 -- ---- records
 
@@ -91,25 +145,41 @@ all_spelled records edits h all =
 
 -- bytes that are not a record
 pub no_part : (bytes : List ℕ) → ((kind : RecordKind) (stamp : ℕ) (body : List ℕ) → bytes ≢ spelled_record kind stamp body) → (part : Part) → bytes ≢ spelled_part part
-no_part bytes none (makes stamp edits) same = none kind.Edits stamp (spelled_edits edits) same
+no_part bytes none (makes form stamp edits) same = none (form_kind form) stamp (flat_map (spelled_as form) edits) same
 no_part bytes none (names top sum) same = none kind.Root top (to_be_bytes w32 sum) same
 no_part bytes none names_any same = none kind.AnyRoot 0 [] same
 
+-- the kinds of records of edits
+not_root : (form : EditForm) → form_kind form ≢ kind.Root
+not_root Fields e = cc
+not_root Entries e = cc
+
+not_any : (form : EditForm) → form_kind form ≢ kind.AnyRoot
+not_any Fields e = cc
+not_any Entries e = cc
+
+same_form : (f g : EditForm) → form_kind f ≡ form_kind g → f ≡ g
+same_form Fields Fields e = refl
+same_form Fields Entries e = absurd cc
+same_form Entries Fields e = absurd cc
+same_form Entries Entries e = refl
+
 -- a record of edits whose body does not encode edits
-pub no_edits_part : (bytes body : List ℕ) (stamp : ℕ) → bytes ≡ spelled_record kind.Edits stamp body → ((more : List Edit) → AllByRecursion IsStoredEdit more → body ≢ spelled_edits more)
+pub no_edits_part : (bytes body : List ℕ) (form : EditForm) (stamp : ℕ) → bytes ≡ spelled_record (form_kind form) stamp body → ((more : List Edit) → AllByRecursion IsStoredEdit more → body ≢ flat_map (spelled_as form) more)
     → (part : Part) → AllByRecursion IsStoredEdit (made_in part) → bytes ≢ spelled_part part
-no_edits_part bytes body stamp is none (makes s edits) all same =
-    none edits all (same_parts kind.Edits kind.Edits stamp s body (spelled_edits edits) (sym is ∙ same)).1.1
-no_edits_part bytes body stamp is none (names top sum) all same =
-    let e = (same_parts kind.Edits kind.Root stamp top body (to_be_bytes w32 sum) (sym is ∙ same)).0 in cc
-no_edits_part bytes body stamp is none names_any all same =
-    let e = (same_parts kind.Edits kind.AnyRoot stamp 0 body [] (sym is ∙ same)).0 in cc
+no_edits_part bytes body form stamp is none (makes g s edits) all same =
+    let parts = same_parts (form_kind form) (form_kind g) stamp s body (flat_map (spelled_as g) edits) (sym is ∙ same) in
+    none edits all (parts.1.1 ∙ ap (λ (h : EditForm). flat_map (spelled_as h) edits) (sym (same_form form g parts.0)))
+no_edits_part bytes body form stamp is none (names top sum) all same =
+    not_root form (same_parts (form_kind form) kind.Root stamp top body (to_be_bytes w32 sum) (sym is ∙ same)).0
+no_edits_part bytes body form stamp is none names_any all same =
+    not_any form (same_parts (form_kind form) kind.AnyRoot stamp 0 body [] (sym is ∙ same)).0
 
 -- a record of another kind whose body doesn't fit the kind
-pub no_root_part : (bytes body : List ℕ) (k : RecordKind) (stamp : ℕ) → stamp < 2 ^ 64 → bytes ≡ spelled_record k stamp body → k ≢ kind.Edits
+pub no_root_part : (bytes body : List ℕ) (k : RecordKind) (stamp : ℕ) → stamp < 2 ^ 64 → bytes ≡ spelled_record k stamp body → ((form : EditForm) → k ≢ form_kind form)
     → (((k ≡ kind.Root) × (length body ≡ 4)) ⊎ ((k ≡ kind.AnyRoot) × (stamp ≡ 0) × (length body ≡ 0)) → ⊥) → (part : Part) → bytes ≢ spelled_part part
-no_root_part bytes body k stamp small is other none (makes s edits) same =
-    other (same_parts k kind.Edits stamp s body (spelled_edits edits) (sym is ∙ same)).0
+no_root_part bytes body k stamp small is other none (makes form s edits) same =
+    other form (same_parts k (form_kind form) stamp s body (flat_map (spelled_as form) edits) (sym is ∙ same)).0
 no_root_part bytes body k stamp small is other none (names top sum) same =
     let parts = same_parts k kind.Root stamp top body (to_be_bytes w32 sum) (sym is ∙ same) in
     none (inl (parts.0, ap length parts.1.1))
@@ -141,45 +211,62 @@ root_part bytes body k stamp old small is of =
       )
     ]
 
-pub edits_part : (bytes body : List ℕ) (k : RecordKind) (stamp : ℕ) (old new : List Edit) → bytes ≡ spelled_record k stamp body → k ≡ kind.Edits
-    → (more : List Edit) × (new ≡ old ++ more) × (body ≡ spelled_edits more) × AllByRecursion IsStoredEdit more
+pub edits_part : (bytes body : List ℕ) (k : RecordKind) (form : EditForm) (stamp : ℕ) (old new : List Edit) → bytes ≡ spelled_record k stamp body → k ≡ form_kind form
+    → (more : List Edit) × (new ≡ old ++ more) × (body ≡ flat_map (spelled_as form) more) × AllByRecursion IsStoredEdit more
     → (part : Part) × (new ≡ old ++ made_in part) × (bytes ≡ spelled_part part) × AllByRecursion IsStoredEdit (made_in part)
-edits_part bytes body k stamp old new is of (more, joined, spelled', all) =
-    (makes stamp more, joined, is ∙ ap (λ (j : RecordKind). spelled_record j stamp body) of ∙ ap (spelled_record kind.Edits stamp) spelled', all)
+edits_part bytes body k form stamp old new is of (more, joined, spelled', all) =
+    (makes form stamp more, joined, is ∙ ap (λ (j : RecordKind). spelled_record j stamp body) of ∙ ap (spelled_record (form_kind form) stamp) spelled', all)
 
--- ---- the number of edits
+-- ---- the same records
 
-pub as_many : (a b : List Edit) → AllByRecursion IsStoredEdit a → AllByRecursion IsStoredEdit b → spelled_edits a ≡ spelled_edits b → length a ≡ length b
-as_many [] [] p q s = refl
-as_many [] (b ∷ bs) p q s = absurd (no_edits b (spelled_edits bs) s)
-as_many (a ∷ as') [] p q s = absurd (no_edits a (spelled_edits as') (sym s))
-as_many (a ∷ as') (b ∷ bs) p q s =
-    let split = entry_split (edit_entry a) (edit_entry b) (spelled_edits as') (spelled_edits bs) (short_edit a p.0) (short_edit b q.0) s in
-    ap suc (as_many as' bs p.1 q.1 split.1)
+same_part : (p q : Part) → AllByRecursion IsStoredEdit (made_in p) → AllByRecursion IsStoredEdit (made_in q) → spelled_part p ≡ spelled_part q → Alike (made_in p) (made_in q)
+same_part (makes f s a) (makes g t b) p q same =
+    let parts = same_parts (form_kind f) (form_kind g) s t (flat_map (spelled_as f) a) (flat_map (spelled_as g) b) same in
+    alike f a b p q (parts.1.1 ∙ ap (λ (h : EditForm). flat_map (spelled_as h) b) (sym (same_form f g parts.0)))
+same_part (makes f s a) (names top sum) p q same = absurd (not_root f (same_parts (form_kind f) kind.Root s top (flat_map (spelled_as f) a) (to_be_bytes w32 sum) same).0)
+same_part (makes f s a) names_any p q same = absurd (not_any f (same_parts (form_kind f) kind.AnyRoot s 0 (flat_map (spelled_as f) a) [] same).0)
+same_part (names top sum) (makes g t b) p q same = absurd (not_root g (sym (same_parts kind.Root (form_kind g) top t (to_be_bytes w32 sum) (flat_map (spelled_as g) b) same).0))
+same_part (names top sum) (names other number) p q same = tt
+same_part (names top sum) names_any p q same = tt
+same_part names_any (makes g t b) p q same = absurd (not_any g (sym (same_parts kind.AnyRoot (form_kind g) 0 t [] (flat_map (spelled_as g) b) same).0))
+same_part names_any (names top sum) p q same = tt
+same_part names_any names_any p q same = tt
 
--- ---- their effect on cells
+parts_alike : (ps qs : List Part) → AllByRecursion IsStoredEdit (flat_map made_in ps) → AllByRecursion IsStoredEdit (flat_map made_in qs) → map spelled_part ps ≡ map spelled_part qs → Alike (flat_map made_in ps) (flat_map made_in qs)
+parts_alike [] [] p q same = tt
+parts_alike [] (b ∷ qs) p q same = absurd cc
+parts_alike (a ∷ ps) [] p q same = absurd cc
+parts_alike (a ∷ ps) (b ∷ qs) p q same =
+    let one : spelled_part a ≡ spelled_part b = cc in
+    let rest : map spelled_part ps ≡ map spelled_part qs = cc in
+    let here = all_front (made_in a) (flat_map made_in ps) p in
+    let there = all_front (made_in b) (flat_map made_in qs) q in
+    alike_both (made_in a) (made_in b) (flat_map made_in ps) (flat_map made_in qs) (same_part a b here.0 there.0 one) (parts_alike ps qs here.1 there.1 rest)
 
-stored : (edit : Edit) → IsStoredEdit edit → IsStored (edited_key edit)
-stored edit is = record { row = is.row; family = is.family; from = is.limits.from; to = is.limits.to }
+held_alike : (records : List (List ℕ)) (a b : List Edit) → HoldEdits records a → HoldEdits records b → AllByRecursion IsStoredEdit a → AllByRecursion IsStoredEdit b → Alike a b
+held_alike records a b h k p q =
+    let all = parts_alike h.parts k.parts (subst (AllByRecursion IsStoredEdit) h.joined p) (subst (AllByRecursion IsStoredEdit) k.joined q) (sym h.each ∙ k.each) in
+    subst (λ (es : List Edit). Alike es b) (sym h.joined) (subst (λ (es : List Edit). Alike (flat_map made_in h.parts) es) (sym k.joined) all)
 
-edits_of : (part : Part) → edit_bytes (spelled_part part) ≡ spelled_edits (made_in part)
-edits_of (makes stamp edits) = drop_at (spelled_number stamp) (spelled_edits edits) 8 (length-number stamp)
-edits_of (names top sum) = refl
-edits_of names_any = refl
-
-joined : (parts : List Part) → flat_map edit_bytes (map spelled_part parts) ≡ spelled_edits (flat_map made_in parts)
-joined [] = refl
-joined (part ∷ parts) =
-    ap (λ (l : List ℕ). l ++ flat_map edit_bytes (map spelled_part parts)) (edits_of part)
-    ∙ ap (λ (l : List ℕ). spelled_edits (made_in part) ++ l) (joined parts) ∙ sym (flat_map-append spelled_edit (made_in part) (flat_map made_in parts))
-
-held : (records : List (List ℕ)) (edits : List Edit) → HoldEdits records edits → flat_map edit_bytes records ≡ spelled_edits edits
-held records edits h = ap (flat_map edit_bytes) h.each ∙ joined h.parts ∙ ap spelled_edits (sym h.joined)
+-- ---- their fields, and their effect on cells
 
 module _ (one_key : OneKeyAText) where
+  same_key : (a b : Edit) → IsStoredEdit a → IsStoredEdit b → edit_entry a ≡ edit_entry b → edited_key a ≡ edited_key b
+  same_key a b p q e = one_key (edited_key a) (edited_key b) (stored_key a p) (stored_key b q) (ap (λ (x : Entry). x.0) e)
+
+  fields_alike : (a b : List Edit) → AllByRecursion IsStoredEdit a → AllByRecursion IsStoredEdit b → Alike a b → spelled_edits a ≡ spelled_edits b
+  fields_alike [] [] p q s = refl
+  fields_alike [] (b ∷ bs) p q s = absurd s
+  fields_alike (a ∷ as') [] p q s = absurd s
+  fields_alike (a ∷ as') (b ∷ bs) p q s =
+      let keys = same_key a b p.0 q.0 s.0 in
+      let values : edit_value a ≡ edit_value b = ap (λ (x : Entry). x.1) s.0 in
+      let one : spelled_edit a ≡ spelled_edit b = λ i. spelled_fields (keys i) (values i) in
+      ap (λ (l : List ℕ). l ++ spelled_edits as') one ∙ ap (λ (l : List ℕ). spelled_edit b ++ l) (fields_alike as' bs p.1 q.1 s.1)
+
   same_edit : (cells : Cells) (a b : Edit) → IsStoredEdit a → IsStoredEdit b → edit_entry a ≡ edit_entry b → after_edit cells a ≡ after_edit cells b
   same_edit cells (Put k v) (Put l w) p q e =
-      let keys : k ≡ l = one_key k l (stored (Put k v) p) (stored (Put l w) q) (ap (λ (x : Entry). x.0) e) in
+      let keys : k ≡ l = same_key (Put k v) (Put l w) p q e in
       let values : v.items ≡ w.items = cc (ap (λ (x : Entry). x.1) e) in
       λ i. after_put cells (keys i) (values i)
     where
@@ -188,24 +275,25 @@ module _ (one_key : OneKeyAText) where
   same_edit cells (Put k v) (Erase l) p q e = absurd (cc (ap (λ (x : Entry). x.1) e))
   same_edit cells (Erase k) (Put l w) p q e = absurd (cc (ap (λ (x : Entry). x.1) e))
   same_edit cells (Erase k) (Erase l) p q e =
-      let keys : k ≡ l = one_key k l (stored (Erase k) p) (stored (Erase l) q) (ap (λ (x : Entry). x.0) e) in
+      let keys : k ≡ l = same_key (Erase k) (Erase l) p q e in
       ap (λ (key : CellKey). after_edit cells (Erase key)) keys
 
-  one_replay : (cells : Cells) (a b : List Edit) → AllByRecursion IsStoredEdit a → AllByRecursion IsStoredEdit b → spelled_edits a ≡ spelled_edits b → after_edits cells a ≡ after_edits cells b
-  one_replay cells [] [] p q s = refl
-  one_replay cells [] (b ∷ bs) p q s = absurd (no_edits b (spelled_edits bs) s)
-  one_replay cells (a ∷ as') [] p q s = absurd (no_edits a (spelled_edits as') (sym s))
-  one_replay cells (a ∷ as') (b ∷ bs) p q s =
-      let split = entry_split (edit_entry a) (edit_entry b) (spelled_edits as') (spelled_edits bs) (short_edit a p.0) (short_edit b q.0) s in
-      one_replay (after_edit cells a) as' bs p.1 q.1 split.1 ∙ ap (λ (cells : Cells). after_edits cells bs) (same_edit cells a b p.0 q.0 split.0)
+  cells_alike : (cells : Cells) (a b : List Edit) → AllByRecursion IsStoredEdit a → AllByRecursion IsStoredEdit b → Alike a b → after_edits cells a ≡ after_edits cells b
+  cells_alike cells [] [] p q s = refl
+  cells_alike cells [] (b ∷ bs) p q s = absurd s
+  cells_alike cells (a ∷ as') [] p q s = absurd s
+  cells_alike cells (a ∷ as') (b ∷ bs) p q s =
+      cells_alike (after_edit cells a) as' bs p.1 q.1 s.1 ∙ ap (λ (cells : Cells). after_edits cells bs) (same_edit cells a b p.0 q.0 s.0)
 
   pub logs_edits : LogsEdits
   logs_edits = record {
     after = flat_map-append spelled_edit;
+    entries_after = flat_map-append spelled_entry;
     none = record { parts = []; each = refl; joined = refl };
-    more = λ records edits then stamp h. with_part records edits (makes stamp then) h;
+    more = λ records edits then stamp h. with_part records edits (makes Fields stamp then) h;
     named = with_root;
     any = λ records edits h. subst (HoldEdits (records ++ any_root ∷ [])) (append-nil edits) (with_part records edits names_any h);
-    whole = held;
-    one = λ a b p q same cells. one_replay cells a b p q same;
+    whole = λ records a b h k p q. fields_alike a b p q (held_alike records a b h k p q);
+    entries = λ a b p q same. entries_alike a b (alike Fields a b p q same);
+    one = λ a b p q same cells. cells_alike cells a b p q (alike Fields a b p q same);
   }

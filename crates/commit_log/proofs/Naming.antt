@@ -7,7 +7,7 @@ use Rattle.std.specs.List.{AllByRecursion}
 use Rattle.commit_log.specs.Frames.{bytes_of}
 use Rattle.commit_log.specs.Records.{AreUpTo, HasRecord, HasStamp, IsGreatest, IsUpTo, NamesRoot, NamesRoots, ReachesStamp, any_root, kind_byte, root_record, spelled_number, spelled_record}
 use Rattle.commit_log.specs.declared.records.RecordKind.{RecordKind}
-use Rattle.commit_log.specs.declared.records.RecordKind.TheVariants.{Edits, Root, AnyRoot}
+use Rattle.commit_log.specs.declared.records.RecordKind.TheVariants.{Edits, Root, AnyRoot, Entries}
 use Rattle.commit_log.proofs.Cuts.{same_front}
 use Rattle.commit_log.proofs.Numbering.{length-number, same_number}
 
@@ -16,16 +16,20 @@ use Rattle.commit_log.proofs.Numbering.{length-number, same_number}
 pub length-record : (kind : RecordKind) (stamp : ℕ) (body : List ℕ) → length (spelled_record kind stamp body) ≡ 9 + length body
 length-record kind stamp body = omega (arith, length-append (spelled_number stamp) body, length-number stamp)
 
+abbrev kind_at : ℕ → RecordKind
+kind_at zero = Entries
+kind_at (suc zero) = Root
+kind_at (suc (suc zero)) = AnyRoot
+kind_at (suc (suc (suc n))) = Edits
+
+kind_back : (k : RecordKind) → kind_at (kind_byte k) ≡ k
+kind_back Entries = refl
+kind_back Root = refl
+kind_back AnyRoot = refl
+kind_back Edits = refl
+
 same_kind : (j k : RecordKind) → kind_byte j ≡ kind_byte k → j ≡ k
-same_kind Edits Edits e = refl
-same_kind Edits Root e = absurd (omega (arith, e))
-same_kind Edits AnyRoot e = absurd (omega (arith, e))
-same_kind Root Edits e = absurd (omega (arith, e))
-same_kind Root Root e = refl
-same_kind Root AnyRoot e = absurd (omega (arith, e))
-same_kind AnyRoot Edits e = absurd (omega (arith, e))
-same_kind AnyRoot Root e = absurd (omega (arith, e))
-same_kind AnyRoot AnyRoot e = refl
+same_kind j k e = sym (kind_back j) ∙ ap kind_at e ∙ kind_back k
 
 pub same_parts : (j k : RecordKind) (s t : ℕ) (a b : List ℕ) → spelled_record j s a ≡ spelled_record k t b → (j ≡ k) × ((spelled_number s ≡ spelled_number t) × (a ≡ b))
 same_parts j k s t a b same =
@@ -51,10 +55,11 @@ not_over one top sum none over = elim over [ inl root ↦ none Root top (to_be_b
 pub is_any : (one body : List ℕ) (kind : RecordKind) (stamp : ℕ) → one ≡ spelled_record kind stamp body → one ≡ any_root → kind ≡ AnyRoot
 is_any one body kind stamp is any = (same_parts kind AnyRoot stamp 0 body [] (sym is ∙ any)).0
 
-pub over_edits : (one body : List ℕ) (stamp top sum : ℕ) → one ≡ spelled_record Edits stamp body → IsOver one top sum → ⊥
-over_edits one body stamp top sum is over = elim over [
-  | inl root ↦ let e = (same_parts Edits Root stamp top body (to_be_bytes w32 sum) (sym is ∙ root)).0 in cc
-  | inr any ↦ let e = (same_parts Edits AnyRoot stamp 0 body [] (sym is ∙ any)).0 in cc
+-- a record of edits
+pub over_other : (one body : List ℕ) (kind : RecordKind) (stamp top sum : ℕ) → kind ≢ Root → kind ≢ AnyRoot → one ≡ spelled_record kind stamp body → IsOver one top sum → ⊥
+over_other one body kind stamp top sum not_root not_any is over = elim over [
+  | inl root ↦ not_root (same_parts kind Root stamp top body (to_be_bytes w32 sum) (sym is ∙ root)).0
+  | inr any ↦ not_any (same_parts kind AnyRoot stamp 0 body [] (sym is ∙ any)).0
 ]
 
 pub over_root : (one body : List ℕ) (stamp top sum : ℕ) → stamp < 2 ^ 64 → top < 2 ^ 64 → one ≡ spelled_record Root stamp body → IsOver one top sum → (stamp ≡ top) × (body ≡ to_be_bytes w32 sum)

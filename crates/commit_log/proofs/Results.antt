@@ -1,9 +1,12 @@
 -- Properties of a result carry over to the results derived from it.
 use Rattle.std.proofs.Common.{◌≡◌, ◌∙◌, sym, ap, subst}
-use Rattle.std.specs.Prelude.{Option, Some, None, IfNone, Result, Ok, Err, OnErr, OnOk, IsErrAnd, IsErrOf}
+use Rattle.std.specs.Prelude.{Option, Some, None, IfNone, IfSome, Result, Ok, Err, OnErr, OnOk, IsErrAnd, IsErrOf}
 
 pub of_none : {A : Type 0} (o : Option A) (P : Type 0) → o ≡ None → IfNone o P → P
 of_none o P e h = subst (λ (q : Option _). IfNone q P) e h
+
+pub of_some : {A : Type 0} (o : Option A) (P : A → Type 0) (x : A) → o ≡ Some x → IfSome o P → P x
+of_some o P x e h = subst (λ (q : Option _). IfSome q P) e h
 
 pub as_none : {A : Type 0} (o : Option A) {P : Type 0} → P → IfNone o P
 as_none None p = p

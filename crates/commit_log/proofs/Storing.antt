@@ -8,7 +8,7 @@ use Rattle.commit_log.specs.Frames.{IsBody, IsLog, frame}
 use Rattle.commit_log.specs.Numbered.{Hides, IsBroken, IsNumberedLog, IsShort, IsStoreLog, frames_from, numbered, store_head, store_log, upgraded}
 use Rattle.commit_log.specs.Records.{any_root, spelled_number, spelled_record}
 use Rattle.commit_log.specs.declared.records.RecordKind.{RecordKind}
-use Rattle.commit_log.specs.declared.records.RecordKind.TheVariants.{AnyRoot, Edits}
+use Rattle.commit_log.specs.declared.records.RecordKind.TheVariants.{AnyRoot, Entries}
 use Rattle.commit_log.proofs.Cuts.{same_front}
 use Rattle.commit_log.proofs.Cuts as format1
 use Rattle.commit_log.proofs.Naming.{length-record}
@@ -204,9 +204,9 @@ front store first end bytes records log =
 
 -- one more record of format 1
 pub upgraded_more : (store first n : ℕ) (made new edits : List ℕ) (records all : List (List ℕ)) → made ≡ store_log store first (upgraded records) → n ≡ (first + length records) + 1
-    → new ≡ made ++ frame (numbered n (spelled_record Edits 0 edits)) → all ≡ records ++ edits ∷ [] → new ≡ store_log store first (upgraded all)
+    → new ≡ made ++ frame (numbered n (spelled_record Entries 0 edits)) → all ≡ records ++ edits ∷ [] → new ≡ store_log store first (upgraded all)
 upgraded_more store first n made new edits records all is counted grew more =
-    let p : List ℕ = spelled_record Edits 0 edits in
+    let p : List ℕ = spelled_record Entries 0 edits in
     let count : n ≡ first + length (upgraded records) = omega (arith, counted, length-mapped records) in
     grew
     ∙ ap (λ (l : List ℕ). l ++ frame (numbered n p)) is
@@ -220,19 +220,19 @@ upgraded_more store first n made new edits records all is counted grew more =
     length-mapped [] = refl
     length-mapped (r ∷ rs) = ap suc (length-mapped rs)
 
-    lasts : (rs : List (List ℕ)) → map (spelled_record Edits 0) rs ++ spelled_record Edits 0 edits ∷ [] ≡ map (spelled_record Edits 0) (rs ++ edits ∷ [])
+    lasts : (rs : List (List ℕ)) → map (spelled_record Entries 0) rs ++ spelled_record Entries 0 edits ∷ [] ≡ map (spelled_record Entries 0) (rs ++ edits ∷ [])
     lasts [] = refl
-    lasts (r ∷ rs) = ap (λ (ls : List (List ℕ)). spelled_record Edits 0 r ∷ ls) (lasts rs)
+    lasts (r ∷ rs) = ap (λ (ls : List (List ℕ)). spelled_record Entries 0 r ∷ ls) (lasts rs)
 
-    mapped : (rs : List (List ℕ)) → upgraded rs ++ spelled_record Edits 0 edits ∷ [] ≡ upgraded (rs ++ edits ∷ [])
+    mapped : (rs : List (List ℕ)) → upgraded rs ++ spelled_record Entries 0 edits ∷ [] ≡ upgraded (rs ++ edits ∷ [])
     mapped rs = ap (λ (ls : List (List ℕ)). any_root ∷ ls) (lasts rs)
 
 pub short_each : (records : List (List ℕ)) → AllByRecursion IsBody records → AllByRecursion IsShort (upgraded records)
 short_each records each = (short_record AnyRoot 0 [] (omega arith), mapped records each)
   where
-    mapped : (rs : List (List ℕ)) → AllByRecursion IsBody rs → AllByRecursion IsShort (map (spelled_record Edits 0) rs)
+    mapped : (rs : List (List ℕ)) → AllByRecursion IsBody rs → AllByRecursion IsShort (map (spelled_record Entries 0) rs)
     mapped [] all = tt
-    mapped (r ∷ rs) all = (short_record Edits 0 r all.0, mapped rs all.1)
+    mapped (r ∷ rs) all = (short_record Entries 0 r all.0, mapped rs all.1)
 
 -- the log of the records of format 1, which can be read in only one way
 pub upgraded_log : (bytes made tail other : List ℕ) (store first : ℕ) (found records : List (List ℕ)) → store < 2 ^ 64 → first < 2 ^ 63 → IsLog bytes found other → made ≡ store_log store first (upgraded found)
@@ -241,4 +241,4 @@ upgraded_log bytes made tail other store first found records small low log is ea
     let same : found ≡ records = (format1.one_reading bytes found records other tail log also).0 in
     subst (λ (rs : List (List ℕ)). IsStoreLog store first made (upgraded rs) []) same
     (subst (λ (b : List ℕ). IsStoreLog store first b (upgraded found) []) (sym is)
-    (whole store first (upgraded found) small low (cons_some any_root (map (spelled_record Edits 0) found)) (short_each found each)))
+    (whole store first (upgraded found) small low (cons_some any_root (map (spelled_record Entries 0) found)) (short_each found each)))

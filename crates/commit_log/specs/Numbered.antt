@@ -5,7 +5,7 @@ use Rattle.std.specs.Int.{to_be_bytes, w32}
 use Rattle.commit_log.specs.Crc32.{crc32}
 use Rattle.commit_log.specs.Frames.{frame, longest}
 use Rattle.commit_log.specs.Records.{any_root, spelled_number, spelled_record}
-use Rattle.commit_log.specs.declared.records.RecordKind.TheVariants.{Edits}
+use Rattle.commit_log.specs.declared.records.RecordKind.TheVariants.{Entries}
 
 -- a payload after its number: the record of its frame
 abbrev pub numbered : ℕ → List ℕ → List ℕ
@@ -83,7 +83,7 @@ pub record IsStoreLog (store first : ℕ) (bytes : List ℕ) (records : List (Li
 
 -- the records of a log of format 1 upgraded to format 2, over any root
 abbrev pub upgraded : List (List ℕ) → List (List ℕ)
-upgraded records = any_root ∷ map (spelled_record Edits 0) records
+upgraded records = any_root ∷ map (spelled_record Entries 0) records
 
 -- the sign that a store has a log
 abbrev pub store_sign : ℕ → List ℕ

@@ -1,19 +1,20 @@
 -- The records of a log: each has a kind, a stamp and a body. The stamp of a record of edits is a mark: no
 -- later stamp had been answered when it was written.
-use Rattle.std.specs.Prelude.{◌≡◌, ◌≤◌, ◌<◌, ◌^◌, ◌⊎◌, ℕ, zero, List, [], ◌∷◌, ◌++◌, drop}
+use Rattle.std.specs.Prelude.{◌≡◌, ◌≤◌, ◌<◌, ◌^◌, ◌⊎◌, ℕ, List, [], ◌∷◌, ◌++◌}
 use Rattle.std.specs.List.{AllByRecursion}
 use Rattle.std.specs.Int.{to_be_bytes, w32, w64}
 use Rattle.commit_log.specs.declared.records.RecordKind.{RecordKind}
-use Rattle.commit_log.specs.declared.records.RecordKind.TheVariants.{Edits, Root, AnyRoot}
+use Rattle.commit_log.specs.declared.records.RecordKind.TheVariants.{Edits, Root, AnyRoot, Entries}
 
 -- a number in eight bytes
 unfoldable pub spelled_number : ℕ → List ℕ
 spelled_number number = to_be_bytes w64 number
 
 abbrev pub kind_byte : RecordKind → ℕ
-kind_byte Edits = 0
+kind_byte Entries = 0
 kind_byte Root = 1
 kind_byte AnyRoot = 2
+kind_byte Edits = 3
 
 abbrev pub spelled_record : RecordKind → ℕ → List ℕ → List ℕ
 spelled_record kind stamp body = kind_byte kind ∷ (spelled_number stamp ++ body)
@@ -57,12 +58,6 @@ pub record IsGreatest (mark : ℕ) (records : List (List ℕ)) (greatest : ℕ) 
   pub above : mark ≤ greatest
   pub up_to : AreUpTo greatest records
   pub reached : (greatest ≤ mark) ⊎ ReachesStamp records greatest
-
--- the bytes of the edits that a record holds
-abbrev pub edit_bytes : List ℕ → List ℕ
-edit_bytes [] = []
-edit_bytes (zero ∷ more) = drop 8 more
-edit_bytes (other ∷ more) = []
 
 -- The effect of further records on the root that a log names, and on its stamps.
 pub record NamesRoots : Type 0 where

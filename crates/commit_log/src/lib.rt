@@ -4,6 +4,7 @@
 mod checksums;
 mod edits;
 mod faults;
+mod fields;
 mod file_log;
 mod files;
 mod folder;
@@ -18,7 +19,7 @@ mod records;
 mod store_log;
 
 pub use checksums::crc32;
-pub use edits::{edited_key, edits_in, push_edits};
+pub use edits::{edited_key, edits_in, entries_len, push_edits};
 pub use faults::LogFault;
 pub use file_log::FileLog;
 pub use files::LogFile;

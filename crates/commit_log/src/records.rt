@@ -13,13 +13,15 @@ use std::alloc::{AllocError, Global};
 /// The kind of a record.
 #[derive(Clone, Copy, Debug, PartialEq, Eq)]
 pub enum RecordKind {
-    /// The body is the edits that were made. The stamp is a mark: no later one had been answered.
+    /// The body is the edits that were made, as fields. The stamp is a mark: no later one had been answered.
     Edits,
     /// The log is over this root, or the root is about to be put: the stamp is the root's greatest, the body its
     /// checksum.
     Root,
     /// The log is over any root. The body is empty.
     AnyRoot,
+    /// The same as `Edits`, but the body is entries as in a sorted file. Only earlier programs wrote it.
+    Entries,
 }
 
 /// The byte of a kind.
@@ -27,9 +29,10 @@ fn kind_byte(kind: RecordKind) -> u8
     ensures { result ≡ kind_byte kind }
 {
     match kind {
-        RecordKind::Edits => 0,
+        RecordKind::Entries => 0,
         RecordKind::Root => 1,
         RecordKind::AnyRoot => 2,
+        RecordKind::Edits => 3,
     }
 }
 
@@ -39,9 +42,10 @@ fn kind_of(byte: u8) -> Option<RecordKind>
     ensures none { IfNone result ((kind : Kind) → byte ≢ kind_byte kind) }
 {
     match byte {
-        0 => Some(RecordKind::Edits),
+        0 => Some(RecordKind::Entries),
         1 => Some(RecordKind::Root),
         2 => Some(RecordKind::AnyRoot),
+        3 => Some(RecordKind::Edits),
         _ => None,
     }
 }
@@ -103,7 +107,7 @@ fn is_any_root(bytes: &[u8]) -> bool
         return false;
     };
     match kind {
-        RecordKind::Edits | RecordKind::Root => false,
+        RecordKind::Edits | RecordKind::Root | RecordKind::Entries => false,
         RecordKind::AnyRoot => stamp == 0 && body.is_empty(),
     }
 }
@@ -129,7 +133,7 @@ fn is_over(bytes: &[u8], top: Stamp, sum: u32) -> bool
         return false;
     };
     match kind {
-        RecordKind::Edits => false,
+        RecordKind::Edits | RecordKind::Entries => false,
         RecordKind::Root => stamp == top && body == root_sum_bytes(sum).as_slice(),
         RecordKind::AnyRoot => stamp == 0 && body.is_empty(),
     }

@@ -5,7 +5,7 @@ ghost use Rattle.std.specs.List.{AllByRecursion};
 ghost use Rattle.commit_log.specs.Frames.{IsBody, IsLog, bytes_of, frame, head};
 ghost use Rattle.commit_log.specs.Numbered.{IsShort, IsStoreLog, numbered, store_head, store_log, upgraded};
 ghost use Rattle.commit_log.specs.Records.{any_root, spelled_record};
-ghost use Rattle.commit_log.specs.declared.records.RecordKind.TheVariants.{Edits};
+ghost use Rattle.commit_log.specs.declared.records.RecordKind.TheVariants.{Entries};
 
 use crate::faults::LogFault;
 use crate::frames::{LONGEST_RECORD, read_log};
@@ -133,7 +133,7 @@ pub fn new_log(alloc: Global, store: u64, first: u64) -> Result<Vec<u8>, AllocEr
 /// `Refused` if they are too long; `Memory`.
 fn upgraded_frame(alloc: Global, number: u64, edits: &[u8]) -> Result<Vec<u8>, LogFault>
     ensures ok { IfOk result (λ bytes.
-        bytes.items ≡ frame (numbered number (spelled_record Edits 0 edits.now))) }
+        bytes.items ≡ frame (numbered number (spelled_record Entries 0 edits.now))) }
     ensures body { OnOk result (IsBody edits.now) }
     ensures refused { IsErrOf result LogFault.Refused → ¬ IsBody edits.now }
     ensures fault { IfErr result (λ fault. (fault ≡ LogFault.Refused)
@@ -142,10 +142,10 @@ fn upgraded_frame(alloc: Global, number: u64, edits: &[u8]) -> Result<Vec<u8>, L
     if edits.len() > LONGEST_BODY {
         return Err(LogFault::Refused);
     }
-    Ok(numbered_frame(alloc, number, RecordKind::Edits, 0, edits)?)
+    Ok(numbered_frame(alloc, number, RecordKind::Entries, 0, edits)?)
 }
 
-/// Upgrades a log of format 1 to the bytes of a store's log. Each record becomes one of edits, of stamp 0. The record
+/// Upgrades a log of format 1 to the bytes of a store's log. Each record becomes one of entries, of stamp 0. The record
 /// before them has this number.
 ///
 /// # Errors

@@ -7,4 +7,6 @@ mod replacement;
 
 pub use reading::{fill, if_there};
 pub use regular::{look_at, open_regular};
-pub use replacement::{OWNER_ALONE, create_beside, replace_file, sync_folder, write_synced};
+pub use replacement::{
+    OWNER_ALONE, create_beside, place_file, replace_file, sync_folder, write_synced,
+};

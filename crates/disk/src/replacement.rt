@@ -55,11 +55,10 @@ fn put_there<R: Files>(rt: &R, beside: &str, path: &str, written: io::Result<()>
     fs::rename(rt, beside, path)
 }
 
-/// Writes a temporary file, and renames it to its path.
-fn place_file<R: Files>(rt: &R, beside: &str, path: &str, bytes: &[u8]) -> io::Result<()> {
+/// Writes a temporary file, and forces it to the disk.
+fn write_beside<R: Files>(rt: &R, beside: &str, bytes: &[u8]) -> io::Result<()> {
     let mut file = create_beside(rt, beside)?;
-    let written = write_synced(&mut file, bytes);
-    put_there(rt, beside, path, written)
+    write_synced(&mut file, bytes)
 }
 
 /// Forces a folder to the disk after a temporary file was renamed. If a step before failed, the temporary file is
@@ -74,6 +73,21 @@ fn finish<R: Files>(rt: &R, folder: &str, beside: &str, placed: io::Result<()>) 
     sync_folder(rt, folder)
 }
 
+/// Renames a temporary file to its path, and then forces the folder to the disk. If the temporary file failed to be
+/// written, or the rename fails, it is removed and the failure passed on.
+pub fn place_file<R: Files>(
+    rt: &R,
+    folder: &str,
+    beside: &str,
+    path: &str,
+    written: io::Result<()>,
+) -> io::Result<()>
+    ensures failed { IfErr written (λ error. result ≡ Err error) }
+{
+    let placed = put_there(rt, beside, path, written);
+    finish(rt, folder, beside, placed)
+}
+
 /// Makes or replaces a file of a folder, by way of a temporary file beside it. A crash leaves the old bytes or the new
 /// ones. If a step before the folder's sync fails, the old bytes are there, and the temporary file is removed.
 pub fn replace_file<R: Files>(
@@ -83,6 +97,6 @@ pub fn replace_file<R: Files>(
     path: &str,
     bytes: &[u8],
 ) -> io::Result<()> {
-    let placed = place_file(rt, beside, path, bytes);
-    finish(rt, folder, beside, placed)
+    let written = write_beside(rt, beside, bytes);
+    place_file(rt, folder, beside, path, written)
 }

@@ -35,7 +35,7 @@ of_reopened st next mark r = record {
   next_tablet = r.next_tablet;
 }
 
-module _ {F N : Type 0} (files : Files F) (recover : Recovers) (reopens_shown : (cells : Cells) (st : State) → ShowsCells cells st → ShowsCells cells (reopened st)) where
+module _ {F N W : Type 0} (files : Files F W) (recover : Recovers) (reopens_shown : (cells : Cells) (st : State) → ShowsCells cells st → ShowsCells cells (reopened st)) where
   pub serves_from : (rows : Recorded F) (server : Server F N) (last : ℕ) (mark : Option ℕ) (root : RootView) (base : Cells) (edits : List Edit) (st : State) → FollowsLog files.contents root base edits rows → IsReached st
       → machine_places root.places ≡ st.places → Covers mark root.top → ShowsCells (after_edits base edits) (reopened st) → st.next_tablet ≡ length st.places + 1 → st.top ≤ last → last < end_of_stamps
       → rows_of server ≡ rows → last_of server ≡ last → ((now : State) → ShowsNoSession files.contents rows last last (last + 1) now → Shows files.contents server now) → ServesFrom files mark root base edits st server

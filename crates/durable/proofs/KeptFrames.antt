@@ -108,7 +108,7 @@ module _ {S : Type 0} (shows : S → State → Type 0) (says : S → Lent → Co
         let goes : Goes now operation answer on.next = subst (λ (q : Operation). Goes now q answer on.next) (sym said.is_operation) (subst (λ (r : Answer). Goes now (operation_of said.lent) r on.next) (sym said.is_answer) on.goes) in
         (on.next, asked_by shows says client operation answer a b free notes now reached shown on.next goes on.shown, on.shown, on.logged logged, on.lasting logged st lasting)
     frame_keeps {a} {b} (refuses is same) now st reached shown logged lasting = of_same a b _ _ _ now st same shown.0 logged lasting (turned.refuses is)
-    frame_keeps {a} {b} (lacks_memory same) now st reached shown logged lasting = of_same a b _ _ _ now st same shown.0 logged lasting turned.lacks_memory
+    frame_keeps {a} {b} (lacks_memory takes same) now st reached shown logged lasting = of_same a b _ _ _ now st same shown.0 logged lasting (turned.lacks_memory takes)
     frame_keeps {a} {b} (is_malformed same) now st reached shown logged lasting = of_same a b _ _ _ now st same shown.0 logged lasting turned.is_malformed
     frame_keeps {a} {b} (has_no_client same) now st reached shown logged lasting = of_same a b _ _ _ now st same shown.0 logged lasting turned.has_no_client
     frame_keeps {a} {b} (is_too_large same) now st reached shown logged lasting = of_same a b _ _ _ now st same shown.0 logged lasting turned.is_too_large

@@ -6,9 +6,9 @@ use Rattle.std.specs.Int.{to_be_bytes, w32}
 use Rattle.std.proofs.lemmas.List.Concat.{flat_map-append}
 use Rattle.cell_key.specs.Cells.{Cells}
 use Rattle.cell_key.specs.declared.edits.Edit.{Edit}
-use Rattle.commit_log.specs.Edits.{HoldEdits, IsStoredEdit, LogsEdits, spelled_edits}
+use Rattle.commit_log.specs.Edits.{HoldEdits, IsStoredEdit, LogsEdits, spelled_edits, spelled_entries}
 use Rattle.commit_log.specs.Held.{Keeps}
-use Rattle.commit_log.specs.Records.{AreUpTo, HasRecord, NamesRoots, any_root, edit_bytes, spelled_record}
+use Rattle.commit_log.specs.Records.{AreUpTo, HasRecord, NamesRoots, any_root, spelled_record}
 use Rattle.commit_log.specs.declared.logs.Log.{Ghosts as Log}
 use Rattle.commit_log.specs.declared.records.RecordKind.TheVariants as kind
 use Rattle.metadata_table.specs.Roots.{RootView}
@@ -18,7 +18,7 @@ use Rattle.si_model.specs.Machine.{Place, State, reopened}
 use Rattle.si_model.specs.ShowsCells.{ShowsCells}
 use Rattle.durable.specs.Durability.{Settles}
 use Rattle.durable.specs.Devices.{IsOver, most_stamp}
-use Rattle.durable.specs.Answers.{Follows, HasNewRoot, HoldsLogged, LastsIn, Logs, StaysRooted, StaysStored, named, shown_by}
+use Rattle.durable.specs.Answers.{Follows, HasNewRoot, HaveBytes, HoldsLogged, LastsIn, Logs, StaysRooted, StaysStored, named, shown_by}
 use Rattle.durable.specs.StoredMarks.{CoversStamp, MarkView}
 use Rattle.durable.specs.View.{View}
 use Rattle.durable.specs.declared.server.DurableServer.{DurableServer}
@@ -74,17 +74,21 @@ names_it root (x ∷ [], then, is) = cc
 names_it root (x ∷ y ∷ ys, then, is) = cc
 
 -- nothing waits
-pub none_waits : (records : List (List ℕ)) (logged waiting : List ℕ) → waiting ≡ [] → flat_map edit_bytes records ≡ logged → flat_map edit_bytes records ≡ logged ++ waiting
-none_waits records logged waiting none bytes = bytes ∙ (sym (append-nil logged) ∙ ap (λ (x : List ℕ). logged ++ x) (sym none))
+pub none_waits : (all logged waiting : List ℕ) → waiting ≡ [] → all ≡ logged → all ≡ logged ++ waiting
+none_waits all logged waiting none bytes = bytes ∙ (sym (append-nil logged) ∙ ap (λ (x : List ℕ). logged ++ x) (sym none))
 
 -- the record that a root's name makes
 pub named_so : (root : RootView) (top sum : ℕ) (bytes : List ℕ) → top ≡ root.top → sum ≡ root_sum root → bytes ≡ to_be_bytes w32 sum → spelled_record kind.Root top bytes ≡ named root
 named_so root top sum bytes same as' is =
     ap (λ (b : List ℕ). spelled_record kind.Root top b) (is ∙ ap (to_be_bytes w32) as') ∙ ap (λ (n : ℕ). spelled_record kind.Root n (to_be_bytes w32 (root_sum root))) same
 
--- a record "any root" adds no bytes of edits
-any_adds_none : (records : List (List ℕ)) → flat_map edit_bytes (records ++ any_root ∷ []) ≡ flat_map edit_bytes records
-any_adds_none records = flat_map-append edit_bytes records (any_root ∷ []) ∙ append-nil (flat_map edit_bytes records)
+-- the bytes of the edits in records
+pub same_bytes : (records : List (List ℕ)) (old new : List ℕ) → old ≡ new → HaveBytes records old → HaveBytes records new
+same_bytes records old new same has = record { edits = has.edits; held = has.held; stored = has.stored; spelled = has.spelled ∙ same }
+
+-- a record "any root" adds none
+any_adds_none : LogsEdits → (records : List (List ℕ)) (bytes : List ℕ) → HaveBytes records bytes → HaveBytes (records ++ any_root ∷ []) bytes
+any_adds_none laws records bytes has = record { edits = has.edits; held = laws.any records has.edits has.held; stored = has.stored; spelled = has.spelled }
 
 -- ---- covered stamps
 
@@ -110,24 +114,26 @@ module _ {S L : Type 0} (view : View S) (device : Log L) (laws : LogsEdits) (nam
     pub held : HoldEdits (records ++ spelled_record kind.Edits stamp (view.waiting old) ∷ []) edits
     pub stored : AllByRecursion IsStoredEdit edits
     pub room : HasRoomFor empty_journal edits
-    pub all : flat_map edit_bytes (records ++ spelled_record kind.Edits stamp (view.waiting old) ∷ []) ≡ view.logged old ++ view.waiting old
+    pub all : spelled_edits edits ≡ view.logged old ++ view.waiting old
 
-  pub gained : AsManyEdits → (old : S) (stamp : ℕ) (root : RootView) (st : State) → IsWithin (record { logged = view.logged old; waiting = view.waiting old; count = view.count old }) → Follows view old root st → (records : List (List ℕ)) (edits : List Edit) → HoldEdits records edits → AllByRecursion IsStoredEdit edits → flat_map edit_bytes records ≡ view.logged old → Gained old stamp records
-  gained as_many old stamp root st within f records edits held stored bytes =
-      let spelled : spelled_edits edits ≡ view.logged old = sym (laws.whole records edits held) ∙ bytes in
-      let few : length edits ≡ length f.first = as_many edits f.first stored (all-front IsStoredEdit f.first f.then f.stored) (spelled ∙ f.logged_bytes) in
+  pub gained : AsManyEdits → (old : S) (stamp : ℕ) (root : RootView) (st : State) → IsWithin (record { logged = view.logged old; waiting = view.waiting old; count = view.count old; entry_bytes = view.entry_bytes old }) → Follows view old root st → (records : List (List ℕ)) (edits : List Edit) → HoldEdits records edits → AllByRecursion IsStoredEdit edits → spelled_edits edits ≡ view.logged old → Gained old stamp records
+  gained as_many old stamp root st within f records edits held stored spelled =
+      let first = all-front IsStoredEdit f.first f.then f.stored in
+      let few : length edits ≡ length f.first = as_many edits f.first stored first (spelled ∙ f.logged_bytes) in
+      let entries : spelled_entries edits ≡ spelled_entries f.first = laws.entries edits f.first stored first (spelled ∙ f.logged_bytes) in
       let both = length-append edits f.then in
       let those = f.counted ∙ length-append f.first f.then in
       let most = within.edits in
-      let size : length (spelled_edits (edits ++ f.then)) ≡ length (view.logged old) + length (view.waiting old) = ap length (laws.after edits f.then) ∙ length-append (spelled_edits edits) (spelled_edits f.then) ∙ (ap (λ (x : List ℕ). length x + length (spelled_edits f.then)) spelled ∙ ap (λ (x : List ℕ). length (view.logged old) + length x) (sym f.waiting_bytes)) in
+      let size : length (spelled_entries (edits ++ f.then)) ≡ length (spelled_entries (f.first ++ f.then)) = ap length (laws.entries_after edits f.then ∙ (ap (λ (x : List ℕ). x ++ spelled_entries f.then) entries ∙ sym (laws.entries_after f.first f.then))) in
+      let all = f.measured in
       let small = within.bytes in
       let more : HoldEdits (records ++ spelled_record kind.Edits stamp (view.waiting old) ∷ []) (edits ++ f.then) = subst (λ (w : List ℕ). HoldEdits (records ++ spelled_record kind.Edits stamp w ∷ []) (edits ++ f.then)) (sym f.waiting_bytes) (laws.more records edits f.then stamp held) in
       record {
         edits = edits ++ f.then;
         held = more;
         stored = all-join IsStoredEdit edits f.then stored (all-later IsStoredEdit f.first f.then f.stored);
-        room = record { edits = omega (arith, few, both, those, most); bytes = omega (arith, size, small) };
-        all = laws.whole _ _ more ∙ (laws.after edits f.then ∙ (ap (λ (x : List ℕ). x ++ spelled_edits f.then) (sym (laws.whole records edits held) ∙ bytes) ∙ ap (λ (x : List ℕ). view.logged old ++ x) (sym f.waiting_bytes)));
+        room = record { edits = omega (arith, few, both, those, most); bytes = omega (arith, size, all, small) };
+        all = laws.after edits f.then ∙ (ap (λ (x : List ℕ). x ++ spelled_edits f.then) spelled ∙ ap (λ (x : List ℕ). view.logged old ++ x) (sym f.waiting_bytes));
       }
 
 module _ {S M L : Type 0} (view : View S) (device : Log L) (laws : LogsEdits) (names : NamesRoots) where
@@ -140,7 +146,7 @@ module _ {S M L : Type 0} (view : View S) (device : Log L) (laws : LogsEdits) (n
 
   -- a state lasts if the log holds records of the same edits, over the same root
   lasts_with : (old new : DurableServer S M L) (st : State) → Stays old new → (lasts : Lasting old st) → (records : List (List ℕ)) → device.holds new.log records → IsOver records lasts.kept.root → AreUpTo most_stamp records
-      → CoversStamp new.marks records st.top → HoldEdits records lasts.kept.edits → (new.is_stopped ≡ true) ⊎ (flat_map edit_bytes records ≡ view.logged new.server) → Lasting new st
+      → CoversStamp new.marks records st.top → HoldEdits records lasts.kept.edits → (new.is_stopped ≡ true) ⊎ HaveBytes records (view.logged new.server) → Lasting new st
   lasts_with old new st stays lasts records in_log over up_to covers held bytes = record {
     kept = record {
       root = lasts.kept.root;
@@ -162,27 +168,27 @@ module _ {S M L : Type 0} (view : View S) (device : Log L) (laws : LogsEdits) (n
 
   -- a state lasts as long as the log holds its records
   pub lasts_on : (old new : DurableServer S M L) (st : State) → Stays old new → (lasts : Lasting old st) → device.holds new.log lasts.kept.records
-      → (new.is_stopped ≡ true) ⊎ (flat_map edit_bytes lasts.kept.records ≡ view.logged new.server) → Lasting new st
+      → (new.is_stopped ≡ true) ⊎ HaveBytes lasts.kept.records (view.logged new.server) → Lasting new st
   lasts_on old new st stays lasts in_log bytes = lasts_with old new st stays lasts lasts.kept.records in_log lasts.kept.over lasts.kept.stamps
       (elim lasts.kept.top [ inl at ↦ inl (let rises = stays.1 in omega (arith, rises, at)) | inr at ↦ inr at ]) lasts.kept.held bytes
 
   -- and also with a further record "any root"
   pub lasts_any : (old new : DurableServer S M L) (st : State) → Stays old new → (lasts : Lasting old st) → device.holds new.log (lasts.kept.records ++ any_root ∷ [])
-      → (new.is_stopped ≡ true) ⊎ (flat_map edit_bytes lasts.kept.records ≡ view.logged new.server) → Lasting new st
+      → (new.is_stopped ≡ true) ⊎ HaveBytes lasts.kept.records (view.logged new.server) → Lasting new st
   lasts_any old new st stays lasts in_log bytes = lasts_with old new st stays lasts (lasts.kept.records ++ any_root ∷ []) in_log
       (names.any lasts.kept.records lasts.kept.root.top (root_sum lasts.kept.root))
       (names.up_to lasts.kept.records kind.AnyRoot 0 most_stamp [] lasts.kept.stamps (omega arith))
       (covers_more names old.marks new.marks lasts.kept.records any_root st.top stays.1 lasts.kept.top)
       (laws.any lasts.kept.records lasts.kept.edits lasts.kept.held)
-      (elim bytes [ inl stopped ↦ inl stopped | inr is ↦ inr (any_adds_none lasts.kept.records ∙ is) ])
+      (elim bytes [ inl stopped ↦ inl stopped | inr has ↦ inr (any_adds_none laws lasts.kept.records (view.logged new.server) has) ])
 
   -- a state that is shown lasts if the log holds all edits of the journal, and its stamps are covered
   pub shown_lasts : (old : S) (new : DurableServer S M L) (root : RootView) (st : State) → Follows view old root st → StaysStored view old new.server → root.top ≤ new.marks.stored → (records : List (List ℕ)) → device.holds new.log records → IsOver records root → AreUpTo most_stamp records
       → CoversStamp new.marks records (view.last old) → (edits : List Edit) → HoldEdits records edits
-      → AllByRecursion IsStoredEdit edits → HasRoomFor empty_journal edits → flat_map edit_bytes records ≡ view.logged old ++ view.waiting old → (new.is_stopped ≡ true) ⊎ (flat_map edit_bytes records ≡ view.logged new.server) → Lasting new st
+      → AllByRecursion IsStoredEdit edits → HasRoomFor empty_journal edits → spelled_edits edits ≡ view.logged old ++ view.waiting old → (new.is_stopped ≡ true) ⊎ HaveBytes records (view.logged new.server) → Lasting new st
   shown_lasts old new root st f stays low records in_log over up_to covers edits held stored room all bytes =
       let spelled : spelled_edits (f.first ++ f.then) ≡ view.logged old ++ view.waiting old = laws.after f.first f.then ∙ (ap (λ (x : List ℕ). x ++ spelled_edits f.then) (sym f.logged_bytes) ∙ ap (λ (x : List ℕ). view.logged old ++ x) (sym f.waiting_bytes)) in
-      let same : spelled_edits (f.first ++ f.then) ≡ spelled_edits edits = spelled ∙ (sym all ∙ laws.whole records edits held) in
+      let same : spelled_edits (f.first ++ f.then) ≡ spelled_edits edits = spelled ∙ sym all in
       record {
         kept = record {
           root = root;
@@ -211,7 +217,7 @@ module _ {S M L : Type 0} (view : View S) (device : Log L) (laws : LogsEdits) (n
       base = put.base;
       kept = (stays root put.base st.places put.kept, low);
       records = named root ∷ [];
-      in_log = (is, bytes);
+      in_log = (is, elim bytes [ inl stopped ↦ inl stopped | inr none ↦ inr (record { edits = []; held = laws.named [] [] root.top (root_sum root) laws.none; stored = tt; spelled = none }) ]);
       over = names.more [] root.top (root_sum root);
       stamps = names.up_to [] kind.Root root.top most_stamp _ tt (omega (arith, low, limit));
       edits = [];
@@ -260,16 +266,19 @@ module _ {S M L : Type 0} (view : View S) (device : Log L) (laws : LogsEdits) (n
     held = laws.any h.records h.edits h.held;
     stored = h.stored;
     room = h.room;
-    bytes = any_adds_none h.records ∙ h.bytes ∙ sym same;
+    bytes = h.bytes ∙ sym same;
   }
+
+  pub has_bytes : (new : DurableServer S M L) (root : RootView) → (h : HoldsLogged view device new root) → HaveBytes h.records (view.logged new.server)
+  has_bytes new root h = record { edits = h.edits; held = h.held; stored = h.stored; spelled = h.bytes }
 
   -- what is shown lasts while the log has all edits and covers the last stamp
   pub root_lasts : (new : DurableServer S M L) (root : RootView) (now : State) → Follows view new.server root now → HoldsLogged view device new root → view.waiting new.server ≡ [] → view.last new.server ≤ new.marks.covered → Lasting new now
   root_lasts new root now f h none covered =
-      shown_lasts new.server new root now f (λ other base places is. is) h.low h.records h.in_log h.over h.stamps (covers_low names new.marks h.records (view.last new.server) new.marks.covered covered h.covered) h.edits h.held h.stored h.room (none_waits h.records (view.logged new.server) (view.waiting new.server) none h.bytes) (inr h.bytes)
+      shown_lasts new.server new root now f (λ other base places is. is) h.low h.records h.in_log h.over h.stamps (covers_low names new.marks h.records (view.last new.server) new.marks.covered covered h.covered) h.edits h.held h.stored h.room (none_waits (spelled_edits h.edits) (view.logged new.server) (view.waiting new.server) none h.bytes) (inr (has_bytes new root h))
 
   pub still_lasts : (mid : DurableServer S M L) (next : S) (now : State) → StaysStored view mid.server next → view.logged next ≡ view.logged mid.server → Lasting mid now → Lasting (record mid { server = next }) now
-  still_lasts mid next now stays same lasts = lasts_on mid (record mid { server = next }) now (stays, no_less mid.marks.stored) lasts lasts.kept.in_log.0 (elim lasts.kept.in_log.1 [ inl stopped ↦ inl stopped | inr bytes ↦ inr (bytes ∙ sym same) ])
+  still_lasts mid next now stays same lasts = lasts_on mid (record mid { server = next }) now (stays, no_less mid.marks.stored) lasts lasts.kept.in_log.0 (elim lasts.kept.in_log.1 [ inl stopped ↦ inl stopped | inr has ↦ inr (same_bytes lasts.kept.records _ _ (sym same) has) ])
 
   -- a server that goes on with the same log
   pub logs_on : (old : DurableServer S M L) (next : S) → StaysRooted view old.server next → view.logged next ≡ view.logged old.server → Logs view device old → Logs view device (record old { server = next })
@@ -312,5 +321,5 @@ module _ {S M L : Type 0} (view : View S) (device : Log L) (laws : LogsEdits) (n
       )
     ];
     lasting = λ now reached s logs st lasts. inl (lasts_on old new st (subst (λ (x : S). StaysStored view old.server x) (sym server) (λ root base places is. is), subst (λ (m : MarkView M). old.marks.stored ≤ m.stored) (sym marks) (no_less old.marks.stored)) lasts (log lasts.kept.records lasts.kept.in_log.0)
-        (elim lasts.kept.in_log.1 [ inl stopped ↦ inl (stop ∙ stopped) | inr bytes ↦ inr (bytes ∙ ap view.logged (sym server)) ]));
+        (elim lasts.kept.in_log.1 [ inl stopped ↦ inl (stop ∙ stopped) | inr has ↦ inr (same_bytes lasts.kept.records _ _ (ap view.logged (sym server)) has) ]));
   }

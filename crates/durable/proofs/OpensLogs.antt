@@ -1,6 +1,6 @@
 -- A server with a log that an opening makes.
 use Rattle.std.proofs.Common.{◌≡◌, ◌≤◌, ◌⊎◌, ◌+◌, ℕ, true, List, [], ◌∷◌, length, Option, None, Some, inl, inr, refl, sym, ap, ◌∙◌, subst, arith}
-use Rattle.std.specs.Prelude.{IfSome, flat_map, is_some}
+use Rattle.std.specs.Prelude.{IfSome, is_some}
 use Rattle.std.specs.List.{AllByRecursion}
 use Rattle.cell_key.specs.Cells.{Cells, after_edits}
 use Rattle.cell_key.specs.declared.edits.Edit.{Edit}
@@ -13,7 +13,7 @@ use Rattle.row_atomic.specs.Journals.{HasRoomFor, empty_journal}
 use Rattle.row_atomic.specs.Recorded.{logged_of, waiting_of}
 use Rattle.si_model.specs.Machine.{Place, State, reopened}
 use Rattle.si_model.specs.ShowsCells.{ShowsCells}
-use Rattle.commit_log.specs.Records.{AreUpTo, edit_bytes}
+use Rattle.commit_log.specs.Records.{AreUpTo}
 use Rattle.metadata_table.specs.Roots.{RootView}
 use Rattle.durable.specs.Devices.{CoversWith, IsOver, KeepsUnder, Lasts, most_stamp}
 use Rattle.durable.specs.Recovery.{HasRootFile, LacksBase, OpensFrom, ServesFrom}
@@ -28,18 +28,14 @@ use Rattle.server_loop.specs.declared.server.Server.{Server}
 use Rattle.durable.proofs.Logged.{AsManyEdits}
 use Rattle.durable.proofs.OpenedLogs.{DamageWith}
 
--- edits of the same records are of one spelling
-pub one_spelling : LogsEdits → (records : List (List ℕ)) (a b : List Edit) → HoldEdits records a → HoldEdits records b → spelled_edits a ≡ spelled_edits b
-one_spelling laws records a b p q = sym (laws.whole records a p) ∙ laws.whole records b q
-
 pub same_shown : LogsEdits → (records : List (List ℕ)) (a b : List Edit) → HoldEdits records a → HoldEdits records b → AllByRecursion IsStoredEdit a → AllByRecursion IsStoredEdit b → (base : Cells) (st : State) → ShowsCells (after_edits base a) st → ShowsCells (after_edits base b) st
-same_shown laws records a b p q stored_a stored_b base st shows = subst (λ (cells : Cells). ShowsCells cells st) (laws.one a b stored_a stored_b (one_spelling laws records a b p q) base) shows
+same_shown laws records a b p q stored_a stored_b base st shows = subst (λ (cells : Cells). ShowsCells cells st) (laws.one a b stored_a stored_b (laws.whole records a b p q stored_a stored_b) base) shows
 
 pub same_room : LogsEdits → AsManyEdits → (records : List (List ℕ)) (a b : List Edit) → HoldEdits records a → HoldEdits records b → AllByRecursion IsStoredEdit a → AllByRecursion IsStoredEdit b → HasRoomFor empty_journal a → HasRoomFor empty_journal b
 same_room laws as_many records a b p q stored_a stored_b room =
-    let spelled = one_spelling laws records a b p q in
+    let spelled = laws.whole records a b p q stored_a stored_b in
     let count = as_many a b stored_a stored_b spelled in
-    let size = ap length spelled in
+    let size = ap length (laws.entries a b stored_a stored_b spelled) in
     let edits = room.edits in
     let bytes = room.bytes in
     record { edits = omega (arith, count, edits); bytes = omega (arith, size, bytes) }
@@ -47,7 +43,7 @@ same_room laws as_many records a b p q stored_a stored_b room =
 -- no records of these edits are of none
 pub holds_none : LogsEdits → AsManyEdits → (records : List (List ℕ)) (edits : List Edit) → HoldEdits records edits → AllByRecursion IsStoredEdit edits → HoldEdits records [] → edits ≡ []
 holds_none laws as_many records [] held stored none = refl
-holds_none laws as_many records (e ∷ edits) held stored none = let count = as_many (e ∷ edits) [] stored tt (one_spelling laws records (e ∷ edits) [] held none) in absurd (omega (arith, count))
+holds_none laws as_many records (e ∷ edits) held stored none = let count = as_many (e ∷ edits) [] stored tt (laws.whole records (e ∷ edits) [] held none stored tt) in absurd (omega (arith, count))
 
 pub no_room_lost : (edits : List Edit) → edits ≡ [] → HasRoomFor empty_journal edits
 no_room_lost [] none = record { edits = omega arith; bytes = omega arith }
@@ -87,7 +83,7 @@ damage_of_log holds (Some m) (Some n) found same (inl lost) = inl lost
 damage_of_log holds (Some m) (Some n) found same (inr (inl lacks)) = inr (inl (λ records held. subst (LacksBase m) (same records held) lacks))
 damage_of_log holds (Some m) (Some n) found same (inr (inr later)) = inr (inr (λ records held. subst (λ (rs : List (List ℕ)). ¬ AreUpTo most_stamp rs) (same records held) later))
 
-module _ {F N M L : Type 0} (files : Files F) (marks : MarkStore M) (log : Log L) where
+module _ {F N M L W : Type 0} (files : Files F W) (marks : MarkStore M) (log : Log L) where
   pub opens_from : LogsEdits → (st : State) (server : Server F N) (mark : MarkView M) (kept : L) (opened : DurableServer (Server F N) M L) → opened.server ≡ server → opened.marks ≡ mark → opened.log ≡ kept → (root : RootView) (base : Cells) (edits given : List Edit) (records : List (List ℕ)) → ServesFrom files (marks.mark mark.marks) root base edits st server
       → root.top ≤ mark.stored → mark.stored ≤ most_stamp → last_of server ≡ mark.covered → CoversStamp mark records mark.covered → ((top : ℕ) → top ≤ mark.covered → CoversWith (marks.mark mark.marks) records top)
       → HoldEdits records edits → AllByRecursion IsStoredEdit edits → log.holds kept records → IsOver records root → AreUpTo most_stamp records → HoldEdits records given → AllByRecursion IsStoredEdit given → HasRoomFor empty_journal given → st.next_tablet ≡ length st.places + 1
@@ -95,7 +91,7 @@ module _ {F N M L : Type 0} (files : Files F) (marks : MarkStore M) (log : Log L
   opens_from laws st server mark kept opened same_server same_mark same_log root base edits given records s low limit last covered covers held stored in_log over stamps held_given stored_given room next settle =
       let now = s.next in
       let in_log_now : log.holds opened.log records = subst (λ (l : L). log.holds l records) (sym same_log) in_log in
-      let bytes : flat_map edit_bytes records ≡ logged_of (journal_of opened.server) = laws.whole records edits held ∙ (ap logged_of (sym s.journal) ∙ ap (λ (x : Server F N). logged_of (journal_of x)) (sym same_server)) in
+      let bytes : spelled_edits given ≡ logged_of (journal_of opened.server) = laws.whole records given edits held_given held stored_given stored ∙ (ap logged_of (sym s.journal) ∙ ap (λ (x : Server F N). logged_of (journal_of x)) (sym same_server)) in
       let top = s.top in
       record {
         next = now;

@@ -5,7 +5,7 @@ use Rattle.std.specs.List.{AllByRecursion}
 use Rattle.std.proofs.lemmas.List.Concat.{flat_map-append}
 use Rattle.cell_key.specs.Cells.{Cells, after_edits}
 use Rattle.cell_key.specs.declared.edits.Edit.{Edit}
-use Rattle.commit_log.specs.Edits.{IsStoredEdit, spelled_edit, spelled_edits}
+use Rattle.commit_log.specs.Edits.{IsStoredEdit, spelled_edit, spelled_edits, spelled_entries, spelled_entry}
 use Rattle.file_store.specs.Store.{Contents}
 use Rattle.metadata_table.specs.Roots.{RootView}
 use Rattle.rows.specs.Calls.{Applies}
@@ -31,13 +31,16 @@ written_on first then None = refl
 written_on first then (Some journal) =
     let bytes : (journal.waiting ++ spelled_edits first) ++ spelled_edits then ≡ journal.waiting ++ spelled_edits (first ++ then) = append_assoc journal.waiting (spelled_edits first) (spelled_edits then) ∙ ap (λ (x : List ℕ). journal.waiting ++ x) (sym (flat_map-append spelled_edit first then)) in
     let count : (journal.count + length first) + length then ≡ journal.count + length (first ++ then) = omega (arith, length-append first then) in
-    λ i. Some (record { logged = journal.logged; waiting = bytes i; count = count i })
+    let size : (journal.entry_bytes + length (spelled_entries first)) + length (spelled_entries then) ≡ journal.entry_bytes + length (spelled_entries (first ++ then)) =
+    omega (arith, ap length (flat_map-append spelled_entry first then), length-append (spelled_entries first) (spelled_entries then)) in
+    λ i. Some (record { logged = journal.logged; waiting = bytes i; count = count i; entry_bytes = size i })
 
 -- all edits that were put into an empty journal are logged
 pub all_logged_now : (edits : List Edit) → option_map all_logged (Some (with_waiting edits empty_journal)) ≡ Some (logged_journal edits)
 all_logged_now edits =
     let count : 0 + length edits ≡ length edits = omega arith in
-    λ i. Some (record { logged = spelled_edits edits; waiting = []; count = count i })
+    let size : 0 + length (spelled_entries edits) ≡ length (spelled_entries edits) = omega arith in
+    λ i. Some (record { logged = spelled_edits edits; waiting = []; count = count i; entry_bytes = size i })
 
 pub none_left : (edits : List Edit) → length edits ≡ 0 → edits ≡ []
 none_left [] is = refl
@@ -66,7 +69,8 @@ module _ {F : Type 0} (contents : F → Option Contents) where
       none (Some journal) =
           let bytes : journal.waiting ≡ journal.waiting ++ [] = sym (append-nil journal.waiting) in
           let count : journal.count ≡ journal.count + 0 = omega arith in
-          λ i. Some (record { logged = journal.logged; waiting = bytes i; count = count i })
+          let size : journal.entry_bytes ≡ journal.entry_bytes + 0 = omega arith in
+          λ i. Some (record { logged = journal.logged; waiting = bytes i; count = count i; entry_bytes = size i })
 
   pub replays_one : (edit : Edit) (rest : List Edit) (a b c : Recorded F) → Replays contents (edit ∷ []) a b → Replays contents rest b c → Replays contents (edit ∷ rest) a c
   replays_one edit rest a b c first then = record {
@@ -94,17 +98,16 @@ room_then None edit rest room = room
 room_then (Some journal) edit rest room =
     let edits = room.edits in
     let bytes = room.bytes in
-    let one = length-append journal.waiting (spelled_edits (edit ∷ [])) in
-    let front = length-append (spelled_edit edit) [] in
-    let all = length-append (spelled_edit edit) (spelled_edits rest) in
-    record { edits = omega (arith, edits); bytes = omega (arith, bytes, one, front, all) }
+    let front = length-append (spelled_entry edit) [] in
+    let all = length-append (spelled_entry edit) (spelled_entries rest) in
+    record { edits = omega (arith, edits); bytes = omega (arith, bytes, front, all) }
 
 room_first : (journal : JournalView) (edit : Edit) (rest : List Edit) → HasRoomFor journal (edit ∷ rest) → HasRoomFor journal (edit ∷ [])
 room_first journal edit rest room =
     let edits = room.edits in
     let bytes = room.bytes in
-    let front = length-append (spelled_edit edit) [] in
-    let all = length-append (spelled_edit edit) (spelled_edits rest) in
+    let front = length-append (spelled_entry edit) [] in
+    let all = length-append (spelled_entry edit) (spelled_entries rest) in
     record { edits = omega (arith, edits); bytes = omega (arith, bytes, front, all) }
 
 pub not_full : {F : Type 0} → (rows : Recorded F) (row : List ℕ) (edit : Edit) (rest : List Edit) → FitsMemtables rows → HasRoom rows.journal (edit ∷ rest) → OverfillsRecorded rows row (edit ∷ []) → ⊥
@@ -126,6 +129,7 @@ module _ {F : Type 0} (contents : F → Option Contents) (stored : RootIsStored 
       logged_bytes = refl;
       waiting_bytes = refl;
       counted = refl;
+      measured = refl;
       stored = tt;
       such = record { root = root; base = base; has = shows.has; replay = sym shows.shows };
     },
@@ -147,6 +151,7 @@ module _ {F : Type 0} (contents : F → Option Contents) (stored : RootIsStored 
             logged_bytes = refl;
             waiting_bytes = refl;
             counted = ap length (sym same);
+            measured = ap (λ (es : List Edit). length (spelled_entries es)) (sym same);
             stored = subst (AllByRecursion IsStoredEdit) (sym same) all;
             such = record { root = root; base = base; has = has; replay = ap (after_edits base) same ∙ sym cells };
           },

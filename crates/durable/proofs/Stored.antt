@@ -7,7 +7,7 @@ use Rattle.cell_key.specs.Cells.{Cells}
 use Rattle.cell_key.specs.declared.edits.Edit.{Edit}
 use Rattle.cell_key.specs.declared.refusals.Refusal.{Refusal}
 use Rattle.cell_key.specs.declared.refusals.Refusal.TheVariants.{Damaged, Device, NoMemory}
-use Rattle.commit_log.specs.Edits.{IsStoredEdit, LogsEdits, spelled_edits}
+use Rattle.commit_log.specs.Edits.{IsStoredEdit, LogsEdits, spelled_edits, spelled_entries}
 use Rattle.file_store.specs.Store.{Contents}
 use Rattle.file_store.specs.declared.files.Files.{Ghosts as Files}
 use Rattle.metadata_table.specs.Places.{PlaceView}
@@ -23,11 +23,12 @@ use Rattle.request_codec.specs.declared.replies.Reply.{Reply as CodecReply}
 use Rattle.request_codec.specs.declared.requests.Request.{Request as Lent}
 use Rattle.request_codec.specs.declared.requests.Request.TheVariants as lent
 use Rattle.rows.specs.Refusals.{IsReadRefusal}
+use Rattle.tablet.specs.declared.merge_policy.MergePolicy.{MergePolicy}
 use Rattle.row_atomic.specs.Changes.{Holds}
 use Rattle.row_atomic.specs.Clusters.{ClusterState, Spot, spot_of, spots_of}
 use Rattle.row_atomic.specs.Commands.{cells_shown}
 use Rattle.row_atomic.specs.Journals.{JournalView, all_logged}
-use Rattle.row_atomic.specs.Recorded.{Follows, Tracks, edits_written, logged_of, waiting_of}
+use Rattle.row_atomic.specs.Recorded.{Follows, Tracks, edits_written, entry_bytes_written, logged_of, waiting_of}
 use Rattle.row_atomic.specs.declared.recorded.Recorded.{Recorded}
 use Rattle.row_atomic.specs.RootSweeps.{RootOutlastsSweeps, SweepsBesideRoot}
 use Rattle.row_atomic.specs.Roots.{HasRoot, RootIsStored, RootOutlastsFlushes, RootOutlastsMerges, Rests, RootStays, root_at, root_name}
@@ -86,6 +87,7 @@ module _ {F M : Type 0} (contents : F → Option Contents) where
         logged_bytes = ap logged_of same_journal ∙ follows.logged_bytes;
         waiting_bytes = ap waiting_of same_journal ∙ follows.waiting_bytes;
         counted = ap edits_written same_journal ∙ follows.counted;
+        measured = ap entry_bytes_written same_journal ∙ follows.measured;
         stored = follows.stored;
         shows = subst (λ (cells : Cells). ShowsCells cells (reopened st)) (sym follows.such.replay) (reopens _ st shown.shows.store);
         next = shown.next;
@@ -109,7 +111,7 @@ module _ {F M : Type 0} (contents : F → Option Contents) where
 
   -- no stamp of the root that is put next is above the last one
   pub next_low : (server : Server F M) (st : State) → Shows contents server st → top_of server ≤ last_of server
-  next_low server st shown = let top = shown.shows.top in let is = shown.shows.sessions.top in omega (arith, is, top)
+  next_low server st shown = let top = shown.shows.top in let is = shown.alone.0 in omega (arith, is, top)
 
   pub new_root : ((cells : Cells) (st : State) → ShowsCells cells st → ShowsCells cells (reopened st)) → (old new : Server F M) (st : State) → Rests contents (top_of old) (floor_of old) (cluster_of old) (cluster_of new) → machine_places (cluster_of new).places ≡ machine_places (cluster_of old).places → last_of new ≡ last_of old → next_root new ≡ root_at (top_of old) (floor_of old) (cluster_of new)
       → Shows contents old st → HasNewRoot (view_of contents) (next_root new) new st
@@ -167,7 +169,7 @@ moved_stamp contents mark (lent.Split row) reply old new of p = ap (λ o. o.last
 moved_stamp contents mark (lent.Move tablet server) reply old new of p = ap (λ o. o.last) p
 moved_stamp contents mark request reply old new of p = absurd of
 
-module _ {F M : Type 0} (files : Files F) (marks : MarkStore M) (stored : RootIsStored files.contents) (stays : RootStays files.contents files.faults) where
+module _ {F M W : Type 0} (files : Files F W) (marks : MarkStore M) (stored : RootIsStored files.contents) (stays : RootStays files.contents files.faults) where
   by_has : (made : Option Command) (request : Lent) (reply : CodecReply) (old new : ClusterState F) → made ≢ Some command.Sweep → HasOutcome files.contents files.faults made request reply old new → (root : RootView) (cells : Cells) → HasRoot files.contents root cells old → HasRoot files.contents root cells new
   by_has None request reply old new other same root cells has = (stored root cells old new same).0 has
   by_has (Some made) request reply old new other (inl is) root cells has = (stays made (outcome_of reply) root cells old new is).0 (λ sweep. absurd (other (ap (λ (c : Command). Some c) sweep))) has
@@ -220,10 +222,10 @@ module _ {F M : Type 0} (files : Files F) (marks : MarkStore M) (stored : RootIs
 -- ---- between two answers
 
 module _ {F : Type 0} (contents : F → Option Contents) (faults : F → ℕ) (flushes : RootOutlastsFlushes contents faults) (merge : RootOutlastsMerges contents faults) where
-  merges_root : (due : Bool) (most : Option ℕ) (old new : ClusterState F) → MergesWhere due contents faults most old new → (root : RootView) (cells : Cells) → HasRoot contents root cells old → HasRoot contents root cells new
-  merges_root false most old new same root cells has = subst (λ (state : ClusterState F). HasRoot contents root cells state) (sym same) has
+  merges_root : (due : Bool) (policy : Option MergePolicy) (old new : ClusterState F) → MergesWhere due contents faults policy old new → (root : RootView) (cells : Cells) → HasRoot contents root cells old → HasRoot contents root cells new
+  merges_root false policy old new same root cells has = subst (λ (state : ClusterState F). HasRoot contents root cells state) (sym same) has
   merges_root true None old new same root cells has = subst (λ (state : ClusterState F). HasRoot contents root cells state) (sym same) has
-  merges_root true (Some most) old new made root cells has = merge root cells old new most made has
+  merges_root true (Some policy) old new made root cells has = merge root cells old new policy made has
 
   pub tended_leaves : {M : Type 0} (old new : Server F M) → IsTended contents faults old new
       → StaysRooted (view_of contents) old new × (logged_of (journal_of new) ≡ logged_of (journal_of old)) × ((st : State) → Shows contents old st → Shows contents new st)
@@ -249,6 +251,7 @@ module _ {F : Type 0} (contents : F → Option Contents) (laws : LogsEdits) wher
         logged_bytes = ap (λ (x : List ℕ). x ++ journal.waiting) follows.logged_bytes ∙ (ap (λ (x : List ℕ). spelled_edits follows.logged ++ x) follows.waiting_bytes ∙ sym (laws.after follows.logged follows.waiting));
         waiting_bytes = refl;
         counted = follows.counted ∙ ap (λ (es : List Edit). length es) same;
+        measured = follows.measured ∙ ap (λ (es : List Edit). length (spelled_entries es)) same;
         stored = subst (λ (es : List Edit). AllByRecursion IsStoredEdit es) same follows.stored;
         such = subst (λ (es : List Edit). Tracks contents state es) same follows.such;
       }
@@ -263,12 +266,13 @@ module _ {F M : Type 0} (contents : F → Option Contents) where
 
   -- a state shown without a journal is shown with one that follows
   pub remembers : (server : Server F M) (st : State) → Shows contents (forgets server) st → Follows contents (cluster_of server) (journal_of server) → Shows contents server st
-  remembers server st shown follows = record { in_order = (shown.in_order.0, follows); shows = shown.shows; cleaners = shown.cleaners; collectors = shown.collectors; places = shown.places; next = shown.next }
+  remembers server st shown follows = record { in_order = (shown.in_order.0, follows); shows = shown.shows; alone = shown.alone; cleaners = shown.cleaners; collectors = shown.collectors; places = shown.places; next = shown.next }
 
   pub logged_shows : LogsEdits → (server now : Server F M) (st : State) → now ≡ record server { rows = record { cluster = cluster_of server; journal = option_map all_logged (journal_of server) } } → Shows contents server st → Shows contents now st
   logged_shows laws server now st is shown = subst (λ (s : Server F M). Shows contents s st) (sym is) (record {
     in_order = (shown.in_order.0, follows_logged contents laws (cluster_of server) (journal_of server) shown.in_order.1);
     shows = shown.shows;
+    alone = shown.alone;
     cleaners = shown.cleaners;
     collectors = shown.collectors;
     places = shown.places;
@@ -277,7 +281,7 @@ module _ {F M : Type 0} (contents : F → Option Contents) where
 
 -- ---- checkpoints
 
-module _ {F M : Type 0} (files : Files F) (marks : MarkStore M) (reopens : (cells : Cells) (st : State) → ShowsCells cells st → ShowsCells cells (reopened st)) (old new : Server F M) (spots : spots_of (cluster_of new) ≡ spots_of (cluster_of old)) where
+module _ {F M W : Type 0} (files : Files F W) (marks : MarkStore M) (reopens : (cells : Cells) (st : State) → ShowsCells cells st → ShowsCells cells (reopened st)) (old new : Server F M) (spots : spots_of (cluster_of new) ≡ spots_of (cluster_of old)) where
   abbrev NewRoot : State → Type 0
   NewRoot st = HasNewRoot (view_of files.contents) (next_root new) new st
 

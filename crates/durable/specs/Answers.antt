@@ -1,13 +1,13 @@
 -- The state that a server with a log keeps over a kill.
-use Rattle.std.specs.Prelude.{◌≡◌, ◌≤◌, ◌+◌, ◌⊎◌, ℕ, List, ◌++◌, length, Bool, Result, Ok, Err, true, flat_map, ⊤}
+use Rattle.std.specs.Prelude.{◌≡◌, ◌≤◌, ◌+◌, ◌⊎◌, ℕ, List, ◌++◌, length, Bool, Result, Ok, Err, true, ⊤}
 use Rattle.std.specs.List.{AllByRecursion}
 use Rattle.cell_key.specs.Cells.{Cells, after_edits}
 use Rattle.cell_key.specs.declared.edits.Edit.{Edit}
 use Rattle.cell_key.specs.declared.refusals.Refusal.{Refusal}
 use Rattle.cell_key.specs.declared.refusals.Refusal.TheVariants.{Device, NoMemory}
-use Rattle.commit_log.specs.Edits.{HoldEdits, IsStoredEdit, spelled_edits}
+use Rattle.commit_log.specs.Edits.{HoldEdits, IsStoredEdit, spelled_edits, spelled_entries}
 use Rattle.commit_log.specs.Faults.{HasRisen}
-use Rattle.commit_log.specs.Records.{AreUpTo, HasRecord, any_root, edit_bytes, root_record}
+use Rattle.commit_log.specs.Records.{AreUpTo, HasRecord, any_root, root_record}
 use Rattle.commit_log.specs.declared.logs.Log.{Ghosts as Log}
 use Rattle.metadata_table.specs.Roots.{RootView}
 use Rattle.oracle.specs.declared.marks.MarkStore.{Ghosts as MarkStore}
@@ -79,6 +79,7 @@ pub record Follows {S : Type 0} (view : View S) (server : S) (root : RootView) (
   pub logged_bytes : view.logged server ≡ spelled_edits first
   pub waiting_bytes : view.waiting server ≡ spelled_edits then
   pub counted : view.count server ≡ length (first ++ then)
+  pub measured : view.entry_bytes server ≡ length (spelled_entries (first ++ then))
   pub stored : AllByRecursion IsStoredEdit (first ++ then)
   pub shows : ShowsCells (after_edits base (first ++ then)) (reopened st)
   pub next : st.next_tablet ≡ length st.places + 1
@@ -127,6 +128,13 @@ pub record NamesItsRoot (holds : List (List ℕ) → Type 0) : Type 0 where
 abbrev pub IsNameOf : RootName → RootView → Type 0
 IsNameOf name root = (name.top ≡ root.top) × (name.sum ≡ root_sum root)
 
+-- Records hold edits within the limits, which have these bytes as fields.
+pub record HaveBytes (records : List (List ℕ)) (bytes : List ℕ) : Type 0 where
+  pub edits : List Edit
+  pub held : HoldEdits records edits
+  pub stored : AllByRecursion IsStoredEdit edits
+  pub spelled : spelled_edits edits ≡ bytes
+
 -- ---- a server with a log
 
 module _ {S M L : Type 0} (view : View S) (log : Log L) where
@@ -139,8 +147,7 @@ module _ {S M L : Type 0} (view : View S) (log : Log L) where
   abbrev pub HoldsRecords : DurableServer S M L → List (List ℕ) → Type 0
   HoldsRecords server records =
       log.holds server.log records
-      × ((server.is_stopped ≡ true)
-      ⊎ (flat_map edit_bytes records ≡ view.logged server.server))
+      × ((server.is_stopped ≡ true) ⊎ HaveBytes records (view.logged server.server))
 
   -- Its devices keep a state, which needn't be the one that it shows.
   pub record LastsIn (server : DurableServer S M L) (st : State) : Type 0 where
@@ -160,7 +167,7 @@ module _ {S M L : Type 0} (view : View S) (log : Log L) where
     pub held : HoldEdits records edits
     pub stored : AllByRecursion IsStoredEdit edits
     pub room : HasRoomFor empty_journal edits
-    pub bytes : flat_map edit_bytes records ≡ view.logged server.server
+    pub bytes : spelled_edits edits ≡ view.logged server.server
 
   -- The log is so over the current root, which has the places of the tablets. Or the log failed: then no
   -- reply leaves the server any more.

@@ -19,7 +19,7 @@ use Rattle.server_loop.specs.declared.server.Server.{Server}
 use Rattle.server_loop.specs.declared.statuses.End.{End}
 use Rattle.server_loop.specs.declared.statuses.ServeFault.{ServeFault}
 
-module _ {F N M L : Type 0} (files : Files F) (log : Log L) where
+module _ {F N M L W : Type 0} (files : Files F W) (log : Log L) where
   -- Its devices keep a state through a kill.
   abbrev pub LastsOver : DurableServer (Server F N) M L → State → Type 0
   LastsOver = LastsIn (view_of files.contents) log
@@ -32,7 +32,7 @@ module _ {F N M L : Type 0} (files : Files F) (log : Log L) where
   IsSettledOver server = IsSettled (shown_by (Shows files.contents)) LastsOver LogsOver server
 
 -- The oracle of the server inside has a mark of its own, in memory.
-module _ {F N M L : Type 0} (files : Files F) (inside : MarkStore N) (marks : MarkStore M)
+module _ {F N M L W : Type 0} (files : Files F W) (inside : MarkStore N) (marks : MarkStore M)
     (log : Log L) where
   abbrev pub IsAnswerOver : DurableServer (Server F N) M L → Operation → Answer
       → DurableServer (Server F N) M L → Type 0

@@ -85,7 +85,7 @@ pub record OpensNew {F : Type 0} (contents : F → Option Contents) (top : ℕ) 
   pub none : top ≡ 0
   pub no_edits : edits ≡ []
 
-module _ {F N : Type 0} (files : Files F) (mark : Option ℕ) where
+module _ {F N W : Type 0} (files : Files F W) (mark : Option ℕ) where
   -- A server over cells under a root, and edits. It shows a state that the machine can reach by itself from
   -- the one that these show. The edits are logged, and its files and the mark keep the cells.
   pub record ServesFrom (root : RootView) (base : Cells) (edits : List Edit) (st : State)
@@ -100,7 +100,7 @@ module _ {F N : Type 0} (files : Files F) (mark : Option ℕ) where
     pub shows : ShowsCells (after_edits base edits) (reopened next)
     pub top : next.top ≤ last_of server
 
-module _ {F N M L : Type 0} (files : Files F) (marks : MarkStore M) (log : Log L) where
+module _ {F N M L W : Type 0} (files : Files F W) (marks : MarkStore M) (log : Log L) where
   -- An opened server shows a state that the machine can reach by itself from the kept one. Its answers
   -- last from then on, and its devices keep the state that it shows.
   pub record OpensFrom (st : State) (opened : DurableServer (Server F N) M L) : Type 0 where

@@ -2,7 +2,7 @@
 use Rattle.std.specs.Prelude.{◌≡◌, List, [], length, Option, None, Some, option_map}
 use Rattle.cell_key.specs.Cells.{Cells, after_edits}
 use Rattle.cell_key.specs.declared.edits.Edit.{Edit}
-use Rattle.commit_log.specs.Edits.{spelled_edits}
+use Rattle.commit_log.specs.Edits.{spelled_edits, spelled_entries}
 use Rattle.file_store.specs.Store.{Contents}
 use Rattle.metadata_table.specs.Roots.{RootView}
 use Rattle.row_atomic.specs.Changes.{Holds}
@@ -34,7 +34,12 @@ HasRoom (Some journal) edits = HasRoomFor journal edits
 -- a journal of these edits, all of which the log has
 abbrev pub logged_journal : List Edit → JournalView
 logged_journal edits =
-    record { logged = spelled_edits edits; waiting = []; count = length edits }
+    record {
+      logged = spelled_edits edits;
+      waiting = [];
+      count = length edits;
+      entry_bytes = length (spelled_entries edits);
+    }
 
 -- A cluster shows the cells that its files keep under a root that names its tablets' places.
 pub record ShowsRoot {F : Type 0} (contents : F → Option Contents) (root : RootView) (base : Cells)

@@ -9,7 +9,7 @@ use Rattle.oracle.specs.declared.marks.MarkStore.{Ghosts as MarkStore}
 use Rattle.request_codec.specs.declared.replies.Reply.{Reply}
 use Rattle.request_codec.specs.declared.requests.Request.TheVariants.{Checkpoint}
 use Rattle.row_atomic.specs.Journals.{JournalView}
-use Rattle.row_atomic.specs.Recorded.{Tracks, bytes_written, edits_written, logged_of, waiting_of}
+use Rattle.row_atomic.specs.Recorded.{Tracks, bytes_written, edits_written, entry_bytes_written, logged_of, waiting_of}
 use Rattle.row_atomic.specs.RootSweeps.{SweepsBesideRoot}
 use Rattle.row_atomic.specs.Roots.{HasRoot}
 use Rattle.si_model.specs.Machine.{Place}
@@ -43,7 +43,7 @@ journal_size journal = max (bytes_written journal) (min (edits_written journal *
 abbrev pub IsSame : {F M : Type 0} → Server F M → Server F M → Type 0
 IsSame a b = forgets a ≡ forgets b
 
-module _ {F M : Type 0} (files : Files F) (marks : MarkStore M) where
+module _ {F M W : Type 0} (files : Files F W) (marks : MarkStore M) where
   abbrev pub AnswersCheckpoint : Server F M → Reply → Server F M → Type 0
   AnswersCheckpoint old reply new = IsPlainAnswer files marks old Checkpoint reply (forgets new)
 
@@ -66,12 +66,13 @@ view_of contents = record {
   logged = λ server. logged_of (journal_of server);
   waiting = λ server. waiting_of (journal_of server);
   count = λ server. edits_written (journal_of server);
+  entry_bytes = λ server. entry_bytes_written (journal_of server);
   size = λ server. journal_size (journal_of server);
   last = last_of;
   same = IsSame;
 }
 
-abbrev pub calls_of : {F M : Type 0} → Files F → MarkStore M → RootCalls (Server F M)
+abbrev pub calls_of : {F M W : Type 0} → Files F W → MarkStore M → RootCalls (Server F M)
 calls_of files marks = record {
   checkpoints = AnswersCheckpoint files marks;
   sweeps = SweepsFiles files.contents files.faults;

@@ -21,8 +21,9 @@ pub record View (S : Type 0) : Type 1 where
   -- the bytes of the journal's edits that the log has, and of those that wait for the log
   pub logged : S → List ℕ
   pub waiting : S → List ℕ
-  -- the number of edits in both
+  -- the number of edits in both, and the bytes that these take as entries of a memtable
   pub count : S → ℕ
+  pub entry_bytes : S → ℕ
   -- the size of the journal in bytes, or 671 for each edit if that is more
   pub size : S → ℕ
   -- the oracle's last stamp

@@ -46,6 +46,7 @@ pub(crate) trait Journaled: Handler {
           logged = view.logged self.now;
           waiting = view.waiting self.now;
           count = view.count self.now;
+          entry_bytes = view.entry_bytes self.now;
         }) };
 
     /// An upper bound of the bytes of the edits that a transaction of these writes makes.

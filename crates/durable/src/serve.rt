@@ -12,7 +12,7 @@ use crate::server::DurableServer;
 use commit_log::Log;
 use oracle::{MarkStore, MemMark};
 use row_atomic::{Command, Outcome};
-use server_loop::{End, ServeFault, Server, serve_all};
+use server_loop::{End, MergePolicy, ServeFault, Server, serve_all};
 use std::io::{Read, Write};
 use std::num::NonZeroUsize;
 
@@ -24,15 +24,15 @@ impl<F: AtomicPut + Drop, M: MarkStore + Drop, L: Log + Drop> DurableServer<
     M,
     L,
 > {
-    /// From now on the newest files are merged as by `Server::merge_at`.
-    pub fn merge_at(&mut self, most: u32)
+    /// From now on the newest files are merged as by `Server::merge_by`.
+    pub fn merge_by(&mut self, policy: MergePolicy)
         ensures { self.new ≡ record self.old {
           server = record self.old.server {
-            tending = record (tending_of self.old.server) { merge = Some most; merged_to = 0 };
+            tending = record (tending_of self.old.server) { merge = Some policy; merged_to = 0 };
           };
         } }
     {
-        self.server.merge_at(most);
+        self.server.merge_by(policy);
     }
 
     /// Limits the cache of each file to this many blocks, as `Server::cache_blocks` does.

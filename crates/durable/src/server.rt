@@ -6,9 +6,9 @@ ghost use Rattle.cell_key.specs.Cells.{Cells};
 ghost use Rattle.commit_log.specs.Edits.{LogsEdits};
 ghost use Rattle.cell_key.specs.Faults.{HasRisen};
 ghost use Rattle.commit_log.specs.Held.{Keeps, MayRenew, Renews};
-ghost use Rattle.request_codec.specs.Answers.{answer_of};
+ghost use Rattle.request_codec.specs.Answers.{answer_of, HoldsAnswerWithinLimits};
 ghost use Rattle.request_codec.specs.Operations.{operation_of};
-ghost use Rattle.request_codec.specs.Replies.{replied};
+ghost use Rattle.request_codec.specs.Replies.{replied, HoldsWithinLimits};
 ghost use Rattle.request_codec.specs.Requests.{asked};
 ghost use Rattle.request_codec.specs.declared.replies.Reply.{Reply as CodecReply};
 ghost use Rattle.durable.specs.Due.{IsDueAlike, IsRootDue, tried_at};
@@ -16,7 +16,7 @@ ghost use Rattle.durable.specs.Durability.{GoesOn, IsSettled, Settles};
 ghost use Rattle.server_loop.specs.Commands.{checkpointed};
 ghost use Rattle.durable.specs.Answers.{AnswersDurably, Checkpoints, HasNewRoot, HoldsLogged, IsDurableAnswer, LastsIn, Logs, MovesTablets, NamesItsRoot, NeedsLogRoom, NeedsRoom, ActsOnRoots, PutsRoot, StaysRooted, SweepsAfter, SweepsNow, named, shown_by};
 ghost use Rattle.metadata_table.specs.Roots.{RootView};
-ghost use Rattle.server_loop.specs.Runs.{AnswerKeepsToLimits, KeepsToLimits, StepsAs};
+ghost use Rattle.server_loop.specs.Runs.{StepsAs};
 ghost use Rattle.server_loop.specs.OperationLaws.{StandsForSeveral};
 ghost use Rattle.si_model.specs.Machine.{IsReached, IsStorageRefusal, State, Checkpoint as CheckpointAsked};
 ghost use Rattle.si_model.specs.Transactions.{One, Said};
@@ -39,14 +39,14 @@ const BETWEEN_TRIES: usize = 8_388_608;
 const MOST_WAITING_EDITS: usize = 67_108_864;
 
 /// The upper bound of the bytes of the edits that a step of a session or a cleaner writes. These are the most if it
-/// holds a cell: a put of 65,536 bytes of data, and one of a lock with the first cell's row and family. Their keys have
-/// at most 8,082 bytes: of a row of 4,000 zeros, which take two each, a family of 64, a column of four and a stamp, with
-/// the ends between them.
-const STEP_BYTES: usize = 89_787;
+/// holds a cell: a put of 65,536 bytes of data, and one of a lock. Both have a row of 4,000 bytes, a family of 64 and 16
+/// bytes of other fields. The lock's value has at most 8,069 bytes: the first cell's row of 4,000 zeros, which take two
+/// each, its family, their ends and a kind.
+const STEP_BYTES: usize = 81_765;
 
 /// The upper bound of the bytes of the edits that a collector's visit writes: the erasures of 128 records and their
-/// data.
-const VISIT_BYTES: usize = 2_070_400;
+/// data, with 4,076 bytes each.
+const VISIT_BYTES: usize = 1_043_456;
 
 /// A server with a log.
 #[derive(Drop)]
@@ -381,7 +381,7 @@ impl<S: Journaled, M: MarkStore, L: Log> DurableServer<S, M, L> {
 
     /// Answers a sweep.
     fn sweep(&mut self) -> Reply
-        ensures limits { KeepsToLimits result }
+        ensures limits { HoldsWithinLimits (replied result) }
         ensures says { IsDurableAnswer S.view S.calls S.shows S.says M.MarkStore L.Log self.old
             (Operation.One Request.Sweep) (Answer.Said result) self.new }
     {
@@ -394,7 +394,7 @@ impl<S: Journaled, M: MarkStore, L: Log> DurableServer<S, M, L> {
     /// Splits or moves a tablet, and puts a root before and after.
     fn rearrange(&mut self, request: Request<'_>) -> Reply
         requires { MovesTablets request }
-        ensures limits { KeepsToLimits result }
+        ensures limits { HoldsWithinLimits (replied result) }
         ensures says { IsDurableAnswer S.view S.calls S.shows S.says M.MarkStore L.Log self.old
             (Operation.One request.entry) (Answer.Said result) self.new }
     {
@@ -415,7 +415,7 @@ impl<S: Journaled, M: MarkStore, L: Log> DurableServer<S, M, L> {
 
     /// Answers a checkpoint.
     fn checkpoint(&mut self) -> Reply
-        ensures limits { KeepsToLimits result }
+        ensures limits { HoldsWithinLimits (replied result) }
         ensures says { IsDurableAnswer S.view S.calls S.shows S.says M.MarkStore L.Log self.old
             (Operation.One Request.Checkpoint) (Answer.Said result) self.new }
     {
@@ -439,7 +439,7 @@ impl<S: Journaled, M: MarkStore, L: Log> DurableServer<S, M, L> {
     /// Lets the server inside answer a request that needs no root.
     fn answer_inside(&mut self, request: Request<'_>) -> Reply
         requires { ¬ ActsOnRoots request }
-        ensures limits { KeepsToLimits result }
+        ensures limits { HoldsWithinLimits (replied result) }
         ensures says { S.says self.old.server (Operation.One request.entry) (Answer.Said result)
             self.new.server }
         ensures log { self.new.log ≡ self.old.log }
@@ -466,7 +466,7 @@ impl<S: Journaled, M: MarkStore, L: Log> DurableServer<S, M, L> {
     /// Answers a request that may write edits or draw a stamp, if the log has room for what it records.
     fn answer_with_room(&mut self, request: Request<'_>) -> Reply
         requires { NeedsRoom request }
-        ensures limits { KeepsToLimits result }
+        ensures limits { HoldsWithinLimits (replied result) }
         ensures says { IsDurableAnswer S.view S.calls S.shows S.says M.MarkStore L.Log self.old
             (Operation.One request.entry) (Answer.Said result) self.new }
     {
@@ -499,7 +499,7 @@ impl<S: Journaled, M: MarkStore, L: Log> DurableServer<S, M, L> {
     /// Lets the server inside answer an operation of several cells.
     fn answer_several(&mut self, operation: Operation<'_>) -> Answer
         requires { StandsForSeveral (operation_of operation) }
-        ensures limits { AnswerKeepsToLimits result }
+        ensures limits { HoldsAnswerWithinLimits (answer_of result) }
         ensures says { S.says self.old.server operation.entry result self.new.server }
         ensures log { self.new.log ≡ self.old.log }
         ensures goes_on { GoesOn (shown_by S.shows) (LastsIn S.view L.Log) (Logs S.view L.Log)
@@ -514,7 +514,7 @@ impl<S: Journaled, M: MarkStore, L: Log> DurableServer<S, M, L> {
     /// Answers an operation of several cells, if the log has room for what it records.
     fn answer_at_once(&mut self, operation: Operation<'_>) -> Answer
         requires { StandsForSeveral (operation_of operation) }
-        ensures limits { AnswerKeepsToLimits result }
+        ensures limits { HoldsAnswerWithinLimits (answer_of result) }
         ensures says { IsDurableAnswer S.view S.calls S.shows S.says M.MarkStore L.Log self.old
             operation.entry result self.new }
     {
@@ -535,7 +535,7 @@ impl<S: Journaled, M: MarkStore, L: Log> DurableServer<S, M, L> {
     fn answer_plainly(&mut self, request: Request<'_>) -> Reply
         requires rootless { ¬ ActsOnRoots request }
         requires roomless { ¬ NeedsRoom request }
-        ensures limits { KeepsToLimits result }
+        ensures limits { HoldsWithinLimits (replied result) }
         ensures says { IsDurableAnswer S.view S.calls S.shows S.says M.MarkStore L.Log self.old
             (Operation.One request.entry) (Answer.Said result) self.new }
     {

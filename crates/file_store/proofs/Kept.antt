@@ -6,7 +6,8 @@ use Rattle.std.specs.FinMap.{get, get-insert, insert}
 use borrow.Author.Tests.{eqb-true}
 use Rattle.file_store.specs.Store.{Contents, KeepsOthers, with_file}
 
-elsewhere : (m : Contents) (name other : ℕ) (bytes : List ℕ) → other ≢ name → get (insert m name bytes) other ≡ get m other
+-- a put under a name leaves what is under another
+pub elsewhere : (m : Contents) (name other : ℕ) (bytes : List ℕ) → other ≢ name → get (insert m name bytes) other ≡ get m other
 elsewhere m name other bytes apart =
     get-insert nat_cmp_total m name bytes other
     ∙ ap (λ (b : Bool). cond b (Some bytes) (get m other)) (unsigned_tied other name)

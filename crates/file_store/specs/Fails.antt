@@ -50,6 +50,13 @@ module _ {F : Type 0} (contents : F → Option Contents) where
   PutFails Half name bytes fault old new = Puts name (take (length bytes / 2) bytes) fault (contents old) (contents new)
   PutFails After name bytes fault old new = Puts name bytes fault (contents old) (contents new)
 
+  -- The effect of a failing finish of a file that has some bytes: it is given up, or all are put.
+  abbrev pub FinishFails : (List ℕ → Type 0) → Fail → ℕ → Option FileFault → F → F → Type 0
+  FinishFails has Before name fault old new = contents new ≡ contents old
+  FinishFails has Half name fault old new = contents new ≡ contents old
+  FinishFails has After name fault old new = (image : List ℕ) → has image
+      → Puts name image fault (contents old) (contents new)
+
   -- The effect of a failing remove: nothing is done, or the file is removed.
   abbrev pub RemoveFails : Fail → ℕ → Option FileFault → F → F → Type 0
   RemoveFails Before name fault old new = new ≡ old

@@ -1,8 +1,8 @@
 //! Files with one failing call, for tests.
 
-ghost use Rattle.std.specs.Prelude.{◌≡◌, ◌≤◌, ◌++◌, IfOk, IfSome, IsErrOf, None, OnErr, OnOk, length, option_map};
+ghost use Rattle.std.specs.Prelude.{◌≡◌, ◌≤◌, ℕ, List, [], ◌++◌, IfOk, IfSome, IsErrOf, None, OnErr, OnOk, length, option_map};
 ghost use Rattle.std.specs.FinMap as map;
-ghost use Rattle.file_store.specs.Fails.{IsAnswer, PutFails, ReadFails, RemoveFails, counted, next_fail, together};
+ghost use Rattle.file_store.specs.Fails.{FinishFails, IsAnswer, PutFails, ReadFails, RemoveFails, counted, next_fail, together};
 ghost use Rattle.file_store.specs.Store.{HasFaultCause, KeepsOthers, MayLack, Reads, bytes_of, with_file, without_file};
 
 use crate::files::{FileFault, Files};
@@ -44,7 +44,8 @@ impl Counter {
 }
 
 /// Files with one call that answers a device's fault, whatever the inner files answer. All other calls go to the inner
-/// files.
+/// files. `begin`, `push` and `give_up` aren't counted, and are never the failing call. A `finish` that fails before it
+/// is made, or halfway, gives its file up.
 #[derive(Drop)]
 pub struct FailAt<F> {
     inner: F,
@@ -72,8 +73,8 @@ impl<F: Files> FailAt<F> {
         }
     }
 
-    /// How many calls of `put`, `put_owned`, `size`, `read_at`, `list` and `remove` there were; it stops at the
-    /// greatest number.
+    /// How many calls of `put`, `finish`, `size`, `read_at`, `list` and `remove` there were; it stops at the greatest
+    /// number.
     pub fn calls(&self) -> u64
         ensures { result ≡ self.now.counter.calls }
     {
@@ -101,6 +102,76 @@ impl<F: Files> Files for FailAt<F> {
     ghost faults = { λ files. together (F.faults files.inner) files.counter.faults };
 
     ghost replaces = { ⊥ };
+
+    type Writing = F::Writing;
+
+    ghost writes_to = { λ writing. F.writes_to writing };
+
+    ghost has = { λ writing bytes. F.has writing bytes };
+
+    fn begin(&mut self, name: u64) -> Result<F::Writing, FileFault>
+        ensures counter { self.new.counter ≡ self.old.counter }
+        ensures named { IfOk result (λ writing. F.writes_to writing ≡ name) }
+        ensures empty { IfOk result (λ writing. F.has writing []) }
+        ensures same { F.contents self.new.inner ≡ F.contents self.old.inner }
+        ensures cause { HasFaultCause
+            (together (F.faults self.old.inner) self.old.counter.faults)
+            (together (F.faults self.new.inner) self.new.counter.faults) result }
+    {
+        self.inner.begin(name)
+    }
+
+    fn push(&mut self, writing: &mut F::Writing, bytes: &[u8]) -> Result<(), FileFault>
+        ensures counter { self.new.counter ≡ self.old.counter }
+        ensures pushed { OnOk result ((before : List ℕ)
+            → F.has writing.old before → F.has writing.new (before ++ bytes.now)) }
+        ensures named { F.writes_to writing.new ≡ F.writes_to writing.old }
+        ensures same { F.contents self.new.inner ≡ F.contents self.old.inner }
+        ensures cause { HasFaultCause
+            (together (F.faults self.old.inner) self.old.counter.faults)
+            (together (F.faults self.new.inner) self.new.counter.faults) result }
+    {
+        self.inner.push(writing, bytes)
+    }
+
+    fn finish(&mut self, writing: F::Writing) -> Result<(), FileFault>
+        ensures counted { self.new.counter ≡ counted self.old.counter }
+        ensures answer { IsAnswer (next_fail self.old.counter)
+            (F.faults self.old.inner) (F.faults self.new.inner) result }
+        ensures failed { IfSome (next_fail self.old.counter) (λ how.
+            FinishFails F.contents (F.has writing) how (F.writes_to writing)
+            self.new.inner_fault self.old.inner self.new.inner) }
+        ensures ok { OnOk result ((image : List ℕ) → F.has writing image
+            → F.contents self.new.inner
+            ≡ with_file (F.writes_to writing) image (F.contents self.old.inner)) }
+        ensures others { KeepsOthers (F.writes_to writing)
+            (F.contents self.old.inner) (F.contents self.new.inner) }
+        ensures memory { IsErrOf result FileFault.Memory →
+            F.contents self.new.inner ≡ F.contents self.old.inner }
+        ensures cause { HasFaultCause
+            (together (F.faults self.old.inner) self.old.counter.faults)
+            (together (F.faults self.new.inner) self.new.counter.faults) result }
+    {
+        match self.counter.count() {
+            None => self.inner.finish(writing),
+            Some(Fail::Before | Fail::Half) => {
+                self.inner.give_up(writing);
+                Err(FileFault::Device)
+            }
+            Some(Fail::After) => {
+                self.inner_fault = self.inner.finish(writing).err();
+                Err(FileFault::Device)
+            }
+        }
+    }
+
+    fn give_up(&mut self, writing: F::Writing)
+        ensures counter { self.new.counter ≡ self.old.counter }
+        ensures same { F.contents self.new.inner ≡ F.contents self.old.inner }
+        ensures told { F.faults self.new.inner ≡ F.faults self.old.inner }
+    {
+        self.inner.give_up(writing);
+    }
 
     fn put(&mut self, name: u64, bytes: &[u8]) -> Result<(), FileFault>
         ensures counted { self.new.counter ≡ counted self.old.counter }
@@ -132,26 +203,6 @@ impl<F: Files> Files for FailAt<F> {
                 Err(FileFault::Device)
             }
         }
-    }
-
-    fn put_owned(&mut self, name: u64, bytes: Vec<u8>) -> Result<(), FileFault>
-        ensures counted { self.new.counter ≡ counted self.old.counter }
-        ensures answer { IsAnswer (next_fail self.old.counter)
-            (F.faults self.old.inner) (F.faults self.new.inner) result }
-        ensures failed { IfSome (next_fail self.old.counter) (λ how.
-            PutFails F.contents how name bytes.items self.new.inner_fault
-            self.old.inner self.new.inner) }
-        ensures ok { OnOk result (F.contents self.new.inner
-            ≡ with_file name bytes.items (F.contents self.old.inner)) }
-        ensures err { OnErr result (KeepsOthers name
-            (F.contents self.old.inner) (F.contents self.new.inner)) }
-        ensures memory { IsErrOf result FileFault.Memory →
-            F.contents self.new.inner ≡ F.contents self.old.inner }
-        ensures cause { HasFaultCause
-            (together (F.faults self.old.inner) self.old.counter.faults)
-            (together (F.faults self.new.inner) self.new.counter.faults) result }
-    {
-        self.put(name, &bytes)
     }
 
     fn size(&mut self, name: u64) -> Result<Option<u64>, FileFault>

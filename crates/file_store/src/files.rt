@@ -1,6 +1,6 @@
 //! Stores of files under numbers: their contracts, and the faults of their calls.
 
-ghost use Rattle.std.specs.Prelude.{◌≡◌, ◌≤◌, ℕ, ◌++◌, length, Option, Some, option_map, OnOk, OnErr, IfOk, IfSome, IsErrOf};
+ghost use Rattle.std.specs.Prelude.{◌≡◌, ◌≤◌, ℕ, List, [], ◌++◌, length, Option, Some, option_map, OnOk, OnErr, IfOk, IfSome, IsErrOf};
 ghost use Rattle.std.specs.FinMap as map;
 ghost use Rattle.file_store.specs.Store.{Contents, HasFaultCause, KeepsOthers, MayHaveFile, MayLack, Reads, bytes_of, with_file, without_file};
 ghost use Rattle.file_store.specs.Faults.{fault_text};
@@ -56,8 +56,48 @@ pub trait Files {
     /// How often a device has failed; it stops at the greatest number.
     ghost faults: { Self → ℕ };
 
-    /// Whether a put that fails leaves the old file or the new one, and nothing in between.
+    /// Whether a `put` or `finish` that fails leaves the old file or the new one, and nothing in between.
     ghost replaces: { Type 0 };
+
+    /// A file that is written in pieces. Until it is finished nothing lists it, reads it or has its size.
+    type Writing: Drop;
+
+    /// The name that it will have.
+    ghost writes_to: { Self.Writing → ℕ };
+
+    /// It has these bytes so far. One that doesn't say what it has, as on a real disk, has any.
+    ghost has: { Self.Writing → List ℕ → Type 0 };
+
+    /// Begins a file without bytes. One that isn't finished is to be given up.
+    fn begin(&mut self, name: u64) -> Result<Self::Writing, FileFault>
+        ensures named { IfOk result (λ writing. writes_to writing ≡ name) }
+        ensures empty { IfOk result (λ writing. has writing []) }
+        ensures same { contents self.new ≡ contents self.old }
+        ensures cause { HasFaultCause (faults self.old) (faults self.new) result };
+
+    /// Appends bytes to a file that was begun. After an `Err` it may have any bytes, and is to be given up.
+    fn push(&mut self, writing: &mut Self::Writing, bytes: &[u8]) -> Result<(), FileFault>
+        ensures pushed { OnOk result ((before : List ℕ)
+            → has writing.old before → has writing.new (before ++ bytes.now)) }
+        ensures named { writes_to writing.new ≡ writes_to writing.old }
+        ensures same { contents self.new ≡ contents self.old }
+        ensures cause { HasFaultCause (faults self.old) (faults self.new) result };
+
+    /// Makes or replaces a file: it has the bytes of the one that was begun. After `Device` any bytes may be under its
+    /// name. After `Memory` all files are unchanged. All other files are unchanged, whatever the result.
+    fn finish(&mut self, writing: Self::Writing) -> Result<(), FileFault>
+        ensures ok { OnOk result ((image : List ℕ) → has writing image
+            → contents self.new ≡ with_file (writes_to writing) image (contents self.old)) }
+        ensures others { KeepsOthers (writes_to writing) (contents self.old) (contents self.new) }
+        ensures whole { replaces → OnErr result ((image : List ℕ) → has writing image
+            → MayHaveFile (writes_to writing) image (contents self.old) (contents self.new)) }
+        ensures memory { IsErrOf result Memory → contents self.new ≡ contents self.old }
+        ensures cause { HasFaultCause (faults self.old) (faults self.new) result };
+
+    /// Gives up a file that was begun.
+    fn give_up(&mut self, writing: Self::Writing)
+        ensures same { contents self.new ≡ contents self.old }
+        ensures told { faults self.new ≡ faults self.old };
 
     /// Makes or replaces a file. After `Device` any bytes may be under this name, and all other files are unchanged.
     /// After `Memory` all files are unchanged.
@@ -68,19 +108,14 @@ pub trait Files {
         ensures whole { replaces → OnErr result
             (MayHaveFile name bytes.now (contents self.old) (contents self.new)) }
         ensures memory { IsErrOf result Memory → contents self.new ≡ contents self.old }
-        ensures cause { HasFaultCause (faults self.old) (faults self.new) result };
-
-    /// Makes or replaces a file as `put` does. Files in memory keep these bytes without copying them.
-    fn put_owned(&mut self, name: u64, bytes: Vec<u8>) -> Result<(), FileFault>
-        ensures ok { OnOk result (contents self.new
-            ≡ with_file name bytes.items (contents self.old)) }
-        ensures err { OnErr result (KeepsOthers name (contents self.old) (contents self.new)) }
-        ensures whole { replaces → OnErr result
-            (MayHaveFile name bytes.items (contents self.old) (contents self.new)) }
-        ensures memory { IsErrOf result Memory → contents self.new ≡ contents self.old }
         ensures cause { HasFaultCause (faults self.old) (faults self.new) result }
     {
-        self.put(name, &bytes)
+        let mut writing = self.begin(name)?;
+        if let Err(fault) = self.push(&mut writing, bytes) {
+            self.give_up(writing);
+            return Err(fault);
+        }
+        self.finish(writing)
     }
 
     /// The size of a file in bytes, if it exists.

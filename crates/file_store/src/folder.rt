@@ -1,16 +1,19 @@
 //! Files in a folder.
 
-ghost use Rattle.std.specs.Prelude.{⊤, ◌≡◌, ◌≢◌, ◌≤◌, Err, IfOk, IfErr, IsOk, None, Ok, length};
+ghost use Rattle.std.specs.Prelude.{⊤, ◌≡◌, ◌≢◌, ◌≤◌, ◌<◌, ◌+◌, ◌-◌, ◌^◌, Err, IfOk, IfErr, IsOk, None, Ok, OnOk, length, min};
+ghost use Rattle.std.specs.Io.KnownBytes.{Appends};
 ghost use Rattle.std.specs.IoError.{error_kind};
 ghost use Rattle.file_store.specs.Store.{HasFaultCause};
 
 use crate::files::{FileFault, Files};
 use crate::open_files::OpenFiles;
-use disk::{OWNER_ALONE, fill, if_there, look_at, open_regular, replace_file, sync_folder};
+use disk::{
+    OWNER_ALONE, create_beside, fill, if_there, look_at, open_regular, place_file, sync_folder,
+};
 use std::alloc::{Allocator, Global};
 use std::collections::BTreeSet;
-use std::fs::{DirEntry, File, Metadata, OpenOptions};
-use std::io::{ErrorKind, Read, Seek, SeekFrom};
+use std::fs::{DirEntry, File, Metadata, OpenFile, OpenOptions};
+use std::io::{ErrorKind, Read, Seek, SeekFrom, Write};
 use std::os::unix::fs::OpenOptionsExt;
 use std::rt::Files as Folders;
 use std::{fs, io};
@@ -24,11 +27,11 @@ const DIGITS: usize = 16;
 /// kept open.
 ///
 /// A file is written under a temporary name (the same digits and `.new`), forced to the disk and renamed, and then the
-/// folder is forced to the disk: after a crash in between there are the old bytes or the new ones. If the write fails,
-/// the temporary file is removed.
+/// folder is forced to the disk: after a crash in between there are the old bytes or the new ones. If that fails, the
+/// temporary file is removed. Of one name at most one file is written at a time.
 ///
-/// After a failed put the system may show bytes that won't last over a loss of power. So the name is in doubt: reads of
-/// it fail until it is put well or removed, or the folder is opened again.
+/// After a failed `finish` the system may show bytes that won't last over a loss of power. So the name is in doubt:
+/// reads of it fail until it is put well or removed, or the folder is opened again.
 ///
 /// Only the owner may read and write the files. What has a file's name and is no regular file isn't opened.
 #[derive(Drop)]
@@ -77,17 +80,75 @@ fn lock_folder<R: Folders<File = File>>(rt: &R, alloc: Global, folder: &str) -> 
     Ok(file)
 }
 
-/// Makes or replaces a file in a folder. If that fails, the temporary file is removed.
-fn write_file<R: Folders>(
+/// After how many bytes a file that is being written is forced to the disk, so that little is left for its end.
+const SYNC_LEN: usize = 4_194_304;
+
+/// A file of a folder that is being written under its temporary name.
+#[derive(Drop)]
+pub struct DirWriting {
+    name: u64,
+    file: File,
+    beside: String,
+    path: String,
+    /// How many bytes were written since the file was forced to the disk.
+    unsynced: usize,
+}
+
+/// Begins a file of a folder.
+fn begin_file<R: Folders<File = File>>(
     rt: &R,
     alloc: Global,
     folder: &str,
     name: u64,
-    bytes: &[u8],
-) -> io::Result<()> {
+) -> io::Result<DirWriting>
+    ensures { IfOk result (λ writing. writing.name ≡ name) }
+{
     let path = path_of(alloc, folder, name, "tab")?;
     let beside = path_of(alloc, folder, name, "new")?;
-    replace_file(rt, folder, beside.as_str(), path.as_str(), bytes)
+    let file = create_beside(rt, beside.as_str())?;
+    Ok(DirWriting {
+        name,
+        file,
+        beside,
+        path,
+        unsynced: 0,
+    })
+}
+
+/// Appends bytes to a file, of which so many bytes aren't forced to the disk; if these are many, they are forced first.
+/// Answers how many aren't forced then.
+fn append<W: Write + OpenFile>(file: &mut W, unsynced: usize, bytes: &[u8]) -> io::Result<usize>
+    ensures written { OnOk result (Appends (W.contents file.old) (W.contents file.new) bytes.now) }
+    ensures few { unsynced < 4194304 → IfOk result (λ n.
+        n ≡ min (unsynced + length bytes.now) (2 ^ 64 - 1)) }
+    ensures many { 4194304 ≤ unsynced → IfOk result (λ n. n ≡ length bytes.now) }
+{
+    let mut unsynced = unsynced;
+    if unsynced >= SYNC_LEN {
+        file.sync_all()?;
+        unsynced = 0;
+    }
+    file.write_all(bytes)?;
+    Ok(unsynced.saturating_add(bytes.len()))
+}
+
+/// Appends bytes to a file that was begun.
+fn push_bytes(writing: &mut DirWriting, bytes: &[u8]) -> io::Result<()>
+    ensures { writing.new.name ≡ writing.old.name }
+{
+    writing.unsynced = append(&mut writing.file, writing.unsynced, bytes)?;
+    Ok(())
+}
+
+/// Forces a file that was begun to the disk, and puts it in its place. If that fails, the temporary file is removed.
+fn finish_file<R: Folders>(rt: &R, folder: &str, writing: DirWriting) -> io::Result<()> {
+    let DirWriting {
+        file,
+        beside,
+        path,
+        ..
+    } = writing;
+    place_file(rt, folder, beside.as_str(), path.as_str(), file.sync_all())
 }
 
 /// Reads from an offset of an open file into a buffer, and answers how many bytes were read.
@@ -294,19 +355,43 @@ fn open_folder<R: Folders<File = File> + AllocGlobal + Clone + Drop>(
 }
 
 impl<R: Folders<File = File> + AllocGlobal + Clone + Drop> Files for DirFiles<R> {
+    type Writing = DirWriting;
+
+    ghost writes_to = { λ writing. writing.name };
+
+    ghost has = { λ _ _. ⊤ };
+
     ghost contents = { λ _. None };
 
     ghost faults = { λ files. files.faults };
 
     ghost replaces = { ⊤ };
 
-    fn put(&mut self, name: u64, bytes: &[u8]) -> Result<(), FileFault> {
-        let _ = self.doubts.insert(name)?;
+    fn begin(&mut self, name: u64) -> Result<DirWriting, FileFault> {
+        let called = begin_file(&self.rt, self.alloc, self.folder.as_str(), name);
+        self.count_fault(called)
+    }
+
+    fn push(&mut self, writing: &mut DirWriting, bytes: &[u8]) -> Result<(), FileFault> {
+        let called = push_bytes(writing, bytes);
+        self.count_fault(called)
+    }
+
+    fn finish(&mut self, writing: DirWriting) -> Result<(), FileFault> {
+        let name = writing.name;
+        if self.doubts.insert(name).is_err() {
+            self.give_up(writing);
+            return Err(FileFault::Memory);
+        }
         self.open_files.close(name);
-        let called = write_file(&self.rt, self.alloc, self.folder.as_str(), name, bytes);
+        let called = finish_file(&self.rt, self.folder.as_str(), writing);
         self.count_fault(called)?;
         let _ = self.doubts.remove(&name);
         Ok(())
+    }
+
+    fn give_up(&mut self, writing: DirWriting) {
+        let _ = fs::remove_file(&self.rt, writing.beside.as_str());
     }
 
     fn size(&mut self, name: u64) -> Result<Option<u64>, FileFault> {

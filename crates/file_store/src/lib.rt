@@ -10,6 +10,6 @@ mod whole;
 
 pub use fail::{Fail, FailAt};
 pub use files::{FileFault, Files};
-pub use folder::DirFiles;
-pub use memory::MemFiles;
+pub use folder::{DirFiles, DirWriting};
+pub use memory::{MemFiles, MemWriting};
 pub use whole::read_whole;

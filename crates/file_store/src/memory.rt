@@ -2,7 +2,7 @@
 
 ghost use Rattle.std.specs.Prelude.{⊤, ◌≡◌, ◌≤◌, Some, Ok, length, option_map, IfErr, OnErr, OnOk, IsOk, IfOk};
 ghost use Rattle.std.specs.FinMap as map;
-ghost use Rattle.file_store.specs.Store.{Reads, bytes_of, part, with_front};
+ghost use Rattle.file_store.specs.Store.{KeepsOthers, Reads, bytes_of, part, with_front};
 
 use crate::files::{FileFault, Files};
 use std::alloc::Global;
@@ -42,7 +42,20 @@ impl MemFiles {
     }
 }
 
+/// A file in memory that is being written.
+#[derive(Drop)]
+pub struct MemWriting {
+    name: u64,
+    bytes: Vec<u8>,
+}
+
 impl Files for MemFiles {
+    type Writing = MemWriting;
+
+    ghost writes_to = { λ writing. writing.name };
+
+    ghost has = { λ writing bytes. writing.bytes.items ≡ bytes };
+
     ghost contents = { λ files. Some files };
 
     ghost faults = { λ _. 0 };
@@ -55,19 +68,35 @@ impl Files for MemFiles {
         ensures memory { IfErr result (λ fault. fault ≡ FileFault.Memory) }
     {
         let copy = Vec::from_slice(self.alloc, bytes)?;
-        self.put_owned(name, copy)
+        self.finish(MemWriting { name, bytes: copy })
     }
 
-    fn put_owned(&mut self, name: u64, bytes: Vec<u8>) -> Result<(), FileFault>
-        ensures ok { OnOk result (self.new ≡ map.insert self.old name bytes.items) }
+    fn begin(&mut self, name: u64) -> Result<MemWriting, FileFault> {
+        Ok(MemWriting {
+            name,
+            bytes: Vec::new(self.alloc),
+        })
+    }
+
+    fn push(&mut self, writing: &mut MemWriting, bytes: &[u8]) -> Result<(), FileFault> {
+        writing.bytes.extend_from_slice(bytes)?;
+        Ok(())
+    }
+
+    fn finish(&mut self, writing: MemWriting) -> Result<(), FileFault>
+        ensures ok { OnOk result
+            (self.new ≡ map.insert self.old writing.name writing.bytes.items) }
         ensures err { OnErr result (self.new ≡ self.old) }
+        ensures others { KeepsOthers writing.name (Some self.old) (Some self.new) }
         ensures memory { IfErr result (λ fault. fault ≡ FileFault.Memory) }
     {
-        let mut bytes = bytes;
+        let MemWriting { name, mut bytes } = writing;
         bytes.shrink_to_fit();
         let _ = self.files.insert(name, bytes)?;
         Ok(())
     }
+
+    fn give_up(&mut self, _writing: MemWriting) {}
 
     fn size(&mut self, name: u64) -> Result<Option<u64>, FileFault>
         ensures size { result ≡ Ok (option_map length (map.get self.old name)) }

@@ -14,12 +14,14 @@ use Rattle.si_model.specs.declared.replies.Cell.{Cell}
 use Rattle.si_model.specs.declared.replies.Progress.{Progress}
 use Rattle.si_model.specs.declared.replies.Progress.TheVariants as progress
 use Rattle.si_model.proofs.Tools.{get_removed}
-use Rattle.ownership.specs.Names.{name_of, request_name, reply_name, start_name, is_open, is_name, same_name, leaves_open, answer_name}
+use Rattle.ownership.specs.Names.{name_of, request_kind, request_name, reply_name, start_name, is_kind, is_open, is_name, if_of_kind, kind_of, same_name}
 use Rattle.ownership.specs.Names as names
 use Rattle.ownership.specs.Effects.{StaysAsItWas, may_end, TouchesItsOwn, EachTouchesItsOwn}
+use Rattle.ownership.specs.declared.names.Kind.{Kind}
+use Rattle.ownership.specs.declared.names.Kind.TheVariants as kinds
 use Rattle.ownership.specs.declared.names.Name.{Name}
 use Rattle.ownership.specs.declared.names.Name.TheVariants.{Session, Cleaner, Collector}
-use Rattle.ownership.proofs.Steps.{gives, given, others, differ, same, itself, is_named, not_named, ne_of, none_of, stays_open, stays_closed}
+use Rattle.ownership.proofs.Steps.{fits, gives, given, others, differ, same, itself, is_named, not_named, ne_of, none_of, stays_open, stays_closed}
 use Rattle.ownership.proofs.Fresh.{new_name, session_zero}
 
 -- ---- as it was
@@ -199,7 +201,7 @@ touches_transacts {st} {start = start} {ws = ws} reached (refuses_one comes refu
 -- ---- reads
 
 abbrev said_name : Bool → Bool → ℕ → Name → Bool
-said_name first stays s name = is_name (if first && stays then Some (Session s) else None) name
+said_name first stays s name = is_name (if_of_kind (if first && stays then Some kinds.Session else None) (Some (Session s))) name
 
 silent_end : (first : Bool) (s : ℕ) (name : Name) → said_name first false s name ≡ false
 silent_end true s name = refl
@@ -310,12 +312,26 @@ stays_there asks.OracleRestart step e name = absurd (differ e)
 stays_there (asks.Raw x f low high) step e name = absurd (differ e)
 stays_there asks.Checkpoint step e name = absurd (differ e)
 
+-- a name that is given is told, and is of the kind that the operation may give
+is_told : (kind : Option Kind) (told : Option Name) (name : Name) → is_name (if_of_kind kind told) name ≡ true → is_name told name ≡ true
+is_told kind None name e = e
+is_told kind (Some n) name e = either (is_kind kind (kind_of n)) refl
+  where
+    either : (b : Bool) → is_kind kind (kind_of n) ≡ b → same_name n name ≡ true
+    either true is = sym (ap (λ (b : Bool). is_name (if b then Some n else None) name) is) ∙ e
+    either false is = absurd (differ (sym e ∙ ap (λ (b : Bool). is_name (if b then Some n else None) name) is))
+
+is_given : (kind : Option Kind) (told : Option Name) (name : Name) → is_name told name ≡ true → is_kind kind (kind_of name) ≡ true → is_name (if_of_kind kind told) name ≡ true
+is_given kind None name e is = e
+is_given kind (Some n) name e is =
+    ap (λ (b : Bool). is_name (if b then Some n else None) name) (subst (λ (m : Name). is_kind kind (kind_of m) ≡ true) (sym (same n name e)) is) ∙ e
+
 touches : {st next : State} {q : Request} {r : Reply} → IsReached st → Step st q r next → TouchesItsOwn st (One q) (Said r) next
 touches {st} {next} {q} {r} reached step = record {
   others = λ name live ne. others step name ne (quiet name live (gives r name) refl);
-  was_new = λ name g. new_name reached step name g;
-  is_there = λ name g. given step name g;
-  only = λ name shut live. told name shut live (gives r name) refl;
+  was_new = λ name g. new_name reached step name (is_told (request_kind q) (reply_name r) name g);
+  is_there = λ name g. given step name (is_told (request_kind q) (reply_name r) name g);
+  only = λ name shut live. let g = told name shut live (gives r name) refl in is_given (request_kind q) (reply_name r) name g (fits step name g);
   goes_on = λ name e live. stays_there q step e name ∙ live;
 }
   where

@@ -12,7 +12,7 @@ use Rattle.si_model.specs.Messages as asks
 use Rattle.si_model.specs.Refusing.{get_unknown, set_unknown, delete_unknown, scan_unknown, advance_unknown, stop_unknown, clean_unknown, collect_unknown}
 use Rattle.si_model.specs.Machine.{Tells, waits, finds_none, is_blocked, goes_further, minors, merges, majors, sweeps, restarts, finds_raw, checkpoints, Acts, tells, begins, reads, scans, sets, deletes, holds, conflicts, draws, loses, commits, finishes, stops, opens, kills, learns, rolls_forward, rolls_back, finds_gone, collects, has_collected, splits, moves_tablet, Step, refuses, accepts}
 use Rattle.si_model.proofs.Tools.{get_same, get_other, get_remains}
-use Rattle.ownership.specs.Names.{request_name as name_of, reply_name, is_name, is_open, same_name}
+use Rattle.ownership.specs.Names.{request_name as name_of, request_kind, reply_name, is_kind, is_name, is_open, kind_of, same_name}
 use Rattle.ownership.specs.Effects.{StaysAsItWas}
 use Rattle.ownership.specs.declared.names.Name.{Name}
 use Rattle.ownership.specs.declared.names.Name.TheVariants.{Session, Cleaner, Collector}
@@ -219,6 +219,42 @@ given (refuses f) name g = cc
 given (accepts ok a) (Session k) g = given_session a k g
 given (accepts ok a) (Cleaner k) g = given_cleaner a k g
 given (accepts ok a) (Collector k) g = given_collector a k g
+
+-- what is given is of the kind that the request may give
+fits_acts : {st next : State} {q : Request} {r : Reply} → Acts st q r next → (name : Name) → gives r name ≡ true → is_kind (request_kind q) (kind_of name) ≡ true
+fits_acts (begins d) (Session k) g = refl
+fits_acts (begins d) (Cleaner k) g = cc
+fits_acts (begins d) (Collector k) g = cc
+fits_acts (opens m room) (Session k) g = cc
+fits_acts (opens m room) (Cleaner k) g = refl
+fits_acts (opens m room) (Collector k) g = cc
+fits_acts (collects is low) (Session k) g = cc
+fits_acts (collects is low) (Cleaner k) g = cc
+fits_acts (collects is low) (Collector k) g = refl
+fits_acts (tells t) name g = absurd (tells_none t name g)
+fits_acts (reads h none shown) name g = cc
+fits_acts (scans h is) name g = cc
+fits_acts (sets h w by) name g = cc
+fits_acts (deletes h w by) name g = cc
+fits_acts (holds h w puts free) name g = cc
+fits_acts (conflicts h w puts clash) name g = cc
+fits_acts (draws h w d) name g = cc
+fits_acts (loses h d) name g = cc
+fits_acts (commits h alive w puts less) name g = cc
+fits_acts (finishes h w puts less) name g = cc
+fits_acts (stops h) name g = cc
+fits_acts (kills is nc alive w puts less) name g = cc
+fits_acts (learns is fate) name g = cc
+fits_acts (rolls_forward is m committed less) name g = cc
+fits_acts (rolls_back is m nc less) name g = cc
+fits_acts (finds_gone is m) name g = cc
+fits_acts (has_collected h none) name g = cc
+fits_acts (splits cut) name g = cc
+fits_acts (moves_tablet is) name g = cc
+
+pub fits : {st next : State} {q : Request} {r : Reply} → Step st q r next → (name : Name) → gives r name ≡ true → is_kind (request_kind q) (kind_of name) ≡ true
+fits (refuses f) name g = cc
+fits (accepts ok a) name g = fits_acts a name g
 
 unknown_acts : (st next : State) (q : Request) (r : Reply) → IsAcceptable st q → (name : Name) → name_of q ≡ Some name → is_open st name ≡ false → ⊥
 unknown_acts st next (asks.Get s x) r ok name e c = ok UnknownSession (get_unknown (none_of _ (subst (λ n. is_open st n ≡ false) (sym (same_Some _ _ e)) c)))

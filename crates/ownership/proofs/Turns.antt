@@ -11,7 +11,7 @@ use Rattle.si_model.specs.Sets.{◌∈◌, here, there}
 use Rattle.si_model.specs.Transactions.{Operation, One, Answer, Said, Goes, steps}
 use Rattle.si_model.proofs.Reached.{stays_reached}
 use Rattle.ownership.specs.Effects.{StaysAsItWas, TouchesItsOwn}
-use Rattle.ownership.specs.Laws.{EachWasGiven, IsGone, IsLeftAlone, IsOfAnother, IsRefused, OthersAreRefused, StaysKnown, WasGiven}
+use Rattle.ownership.specs.Laws.{EachWasGiven, IsGone, IsLeftAlone, IsOfAnother, IsRefused, OthersAreRefused, StaysKnown, WasGiven, WasLeft}
 use Rattle.ownership.specs.Names.{gives, is_open, is_session, name_of}
 use Rattle.ownership.specs.Tables.{Knows, Table, heir_of, is_full, may_ask, name_refusal, owned_after, owned_without, owns, refusal_for, unknown}
 use Rattle.ownership.specs.Turns.{Frame, Asks, Leaves, Malformed, NoClient, TooLarge, Turn, Stops, none, one_more, Ends, Exchange, Handles, turns, refuses, lacks_memory, leaves, is_malformed, has_no_client, is_too_large, HandlesAll}
@@ -45,7 +45,7 @@ not_true true fits = absurd (fits refl)
 
 -- ---- Stops
 
-stop_step : {st next : State} {s : ℕ} → Goes st (One (Stop s)) (Said StopDone) next → Step st (Stop s) StopDone next
+pub stop_step : {st next : State} {s : ℕ} → Goes st (One (Stop s)) (Said StopDone) next → Step st (Stop s) StopDone next
 stop_step (steps step) = step
 
 pub stops_reached : {a b : State} {starts : List ℕ} → Stops a starts b → IsReached a → IsReached b
@@ -70,7 +70,7 @@ stops_close (none {st = st}) s x5 = elim x5 [ ]
 stops_close (one_more goes more) s here = stops_open_none more (Session s) (stop_closes (stop_step goes))
 stops_close (one_more goes more) s (there is) = stops_close more s is
 
-member : (P : ℕ → Type 0) {x : ℕ} {xs : List ℕ} → AllByRecursion P xs → x ∈ xs → P x
+pub member : (P : ℕ → Type 0) {x : ℕ} {xs : List ℕ} → AllByRecursion P xs → x ∈ xs → P x
 member P all here = all.0
 member P all (there is) = member P all.1 is
 
@@ -215,7 +215,7 @@ pub handles_reached : {admin : Option ℕ} {st next : State} {table table' : Tab
 handles_reached {st = st} {next = next} (turns {operation = operation} {answer = answer} fits turn) reached = stays_reached st next operation answer reached turn.goes
 handles_reached (leaves ends) reached = stops_reached ends.stopped reached
 handles_reached (refuses is) reached = reached
-handles_reached lacks_memory reached = reached
+handles_reached (lacks_memory takes) reached = reached
 handles_reached is_malformed reached = reached
 handles_reached has_no_client reached = reached
 handles_reached is_too_large reached = reached
@@ -224,7 +224,7 @@ pub handles_knows : {admin : Option ℕ} {st next : State} {table table' : Table
 handles_knows (turns fits turn) reached known = turn_knows reached known turn
 handles_knows (leaves ends) reached known = end_knows known ends
 handles_knows (refuses is) reached known = known
-handles_knows lacks_memory reached known = known
+handles_knows (lacks_memory takes) reached known = known
 handles_knows is_malformed reached known = known
 handles_knows has_no_client reached known = known
 handles_knows is_too_large reached known = known
@@ -253,40 +253,66 @@ asked_own admin table client operation name fits e = go (may_ask admin client op
 pub others_are_refused : OthersAreRefused
 others_are_refused admin st next table table' client to operation answer name (turns fits turn) named not_own = absurd (differ (sym (asked_own admin table client operation name fits named) ∙ not_own))
 others_are_refused admin st next table table' client to operation answer name (refuses {refusal = refusal} is) named not_own = (refl, refl, refl, (refusal, refl))
-others_are_refused admin st next table table' client to operation answer name lacks_memory named not_own = (refl, refl, refl, (NoMemory, refl))
+others_are_refused admin st next table table' client to operation answer name (lacks_memory takes) named not_own = (refl, refl, refl, (NoMemory, refl))
 
 -- ---- what was given
 
 member_later : {xs : List Exchange} {x : Exchange} {client : ℕ} {name : Name} → WasGiven xs client name → WasGiven (x ∷ xs) client name
 member_later w = (w.0, w.1, there w.2, w.3, w.4, w.5)
 
-given_once : {admin : Option ℕ} {st next : State} {table table' : Table} {frame : Frame} {to : ℕ} {answer : Answer} → Handles admin st table frame to answer next table' → (client : ℕ) (name : Name) → client ≢ heir_of admin → owns table' client name ≡ true
-    → (owns table client name ≡ true) ⊎ ((operation : Operation) × (frame ≡ Asks client operation) × (to ≡ client) × (gives operation answer name ≡ true))
-given_once {table = table} (turns {client = asker} {operation = operation} {answer = answer} {next = next} fits turn) client name ne own =
+-- a frame of the client gave it the name, or a client that is gone left it to the heir
+abbrev GivenBy : Frame → ℕ → Answer → ℕ → Name → Type 0
+GivenBy frame to answer client name = (operation : Operation) × (frame ≡ Asks client operation) × (to ≡ client) × (gives operation answer name ≡ true)
+
+abbrev LeftBy : Option ℕ → Table → Frame → ℕ → Name → Type 0
+LeftBy admin table frame client name = (gone : ℕ) × (frame ≡ Leaves gone) × (client ≡ heir_of admin) × (owns table gone name ≡ true) × (is_session name ≡ false)
+
+given_once : {admin : Option ℕ} {st next : State} {table table' : Table} {frame : Frame} {to : ℕ} {answer : Answer} → Handles admin st table frame to answer next table' → (client : ℕ) (name : Name) → owns table' client name ≡ true
+    → (owns table client name ≡ true) ⊎ (GivenBy frame to answer client name ⊎ LeftBy admin table frame client name)
+given_once {admin = admin} {table = table} (turns {client = asker} {operation = operation} {answer = answer} {next = next} fits turn) client name own =
     go (after_cases (is_open next name) (owns table client name) (nat_eq asker client) (gives operation answer name) (sym (turn.noted client name) ∙ own)).1
   where
     go : (owns table client name ≡ true) ⊎ ((nat_eq asker client ≡ true) × (gives operation answer name ≡ true))
-        → (owns table client name ≡ true) ⊎ ((o : Operation) × (Asks asker operation ≡ Asks client o) × (asker ≡ client) × (gives o answer name ≡ true))
+        → (owns table client name ≡ true) ⊎ (GivenBy (Asks asker operation) asker answer client name ⊎ LeftBy admin table (Asks asker operation) client name)
     go (inl was) = inl was
-    go (inr g) = let e = same_number asker client g.0 in inr (operation, ap (λ (c : ℕ). Asks c operation) e, e, g.1)
-given_once {admin = admin} {table = table} (leaves {client = gone} ends) client name ne own =
+    go (inr g) = let e = same_number asker client g.0 in inr (inl (operation, ap (λ (c : ℕ). Asks c operation) e, e, g.1))
+given_once {admin = admin} {table = table} (leaves {client = gone} ends) client name own =
     elim (without_cases (owns table client name) (nat_eq gone client) (nat_eq (heir_of admin) client) (owns table gone name) (is_session name) (sym (ends.noted client name) ∙ own)) [
       | inl p ↦ inl p.0
-      | inr p ↦ absurd (ne (sym (same_number (heir_of admin) client p.0)))
+      | inr p ↦ inr (inr (gone, refl, sym (same_number (heir_of admin) client p.0), p.1, p.2))
     ]
-given_once (refuses is) client name ne own = inl own
-given_once lacks_memory client name ne own = inl own
-given_once is_malformed client name ne own = inl own
-given_once has_no_client client name ne own = inl own
-given_once is_too_large client name ne own = inl own
+given_once (refuses is) client name own = inl own
+given_once (lacks_memory takes) client name own = inl own
+given_once is_malformed client name own = inl own
+given_once has_no_client client name own = inl own
+given_once is_too_large client name own = inl own
+
+-- the same, with one frame more in front
+left_later : {admin : Option ℕ} {st mid : State} {table middle : Table} {x : Exchange} {more : List Exchange} {name : Name} → Handles admin st table x.frame x.to x.answer mid middle → WasLeft middle more name → WasLeft table (x ∷ more) name
+left_later {admin} {st} {mid} {table} {middle} {x} {more} {name} h w = elim w.5 [
+  | inr given ↦ (w.0, w.1, there w.2, w.3, w.4, inr (member_later given))
+  | inl now ↦ elim (given_once h w.0 name now) [
+    | inl was ↦ (w.0, w.1, there w.2, w.3, w.4, inl was)
+    | inr g ↦ elim g [
+      | inl by ↦ (w.0, w.1, there w.2, w.3, w.4, inr (x, by.0, here, by.1, by.2, by.3))
+      | inr by ↦ (by.0, x, here, by.1, by.4, inl by.3)
+    ]
+  ]
+]
 
 pub each_was_given : EachWasGiven
-each_was_given admin st next table table' [] client name h ne own = inl (subst (λ (t : Table). owns t client name ≡ true) h.1 own)
-each_was_given admin st next table table' (x ∷ more) client name h ne own = elim (each_was_given admin h.0 next h.1 table' more client name h.3 ne own) [
-  | inr later ↦ inr (member_later later)
-  | inl now ↦ elim (given_once h.2 client name ne now) [
+each_was_given admin st next table table' [] client name h own = inl (subst (λ (t : Table). owns t client name ≡ true) h.1 own)
+each_was_given admin st next table table' (x ∷ more) client name h own = elim (each_was_given admin h.0 next h.1 table' more client name h.3 own) [
+  | inr later ↦ elim later [
+    | inl given ↦ inr (inl (member_later given))
+    | inr left ↦ inr (inr (left.0, left_later h.2 left.1))
+  ]
+  | inl now ↦ elim (given_once h.2 client name now) [
     | inl was ↦ inl was
-    | inr g ↦ inr (x, g.0, here, g.1, g.2, g.3)
+    | inr g ↦ elim g [
+      | inl by ↦ inr (inl (x, by.0, here, by.1, by.2, by.3))
+      | inr by ↦ inr (inr (by.2, (by.0, x, here, by.1, by.4, inl by.3)))
+    ]
   ]
 ]
 
@@ -304,7 +330,7 @@ alone_once {admin} {st} {next} {table} {table'} reached known (leaves {client = 
   ends.noted client name ∙ stays_its (owns table client name) (nat_eq gone client) (nat_eq (heir_of admin) client) (owns table gone name) (is_session name) own (other_number gone client other),
 )
 alone_once {st = st} reached known (refuses is) client name other own = (stays_itself st name, own)
-alone_once {st = st} reached known lacks_memory client name other own = (stays_itself st name, own)
+alone_once {st = st} reached known (lacks_memory takes) client name other own = (stays_itself st name, own)
 alone_once {st = st} reached known is_malformed client name other own = (stays_itself st name, own)
 alone_once {st = st} reached known has_no_client client name other own = (stays_itself st name, own)
 alone_once {st = st} reached known is_too_large client name other own = (stays_itself st name, own)

@@ -1,5 +1,5 @@
 -- The bodies of frames that have a client.
-use Rattle.std.specs.Prelude.{◌≡◌, ◌⊎◌, ℕ, ◌<◌, List, [], ◌++◌, length}
+use Rattle.std.specs.Prelude.{◌≡◌, ℕ, ◌<◌, ◌^◌, List, [], ◌++◌, length}
 use Rattle.si_model.specs.Transactions.{Answer, Operation}
 use Rattle.request_codec.specs.Answers.{answer_body}
 use Rattle.request_codec.specs.Fields.{number}
@@ -8,14 +8,18 @@ use Rattle.ownership.specs.Turns.{Frame, Asks, Leaves, Malformed, NoClient, TooL
 use Rattle.ownership.specs.declared.frames.Frame.{Frame as Read}
 use Rattle.ownership.specs.declared.frames.Frame.TheVariants as reads
 
+-- the body is a client's number in four bytes, and these bytes
+abbrev pub IsOfClient : ℕ → List ℕ → List ℕ → Type 0
+IsOfClient client rest body = (client < 2 ^ 32) × (body ≡ number 4 client ++ rest)
+
 -- What a body says: four bytes of a client's number, and the body of an operation; or nothing more, and the client is
 -- gone.
 abbrev pub IsBodyOf : Frame → List ℕ → Type 0
 IsBodyOf (Asks client operation) body =
-    (rest : List ℕ) × (body ≡ number 4 client ++ rest) × IsOperation operation rest
-IsBodyOf (Leaves client) body = body ≡ number 4 client
+    (rest : List ℕ) × IsOfClient client rest body × IsOperation operation rest
+IsBodyOf (Leaves client) body = IsOfClient client [] body
 IsBodyOf (Malformed client) body =
-    (rest : List ℕ) × (body ≡ number 4 client ++ rest) × (0 < length rest) × IsNoOperation rest
+    (rest : List ℕ) × IsOfClient client rest body × (0 < length rest) × IsNoOperation rest
 IsBodyOf NoClient body = length body < 4
 IsBodyOf TooLarge body = ⊥
 

@@ -20,6 +20,12 @@ WasGiven xs client name =
     (x : Exchange) × (operation : Operation) × (x ∈ xs) × (x.frame ≡ Asks client operation)
     × (x.to ≡ client) × (gives operation x.answer name ≡ true)
 
+-- a client had the name, or was given it, and left it: that client is gone, and the name is no session's
+abbrev pub WasLeft : Table → List Exchange → Name → Type 0
+WasLeft table xs name =
+    (gone : ℕ) × (x : Exchange) × (x ∈ xs) × (x.frame ≡ Leaves gone) × (is_session name ≡ false)
+    × ((owns table gone name ≡ true) ⊎ WasGiven xs gone name)
+
 -- it is no frame of the client
 abbrev pub IsOfAnother : ℕ → Frame → Type 0
 IsOfAnother client (Asks other operation) = other ≢ client
@@ -42,14 +48,14 @@ OthersAreRefused =
     → name_of operation ≡ Some name → owns table client name ≡ false
     → (next ≡ st) × (table' ≡ table) × (to ≡ client) × IsRefused answer
 
--- Own: what is a client's was its before, or was given to it by an answer. The heir also has what was left to it.
+-- Own: what is a client's was its before, or was given to it by an answer. The heir also has what others left.
 abbrev pub EachWasGiven : Type 0
 EachWasGiven =
     (admin : Option ℕ) (st next : State) (table table' : Table) (xs : List Exchange)
     (client : ℕ) (name : Name)
-    → HandlesAll admin st table xs next table' → client ≢ heir_of admin
-    → owns table' client name ≡ true
-    → (owns table client name ≡ true) ⊎ WasGiven xs client name
+    → HandlesAll admin st table xs next table' → owns table' client name ≡ true
+    → (owns table client name ≡ true)
+    ⊎ (WasGiven xs client name ⊎ ((client ≡ heir_of admin) × WasLeft table xs name))
 
 -- Alone: nobody else's frames touch what is a client's. It stays as it was, and the client's.
 abbrev pub IsLeftAlone : Type 0

@@ -4,6 +4,8 @@ use Rattle.std.specs.FinMap.{get}
 use Rattle.si_model.specs.Machine.{State, Request, Reply}
 use Rattle.si_model.specs.Messages as asks
 use Rattle.si_model.specs.Transactions.{Operation, One, Commit, Read, Answer, Said, CommitDone, CommitConflict, ReadDone}
+use Rattle.ownership.specs.declared.names.Kind.{Kind}
+use Rattle.ownership.specs.declared.names.Kind.TheVariants as kinds
 use Rattle.ownership.specs.declared.names.Name.{Name}
 use Rattle.ownership.specs.declared.names.Name.TheVariants.{Session, Cleaner, Collector}
 
@@ -29,25 +31,64 @@ name_of (One request) = request_name request
 name_of (Commit start writes) = start_name start
 name_of (Read start cells stays_open) = start_name start
 
--- the name that a reply gives: three do
+-- ---- what answers give
+
+-- the kind of a name
+abbrev pub kind_of : Name → Kind
+kind_of (Session start) = kinds.Session
+kind_of (Cleaner number) = kinds.Cleaner
+kind_of (Collector number) = kinds.Collector
+
+-- the kind that a reply may give a name of: three requests begin something
+abbrev pub request_kind : Request → Option Kind
+request_kind asks.Begin = Some kinds.Session
+request_kind (asks.CleanBegin cell) = Some kinds.Cleaner
+request_kind asks.CollectBegin = Some kinds.Collector
+request_kind other = None
+
+-- a Read gives one if it begins a session and leaves it open
+abbrev pub read_kind : ℕ → Bool → Option Kind
+read_kind start stays_open = if nat_eq start 0 && stays_open then Some kinds.Session else None
+
+-- the kind that the answer to an operation may give a name of
+abbrev pub given_kind : Operation → Option Kind
+given_kind (One request) = request_kind request
+given_kind (Commit start writes) = None
+given_kind (Read start cells stays_open) = read_kind start stays_open
+
+-- the name in a reply: three have one
 abbrev pub reply_name : Reply → Option Name
 reply_name (asks.Begun start) = Some (Session start)
 reply_name (asks.Cleaning number start) = Some (Cleaner number)
 reply_name (asks.Collecting number floor) = Some (Collector number)
 reply_name other = None
 
--- a Read that begins a session and leaves it open
-abbrev pub leaves_open : Operation → Bool
-leaves_open (One request) = false
-leaves_open (Commit start writes) = false
-leaves_open (Read start cells stays_open) = nat_eq start 0 && stays_open
+-- the name that an answer tells
+abbrev pub told_name : Answer → Option Name
+told_name (Said reply) = reply_name reply
+told_name (CommitDone start stamp) = None
+told_name (CommitConflict start place) = None
+told_name (ReadDone start said) = Some (Session start)
 
--- the name that an answer gives, if it is or isn't the answer to such a Read
-abbrev pub answer_name : Bool → Answer → Option Name
-answer_name opened (Said reply) = reply_name reply
-answer_name opened (CommitDone start stamp) = None
-answer_name opened (CommitConflict place) = None
-answer_name opened (ReadDone start said) = if opened then Some (Session start) else None
+abbrev pub same_kind : Kind → Kind → Bool
+same_kind kinds.Session kinds.Session = true
+same_kind kinds.Cleaner kinds.Cleaner = true
+same_kind kinds.Collector kinds.Collector = true
+same_kind kind other = false
+
+-- it is this kind
+abbrev pub is_kind : Option Kind → Kind → Bool
+is_kind None kind = false
+is_kind (Some this) kind = same_kind this kind
+
+-- the name, if it is of this kind
+abbrev pub if_of_kind : Option Kind → Option Name → Option Name
+if_of_kind kind None = None
+if_of_kind kind (Some name) = if is_kind kind (kind_of name) then Some name else None
+
+-- the name that an answer gives: the one that it tells, if its operation may give one of this kind
+abbrev pub answer_name : Option Kind → Answer → Option Name
+answer_name kind answer = if_of_kind kind (told_name answer)
 
 abbrev pub same_name : Name → Name → Bool
 same_name (Session a) (Session b) = nat_eq a b
@@ -62,7 +103,7 @@ is_name (Some this) name = same_name this name
 
 -- the answer to the operation gives this name
 abbrev pub gives : Operation → Answer → Name → Bool
-gives operation answer name = is_name (answer_name (leaves_open operation) answer) name
+gives operation answer name = is_name (answer_name (given_kind operation) answer) name
 
 -- the machine has it
 abbrev pub is_open : State → Name → Bool

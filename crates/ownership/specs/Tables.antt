@@ -1,16 +1,18 @@
 -- Tables of owners: which client's each name is.
-use Rattle.std.specs.Prelude.{◌≡◌, ℕ, Bool, true, false, ◌&&◌, ◌||◌, not, List, [], ◌∷◌, Option, None, Some, nat_eq, nat_lt, nat_le, unwrap_or, vec_len, vec_capacity, ◌<◌, ◌+◌, if◌then◌else◌}
+use Rattle.std.specs.Prelude.{◌≡◌, ℕ, Bool, true, false, ◌&&◌, ◌||◌, not, List, [], ◌∷◌, Option, None, Some, nat_eq, nat_lt, nat_le, unwrap_or, vec_len, vec_capacity, ◌<◌, ◌+◌, if◌then◌else◌, ⊤}
 use Rattle.std.specs.List.{list_any, AllByRecursion}
 use Rattle.cell_key.specs.declared.refusals.Refusal.{Refusal}
 use Rattle.cell_key.specs.declared.refusals.Refusal.TheVariants.{BadRequest, TooManySessions, UnknownSession, UnknownCleaner, UnknownCollector}
 use Rattle.si_model.specs.Machine.{State, Request}
 use Rattle.si_model.specs.Messages as asks
 use Rattle.si_model.specs.Transactions.{Operation, One, Commit, Read, Answer}
-use Rattle.ownership.specs.Names.{name_of, is_name, gives, is_open, is_session, leaves_open}
+use Rattle.ownership.specs.Names.{name_of, is_name, given_kind, gives, is_open, is_session}
+use Rattle.ownership.specs.declared.names.Kind.{Kind}
+use Rattle.ownership.specs.declared.names.Kind.TheVariants as kinds
 use Rattle.ownership.specs.declared.names.Name.{Name}
 use Rattle.ownership.specs.declared.names.Name.TheVariants.{Session, Cleaner, Collector}
 use Rattle.ownership.specs.declared.holdings.Holding.{Holding}
-use Rattle.ownership.specs.Lists.{holds, held_by}
+use Rattle.ownership.specs.Lists.{IsInOrder, holds, held_by}
 use Rattle.ownership.specs.declared.holdings.Holdings.{Holdings}
 use Rattle.ownership.specs.declared.owners.Owners.{Owners}
 
@@ -29,15 +31,32 @@ table_of owners = record {
   collectors = owners.collectors.list.items;
 }
 
+-- nobody has anything
+abbrev pub nobodys : Table
+nobodys = record { sessions = []; cleaners = []; collectors = [] }
+
+-- each of its lists is in order, so that no name stands there twice
+pub record IsOrdered (table : Table) : Type 0 where
+  pub sessions : IsInOrder table.sessions
+  pub cleaners : IsInOrder table.cleaners
+  pub collectors : IsInOrder table.collectors
+
 -- a list has room for one more
 abbrev pub HasRoomIn : Holdings → Type 0
 HasRoomIn holdings = vec_len holdings.list < vec_capacity holdings.list
 
--- and so has each list of a table
-pub record HasRoom (owners : Owners) : Type 0 where
-  pub sessions : HasRoomIn owners.sessions
-  pub cleaners : HasRoomIn owners.cleaners
-  pub collectors : HasRoomIn owners.collectors
+-- there is room for one more name of this kind, if there is a kind
+abbrev pub HasRoom : Owners → Option Kind → Type 0
+HasRoom owners None = ⊤
+HasRoom owners (Some kinds.Session) = HasRoomIn owners.sessions
+HasRoom owners (Some kinds.Cleaner) = HasRoomIn owners.cleaners
+HasRoom owners (Some kinds.Collector) = HasRoomIn owners.collectors
+
+-- each list that had room has room
+pub record KeepsRoom (old new : Owners) : Type 0 where
+  pub sessions : HasRoomIn old.sessions → HasRoomIn new.sessions
+  pub cleaners : HasRoomIn old.cleaners → HasRoomIn new.cleaners
+  pub collectors : HasRoomIn old.collectors → HasRoomIn new.collectors
 
 -- how many names are a client's
 abbrev pub held_in : Table → ℕ → ℕ
@@ -88,18 +107,19 @@ most_cleaners_each = 64
 abbrev pub most_collectors_each : ℕ
 most_collectors_each = 4
 
+-- the client has as many as it may of this kind, if there is a kind
+abbrev pub has_most : Table → ℕ → Option Kind → Bool
+has_most table client None = false
+has_most table client (Some kinds.Session) =
+    nat_le most_sessions_each (held_by client table.sessions)
+has_most table client (Some kinds.Cleaner) =
+    nat_le most_cleaners_each (held_by client table.cleaners)
+has_most table client (Some kinds.Collector) =
+    nat_le most_collectors_each (held_by client table.collectors)
+
 -- the client has as many as it may, of what the operation would give
 abbrev pub is_full : Table → ℕ → Operation → Bool
-is_full table client (One asks.Begin) = nat_le most_sessions_each (held_by client table.sessions)
-is_full table client (One (asks.CleanBegin cell)) =
-    nat_le most_cleaners_each (held_by client table.cleaners)
-is_full table client (One asks.CollectBegin) =
-    nat_le most_collectors_each (held_by client table.collectors)
-is_full table client (One request) = false
-is_full table client (Commit start writes) = false
-is_full table client (Read start cells stays_open) =
-    leaves_open (Read start cells stays_open)
-    && nat_le most_sessions_each (held_by client table.sessions)
+is_full table client operation = has_most table client (given_kind operation)
 
 -- a name of nothing
 abbrev pub unknown : Name → Refusal

@@ -1,9 +1,9 @@
 //! The bodies of frames that have a client.
 
-ghost use Rattle.std.specs.Prelude.{◌≡◌, ◌<◌, ◌++◌, IfErr, IfNone, IfOk, IfSome, OnErr, length};
+ghost use Rattle.std.specs.Prelude.{◌≡◌, ◌<◌, ◌^◌, ◌++◌, IfErr, IfNone, IfOk, IfSome, OnErr, length};
 ghost use Rattle.request_codec.specs.Fields.{number};
 ghost use Rattle.request_codec.specs.Operations.{IsOperation, NamesCells, operation_of};
-ghost use Rattle.ownership.specs.Frames.{IsRead, IsUnread};
+ghost use Rattle.ownership.specs.Frames.{IsOfClient, IsRead, IsUnread};
 
 use byteorder::{BigEndian, ByteOrder};
 use request_codec::{Operation, decode_operation};
@@ -25,14 +25,15 @@ pub enum Frame<'a> {
 /// The number in four bytes.
 fn u32_of(bytes: &[u8]) -> u32
     requires { length bytes.now ≡ 4 }
-    ensures { bytes.now ≡ number 4 result }
+    ensures bytes { bytes.now ≡ number 4 result }
+    ensures fits { result < 2 ^ 32 }
 {
     BigEndian::read_u32(bytes)
 }
 
-/// The client's number that a body begins with, and what follows it.
-fn split_client(body: &[u8]) -> Option<(u32, &[u8])>
-    ensures some { IfSome result (λ p. body.now ≡ number 4 p.0 ++ p.1.now) }
+/// The client's number that a body begins with, and what follows it. `None` for fewer than four bytes.
+pub fn split_client(body: &[u8]) -> Option<(u32, &[u8])>
+    ensures some { IfSome result (λ p. IsOfClient p.0 p.1.now body.now) }
     ensures none { IfNone result (length body.now < 4) }
 {
     let (front, rest) = body.split_at_checked(4)?;

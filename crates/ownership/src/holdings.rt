@@ -1,6 +1,6 @@
 //! A sorted list of what clients have of one kind.
 
-ghost use Rattle.std.specs.Prelude.{◌≡◌, ◌≢◌, ◌≤◌, ◌<◌, ◌+◌, ◌&&◌, ◌||◌, not, ℕ, [], true, false, nat_eq, nat_le, length, take, drop, IfSome, IfNone, OnOk, vec_len, vec_capacity, slice_get};
+ghost use Rattle.std.specs.Prelude.{◌≡◌, ◌≢◌, ◌≤◌, ◌<◌, ◌&&◌, ◌||◌, not, ℕ, [], true, false, nat_eq, nat_le, IfSome, IfNone, OnOk, vec_len, vec_capacity};
 ghost use Rattle.ownership.specs.Lists.{IsInOrder, IsPlaceOf, held_by, holds, is_before, is_of};
 
 use std::alloc::{AllocError, Global};
@@ -20,6 +20,7 @@ pub struct Holdings {
 }
 
 /// Whether this comes before a number of a client.
+#[inline(always)]
 fn comes_before(holding: &Holding, client: u32, number: u64) -> bool
     ensures { result ≡ is_before client number holding.now }
 {
@@ -27,6 +28,7 @@ fn comes_before(holding: &Holding, client: u32, number: u64) -> bool
 }
 
 /// Whether this is a number of a client.
+#[inline(always)]
 fn is_number_of(holding: &Holding, client: u32, number: u64) -> bool
     ensures { result ≡ is_of client number holding.now }
 {
@@ -56,6 +58,7 @@ impl Holdings {
     }
 
     /// The place of a client's number.
+    #[inline(always)]
     fn place(&self, client: u32, number: u64) -> usize
         ensures { IsPlaceOf client number self.now.list.items result }
     {
@@ -64,6 +67,7 @@ impl Holdings {
     }
 
     /// Whether it is there, at its place.
+    #[inline(always)]
     fn is_at(&self, place: usize, client: u32, number: u64) -> bool
         requires { IsPlaceOf client number self.now.list.items place }
         ensures { result ≡ holds self.now.list.items client number }
@@ -75,6 +79,7 @@ impl Holdings {
     }
 
     /// Whether a number is this client's.
+    #[inline(always)]
     pub fn has(&self, client: u32, number: u64) -> bool
         ensures { result ≡ holds self.now.list.items client number }
     {
@@ -82,6 +87,7 @@ impl Holdings {
     }
 
     /// Takes room for one more.
+    #[inline(always)]
     pub fn reserve(&mut self) -> Result<(), AllocError>
         ensures items { self.new.list.items ≡ self.old.list.items }
         ensures room { OnOk result (vec_len self.new.list < vec_capacity self.new.list) }
@@ -121,7 +127,7 @@ impl Holdings {
         }
     }
 
-    /// A number of a client, if it has one: the least.
+    /// A number of a client, if it has one.
     pub fn first_of(&self, client: u32) -> Option<u64>
         ensures some { IfSome result (λ number. holds self.now.list.items client number ≡ true) }
         ensures none { IfNone result ((number : ℕ)

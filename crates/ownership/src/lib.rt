@@ -7,10 +7,10 @@ mod laws;
 mod names;
 mod owners;
 
-pub use frames::{Frame, decode_frame};
+pub use frames::{Frame, decode_frame, split_client};
 pub use holdings::Holdings;
 pub use laws::{
     each_was_given, is_gone, is_left_alone, others_are_refused, stays_known, touches_its_own,
 };
-pub use names::{Name, given, leaves_open, may_end, named};
+pub use names::{Kind, Name, given_kind, may_end, named};
 pub use owners::Owners;

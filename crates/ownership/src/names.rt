@@ -1,6 +1,6 @@
 //! The names of sessions, cleaners and collectors.
 
-ghost use Rattle.std.specs.Prelude.{◌≡◌};
+ghost use Rattle.std.specs.Prelude.{◌≡◌, IfSome, Some};
 ghost use Rattle.request_codec.specs.Answers.{answer_of};
 ghost use Rattle.request_codec.specs.Operations.{operation_of};
 ghost use Rattle.request_codec.specs.Replies.{replied};
@@ -21,7 +21,29 @@ pub enum Name {
     Collector(u64),
 }
 
+/// The kinds of what has a name.
+#[derive(Clone, Copy, Debug, PartialEq, Eq)]
+pub enum Kind {
+    Session,
+    Cleaner,
+    Collector,
+}
+
+/// Whether a name is of this kind.
+#[inline(always)]
+fn is_of(kind: Kind, name: Name) -> bool
+    ensures { result ≡ names.same_kind kind (names.kind_of name) }
+{
+    match (kind, name) {
+        (Kind::Session, Name::Session(_)) => true,
+        (Kind::Cleaner, Name::Cleaner(_)) => true,
+        (Kind::Collector, Name::Collector(_)) => true,
+        _ => false,
+    }
+}
+
 /// What a request names.
+#[inline(always)]
 fn named_by_request(request: &Request<'_>) -> Option<Name>
     ensures { result ≡ names.request_name (asked request.now) }
 {
@@ -39,6 +61,7 @@ fn named_by_request(request: &Request<'_>) -> Option<Name>
 }
 
 /// The session of a start, unless it is 0.
+#[inline(always)]
 fn named_by_start(start: Stamp) -> Option<Name>
     ensures { result ≡ names.start_name start }
 {
@@ -49,6 +72,7 @@ fn named_by_start(start: Stamp) -> Option<Name>
 }
 
 /// What an operation names, if anything.
+#[inline(always)]
 pub fn named(operation: &Operation<'_>) -> Option<Name>
     ensures { result ≡ names.name_of (operation_of operation.now) }
 {
@@ -58,21 +82,48 @@ pub fn named(operation: &Operation<'_>) -> Option<Name>
     }
 }
 
-/// Whether an operation is a Read that begins a session and leaves it open.
-pub fn leaves_open(operation: &Operation<'_>) -> bool
-    ensures { result ≡ names.leaves_open (operation_of operation.now) }
+/// The kind of name that the reply to a request may give.
+#[inline(always)]
+fn kind_of_request(request: &Request<'_>) -> Option<Kind>
+    ensures { result ≡ names.request_kind (asked request.now) }
+{
+    match request {
+        Request::Begin => Some(Kind::Session),
+        Request::CleanBegin { .. } => Some(Kind::Cleaner),
+        Request::CollectBegin => Some(Kind::Collector),
+        _ => None,
+    }
+}
+
+/// A session, if a Read begins one and leaves it open.
+#[inline(always)]
+fn kind_of_read(start: Stamp, stays_open: bool) -> Option<Kind>
+    ensures { result ≡ names.read_kind start stays_open }
+{
+    if start == 0 && stays_open {
+        return Some(Kind::Session);
+    }
+    None
+}
+
+/// The kind of name that the answer to an operation may give, if any.
+#[inline(always)]
+pub fn given_kind(operation: &Operation<'_>) -> Option<Kind>
+    ensures { result ≡ names.given_kind (operation_of operation.now) }
 {
     match operation {
+        Operation::One(request) => kind_of_request(request),
+        Operation::Commit { .. } => None,
         Operation::Read {
             start,
             stays_open,
             ..
-        } => *start == 0 && *stays_open,
-        _ => false,
+        } => kind_of_read(*start, *stays_open),
     }
 }
 
 /// Whether an operation may end what it names. One that reads or writes in a session doesn't.
+#[inline(always)]
 pub fn may_end(operation: &Operation<'_>) -> bool
     ensures { result ≡ effects.may_end (operation_of operation.now) }
 {
@@ -87,8 +138,9 @@ pub fn may_end(operation: &Operation<'_>) -> bool
     }
 }
 
-/// The name that a reply gives.
-fn given_by_reply(reply: &Reply) -> Option<Name>
+/// The name that a reply tells.
+#[inline(always)]
+fn told_by_reply(reply: &Reply) -> Option<Name>
     ensures { result ≡ names.reply_name (replied reply.now) }
 {
     match reply {
@@ -99,13 +151,28 @@ fn given_by_reply(reply: &Reply) -> Option<Name>
     }
 }
 
-/// The name that an answer gives, if any. `opened`: it answers a Read that begins a session and leaves it open.
-pub fn given(opened: bool, answer: &Answer) -> Option<Name>
-    ensures { result ≡ names.answer_name opened (answer_of answer.now) }
+/// The name that an answer tells: the session of a Read, or the name in a reply.
+#[inline(always)]
+fn told(answer: &Answer) -> Option<Name>
+    ensures { result ≡ names.told_name (answer_of answer.now) }
 {
     match answer {
-        Answer::Said(reply) => given_by_reply(reply),
-        Answer::Read(reply) if opened => Some(Name::Session(reply.start)),
-        _ => None,
+        Answer::Said(reply) => told_by_reply(reply),
+        Answer::Read(reply) => Some(Name::Session(reply.start)),
+        Answer::Commit(_) => None,
     }
+}
+
+/// The name that an answer gives, if any: one of the kind that its operation may give.
+#[inline(always)]
+pub(crate) fn given(kind: Option<Kind>, answer: &Answer) -> Option<Name>
+    ensures name { result ≡ names.answer_name kind (answer_of answer.now) }
+    ensures kind { IfSome result (λ name. kind ≡ Some (names.kind_of name)) }
+{
+    let kind = kind?;
+    let name = told(answer)?;
+    if !is_of(kind, name) {
+        return None;
+    }
+    Some(name)
 }

@@ -1,18 +1,17 @@
 //! The owners of what is open.
 
-ghost use Rattle.std.specs.Prelude.{◌≡◌, ◌≤◌, ◌<◌, ◌&&◌, ◌||◌, not, ℕ, true, false, nat_eq, IfSome, IfNone, OnOk, Some, vec_len, vec_capacity};
+ghost use Rattle.std.specs.Prelude.{◌≡◌, ◌<◌, ◌&&◌, ◌||◌, not, ℕ, true, false, nat_eq, is_some, IfSome, IfNone, OnErr, OnOk, Some};
+ghost use Rattle.request_codec.specs.Answers.{answer_of};
 ghost use Rattle.request_codec.specs.Operations.{operation_of};
-ghost use Rattle.request_codec.specs.Requests.{asked};
-ghost use Rattle.si_model.specs.Transactions.{One};
 ghost use Rattle.ownership.specs.Names as names;
 ghost use Rattle.ownership.specs.Tables as tables;
-ghost use Rattle.ownership.specs.Tables.{owned_without, owns, table_of};
+ghost use Rattle.ownership.specs.Tables.{owns, table_of};
 ghost use Rattle.ownership.specs.declared.names.Name.{Name as NameOf};
 
 use crate::holdings::Holdings;
-use crate::names::{Name, leaves_open, named};
+use crate::names::{Kind, Name, given, given_kind, named};
 use cell_key::{Refusal, Stamp};
-use request_codec::{Operation, Request};
+use request_codec::{Answer, Operation, Request};
 use std::alloc::{AllocError, Global};
 
 /// The most sessions of a client that are open.
@@ -33,6 +32,7 @@ pub struct Owners {
 }
 
 /// Whether only the administrator may ask this.
+#[inline(always)]
 fn is_upkeep(operation: &Operation<'_>) -> bool
     ensures { result ≡ tables.is_upkeep (operation_of operation.now) }
 {
@@ -53,6 +53,7 @@ fn is_upkeep(operation: &Operation<'_>) -> bool
 }
 
 /// Whether a client may ask this.
+#[inline(always)]
 fn may_ask(admin: Option<u32>, client: u32, operation: &Operation<'_>) -> bool
     ensures { result ≡ tables.may_ask admin client (operation_of operation.now) }
 {
@@ -76,7 +77,8 @@ fn unknown(name: Name) -> Refusal
 impl Owners {
     /// Nothing is open.
     pub fn new(alloc: Global) -> Owners
-        ensures { (client : ℕ) (name : NameOf) → owns (table_of result) client name ≡ false }
+        ensures none { (client : ℕ) (name : NameOf) → owns (table_of result) client name ≡ false }
+        ensures empty { table_of result ≡ tables.nobodys }
     {
         Owners {
             sessions: Holdings::new(alloc),
@@ -86,6 +88,7 @@ impl Owners {
     }
 
     /// Whether a name is this client's.
+    #[inline(always)]
     pub fn has(&self, client: u32, name: Name) -> bool
         ensures { result ≡ owns (table_of self.now) client name }
     {
@@ -96,32 +99,21 @@ impl Owners {
         }
     }
 
-    /// Whether a client has as many as it may of what a request gives.
-    fn is_full_for_request(&self, client: u32, request: &Request<'_>) -> bool
-        ensures { result ≡ tables.is_full (table_of self.now) client (One (asked request.now)) }
+    /// Whether a client has as many as it may of this kind, if there is a kind.
+    #[inline(always)]
+    fn has_most(&self, client: u32, kind: Option<Kind>) -> bool
+        ensures { result ≡ tables.has_most (table_of self.now) client kind }
     {
-        match request {
-            Request::Begin => self.sessions.has_as_many(client, MOST_SESSIONS),
-            Request::CleanBegin { .. } => self.cleaners.has_as_many(client, MOST_CLEANERS),
-            Request::CollectBegin => self.collectors.has_as_many(client, MOST_COLLECTORS),
-            _ => false,
-        }
-    }
-
-    /// Whether a client has as many as it may of what an operation would give.
-    fn is_full_for(&self, client: u32, operation: &Operation<'_>) -> bool
-        ensures { result ≡ tables.is_full (table_of self.now) client (operation_of operation.now) }
-    {
-        match operation {
-            Operation::One(request) => self.is_full_for_request(client, request),
-            Operation::Commit { .. } => false,
-            Operation::Read { .. } => {
-                leaves_open(operation) && self.sessions.has_as_many(client, MOST_SESSIONS)
-            }
+        match kind {
+            Some(Kind::Session) => self.sessions.has_as_many(client, MOST_SESSIONS),
+            Some(Kind::Cleaner) => self.cleaners.has_as_many(client, MOST_CLEANERS),
+            Some(Kind::Collector) => self.collectors.has_as_many(client, MOST_COLLECTORS),
+            None => false,
         }
     }
 
     /// The refusal of a name that isn't the client's.
+    #[inline(always)]
     fn name_refusal(&self, client: u32, name: Option<Name>) -> Option<Refusal>
         ensures { result ≡ tables.name_refusal (table_of self.now) client name }
     {
@@ -135,6 +127,7 @@ impl Owners {
     /// The refusal of a client's operation, if it is refused without the machine: `BadRequest` for what only the
     /// administrator may ask, `TooManySessions` if the client has as many as it may of what the operation would give,
     /// and `UnknownSession`, `UnknownCleaner` or `UnknownCollector` for a name that isn't the client's.
+    #[inline(always)]
     pub fn refusal_for(
         &self,
         admin: Option<u32>,
@@ -147,25 +140,30 @@ impl Owners {
         if !may_ask(admin, client, operation) {
             return Some(Refusal::BadRequest);
         }
-        if self.is_full_for(client, operation) {
+        if self.has_most(client, given_kind(operation)) {
             return Some(Refusal::TooManySessions);
         }
         self.name_refusal(client, named(operation))
     }
 
-    /// Takes room for one more name of each kind.
-    pub fn reserve(&mut self) -> Result<(), AllocError>
+    /// Takes room for one more name of this kind, if there is a kind.
+    #[inline(always)]
+    pub fn reserve(&mut self, kind: Option<Kind>) -> Result<(), AllocError>
         ensures same { table_of self.new ≡ table_of self.old }
-        ensures room { OnOk result (tables.HasRoom self.new) }
+        ensures room { OnOk result (tables.HasRoom self.new kind) }
+        ensures needed { OnErr result (is_some kind ≡ true) }
     {
-        self.sessions.reserve()?;
-        self.cleaners.reserve()?;
-        self.collectors.reserve()
+        match kind {
+            Some(Kind::Session) => self.sessions.reserve(),
+            Some(Kind::Cleaner) => self.cleaners.reserve(),
+            Some(Kind::Collector) => self.collectors.reserve(),
+            None => Ok(()),
+        }
     }
 
     /// Notes that a name was given to a client. There is room for it.
-    pub fn insert(&mut self, client: u32, name: Name)
-        requires room { tables.HasRoom self.old }
+    fn insert(&mut self, client: u32, name: Name)
+        requires room { tables.HasRoom self.old (Some (names.kind_of name)) }
         ensures { (c : ℕ) (n : NameOf) → owns (table_of self.new) c n
             ≡ (owns (table_of self.old) c n || (nat_eq client c && names.same_name name n)) }
     {
@@ -180,7 +178,7 @@ impl Owners {
     pub fn remove(&mut self, client: u32, name: Name)
         ensures held { (c : ℕ) (n : NameOf) → owns (table_of self.new) c n
             ≡ (owns (table_of self.old) c n && not (nat_eq client c && names.same_name name n)) }
-        ensures room { tables.HasRoom self.old → tables.HasRoom self.new }
+        ensures room { tables.KeepsRoom self.old self.new }
         ensures fewer { owns (table_of self.old) client name ≡ true
             → tables.held_in (table_of self.new) client
             < tables.held_in (table_of self.old) client }
@@ -192,17 +190,20 @@ impl Owners {
         }
     }
 
-    /// Notes what an answer to a client closed and gave. There is room for what it gave.
-    pub fn note(&mut self, client: u32, closed: Option<Name>, given: Option<Name>)
-        requires room { tables.HasRoom self.old }
+    /// Notes what was closed, and what an answer to a client gave: a name of this kind, if there is a kind. There is
+    /// room for it.
+    #[inline(always)]
+    pub fn note(&mut self, client: u32, closed: Option<Name>, kind: Option<Kind>, answer: &Answer)
+        requires room { tables.HasRoom self.old kind }
         ensures { (c : ℕ) (n : NameOf) → owns (table_of self.new) c n
             ≡ ((owns (table_of self.old) c n && not (nat_eq client c && names.is_name closed n))
-            || (nat_eq client c && names.is_name given n)) }
+            || (nat_eq client c
+            && names.is_name (names.answer_name kind (answer_of answer.now)) n)) }
     {
         if let Some(name) = closed {
             self.remove(client, name);
         }
-        if let Some(name) = given {
+        if let Some(name) = given(kind, answer) {
             self.insert(client, name);
         }
     }

@@ -73,7 +73,7 @@ fn copy_if(alloc: Global, from: &mut MemFiles, to: &mut MemFiles, goes: bool, na
         return false;
     }
     match read_whole(alloc, from, name) {
-        Ok(Some(bytes)) => to.put_owned(name, bytes).is_ok(),
+        Ok(Some(bytes)) => to.put(name, &bytes).is_ok(),
         Ok(None) => to.remove(name).is_ok(),
         Err(_) => false,
     }
@@ -148,6 +148,29 @@ impl<V: Choice> CachedFiles<V> {
         Err(FileFault::Device)
     }
 
+    /// Makes or replaces a file, by the call's fate.
+    fn place(&mut self, name: u64, bytes: &[u8]) -> Result<(), FileFault>
+        ensures ok { OnOk result (meant_files V.meant.of_file self.new
+            ≡ with_file name bytes.now (meant_files V.meant.of_file self.old)) }
+        ensures others { KeepsOthers name
+            (meant_files V.meant.of_file self.old) (meant_files V.meant.of_file self.new) }
+        ensures whole { OnErr result (MayHaveFile name bytes.now
+            (meant_files V.meant.of_file self.old) (meant_files V.meant.of_file self.new)) }
+        ensures memory { IsErrOf result FileFault.Memory → self.new ≡ self.old }
+        ensures cause { HasFaultCause self.old.faults self.new.faults result }
+    {
+        let _ = self.doubts.insert(name)?;
+        let fate = self.fates.next();
+        let is_read = put_if(&mut self.read, fate.is_read(), name, bytes);
+        let lasts = put_if(&mut self.lasting, fate.lasts(), name, bytes);
+        if fate.is_done(is_read, lasts) {
+            let _ = self.doubts.remove(&name);
+            return Ok(());
+        }
+        self.faults = self.faults.saturating_add(1);
+        Err(FileFault::Device)
+    }
+
     /// The files after a loss of power: what lasts is read. `None` without memory.
     pub fn without_power(self) -> Option<CachedFiles<V>>
         ensures { IfSome result (λ files. (lasts : ℕ → Bool)
@@ -177,25 +200,43 @@ impl<V: Choice> CachedFiles<V> {
     }
 }
 
+/// A file that is being written: its name, and its bytes so far.
+#[derive(Drop)]
+pub struct CachedWriting {
+    name: u64,
+    bytes: Vec<u8>,
+}
+
 impl<V: Choice> Files for CachedFiles<V> {
+    type Writing = CachedWriting;
+
+    ghost writes_to = { λ writing. writing.name };
+
+    ghost has = { λ writing bytes. writing.bytes.items ≡ bytes };
+
     ghost contents = { λ files. meant_files V.meant.of_file files };
 
     ghost faults = { λ files. files.faults };
 
     ghost replaces = { ⊤ };
 
-    fn put(&mut self, name: u64, bytes: &[u8]) -> Result<(), FileFault> {
-        let _ = self.doubts.insert(name)?;
-        let fate = self.fates.next();
-        let is_read = put_if(&mut self.read, fate.is_read(), name, bytes);
-        let lasts = put_if(&mut self.lasting, fate.lasts(), name, bytes);
-        if fate.is_done(is_read, lasts) {
-            let _ = self.doubts.remove(&name);
-            return Ok(());
-        }
-        self.faults = self.faults.saturating_add(1);
-        Err(FileFault::Device)
+    fn begin(&mut self, name: u64) -> Result<CachedWriting, FileFault> {
+        Ok(CachedWriting {
+            name,
+            bytes: Vec::new(self.alloc),
+        })
     }
+
+    fn push(&mut self, writing: &mut CachedWriting, bytes: &[u8]) -> Result<(), FileFault> {
+        writing.bytes.extend_from_slice(bytes)?;
+        Ok(())
+    }
+
+    fn finish(&mut self, writing: CachedWriting) -> Result<(), FileFault> {
+        self.place(writing.name, &writing.bytes)
+    }
+
+    fn give_up(&mut self, _writing: CachedWriting) {}
 
     fn size(&mut self, name: u64) -> Result<Option<u64>, FileFault> {
         if !self.fates.next().is_good() || self.doubts.contains(&name) {

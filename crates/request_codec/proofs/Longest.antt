@@ -3,7 +3,7 @@ use Rattle.std.proofs.Common.{◌≡◌, ℕ, ◌+◌, ◌≤◌, List, ◌++◌
 use Rattle.std.specs.Int.{to_be_bytes, w32}
 use Rattle.si_model.specs.Messages.{Reply, Answered, Cleaning, Collecting, Blocked, RawFound, Scanned, Begun, Pending, Held, Conflict, Drawn, Committed, Finished, RolledForward, SplitOff, Swept}
 use Rattle.request_codec.specs.Fields.{number, field, cell_fields}
-use Rattle.request_codec.specs.Replies.{reply_body, HoldsWithinLimits}
+use Rattle.request_codec.specs.Replies.{reply_body, HoldsWithinLimits, ReplyBytesFit}
 use Rattle.request_codec.specs.Stream.{frame, longest_reply}
 use Rattle.request_codec.specs.Scans.{reach_fields, items_fields}
 use Rattle.request_codec.proofs.Scans.{few_reach, length-items}
@@ -32,7 +32,7 @@ short_body (Collecting m n) p = omega (arith, length-two 8 8 m n)
 short_body (Blocked cell n) p =
     omega (arith, p.0.few, p.1.few, length-append (cell_fields cell) (number 8 n), length-cell cell, length-number 8 n)
 short_body (Scanned items reach) p =
-    let few = p.few in
+    let few = p.bytes in
     omega (
       arith,
       few,
@@ -47,6 +47,15 @@ short_body (Swept n) p = omega (arith, length-number 8 n)
 short_body (RawFound None) p = omega arith
 short_body (RawFound (Some found)) p = omega (arith, length-append (number 8 found.0) (field found.1), length-number 8 found.0, length-field found.1)
 short_body other p = omega arith
+
+pub reply_fits : (reply : Reply) → HoldsWithinLimits reply → ReplyBytesFit reply
+reply_fits (Answered (Some value)) p = omega (arith, p)
+reply_fits (Scanned items reach) p = p
+reply_fits (Blocked cell start) p = p
+reply_fits (RawFound (Some found)) p = omega (arith, p)
+reply_fits (Answered None) p = tt
+reply_fits (RawFound None) p = tt
+reply_fits other p = tt
 
 pub raw_frame : (stamp : ℕ) (value : List ℕ) → length value ≡ 65536 → length (frame (reply_body (RawFound (Some (stamp, value))))) ≡ longest_reply
 raw_frame stamp value size = omega (

@@ -3,12 +3,13 @@ use Rattle.std.proofs.Common.{◌≡◌, ◌≢◌, ℕ, ◌+◌, ◌*◌, ◌<�
 use Rattle.std.specs.List.{AllByRecursion, flat_map}
 use Rattle.si_model.specs.Messages.{Item, Reply, Begun}
 use Rattle.si_model.specs.Transactions.{Answer, Said, CommitDone, CommitConflict, ReadDone, most_read, most_told, told_lengths}
-use Rattle.request_codec.specs.Answers.{answer_body, told_fields, longest_answer, FitsRead, ToldFits, ToldStartFits, AreTold, IsAnswerBody, AnswerNeedsMemory, HoldsAnswerWithinLimits}
+use Rattle.si_model.specs.AnswerLimits.{IsInReadLimits}
+use Rattle.request_codec.specs.Answers.{answer_body, told_fields, longest_answer, AnswerBytesFit, ToldFits, ToldStartFits, AreTold, IsAnswerBody, AnswerNeedsMemory, HoldsAnswerWithinLimits}
 use Rattle.request_codec.specs.Fields.{number}
 use Rattle.request_codec.specs.Replies.{reply_body, IsReply, NeedsMemory}
 use Rattle.request_codec.specs.Stream.{frame}
 use Rattle.request_codec.proofs.Fields.{same_number, past_number, first, second, length-number}
-use Rattle.request_codec.proofs.Longest.{length-frame, short_body}
+use Rattle.request_codec.proofs.Longest.{length-frame, reply_fits, short_body}
 use Rattle.request_codec.proofs.OneReply.{one_reply}
 use Rattle.request_codec.proofs.OneRequest.{lone_number}
 use Rattle.request_codec.proofs.Parts.{same_parts}
@@ -34,7 +35,7 @@ reply_needs body needs = (Said needs.0, reply_is needs.0 body needs.1, needs.2)
 pub no_answer : (body fields : List ℕ) (tag : ℕ) → body ≡ tag ∷ fields → tag ≢ 0xB2 → tag ≢ 0xB3 → ((r : Reply) → IsReply r body → ⊥) → (answer : Answer) → IsAnswerBody answer body → ⊥
 no_answer body fields tag front no_commit no_read none (Said r) is = none r (is_reply r body is)
 no_answer body fields tag front no_commit no_read none (CommitDone start stamp) is = no_commit (ap first (sym front ∙ is.whole))
-no_answer body fields tag front no_commit no_read none (CommitConflict place) is = no_commit (ap first (sym front ∙ is.whole))
+no_answer body fields tag front no_commit no_read none (CommitConflict start place) is = no_commit (ap first (sym front ∙ is.whole))
 no_answer body fields tag front no_commit no_read none (ReadDone start said) is = no_read (ap first (sym front ∙ is.whole))
 
 -- ---- the answer of each number, and of each tag
@@ -49,18 +50,20 @@ pub record AsDone (a : Answer) (f : List ℕ) : Type 0 where
 
 pub done_only : (a : Answer) (f : List ℕ) → IsAnswerBody a (0xB2 ∷ 0x01 ∷ f) → AsDone a f
 done_only (CommitDone start stamp) f p = record { start = start; stamp = stamp; start_fits = p.numbers.0; stamp_fits = p.numbers.1; is = refl; fields = ap (drop 2) p.whole }
-done_only (CommitConflict place) f p = let e = ap second p.whole in absurd (omega (arith, e))
+done_only (CommitConflict start place) f p = let e = ap second p.whole in absurd (omega (arith, e))
 done_only (ReadDone start said) f p = let e = ap first p.whole in absurd (omega (arith, e))
 done_only (Said r) f p = absurd (reply_unlike r 0xB2 (omega arith) (omega arith) (sym (ap first p.whole)))
 
 pub record AsConflict (a : Answer) (f : List ℕ) : Type 0 where
+  pub start : ℕ
   pub place : ℕ
-  pub fits : place < 2 ^ 16
-  pub is : a ≡ CommitConflict place
-  pub fields : f ≡ number 2 place
+  pub start_fits : start < 2 ^ 64
+  pub place_fits : place < 2 ^ 16
+  pub is : a ≡ CommitConflict start place
+  pub fields : f ≡ number 8 start ++ number 2 place
 
 pub conflict_only : (a : Answer) (f : List ℕ) → IsAnswerBody a (0xB2 ∷ 0x02 ∷ f) → AsConflict a f
-conflict_only (CommitConflict place) f p = record { place = place; fits = p.numbers; is = refl; fields = ap (drop 2) p.whole }
+conflict_only (CommitConflict start place) f p = record { start = start; place = place; start_fits = p.numbers.0; place_fits = p.numbers.1; is = refl; fields = ap (drop 2) p.whole }
 conflict_only (CommitDone start stamp) f p = let e = ap second p.whole in absurd (omega (arith, e))
 conflict_only (ReadDone start said) f p = let e = ap first p.whole in absurd (omega (arith, e))
 conflict_only (Said r) f p = absurd (reply_unlike r 0xB2 (omega arith) (omega arith) (sym (ap first p.whole)))
@@ -68,13 +71,13 @@ conflict_only (Said r) f p = absurd (reply_unlike r 0xB2 (omega arith) (omega ar
 -- a Commit's answer has one of two tags
 pub no_commit : (a : Answer) (tag : ℕ) (f : List ℕ) → tag ≢ 1 → tag ≢ 2 → IsAnswerBody a (0xB2 ∷ tag ∷ f) → ⊥
 no_commit (CommitDone start stamp) tag f no_done no_conflict p = no_done (ap second p.whole)
-no_commit (CommitConflict place) tag f no_done no_conflict p = no_conflict (ap second p.whole)
+no_commit (CommitConflict start place) tag f no_done no_conflict p = no_conflict (ap second p.whole)
 no_commit (ReadDone start said) tag f no_done no_conflict p = let e = ap first p.whole in omega (arith, e)
 no_commit (Said r) tag f no_done no_conflict p = reply_unlike r 0xB2 (omega arith) (omega arith) (sym (ap first p.whole))
 
 pub no_bare : (a : Answer) (f : List ℕ) → length f ≡ 0 → IsAnswerBody a (0xB2 ∷ f) → ⊥
 no_bare (CommitDone start stamp) f none p = let e = ap length p.whole in omega (arith, e, none)
-no_bare (CommitConflict place) f none p = let e = ap length p.whole in omega (arith, e, none)
+no_bare (CommitConflict start place) f none p = let e = ap length p.whole in omega (arith, e, none)
 no_bare (ReadDone start said) f none p = let e = ap first p.whole in omega (arith, e)
 no_bare (Said r) f none p = reply_unlike r 0xB2 (omega arith) (omega arith) (sym (ap first p.whole))
 
@@ -91,7 +94,7 @@ pub record AsReads (a : Answer) (f : List ℕ) : Type 0 where
 pub reads_only : (a : Answer) (f : List ℕ) → IsAnswerBody a (0xB3 ∷ f) → AsReads a f
 reads_only (ReadDone start said) f p = record { start = start; said = said; fits = p.numbers.0; starts = p.numbers.1; few = p.bytes.0; short = p.bytes.1; is = refl; fields = ap (drop 1) p.whole }
 reads_only (CommitDone start stamp) f p = let e = ap first p.whole in absurd (omega (arith, e))
-reads_only (CommitConflict place) f p = let e = ap first p.whole in absurd (omega (arith, e))
+reads_only (CommitConflict start place) f p = let e = ap first p.whole in absurd (omega (arith, e))
 reads_only (Said r) f p = absurd (reply_unlike r 0xB3 (omega arith) (omega arith) (sym (ap first p.whole)))
 
 -- ---- by their fields
@@ -120,7 +123,14 @@ same_done start stamp b start_fits stamp_fits g =
     let t = lone_number stamp g.stamp stamp_fits g.stamp_fits (past_number 8 start g.start (number 8 stamp) (number 8 g.stamp) g.fields) in
     ap (λ n. CommitDone n stamp) s ∙ ap (λ n. CommitDone g.start n) t ∙ sym g.is
 
-same_reads : (start : ℕ) (said : List (Option Item)) (b : Answer) → start < 2 ^ 64 → AllByRecursion ToldStartFits said → FitsRead said → AsReads b (number 8 start ++ (number 4 (length said) ++ flat_map told_fields said)) → ReadDone start said ≡ b
+same_conflict : (start place : ℕ) (b : Answer) → start < 2 ^ 64 → place < 2 ^ 16 → AsConflict b (number 8 start ++ number 2 place) → CommitConflict start place ≡ b
+same_conflict start place b start_fits place_fits g =
+    let s = same_number 8 start g.start (number 2 place) (number 2 g.place) start_fits g.start_fits g.fields in
+    let rest = past_number 8 start g.start (number 2 place) (number 2 g.place) g.fields in
+    let t = same_number 2 place g.place [] [] place_fits g.place_fits (ap (λ (t : List ℕ). t ++ []) rest) in
+    ap (λ n. CommitConflict n place) s ∙ ap (λ n. CommitConflict g.start n) t ∙ sym g.is
+
+same_reads : (start : ℕ) (said : List (Option Item)) (b : Answer) → start < 2 ^ 64 → AllByRecursion ToldStartFits said → IsInReadLimits said → AsReads b (number 8 start ++ (number 4 (length said) ++ flat_map told_fields said)) → ReadDone start said ≡ b
 same_reads start said b fits starts limits g =
     let list = flat_map told_fields said in
     let other = flat_map told_fields g.said in
@@ -137,14 +147,13 @@ same_reads start said b fits starts limits g =
 
 pub one_answer : (a b : Answer) (body : List ℕ) → IsAnswerBody a body → IsAnswerBody b body → a ≡ b
 one_answer (CommitDone start stamp) b body p q = same_done start stamp b p.numbers.0 p.numbers.1 (done_only b (number 8 start ++ number 8 stamp) (subst (IsAnswerBody b) p.whole q))
-one_answer (CommitConflict place) b body p q =
-    let g = conflict_only b (number 2 place) (subst (IsAnswerBody b) p.whole q) in
-    ap (λ n. CommitConflict n) (same_number 2 place g.place [] [] p.numbers g.fits (ap (λ (t : List ℕ). t ++ []) g.fields)) ∙ sym g.is
+one_answer (CommitConflict start place) b body p q =
+    same_conflict start place b p.numbers.0 p.numbers.1 (conflict_only b (number 8 start ++ number 2 place) (subst (IsAnswerBody b) p.whole q))
 one_answer (ReadDone start said) b body p q =
     same_reads start said b p.numbers.0 p.numbers.1 p.bytes (reads_only b (number 8 start ++ (number 4 (length said) ++ flat_map told_fields said)) (subst (IsAnswerBody b) p.whole q))
 one_answer (Said r) (Said s) body p q = ap (λ x. Said x) (one_reply r s body (is_reply r body p) (is_reply s body q))
 one_answer (Said r) (CommitDone start stamp) body p q = absurd (reply_unlike r 0xB2 (omega arith) (omega arith) (ap first (sym p.whole ∙ q.whole)))
-one_answer (Said r) (CommitConflict place) body p q = absurd (reply_unlike r 0xB2 (omega arith) (omega arith) (ap first (sym p.whole ∙ q.whole)))
+one_answer (Said r) (CommitConflict start place) body p q = absurd (reply_unlike r 0xB2 (omega arith) (omega arith) (ap first (sym p.whole ∙ q.whole)))
 one_answer (Said r) (ReadDone start said) body p q = absurd (reply_unlike r 0xB3 (omega arith) (omega arith) (ap first (sym p.whole ∙ q.whole)))
 
 -- ---- lengths
@@ -159,11 +168,18 @@ length-reads start said = omega (
   length-all_told said,
 )
 
+pub answer_fits : (answer : Answer) → HoldsAnswerWithinLimits answer → AnswerBytesFit answer
+answer_fits (Said r) p = reply_fits r p
+answer_fits (CommitDone start stamp) p = tt
+answer_fits (CommitConflict start place) p = tt
+answer_fits (ReadDone start said) p = p
+
 pub short_answer : (answer : Answer) → HoldsAnswerWithinLimits answer → length (frame (answer_body answer)) ≤ longest_answer
 short_answer (Said r) p = omega (arith, length-frame (reply_body r), short_body r p)
 short_answer (CommitDone start stamp) p =
     omega (arith, length-frame (answer_body (CommitDone start stamp)), length-append (number 8 start) (number 8 stamp), length-number 8 start, length-number 8 stamp)
-short_answer (CommitConflict place) p = omega (arith, length-frame (answer_body (CommitConflict place)), length-number 2 place)
+short_answer (CommitConflict start place) p =
+    omega (arith, length-frame (answer_body (CommitConflict start place)), length-append (number 8 start) (number 2 place), length-number 8 start, length-number 2 place)
 short_answer (ReadDone start said) p = let short = p.1 in omega (arith, length-frame (answer_body (ReadDone start said)), length-reads start said, short)
 
 pub read_frame : (start : ℕ) (said : List (Option Item)) → told_lengths said ≡ most_told + 255 * 9 → length (frame (answer_body (ReadDone start said))) ≡ longest_answer

@@ -9,7 +9,8 @@ use Rattle.si_model.specs.declared.replies.Cell.{Cell}
 use Rattle.request_codec.specs.Fields.{number, field, cell_fields, FitsField}
 use Rattle.request_codec.specs.Replies.{reply_body, IsReply}
 use Rattle.request_codec.proofs.Fields.{same_number, past_number, same_cell, first, second}
-use Rattle.request_codec.specs.Scans.{reach_fields, items_fields, FitsScan, StartFits}
+use Rattle.si_model.specs.AnswerLimits.{IsInScanLimits}
+use Rattle.request_codec.specs.Scans.{reach_fields, items_fields, StartFits}
 use Rattle.request_codec.proofs.Scans.{same_reach, same_items, all_fit, few_items}
 use Rattle.std.specs.List.{AllByRecursion}
 use Rattle.request_codec.proofs.Names.{cell_fits}
@@ -282,7 +283,7 @@ pub record AsScanned (r : Reply) (f : List ℕ) : Type 0 where
   pub items : List (Cell × Item)
   pub reach : Reach
   pub starts : AllByRecursion (λ (item : Cell × Item). StartFits item.1) items
-  pub fits : FitsScan items reach
+  pub fits : IsInScanLimits items reach
   is : r ≡ Scanned items reach
   pub fields : f ≡ reach_fields reach ++ (number 4 (length items) ++ items_fields items)
 
@@ -292,15 +293,15 @@ scanned_only other f p = let e = ap first p.whole in absurd (omega (arith, e))
 
 -- ---- two replies with the same body
 
-same_scanned : (items : List (Cell × Item)) (reach : Reach) (b : Reply) → AllByRecursion (λ (item : Cell × Item). StartFits item.1) items → FitsScan items reach
+same_scanned : (items : List (Cell × Item)) (reach : Reach) (b : Reply) → AllByRecursion (λ (item : Cell × Item). StartFits item.1) items → IsInScanLimits items reach
     → AsScanned b (reach_fields reach ++ (number 4 (length items) ++ items_fields items)) → Scanned items reach ≡ b
 same_scanned items reach b starts fits g =
-    let few = fits.few in
-    let few_other = g.fits.few in
+    let few = fits.bytes in
+    let few_other = g.fits.bytes in
     let r = same_reach reach g.reach (number 4 (length items) ++ items_fields items) (number 4 (length g.items) ++ items_fields g.items) fits.reached g.fits.reached g.fields in
     let size = same_number 4 (length items) (length g.items) (items_fields items) (items_fields g.items) (omega (arith, few, few_items items)) (omega (arith, few_other, few_items g.items)) r.1 in
     let rest = past_number 4 (length items) (length g.items) (items_fields items) (items_fields g.items) r.1 in
-    let same = same_items items g.items (all_fit items starts fits.named few) (all_fit g.items g.starts g.fits.named few_other) size rest in
+    let same = same_items items g.items (all_fit items starts fits.names few) (all_fit g.items g.starts g.fits.names few_other) size rest in
     ap (λ x. Scanned x reach) same ∙ ap (λ x. Scanned g.items x) r.0 ∙ sym g.is
 
 pair-same : (made : ℕ → ℕ → Reply) (m n k l : ℕ) → m < 2 ^ 16 → n < 2 ^ 16 → k < 2 ^ 16 → l < 2 ^ 16 → number 2 m ++ number 2 n ≡ number 2 k ++ number 2 l → made m n ≡ made k l

@@ -6,7 +6,8 @@ use Rattle.si_model.specs.Scans.{most_items}
 use Rattle.si_model.specs.declared.replies.Cell.{Cell}
 use Rattle.request_codec.specs.Fields.{number}
 use Rattle.request_codec.specs.Replies.{IsReply, HoldsBytes, NeedsMemory}
-use Rattle.request_codec.specs.Scans.{reach_fields, items_fields, IsNamedReach, ItemFits, AreItems}
+use Rattle.si_model.specs.AnswerLimits.{IsNamedReach}
+use Rattle.request_codec.specs.Scans.{reach_fields, items_fields, ItemFits, AreItems}
 use Rattle.request_codec.proofs.Scans.{length-items, starts_fit, all_named}
 
 pub scanned_is : (fields rest : List ℕ) (items : List (Cell × Item)) (reach own : Reach) (count : ℕ) → fields ≡ reach_fields reach ++ (number 4 count ++ rest) → IsNamedReach reach → own ≡ reach
@@ -14,7 +15,7 @@ pub scanned_is : (fields rest : List ℕ) (items : List (Cell × Item)) (reach o
 scanned_is fields rest items reach own count front named same many fit whole few =
     subst (λ (r : Reach). IsReply (Scanned items r) (0xB1 ∷ fields)) (sym same) (record {
       numbers = starts_fit items fit;
-      bytes = record { reached = named; named = all_named items fit; few = omega (arith, few, length-items items, ap length whole) };
+      bytes = record { bytes = omega (arith, few, length-items items, ap length whole); names = all_named items fit; reached = named };
       whole = ap (λ (t : List ℕ). 0xB1 ∷ t) (front ∙ ap (λ (t : List ℕ). reach_fields reach ++ t) (ap (λ (n : ℕ). number 4 n ++ rest) (sym many) ∙ ap (λ (t : List ℕ). number 4 (length items) ++ t) whole));
     })
 

@@ -5,7 +5,9 @@ use Rattle.si_model.specs.Messages.{Range, Item, Valued, Locked, Unsent, Reach, 
 use Rattle.si_model.specs.Scans.{found_length, item_length, items_length, most_items}
 use Rattle.si_model.specs.declared.replies.Cell.{Cell}
 use Rattle.request_codec.specs.Fields.{field, optional, cell_fields, FitsField, FitsCell}
-use Rattle.request_codec.specs.Scans.{flag_number, range_fields, FitsRange, reach_fields, said_fields, item_fields, items_fields, IsNamed, IsNamedReach, StartFits, SaidFits, ItemFits, AreItems}
+use Rattle.si_model.specs.Takings.{IsNamed}
+use Rattle.si_model.specs.AnswerLimits.{IsNamedReach}
+use Rattle.request_codec.specs.Scans.{flag_number, range_fields, FitsRange, reach_fields, said_fields, item_fields, items_fields, StartFits, SaidFits, ItemFits, AreItems}
 use Rattle.request_codec.proofs.Fields.{same_number, past_number, same_field, same_cell, first, length-number, length-field, length-cell}
 use Rattle.request_codec.proofs.Names.{cell_fits}
 

@@ -1,11 +1,10 @@
 -- The bodies of answers: of a reply, and of the answers to a Commit and to a Read.
-use Rattle.std.specs.Prelude.{◌≡◌, ℕ, List, [], ◌∷◌, ◌++◌, ◌<◌, ◌≤◌, ◌+◌, ◌*◌, ◌^◌, length, Option, Some, None, IfSome, map, option_map}
+use Rattle.std.specs.Prelude.{◌≡◌, ℕ, List, [], ◌∷◌, ◌++◌, ◌<◌, ◌^◌, length, Option, Some, None, IfSome}
 use Rattle.std.specs.List.{AllByRecursion, flat_map}
+use Rattle.si_model.specs.AnswerLimits.{IsInReadLimits}
 use Rattle.si_model.specs.Answers.{commit_answer, read_answer}
 use Rattle.si_model.specs.Messages.{Item}
-use Rattle.si_model.specs.Replies.{found_item}
-use Rattle.si_model.specs.Transactions.{Answer, Said, CommitDone, CommitConflict, ReadDone, most_read, most_told, told_lengths}
-use Rattle.si_model.specs.declared.scans.ScanFound.{ScanFound}
+use Rattle.si_model.specs.Transactions.{Answer, Said, CommitDone, CommitConflict, ReadDone}
 use Rattle.request_codec.specs.Fields.{number}
 use Rattle.request_codec.specs.Parts.{AreParts}
 use Rattle.request_codec.specs.Replies.{replied, reply_body, ReplyNumbersFit, ReplyBytesFit, HoldsWithinLimits, HoldsBytes}
@@ -23,13 +22,6 @@ answer_of (kept.Said reply) = Said (replied reply)
 answer_of (kept.Commit reply) = commit_answer reply
 answer_of (kept.Read reply) = read_answer reply
 
--- what a Read's answer says of its cells
-abbrev pub told_item : Option ScanFound → Option Item
-told_item found = option_map found_item found
-
-abbrev pub told_items : List (Option ScanFound) → List (Option Item)
-told_items found = map told_item found
-
 -- what a Read says of a cell: nothing, or as a scan
 abbrev pub told_fields : Option Item → List ℕ
 told_fields None = 0x00 ∷ []
@@ -39,7 +31,7 @@ told_fields (Some item) = said_fields item
 abbrev pub answer_body : Answer → List ℕ
 answer_body (Said reply) = reply_body reply
 answer_body (CommitDone start stamp) = 0xB2 ∷ 0x01 ∷ (number 8 start ++ number 8 stamp)
-answer_body (CommitConflict place) = 0xB2 ∷ 0x02 ∷ number 2 place
+answer_body (CommitConflict start place) = 0xB2 ∷ 0x02 ∷ (number 8 start ++ number 2 place)
 answer_body (ReadDone start said) =
     0xB3 ∷ (number 8 start ++ (number 4 (length said) ++ flat_map told_fields said))
 
@@ -51,21 +43,16 @@ ToldStartFits told = IfSome told (λ item. StartFits item)
 abbrev pub AnswerNumbersFit : Answer → Type 0
 AnswerNumbersFit (Said reply) = ReplyNumbersFit reply
 AnswerNumbersFit (CommitDone start stamp) = (start < 2 ^ 64) × (stamp < 2 ^ 64)
-AnswerNumbersFit (CommitConflict place) = place < 2 ^ 16
+AnswerNumbersFit (CommitConflict start place) = (start < 2 ^ 64) × (place < 2 ^ 16)
 AnswerNumbersFit (ReadDone start said) =
     (start < 2 ^ 64) × AllByRecursion ToldStartFits said
-
--- A Read tells of at most 256 cells, in at most this many bytes: those behind which no value is sent, and a mark for
--- each of 255 cells.
-abbrev pub FitsRead : List (Option Item) → Type 0
-FitsRead said = (length said ≤ most_read) × (told_lengths said ≤ most_told + 255 * 9)
 
 -- the bytes of a reply fit their fields, and what a Read tells is within its limits
 abbrev pub AnswerBytesFit : Answer → Type 0
 AnswerBytesFit (Said reply) = ReplyBytesFit reply
 AnswerBytesFit (CommitDone start stamp) = Unit {0}
-AnswerBytesFit (CommitConflict place) = Unit {0}
-AnswerBytesFit (ReadDone start said) = FitsRead said
+AnswerBytesFit (CommitConflict start place) = Unit {0}
+AnswerBytesFit (ReadDone start said) = IsInReadLimits said
 
 -- the body is this answer's, in the grammar
 pub record IsAnswerBody (answer : Answer) (body : List ℕ) : Type 0 where
@@ -81,14 +68,14 @@ IsNoAnswer body = (answer : Answer) → IsAnswerBody answer body → ⊥
 abbrev pub HoldsAnswerWithinLimits : Answer → Type 0
 HoldsAnswerWithinLimits (Said reply) = HoldsWithinLimits reply
 HoldsAnswerWithinLimits (CommitDone start stamp) = Unit {0}
-HoldsAnswerWithinLimits (CommitConflict place) = Unit {0}
-HoldsAnswerWithinLimits (ReadDone start said) = FitsRead said
+HoldsAnswerWithinLimits (CommitConflict start place) = Unit {0}
+HoldsAnswerWithinLimits (ReadDone start said) = IsInReadLimits said
 
 -- the answer has something that must be allocated
 abbrev pub HoldsParts : Answer → Type 0
 HoldsParts (Said reply) = HoldsBytes reply
 HoldsParts (CommitDone start stamp) = ⊥
-HoldsParts (CommitConflict place) = ⊥
+HoldsParts (CommitConflict start place) = ⊥
 HoldsParts (ReadDone start said) = 0 < length said
 
 -- the body is that of such an answer

@@ -6,7 +6,7 @@ use Rattle.si_model.specs.Transactions.{Operation, Answer, ReadDone, most_told, 
 use Rattle.request_codec.specs.Requests.{IsRequest}
 use Rattle.request_codec.specs.Replies.{reply_body, IsReply, HoldsWithinLimits}
 use Rattle.request_codec.specs.Operations.{IsOperation}
-use Rattle.request_codec.specs.Answers.{answer_body, longest_answer, IsAnswerBody, HoldsAnswerWithinLimits}
+use Rattle.request_codec.specs.Answers.{answer_body, longest_answer, AnswerBytesFit, IsAnswerBody, HoldsAnswerWithinLimits}
 use Rattle.request_codec.specs.Stream.{frame, frames, longest_reply, IsBody, CutsInto}
 
 -- a stream can be cut into bodies and a rest in only one way
@@ -60,11 +60,11 @@ abbrev pub OneAnswerABody : Type 0
 OneAnswerABody =
     (a b : Answer) (body : List ℕ) → IsAnswerBody a body → IsAnswerBody b body → a ≡ b
 
--- no answer within its limits has a longer frame than this
+-- the bytes of an answer within its limits fit their fields, and its frame is not longer than this
 abbrev pub AnswersFit : Type 0
 AnswersFit =
     (answer : Answer) → HoldsAnswerWithinLimits answer
-    → length (frame (answer_body answer)) ≤ longest_answer
+    → AnswerBytesFit answer × (length (frame (answer_body answer)) ≤ longest_answer)
 
 -- the answer of a Read that tells as much as it may has the longest frame
 abbrev pub ReadIsLongest : Type 0

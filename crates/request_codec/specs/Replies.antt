@@ -1,13 +1,14 @@
 -- The bodies of replies: an operation's number with its highest bit set, and its fields. A refusal has a body of its
 -- own.
 use Rattle.std.specs.Prelude.{◌≡◌, ℕ, List, [], ◌∷◌, ◌++◌, ◌<◌, ◌≤◌, ◌^◌, length, Option, Some, None, option_map}
-use Rattle.cell_key.specs.Names.{IsRow, IsFamily}
 use Rattle.cell_key.specs.Refusals.{refusal_number}
 use Rattle.cell_key.specs.Versions.{stamped}
 use Rattle.si_model.specs.Messages.{Reply, Begun, Answered, Pending, Scanned, ToEnd, SetDone, DeleteDone, Held, Conflict, Drawn, Committed, Lost, Finished, StopDone, NoLock, Cleaning, Decided, RolledForward, RolledBack, Gone, Collecting, More, Blocked, Collected, MinorDone, MergeDone, MajorDone, SplitOff, MoveDone, Swept, RestartDone, RawFound, CheckpointDone, Refused}
 use Rattle.si_model.specs.Replies.{found_reply, progress_reply, clean_start_reply, clean_reply, collect_reply, scan_reply}
 use Rattle.request_codec.specs.Fields.{number, field, cell_fields, FitsField}
-use Rattle.request_codec.specs.Scans.{reach_fields, items_fields, FitsScan, StartFits}
+use Rattle.si_model.specs.AnswerLimits.{IsInScanLimits}
+use Rattle.si_model.specs.Takings.{IsNamed}
+use Rattle.request_codec.specs.Scans.{reach_fields, items_fields, StartFits}
 use Rattle.si_model.specs.Messages.{Item}
 use Rattle.si_model.specs.declared.replies.Cell.{Cell}
 use Rattle.std.specs.List.{AllByRecursion}
@@ -109,8 +110,8 @@ ReplyNumbersFit other = Unit {0}
 -- their limits; a scan's names and items are within their limits
 abbrev pub ReplyBytesFit : Reply → Type 0
 ReplyBytesFit (Answered (Some value)) = FitsField value
-ReplyBytesFit (Scanned items reach) = FitsScan items reach
-ReplyBytesFit (Blocked cell start) = IsRow cell.row × IsFamily cell.family
+ReplyBytesFit (Scanned items reach) = IsInScanLimits items reach
+ReplyBytesFit (Blocked cell start) = IsNamed cell
 ReplyBytesFit (RawFound (Some found)) = FitsField found.1
 ReplyBytesFit other = Unit {0}
 
@@ -127,9 +128,9 @@ IsNoReply body = (reply : Reply) → IsReply reply body → ⊥
 -- the contents of the reply are within the limits of rows, families and values
 abbrev pub HoldsWithinLimits : Reply → Type 0
 HoldsWithinLimits (Answered (Some value)) = length value ≤ 65536
-HoldsWithinLimits (Scanned items reach) = FitsScan items reach
+HoldsWithinLimits (Scanned items reach) = IsInScanLimits items reach
 HoldsWithinLimits (RawFound (Some found)) = length found.1 ≤ 65536
-HoldsWithinLimits (Blocked cell start) = IsRow cell.row × IsFamily cell.family
+HoldsWithinLimits (Blocked cell start) = IsNamed cell
 HoldsWithinLimits other = Unit {0}
 
 -- the reply has bytes that must be allocated

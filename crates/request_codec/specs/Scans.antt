@@ -1,10 +1,9 @@
 -- The fields of a scan's request and of its reply.
-use Rattle.std.specs.Prelude.{◌≡◌, ℕ, List, [], ◌∷◌, ◌++◌, ◌<◌, ◌≤◌, ◌^◌, length, Bool, true, false, IfSome}
+use Rattle.std.specs.Prelude.{◌≡◌, ℕ, List, [], ◌∷◌, ◌++◌, ◌<◌, ◌^◌, length, Bool, true, false, IfSome}
 use Rattle.std.specs.List.{AllByRecursion, flat_map}
-use Rattle.cell_key.specs.Names.{IsRow, IsFamily}
 use Rattle.si_model.specs.Messages.{Range, Item, Valued, Locked, Unsent, Reach, ToEnd, UpTo}
-use Rattle.si_model.specs.Scans.{items_length, most_items}
 use Rattle.si_model.specs.Reads.{cell_of}
+use Rattle.si_model.specs.Takings.{IsNamed}
 use Rattle.si_model.specs.declared.replies.Cell.{Cell}
 use Rattle.request_codec.specs.Fields.{number, field, optional, cell_fields, FitsField, FitsCell}
 use Rattle.request_codec.specs.declared.read_items.LentItem.{LentItem}
@@ -47,24 +46,10 @@ item_fields item = cell_fields item.0 ++ said_fields item.1
 abbrev pub items_fields : List (Cell × Item) → List ℕ
 items_fields items = flat_map item_fields items
 
--- the row and the family are within their limits
-abbrev pub IsNamed : Cell → Type 0
-IsNamed cell = IsRow cell.row × IsFamily cell.family
-
-abbrev pub IsNamedReach : Reach → Type 0
-IsNamedReach ToEnd = Unit {0}
-IsNamedReach (UpTo cell) = IsNamed cell
-
 -- the start of a mark fits its field
 abbrev pub StartFits : Item → Type 0
 StartFits (Locked start) = start < 2 ^ 64
 StartFits other = Unit {0}
-
--- the names are within their limits, and the items take no more bytes of the reply than permitted
-pub record FitsScan (items : List (Cell × Item)) (reach : Reach) : Type 0 where
-  pub reached : IsNamedReach reach
-  pub named : AllByRecursion (λ (item : Cell × Item). IsNamed item.0) items
-  pub few : items_length items ≤ most_items
 
 -- the result for a cell fits its fields
 abbrev pub SaidFits : Item → Type 0

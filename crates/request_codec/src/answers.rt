@@ -7,7 +7,7 @@ ghost use Rattle.request_codec.specs.Buffers.{HasRoomFor, AppendsBytes};
 
 use crate::decode_replies::decode_reply;
 use crate::encode_replies::{push_reply, reply_length};
-use crate::read_bodies::{whole_u16, whole_u64_pair};
+use crate::read_bodies::{whole_conflict, whole_u64_pair};
 use crate::read_told::{own_told, whole_told};
 use crate::replies::Reply;
 use crate::write_fields::{push_byte, push_u16, push_u64};
@@ -57,7 +57,7 @@ fn commit_length(reply: CommitReply) -> usize
 {
     match reply {
         CommitReply::Committed(..) => 18,
-        CommitReply::Conflict(_) => 4,
+        CommitReply::Conflict(..) => 12,
     }
 }
 
@@ -74,8 +74,9 @@ fn push_commit(reply: CommitReply, out: &mut Vec<u8>)
             push_u64(out, start);
             push_u64(out, stamp);
         }
-        CommitReply::Conflict(place) => {
+        CommitReply::Conflict(start, place) => {
             push_byte(out, CONFLICT);
+            push_u64(out, start);
             push_u16(out, place);
         }
     }
@@ -126,8 +127,8 @@ fn decode_commit(fields: &[u8]) -> Option<CommitReply>
             Some(CommitReply::Committed(start, stamp))
         }
         CONFLICT => {
-            let place = whole_u16(rest)?;
-            Some(CommitReply::Conflict(place))
+            let (start, place) = whole_conflict(rest)?;
+            Some(CommitReply::Conflict(start, place))
         }
         _ => None,
     }

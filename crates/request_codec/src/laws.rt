@@ -49,7 +49,7 @@ pub fn one_answer_a_body()
     ensures { OneAnswerABody }
 {}
 
-/// No answer within its limits has a longer frame than `LONGEST_ANSWER`.
+/// The bytes of an answer within its limits fit their fields, and its frame is not longer than `LONGEST_ANSWER`.
 pub fn answers_fit()
     ensures { AnswersFit }
 {}

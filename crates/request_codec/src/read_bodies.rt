@@ -176,6 +176,18 @@ pub(crate) fn whole_visits(bytes: &[u8]) -> Option<(u64, u32)>
     Some((collector, visits))
 }
 
+/// A number of eight bytes and one of two bytes.
+pub(crate) fn whole_conflict(bytes: &[u8]) -> Option<(u64, u16)>
+    ensures found { IfSome result (λ p. bytes.now ≡ number 8 p.0 ++ number 2 p.1) }
+    ensures fits { IfSome result (λ p. (p.0 < 2 ^ 64) × (p.1 < 2 ^ 16)) }
+    ensures none { IfNone result ((m n : ℕ) → bytes.now ≢ number 8 m ++ number 2 n) }
+{
+    let mut rest = bytes;
+    let start = take_u64(&mut rest)?;
+    let place = whole_u16(rest)?;
+    Some((start, place))
+}
+
 /// The row and the family of a cell, and a start.
 pub(crate) fn whole_lock(bytes: &[u8]) -> Option<(&[u8], &[u8], u64)>
     ensures found { IfSome result (λ p.

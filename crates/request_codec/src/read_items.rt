@@ -9,7 +9,9 @@ ghost use Rattle.si_model.specs.Scans.{most_items};
 ghost use Rattle.si_model.specs.Replies.{item_of, found_item, reach_of};
 ghost use Rattle.si_model.specs.declared.replies.Cell.{Cell as CellOf};
 ghost use Rattle.request_codec.specs.Fields.{number, cell_fields};
-ghost use Rattle.request_codec.specs.Scans.{reach_fields, said_fields, item_fields, items_fields, lent_said, lent_item, lent_reach, IsNamed, IsNamedReach, FitsScan, SaidFits, ItemFits, AreItems};
+ghost use Rattle.si_model.specs.Takings.{IsNamed};
+ghost use Rattle.si_model.specs.AnswerLimits.{IsNamedReach, IsInScanLimits};
+ghost use Rattle.request_codec.specs.Scans.{reach_fields, said_fields, item_fields, items_fields, lent_said, lent_item, lent_reach, SaidFits, ItemFits, AreItems};
 
 use crate::read_fields::{take_byte, take_bytes, take_cell, take_u32, take_u64};
 use crate::replies::{ITEM_PENDING, ITEM_UNSENT, ITEM_VALUE, REACH_END, REACH_MORE};
@@ -142,7 +144,7 @@ pub(crate) fn whole_scanned(bytes: &[u8]) -> Option<(LentReach<'_>, u32, &[u8])>
     ensures items { IfSome result (λ p. AreItems p.1 p.2.now) }
     ensures few { IfSome result (λ p. length p.2.now ≤ most_items) }
     ensures none { IfNone result ((items : List (CellOf × Item)) (reach : Reach)
-        → AllByRecursion ItemFits items → FitsScan items reach → bytes.now
+        → AllByRecursion ItemFits items → IsInScanLimits items reach → bytes.now
         ≢ reach_fields reach ++ (number 4 (length items) ++ items_fields items)) }
 {
     let mut rest = bytes;

@@ -5,7 +5,9 @@ ghost use Rattle.std.specs.List.{AllByRecursion, flat_map};
 ghost use Rattle.si_model.specs.Messages.{Item};
 ghost use Rattle.si_model.specs.Replies.{found_item};
 ghost use Rattle.si_model.specs.Transactions.{most_read, most_told};
-ghost use Rattle.request_codec.specs.Answers.{told_fields, told_items, AreTold, FitsRead, ToldFits};
+ghost use Rattle.si_model.specs.Answers.{told_items};
+ghost use Rattle.si_model.specs.AnswerLimits.{IsInReadLimits};
+ghost use Rattle.request_codec.specs.Answers.{told_fields, AreTold, ToldFits};
 ghost use Rattle.request_codec.specs.Fields.{number};
 ghost use Rattle.request_codec.specs.Scans.{lent_said};
 
@@ -61,7 +63,7 @@ pub(crate) fn whole_told(bytes: &[u8]) -> Option<(u64, u32, &[u8])>
     ensures few { IfSome result (λ p. p.1 ≤ most_read) }
     ensures short { IfSome result (λ p. length p.2.now ≤ most_told + 255 * 9) }
     ensures none { IfNone result ((start : ℕ) (said : List (Option Item))
-        → AllByRecursion ToldFits said → FitsRead said → bytes.now
+        → AllByRecursion ToldFits said → IsInReadLimits said → bytes.now
         ≢ number 8 start ++ (number 4 (length said) ++ flat_map told_fields said)) }
 {
     let mut rest = bytes;

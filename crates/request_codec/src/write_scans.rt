@@ -132,18 +132,6 @@ pub(crate) fn push_scan(
     push_u32(out, cells);
 }
 
-/// The length of the result for a cell in bytes.
-pub(crate) fn said_length(found: &ScanFound) -> usize
-    requires { found_length (found_item found.now) < 2 ^ 32 }
-    ensures { result ≡ 1 + found_length (found_item found.now) }
-{
-    match found {
-        ScanFound::Value(value) => 5 + value.len(),
-        ScanFound::Pending(_) => 9,
-        ScanFound::Unsent => 1,
-    }
-}
-
 /// The length of the items in bytes.
 fn items_length(items: &[ScanItem]) -> usize
     requires { items_length (map item_of items.now) ≤ most_items }
@@ -154,7 +142,7 @@ fn items_length(items: &[ScanItem]) -> usize
     'items: while let Some((item, after)) = rest.split_first() {
         let cell = &item.cell;
         sum += 8 + cell.row.as_bytes().len() + cell.family.as_bytes().len();
-        sum += said_length(&item.found);
+        sum += item.found.said_bytes();
         rest = after;
     }
     sum

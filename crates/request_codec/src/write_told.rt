@@ -2,27 +2,16 @@
 
 ghost use Rattle.std.specs.Prelude.{◌≡◌, ◌+◌, ◌*◌, ◌≤◌, ◌<◌, ◌^◌, length};
 ghost use Rattle.std.specs.List.{flat_map};
-ghost use Rattle.si_model.specs.Answers.{read_answer};
+ghost use Rattle.si_model.specs.Answers.{read_answer, told_item, told_items};
 ghost use Rattle.si_model.specs.Transactions.{most_told, told_length as one_told, told_lengths};
-ghost use Rattle.request_codec.specs.Answers.{answer_body, told_fields, told_item, told_items, AnswerBytesFit};
+ghost use Rattle.request_codec.specs.Answers.{answer_body, told_fields, AnswerBytesFit};
 ghost use Rattle.request_codec.specs.Buffers.{HasRoomFor, AppendsBytes};
 
 use crate::answers::READ;
 use crate::replies::NOTHING;
 use crate::write_fields::{push_byte, push_u32, push_u64};
-use crate::write_scans::{push_said, said_length};
-use si_model::{ReadReply, ScanFound};
-
-/// The length of what is told of a cell in bytes.
-fn one_length(told: &Option<ScanFound>) -> usize
-    requires { one_told (told_item told.now) < 2 ^ 32 }
-    ensures { result ≡ one_told (told_item told.now) }
-{
-    match told {
-        None => 1,
-        Some(found) => said_length(found),
-    }
-}
+use crate::write_scans::push_said;
+use si_model::{ReadReply, ScanFound, told_bytes};
 
 /// The length of what is told of cells in bytes.
 fn told_length(found: &[Option<ScanFound>]) -> usize
@@ -32,7 +21,7 @@ fn told_length(found: &[Option<ScanFound>]) -> usize
     let mut rest = found;
     let mut sum = 0;
     'cells: while let Some((told, after)) = rest.split_first() {
-        sum += one_length(told);
+        sum += told_bytes(told);
         rest = after;
     }
     sum

@@ -8,7 +8,7 @@ use Rattle.std.specs.List.{AllByRecursion}
 use Rattle.cell_key.specs.Cells.{Cells, after_edits}
 use Rattle.cell_key.specs.Replays.{Replays}
 use Rattle.cell_key.specs.declared.edits.Edit.{Edit}
-use Rattle.commit_log.specs.Edits.{IsStoredEdit, spelled_edit, spelled_edits}
+use Rattle.commit_log.specs.Edits.{IsStoredEdit, spelled_edit, spelled_edits, spelled_entries, spelled_entry}
 use Rattle.file_store.specs.Store.{Contents}
 use Rattle.metadata_table.specs.Roots.{RootView}
 use Rattle.rows.specs.Calls.{Applies, AppliesAll, OnlyReads, StaysReadable, View}
@@ -37,6 +37,9 @@ all_both : (P : Edit → Type 0) (xs ys : List Edit) → AllByRecursion P xs →
 all_both P [] ys first then = then
 all_both P (x ∷ xs) ys first then = (first.0, all_both P xs ys first.1 then)
 
+entries_length : (edits later : List Edit) → length (spelled_entries (edits ++ later)) ≡ length (spelled_entries edits) + length (spelled_entries later)
+entries_length edits later = ap (λ (bs : List ℕ). length bs) (flat_map-append spelled_entry edits later) ∙ length-append (spelled_entries edits) (spelled_entries later)
+
 -- a property of the journal's edits implies another
 pub each_such : {Such Other : List Edit → Type 0} → ((edits : List Edit) → Such edits → Other edits) → (journal : Option JournalView) → IfWritten Such journal → IfWritten Other journal
 each_such goes None written = tt
@@ -46,6 +49,7 @@ each_such goes (Some journal) written = record {
   logged_bytes = written.logged_bytes;
   waiting_bytes = written.waiting_bytes;
   counted = written.counted;
+  measured = written.measured;
   stored = written.stored;
   such = goes (written.logged ++ written.waiting) written.such;
 }
@@ -55,12 +59,14 @@ pub more_written : {Such Other : List Edit → Type 0} (more : List Edit) → Al
 more_written {Such} {Other} more stored goes journal written =
     let behind : (written.logged ++ written.waiting) ++ more ≡ written.logged ++ (written.waiting ++ more) = append_assoc written.logged written.waiting more in
     let counted : journal.count + length more ≡ length ((written.logged ++ written.waiting) ++ more) = ap (λ (n : ℕ). n + length more) written.counted ∙ sym (length-append (written.logged ++ written.waiting) more) in
+    let measured : journal.entry_bytes + length (spelled_entries more) ≡ length (spelled_entries ((written.logged ++ written.waiting) ++ more)) = ap (λ (n : ℕ). n + length (spelled_entries more)) written.measured ∙ sym (entries_length (written.logged ++ written.waiting) more) in
     record {
       logged = written.logged;
       waiting = written.waiting ++ more;
       logged_bytes = written.logged_bytes;
       waiting_bytes = ap (λ (bs : List ℕ). bs ++ spelled_edits more) written.waiting_bytes ∙ sym (flat_map-append spelled_edit written.waiting more);
       counted = counted ∙ ap (λ (es : List Edit). length es) behind;
+      measured = measured ∙ ap (λ (es : List Edit). length (spelled_entries es)) behind;
       stored = subst (λ (es : List Edit). AllByRecursion IsStoredEdit es) behind (all_both IsStoredEdit (written.logged ++ written.waiting) more written.stored stored);
       such = subst Other behind (goes (written.logged ++ written.waiting) written.such);
     }
@@ -71,25 +77,22 @@ less_room journal edits later none room =
     let e = room.edits in
     let b = room.bytes in
     let both = length-append edits later in
-    let bytes = length-append journal.waiting (spelled_edits edits) in
-    let all : length (spelled_edits (edits ++ later)) ≡ length (spelled_edits edits) + length (spelled_edits later) = ap (λ (bs : List ℕ). length bs) (flat_map-append spelled_edit edits later) ∙ length-append (spelled_edits edits) (spelled_edits later) in
-    none (record { edits = omega (arith, e, both); bytes = omega (arith, b, bytes, all) })
+    let all = entries_length edits later in
+    none (record { edits = omega (arith, e, both); bytes = omega (arith, b, all) })
 
 less_now : (journal : JournalView) (edits later : List Edit) → ¬ HasRoomFor journal later → ¬ HasRoomFor (with_waiting edits journal) later
 less_now journal edits later none room =
     let e = room.edits in
     let b = room.bytes in
-    let bytes = length-append journal.waiting (spelled_edits edits) in
-    none (record { edits = omega (arith, e); bytes = omega (arith, b, bytes) })
+    none (record { edits = omega (arith, e); bytes = omega (arith, b) })
 
 pub more_room : (journal : JournalView) (edits later : List Edit) → ¬ HasRoomFor journal (edits ++ later) → ¬ HasRoomFor (with_waiting edits journal) later
 more_room journal edits later none room =
     let e = room.edits in
     let b = room.bytes in
     let both = length-append edits later in
-    let bytes = length-append journal.waiting (spelled_edits edits) in
-    let all : length (spelled_edits (edits ++ later)) ≡ length (spelled_edits edits) + length (spelled_edits later) = ap (λ (bs : List ℕ). length bs) (flat_map-append spelled_edit edits later) ∙ length-append (spelled_edits edits) (spelled_edits later) in
-    none (record { edits = omega (arith, e, both); bytes = omega (arith, b, bytes, all) })
+    let all = entries_length edits later in
+    none (record { edits = omega (arith, e, both); bytes = omega (arith, b, all) })
 
 -- ---- calls of rows
 
@@ -244,10 +247,9 @@ room_between journal before edits after room =
     let b = room.bytes in
     let both = length-append before (edits ++ after) in
     let rest = length-append edits after in
-    let bytes = length-append journal.waiting (spelled_edits before) in
-    let all : length (spelled_edits (before ++ (edits ++ after))) ≡ length (spelled_edits before) + length (spelled_edits (edits ++ after)) = ap (λ (bs : List ℕ). length bs) (flat_map-append spelled_edit before (edits ++ after)) ∙ length-append (spelled_edits before) (spelled_edits (edits ++ after)) in
-    let some : length (spelled_edits (edits ++ after)) ≡ length (spelled_edits edits) + length (spelled_edits after) = ap (λ (bs : List ℕ). length bs) (flat_map-append spelled_edit edits after) ∙ length-append (spelled_edits edits) (spelled_edits after) in
-    record { edits = omega (arith, e, both, rest); bytes = omega (arith, b, bytes, all, some) }
+    let all = entries_length before (edits ++ after) in
+    let some = entries_length edits after in
+    record { edits = omega (arith, e, both, rest); bytes = omega (arith, b, all, some) }
 
 -- the edits before a change, its own, and those after it
 pub edits_parted : (changes : List RowEdits) (i : ℕ) (change : RowEdits) → i < length changes → change ≡ slice_index_or changes i change → all_edits changes ≡ all_edits (take i changes) ++ (change.edits.items ++ all_edits (drop (suc i) changes))
@@ -322,7 +324,7 @@ module _ {F : Type 0} (contents : F → Option Contents) (faults : F → ℕ) wh
         (on old new (unchanged _ _ request result of (is.answers holds)) (λ root cells. (stay request result root cells old new is).0 (λ sweep. absurd (other sweep)))) journal;
     root_sweeps = λ result journal old new is holds. each_such (on old new (is.shown holds) (λ root cells. outlast_sweeps.stays root cells result old new is)) journal;
     flushes = λ limits journal old new is keeps holds. each_such (on old new (keeps.kept holds).1 (λ root cells. ((outlast_flushes root cells old new).0 limits is).0)) journal;
-    merges = λ most journal old new is keeps holds. each_such (on old new (keeps.kept holds).1 (λ root cells. outlast_merges root cells old new most is)) journal;
+    merges = λ policy journal old new is keeps holds. each_such (on old new (keeps.kept holds).1 (λ root cells. outlast_merges root cells old new policy is)) journal;
     checkpoints = λ top floor journal old new rests keeps holds. each_such (rests_all replays top floor old new rests holds (keeps.kept holds).1) journal;
     rests = λ top floor old new rests keeps holds. record { root = root_at top floor new; base = cells_shown contents old; has = (rests holds).has; replay = sym (keeps.kept holds).1 };
     refused = λ top floor journal old new either keeps holds. elim either [

@@ -10,7 +10,7 @@ use Rattle.cell_key.specs.Entries.{Entry, entry_len, field, spelled_value}
 use Rattle.cell_key.specs.Keys.{byte_cmp}
 use Rattle.cell_key.specs.declared.edits.Edit.{Edit}
 use Rattle.cell_key.specs.declared.edits.Edit.TheVariants.{Put, Erase}
-use Rattle.commit_log.specs.Edits.{spelled_edit, spelled_edits}
+use Rattle.commit_log.specs.Edits.{spelled_entries, spelled_entry}
 use Rattle.memtable.specs.Edits.{bytes_of, edit_entry, with_edit, with_edits}
 use Rattle.tablet.specs.Ranges.{has_row}
 use Rattle.tablet.specs.Views.{memory_of, range_of}
@@ -47,23 +47,23 @@ more_bytes name v (e ∷ es) = go (more_bytes name v es) (byte_cmp name e.0) ref
     go h Equal p = let one = in_place name v e in rw p (omega (arith, one))
     go h Greater p = rw p (omega (arith, h))
 
--- an edit's entry is as long as its bytes
-as_long : (edit : Edit) → entry_len (edit_entry edit) ≡ length (spelled_edit edit)
+-- the length of an edit's entry in a memtable
+as_long : (edit : Edit) → entry_len (edit_entry edit) ≡ length (spelled_entry edit)
 as_long (Put key value) = refl
 as_long (Erase key) = refl
 
-one_more : (es : List Entry) (edit : Edit) → (length (with_edit es edit) ≤ length es + 1) × (bytes_of (with_edit es edit) ≤ bytes_of es + length (spelled_edit edit))
+one_more : (es : List Entry) (edit : Edit) → (length (with_edit es edit) ≤ length es + 1) × (bytes_of (with_edit es edit) ≤ bytes_of es + length (spelled_entry edit))
 one_more es edit =
     let long = as_long edit in
     let bytes = more_bytes (edit_entry edit).0 (edit_entry edit).1 es in
     (more_entries (edit_entry edit).0 (edit_entry edit).1 es, subst (λ (n : ℕ). bytes_of (with_edit es edit) ≤ bytes_of es + n) long bytes)
 
-pub many_more : (es : List Entry) (edits : List Edit) → (length (with_edits es edits) ≤ length es + length edits) × (bytes_of (with_edits es edits) ≤ bytes_of es + length (spelled_edits edits))
+pub many_more : (es : List Entry) (edits : List Edit) → (length (with_edits es edits) ≤ length es + length edits) × (bytes_of (with_edits es edits) ≤ bytes_of es + length (spelled_entries edits))
 many_more es [] = (omega arith, omega arith)
 many_more es (edit ∷ edits) =
     let one = one_more es edit in
     let rest = many_more (with_edit es edit) edits in
-    let long = length-append (spelled_edit edit) (spelled_edits edits) in
+    let long = length-append (spelled_entry edit) (spelled_entries edits) in
     let entries = rest.0 in
     let bytes = rest.1 in
     let entry = one.0 in
@@ -71,20 +71,20 @@ many_more es (edit ∷ edits) =
     (omega (arith, entries, entry), omega (arith, bytes, byte, long))
 
 -- a range's edits are no more than all
-fewer : (range : RowRange) (edits : List Edit) → (length (edits_in range edits) ≤ length edits) × (length (spelled_edits (edits_in range edits)) ≤ length (spelled_edits edits))
+fewer : (range : RowRange) (edits : List Edit) → (length (edits_in range edits) ≤ length edits) × (length (spelled_entries (edits_in range edits)) ≤ length (spelled_entries edits))
 fewer range [] = (omega arith, omega arith)
 fewer range (edit ∷ edits) = go (has_row range (edited_key edit).row) refl (fewer range edits)
   where
-    go : (b : Bool) → has_row range (edited_key edit).row ≡ b → (length (edits_in range edits) ≤ length edits) × (length (spelled_edits (edits_in range edits)) ≤ length (spelled_edits edits))
-        → (length (edits_in range (edit ∷ edits)) ≤ length (edit ∷ edits)) × (length (spelled_edits (edits_in range (edit ∷ edits))) ≤ length (spelled_edits (edit ∷ edits)))
+    go : (b : Bool) → has_row range (edited_key edit).row ≡ b → (length (edits_in range edits) ≤ length edits) × (length (spelled_entries (edits_in range edits)) ≤ length (spelled_entries edits))
+        → (length (edits_in range (edit ∷ edits)) ≤ length (edit ∷ edits)) × (length (spelled_entries (edits_in range (edit ∷ edits))) ≤ length (spelled_entries (edit ∷ edits)))
     go true is rest =
-        let here = length-append (spelled_edit edit) (spelled_edits (edits_in range edits)) in
-        let all = length-append (spelled_edit edit) (spelled_edits edits) in
+        let here = length-append (spelled_entry edit) (spelled_entries (edits_in range edits)) in
+        let all = length-append (spelled_entry edit) (spelled_entries edits) in
         let count = rest.0 in
         let bytes = rest.1 in
         rw is (omega (arith, count), omega (arith, bytes, here, all))
     go false is rest =
-        let all = length-append (spelled_edit edit) (spelled_edits edits) in
+        let all = length-append (spelled_entry edit) (spelled_entries edits) in
         let count = rest.0 in
         let bytes = rest.1 in
         rw is (omega (arith, count), omega (arith, bytes, all))

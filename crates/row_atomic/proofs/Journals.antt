@@ -50,11 +50,12 @@ no_longer n bs =
     omega (arith, both, all)
 
 -- the view of a journal
-abbrev pub view_at : ℕ → List ℕ → ℕ → JournalView
-view_at s bs count = record { logged = take s bs; waiting = drop s bs; count = count }
+abbrev pub view_at : ℕ → List ℕ → ℕ → ℕ → JournalView
+view_at s bs count bytes = record { logged = take s bs; waiting = drop s bs; count = count; entry_bytes = bytes }
 
-pub cut_view : (s n count less : ℕ) (bs now : List ℕ) → now ≡ take n bs → s ≤ length bs → length (take s bs) ≤ n → view_at s now less ≡ record (view_at s bs count) { waiting = take (n - length (take s bs)) (drop s bs); count = less }
-cut_view s n count less bs now is within enough = ap (λ (l : List ℕ). view_at s l less) is ∙ both
+pub cut_view : (s n count less bytes fewer : ℕ) (bs now : List ℕ) → now ≡ take n bs → s ≤ length bs → length (take s bs) ≤ n
+    → view_at s now less fewer ≡ record (view_at s bs count bytes) { waiting = take (n - length (take s bs)) (drop s bs); count = less; entry_bytes = fewer }
+cut_view s n count less bytes fewer bs now is within enough = ap (λ (l : List ℕ). view_at s l less fewer) is ∙ both
   where
     long : length (take s bs) ≡ s
     long = length-take-le s bs within
@@ -62,16 +63,13 @@ cut_view s n count less bs now is within enough = ap (λ (l : List ℕ). view_at
     below : s ≤ n
     below = let long = long in omega (arith, long, enough)
 
-    both : view_at s (take n bs) less ≡ record (view_at s bs count) { waiting = take (n - length (take s bs)) (drop s bs); count = less }
-    both i = record { logged = first_kept s n bs below within i; waiting = rest_cut s n bs below within i; count = less }
-
-pub push_view : (s count more : ℕ) (bs bytes now : List ℕ) → now ≡ bs ++ bytes → s ≤ length bs → view_at s now (count + more) ≡ record { logged = take s bs; waiting = drop s bs ++ bytes; count = count + more }
-push_view s count more bs bytes now is within i = record { logged = first_stays s bs bytes now within is i; waiting = rest_grows s bs bytes now within is i; count = count + more }
+    both : view_at s (take n bs) less fewer ≡ record (view_at s bs count bytes) { waiting = take (n - length (take s bs)) (drop s bs); count = less; entry_bytes = fewer }
+    both i = record { logged = first_kept s n bs below within i; waiting = rest_cut s n bs below within i; count = less; entry_bytes = fewer }
 
 -- edits that were added are removed again
-pub taken_back : (edits : List Edit) (journal pushed cut : JournalView) (len count : ℕ) → pushed ≡ with_waiting edits journal → len ≡ length journal.logged + length journal.waiting → count ≡ journal.count
-    → cut ≡ record pushed { waiting = take (len - length pushed.logged) pushed.waiting; count = count } → cut ≡ journal
-taken_back edits journal pushed cut len count is long counted became = became ∙ (ap (λ (j : JournalView). record j { waiting = take (len - length j.logged) j.waiting; count = count }) is ∙ all)
+pub taken_back : (edits : List Edit) (journal pushed cut : JournalView) (len count bytes : ℕ) → pushed ≡ with_waiting edits journal → len ≡ length journal.logged + length journal.waiting → count ≡ journal.count → bytes ≡ journal.entry_bytes
+    → cut ≡ record pushed { waiting = take (len - length pushed.logged) pushed.waiting; count = count; entry_bytes = bytes } → cut ≡ journal
+taken_back edits journal pushed cut len count bytes is long counted measured became = became ∙ (ap (λ (j : JournalView). record j { waiting = take (len - length j.logged) j.waiting; count = count; entry_bytes = bytes }) is ∙ all)
   where
     rest : len - length journal.logged ≡ length journal.waiting
     rest = let long = long in omega (arith, long)
@@ -79,5 +77,5 @@ taken_back edits journal pushed cut len count is long counted became = became �
     back : take (len - length journal.logged) (journal.waiting ++ spelled_edits edits) ≡ journal.waiting
     back = ap (λ (n : ℕ). take n (journal.waiting ++ spelled_edits edits)) rest ∙ take-append_seam journal.waiting (spelled_edits edits)
 
-    all : record (with_waiting edits journal) { waiting = take (len - length journal.logged) (journal.waiting ++ spelled_edits edits); count = count } ≡ journal
-    all i = record { logged = journal.logged; waiting = back i; count = counted i }
+    all : record (with_waiting edits journal) { waiting = take (len - length journal.logged) (journal.waiting ++ spelled_edits edits); count = count; entry_bytes = bytes } ≡ journal
+    all i = record { logged = journal.logged; waiting = back i; count = counted i; entry_bytes = measured i }

@@ -16,7 +16,8 @@ use Rattle.tablet.specs.declared.tablet.Tablet.{Tablet}
 use Rattle.row_atomic.specs.Changes.{ListsAll}
 use Rattle.row_atomic.specs.Clusters.{ArePlaced, ClusterState, joined, storage_of, tablet_numbered}
 use Rattle.row_atomic.specs.Commands.{AnswersAll, IsOutcome, TakesFiles}
-use Rattle.row_atomic.specs.Flushes.{MergesEach}
+use Rattle.row_atomic.specs.Flushes.{MergesEach, MergesNewest}
+use Rattle.tablet.specs.declared.merge_policy.MergePolicy.{MergePolicy}
 use Rattle.row_atomic.specs.Roots.{AreOpened, FlushesEach, HasRoot, KeepsCells, KeepsRoot, StayRooted, flushes_none, flushes_one, refuses_one, root_name}
 use Rattle.row_atomic.specs.Open.{HasBadRoot}
 use Rattle.row_atomic.specs.RootSweeps.{AreNamedIn, AreRootPlaces, SweepsBesideRoot}
@@ -273,6 +274,10 @@ module _ {F : Type 0} (contents : F → Option Contents) (law : UnnamedMayGo) (r
     flushes_stay (n ∷ ns) result old new (flushes_one {now = now} is rest) = both_stay contents root cells old now new (minor_stay old now n outcome.Done is) (flushes_stay ns result now new rest)
     flushes_stay (n ∷ ns) result old new (refuses_one refusal is) = minor_stay old new n (outcome.Refused refusal) is
 
-    pub merges_have : (most : ℕ) (ns : List ℕ) (old new : ClusterState F) → MergesEach contents faults most old ns new → HasRoot contents root cells old → HasRoot contents root cells new
-    merges_have most [] old new is has = subst (HasRoot contents root cells) (sym is) has
-    merges_have most (n ∷ ns) old new is has = merges_have most ns is.0 new is.5 (one_has faults old is.0 (command.Merge n is.1) is.2 is.4 (λ sweep. cc) has)
+    merge_has : (n count : ℕ) (old new : ClusterState F) → MergesNewest contents faults n count old new → HasRoot contents root cells old → HasRoot contents root cells new
+    merge_has n count old new (inl none) has = subst (HasRoot contents root cells) (sym none.1) has
+    merge_has n count old new (inr some) has = one_has faults old new (command.Merge n count) some.1.0 some.1.1 (λ sweep. cc) has
+
+    pub merges_have : (policy : MergePolicy) (ns : List ℕ) (old new : ClusterState F) → MergesEach contents faults policy old ns new → HasRoot contents root cells old → HasRoot contents root cells new
+    merges_have policy [] old new is has = subst (HasRoot contents root cells) (sym is) has
+    merges_have policy (n ∷ ns) old new is has = merges_have policy ns is.0 new is.4 (merge_has n is.1 old is.0 is.3 has)

@@ -1,8 +1,9 @@
--- Automatic compactions: of each tablet whose memtable is full, or that has many files.
-use Rattle.std.specs.Prelude.{◌≡◌, ◌≤◌, ◌^◌, ◌+◌, ◌&&◌, ℕ, Bool, false, nat_le, nat_lt, List, [], ◌∷◌, length, map, filter, Option, None, Some}
+-- Automatic compactions: of each tablet whose memtable is full, and of the files of each that a merge policy takes.
+use Rattle.std.specs.Prelude.{◌≡◌, ◌≤◌, ◌⊎◌, ℕ, Bool, false, List, [], ◌∷◌, map, filter, Option, None, Some}
 use Rattle.file_store.specs.Store.{Contents}
 use Rattle.metadata_table.specs.Places.{PlaceView}
-use Rattle.tablet.specs.Views.{names_of}
+use Rattle.tablet.specs.MergePolicies.{IsMergeCount}
+use Rattle.tablet.specs.declared.merge_policy.MergePolicy.{MergePolicy}
 use Rattle.tablet.specs.declared.tablet.Tablet.{Tablet}
 use Rattle.row_atomic.specs.Changes.{KeepsMap, Numbered}
 use Rattle.row_atomic.specs.Clusters.{ClusterState, spots_of, tablet_numbered}
@@ -33,39 +34,30 @@ CompactsFull contents faults limits old new =
     (outcomes : List Outcome)
     × AnswersAll contents faults old (map command.Minor (numbers_full limits old)) outcomes new
 
--- whether there is a tablet with at least `most` files, where `most` is 2 or more, and no more files than a merge can
--- count
-abbrev pub has_files : ℕ → Option Tablet → Bool
-has_files most None = false
-has_files most (Some t) =
-    nat_le 2 most && nat_le most (length (names_of t)) && nat_lt (length (names_of t)) (2 ^ 32)
-
--- the numbers of the tablets that have at least `most` files
-abbrev pub numbers_over : {F : Type 0} → ℕ → ClusterState F → List ℕ
-numbers_over most state =
-    filter (λ n. has_files most (tablet_numbered n state.tablets)) (numbers_of state.places)
-
--- If `count` of a tablet's files are merged, fewer than `most` are left.
-pub record LeavesFew (most count : ℕ) (t : Tablet) : Type 0 where
-  pub within : count ≤ length (names_of t)
-  pub enough : length (names_of t) + 2 ≤ most + count
-
--- The newest files of each of these tablets were merged, in order, or the merge was refused. The outcomes are not
+-- So many of a tablet's newest files were merged, or the merge was refused; with 0 nothing was done. The outcome is not
 -- reported.
-abbrev pub MergesEach : {F : Type 0}
-    → (F → Option Contents) → (F → ℕ) → ℕ → ClusterState F → List ℕ → ClusterState F → Type 0
-MergesEach contents faults most old [] new = new ≡ old
-MergesEach {F} contents faults most old (n ∷ ns) new =
-    (next : ClusterState F) × (count : ℕ) × (outcome : Outcome)
-    × Numbered (LeavesFew most count) n old.tablets
-    × IsOutcome contents faults (command.Merge n count) outcome old next
-    × MergesEach contents faults most next ns new
+abbrev pub MergesNewest : {F : Type 0}
+    → (F → Option Contents) → (F → ℕ) → ℕ → ℕ → ClusterState F → ClusterState F → Type 0
+MergesNewest contents faults n count old new =
+    ((count ≡ 0) × (new ≡ old))
+    ⊎ ((1 ≤ count)
+    × ((outcome : Outcome) × IsOutcome contents faults (command.Merge n count) outcome old new))
 
--- Exactly the tablets with at least `most` files were merged, in the order of their ends.
-abbrev pub MergesMany : {F : Type 0}
-    → (F → Option Contents) → (F → ℕ) → ℕ → ClusterState F → ClusterState F → Type 0
-MergesMany contents faults most old new =
-    MergesEach contents faults most old (numbers_over most old) new
+-- In each of these tablets, in order, the newest files were merged as a policy says.
+abbrev pub MergesEach : {F : Type 0} → (F → Option Contents) → (F → ℕ) → MergePolicy
+    → ClusterState F → List ℕ → ClusterState F → Type 0
+MergesEach contents faults policy old [] new = new ≡ old
+MergesEach {F} contents faults policy old (n ∷ ns) new =
+    (next : ClusterState F) × (count : ℕ)
+    × Numbered (λ t. IsMergeCount policy t count) n old.tablets
+    × MergesNewest contents faults n count old next
+    × MergesEach contents faults policy next ns new
+
+-- the same in all tablets, in the order of their ends
+abbrev pub MergesMany : {F : Type 0} → (F → Option Contents) → (F → ℕ) → MergePolicy
+    → ClusterState F → ClusterState F → Type 0
+MergesMany contents faults policy old new =
+    MergesEach contents faults policy old (numbers_of old.places) new
 
 -- Tablets that were in order still are, with the same cells. Their ends, numbers and servers and the limit of a file
 -- are unchanged, and no fault was forgotten.

@@ -8,6 +8,7 @@ use Rattle.cell_key.specs.declared.refusals.Refusal.{Refusal}
 use Rattle.file_store.specs.Store.{Contents}
 use Rattle.metadata_table.specs.Roots.{RootView}
 use Rattle.rows.specs.Calls.{View}
+use Rattle.tablet.specs.declared.merge_policy.MergePolicy.{MergePolicy}
 use Rattle.row_atomic.specs.Seen.{seen_of}
 use Rattle.row_atomic.specs.Changes.{Holds, IsEmptied}
 use Rattle.row_atomic.specs.Clusters.{ClusterState, storage_of}
@@ -52,7 +53,7 @@ abbrev pub waiting_of : Option JournalView → List ℕ
 waiting_of None = []
 waiting_of (Some journal) = journal.waiting
 
--- the number of edits, and of bytes, in the journal
+-- the number of edits, and of bytes, in the journal, and the bytes that the edits take as entries of a memtable
 abbrev pub edits_written : Option JournalView → ℕ
 edits_written None = 0
 edits_written (Some journal) = journal.count
@@ -60,6 +61,10 @@ edits_written (Some journal) = journal.count
 abbrev pub bytes_written : Option JournalView → ℕ
 bytes_written None = 0
 bytes_written (Some journal) = length journal.logged + length journal.waiting
+
+abbrev pub entry_bytes_written : Option JournalView → ℕ
+entry_bytes_written None = 0
+entry_bytes_written (Some journal) = journal.entry_bytes
 
 -- ---- rows with a journal
 
@@ -114,8 +119,8 @@ pub record KeepsFollowing {F : Type 0} (contents : F → Option Contents) (fault
   pub flushes : (limits : FlushLimits) (journal : Option JournalView) (old new : ClusterState F)
       → CompactsFull contents faults limits old new → KeepsShown contents faults old new
       → Holds contents old → Follows contents old journal → Follows contents new journal
-  pub merges : (most : ℕ) (journal : Option JournalView) (old new : ClusterState F)
-      → MergesMany contents faults most old new → KeepsShown contents faults old new
+  pub merges : (policy : MergePolicy) (journal : Option JournalView) (old new : ClusterState F)
+      → MergesMany contents faults policy old new → KeepsShown contents faults old new
       → Holds contents old → Follows contents old journal → Follows contents new journal
   -- An accepted checkpoint: from its root both the journal's edits and the empty list of edits lead to the cells shown.
   pub checkpoints : (top floor : ℕ) (journal : Option JournalView) (old new : ClusterState F)

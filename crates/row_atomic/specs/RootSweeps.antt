@@ -1,5 +1,5 @@
 -- Sweeps that leave the files of the root, too.
-use Rattle.std.specs.Prelude.{◌≡◌, ℕ, List, Option, Some, None, Result, IfErr, IfOk, IfSome, IsErrOf, OnErr, ⊤}
+use Rattle.std.specs.Prelude.{◌≡◌, ℕ, List, Option, Some, None, Result, IfErr, IfOk, IfSome, IsErrOf, ⊤}
 use Rattle.std.specs.FinMap.{get}
 use Rattle.cell_key.specs.Cells.{Cells}
 use Rattle.cell_key.specs.Faults.{HasReason}

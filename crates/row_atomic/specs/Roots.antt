@@ -12,6 +12,7 @@ use Rattle.metadata_table.specs.Roots.{IsRoot, IsRootIn, RootView, file_names, r
 use Rattle.metadata_table.specs.declared.root.format.RootFormat.TheVariants.{Two}
 use Rattle.tablet.specs.Views.{Holds as HoldsAt}
 use Rattle.tablet.specs.declared.tablet.Tablet.{Tablet}
+use Rattle.tablet.specs.declared.merge_policy.MergePolicy.{MergePolicy}
 use Rattle.row_atomic.specs.Changes.{Holds, IsEmptied, ListsAll, Numbered}
 use Rattle.row_atomic.specs.Clusters.{ArePlaced, ClusterState, cells_in, storage_of}
 use Rattle.row_atomic.specs.Commands.{IsOutcome, TakesFiles, TellsFaults, cells_shown}
@@ -183,6 +184,6 @@ RootOutlastsFlushes {F} contents faults =
 -- Merges of many tablets keep a root and its cells in the files. The tablets may then lack files of the root.
 abbrev pub RootOutlastsMerges : {F : Type 0} → (F → Option Contents) → (F → ℕ) → Type 0
 RootOutlastsMerges {F} contents faults =
-    (root : RootView) (cells : Cells) (old new : ClusterState F) (most : ℕ)
-    → MergesMany contents faults most old new
+    (root : RootView) (cells : Cells) (old new : ClusterState F) (policy : MergePolicy)
+    → MergesMany contents faults policy old new
     → HasRoot contents root cells old → HasRoot contents root cells new

@@ -9,7 +9,7 @@ ghost use Rattle.rows.specs.Refusals.{IsApplyRefusal};
 ghost use Rattle.rows.specs.RowEdits.{AreOfTheirRow, all_edits};
 
 use cell_key::{Edit, Refusal, Row};
-use commit_log::push_edits;
+use commit_log::{entries_len, push_edits};
 use rows::RowEdits;
 use std::alloc::Global;
 use std::marker::Model;
@@ -17,12 +17,12 @@ use std::marker::Model;
 /// The most edits in a journal.
 const MOST_EDITS: usize = 100_000;
 
-/// The most bytes of a journal.
+/// The most bytes that the edits of a journal take as entries of a memtable.
 const MOST_BYTES: usize = 67_108_864;
 
 /// The edits made since a root was put, as the bytes of log records: first those that the log already has, then those
-/// still waiting for it. At most 100,000 edits with at most 67,108,864 bytes, the limits of a memtable. The logged
-/// edits stay in memory, since the contracts speak of all edits.
+/// still waiting for it. At most 100,000 edits, which take at most 67,108,864 bytes as entries: the limits of a memtable.
+/// The logged edits stay in memory, since the contracts speak of all edits.
 #[derive(Drop)]
 pub struct Journal {
     bytes: Vec<u8>,
@@ -30,6 +30,8 @@ pub struct Journal {
     settled: usize,
     /// How many edits it has.
     count: usize,
+    /// The bytes that they take as entries of a memtable.
+    entry_bytes: usize,
 }
 
 impl Model for Journal {
@@ -45,10 +47,12 @@ impl Model for Journal {
           logged = take journal.settled journal.bytes.items;
           waiting = drop journal.settled journal.bytes.items;
           count = journal.count;
+          entry_bytes = journal.entry_bytes;
         } };
 
     ghost invariant = { λ journal. (journal.settled ≤ length journal.bytes.items)
-        × (journal.count ≤ 100000) × (length journal.bytes.items ≤ 67108864) };
+        × (journal.count ≤ 100000) × (journal.entry_bytes ≤ 67108864)
+        × (length journal.bytes.items ≤ journal.entry_bytes) };
 }
 
 impl Journal {
@@ -60,6 +64,7 @@ impl Journal {
             bytes: Vec::new(alloc),
             settled: 0,
             count: 0,
+            entry_bytes: 0,
         }
     }
 
@@ -68,6 +73,13 @@ impl Journal {
         ensures { result ≡ self.now.count }
     {
         self.count
+    }
+
+    /// The bytes that its edits take as entries of a memtable.
+    pub(crate) fn entry_bytes(&self) -> usize
+        ensures { result ≡ self.now.entry_bytes }
+    {
+        self.entry_bytes
     }
 
     /// How many bytes it has.
@@ -100,6 +112,7 @@ impl Journal {
         self.bytes.clear();
         self.settled = 0;
         self.count = 0;
+        self.entry_bytes = 0;
     }
 
     /// Appends edits of a row.
@@ -119,13 +132,13 @@ impl Journal {
         if edits.len() > MOST_EDITS - self.count {
             return Err(Refusal::MemtableFull);
         }
-        let before = self.bytes.len();
-        push_edits(&mut self.bytes, row, edits)?;
-        if self.bytes.len() > MOST_BYTES {
-            self.bytes.truncate(before);
+        let entry_bytes = self.entry_bytes + entries_len(row, edits);
+        if entry_bytes > MOST_BYTES {
             return Err(Refusal::MemtableFull);
         }
+        push_edits(&mut self.bytes, row, edits)?;
         self.count += edits.len();
+        self.entry_bytes = entry_bytes;
         Ok(())
     }
 
@@ -144,26 +157,30 @@ impl Journal {
         ensures within { OnOk result (HasRoomFor self.old (all_edits changes.now)) }
         ensures stored { OnOk result (AllByRecursion IsStoredEdit (all_edits changes.now)) }
     {
-        let (len, count) = (self.bytes.len(), self.count);
+        let (len, count, entry_bytes) = (self.len(), self.count, self.entry_bytes);
         for change in changes {
             if let Err(refusal) = self.push(&change.row, &change.edits) {
-                self.cut(len, count);
+                self.cut(len, count, entry_bytes);
                 return Err(refusal);
             }
         }
         Ok(())
     }
 
-    /// Drops the edits after the first `len` bytes, which hold `count` edits.
-    pub(crate) fn cut(&mut self, len: usize, count: usize)
+    /// Drops the edits after the first `len` bytes, which hold `count` edits that take `entry_bytes` as entries.
+    pub(crate) fn cut(&mut self, len: usize, count: usize, entry_bytes: usize)
         requires waiting { length self.old.logged ≤ len }
         requires few { count ≤ self.old.count }
+        requires less { entry_bytes ≤ self.old.entry_bytes }
+        requires shorter { len ≤ entry_bytes }
         ensures { self.new ≡ record self.old {
           waiting = take (len - length self.old.logged) self.old.waiting;
           count = count;
+          entry_bytes = entry_bytes;
         } }
     {
         self.bytes.truncate(len);
         self.count = count;
+        self.entry_bytes = entry_bytes;
     }
 }

@@ -18,3 +18,4 @@ pub use fill::FlushLimits;
 pub use journal::Journal;
 pub use recorded::Recorded;
 pub use rows::{PlainRows, RowEdits, Rows, oldest, one_newest, one_next_cell};
+pub use tablet::MergePolicy;

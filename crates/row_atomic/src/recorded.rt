@@ -58,7 +58,7 @@ impl<F: Files> Recorded<F> {
         self.journal.is_some()
     }
 
-    /// The bytes of the edits that wait for the log, as a log record; empty without a journal.
+    /// The bytes of the edits that wait for the log, as the body of a log record; empty without a journal.
     pub fn waiting(&self) -> &[u8]
         ensures bytes { result.now ≡ waiting_of self.now.journal }
         ensures within { IfSome self.now.journal IsWithin }
@@ -99,7 +99,7 @@ impl<F: Files> Recorded<F> {
         }
     }
 
-    /// How many bytes they have, at most 67,108,864.
+    /// How many bytes they have in the log, at most 67,108,864.
     pub fn written_bytes(&self) -> usize
         ensures { result ≡ bytes_written self.now.journal }
     {
@@ -221,10 +221,11 @@ impl<F: Files> Rows for Recorded<F> {
             None => self.cluster.apply(row, edits),
             Some(journal) => {
                 let (len, count) = (journal.len(), journal.count());
+                let entry_bytes = journal.entry_bytes();
                 journal.push(row, &edits)?;
                 let done = self.cluster.apply(row, edits);
                 if done.is_err() {
-                    journal.cut(len, count);
+                    journal.cut(len, count, entry_bytes);
                 }
                 done
             }
@@ -253,10 +254,11 @@ impl<F: Files> Rows for Recorded<F> {
             None => self.cluster.apply_all(changes),
             Some(journal) => {
                 let (len, count) = (journal.len(), journal.count());
+                let entry_bytes = journal.entry_bytes();
                 journal.push_all(&changes)?;
                 let done = self.cluster.apply_all(changes);
                 if done.is_err() {
-                    journal.cut(len, count);
+                    journal.cut(len, count, entry_bytes);
                 }
                 done
             }

@@ -1,11 +1,10 @@
 -- Answers to Commits and Reads, from the sessions' calls.
-use Rattle.std.proofs.Common.{◌≡◌, ◌∙◌, ◌+◌, ◌≤◌, ℕ, List, length, map, Option, Result, Ok, Err, IsErrOf, ap, arith, refl, subst, sym}
-use Rattle.std.specs.Prelude.{option_map}
+use Rattle.std.proofs.Common.{◌≡◌, ◌∙◌, ◌+◌, ℕ, List, length, map, Option, Result, Ok, Err, IsErrOf, ap, subst, sym}
 use Rattle.cell_key.specs.Cells.{Cells}
 use Rattle.cell_key.specs.declared.refusals.Refusal.{Refusal}
 use Rattle.cell_key.specs.declared.refusals.Refusal.TheVariants.{Damaged}
 use Rattle.file_store.specs.Store.{Contents}
-use Rattle.request_codec.specs.Answers.{FitsRead, HoldsAnswerWithinLimits}
+use Rattle.request_codec.specs.Answers.{HoldsAnswerWithinLimits}
 use Rattle.request_codec.specs.declared.answers.Answer.{Answer as CodecAnswer}
 use Rattle.request_codec.specs.declared.answers.Answer.TheVariants as given
 use Rattle.request_codec.specs.declared.replies.Reply.{Reply as CodecReply}
@@ -13,10 +12,9 @@ use Rattle.request_codec.specs.declared.replies.Reply.TheVariants as codec
 use Rattle.row_atomic.specs.Clusters.{cells_in}
 use Rattle.row_atomic.specs.Recorded.{seen_recorded}
 use Rattle.rows.specs.Calls.{KeepsBelow, OnlyReads}
+use Rattle.si_model.proofs.ByServers.{by_servers}
 use Rattle.si_model.specs.Answers.{cell_named, cells_named, commit_answer, read_answer}
 use Rattle.si_model.specs.Machine as machine
-use Rattle.si_model.specs.Replies.{found_item}
-use Rattle.si_model.specs.declared.scans.ScanFound.{ScanFound}
 use Rattle.si_model.specs.Machine.{IsReached, Refused, State, Writes}
 use Rattle.si_model.specs.Transactions.{Answer, Commit, Goes, IsReadCount, Operation, Said}
 use Rattle.si_model.specs.declared.transactions.CellName.{CellName}
@@ -27,7 +25,6 @@ use Rattle.clean_up.specs.Shows.{ShowsCleaners}
 use Rattle.clean_up.specs.declared.cleaners.Cleaners.{Cleaners}
 use Rattle.version_collector.specs.Shows.{ShowsCollectors}
 use Rattle.version_collector.specs.declared.collectors.Collectors.{Collectors}
-use Rattle.txn_client.specs.CellReads.{IsShortAnswer, said_in}
 use Rattle.txn_client.specs.Commits.{CommitDoes}
 use Rattle.txn_client.specs.Shows as clients
 use Rattle.txn_client.specs.Transactions as clients_goes
@@ -45,21 +42,15 @@ use Rattle.server_loop.proofs.OperationsShown.{commits_keep_collectors, operatio
 
 pub commit_told : (P : Refusal → Type 0) (reply : CommitReply) → IfAnswerRefused P (commit_answer reply)
 commit_told P (commits.Committed s c) = tt
-commit_told P (commits.Conflict place) = tt
+commit_told P (commits.Conflict s place) = tt
 
 pub commit_limits : (reply : CommitReply) → HoldsAnswerWithinLimits (commit_answer reply)
 commit_limits (commits.Committed s c) = tt
-commit_limits (commits.Conflict place) = tt
-
-pub read_limits : (found : List (Option ScanFound)) → IsShortAnswer found → FitsRead (said_in found)
-read_limits found short =
-    let same : length (said_in found) ≡ length found = length-map (λ said. option_map found_item said) found in
-    let few = short.0 in
-    (omega (arith, same, few), short.1)
+commit_limits (commits.Conflict s place) = tt
 
 pub commit_undamaged : (reply : CommitReply) → commit_answer reply ≡ Said (Refused Damaged) → ⊥
 commit_undamaged (commits.Committed s c) is = cc
-commit_undamaged (commits.Conflict place) is = cc
+commit_undamaged (commits.Conflict s place) is = cc
 
 pub read_undamaged : (reply : ReadReply) → read_answer reply ≡ Said (Refused Damaged) → ⊥
 read_undamaged reply is = cc
@@ -127,7 +118,7 @@ module _ {F M : Type 0} (contents : F → Option Contents) (old new : Server F M
       → (st next : State) → IsReached st → Shows contents old st → Goes st (Commit start writes) (commit_answer reply) next → ShowsCollectors (server_cells contents new) old.collectors next
   commits_collected start writes (commits.Committed s c) does st next reached shown goes =
       subst (λ (cells : Cells). ShowsCollectors cells old.collectors next) (sym (does.made shown.in_order)) (commits_keep_collectors (server_cells contents old) old.collectors st next start s c writes (map write_of does.all) reached shown.shows.store goes shown.collectors)
-  commits_collected start writes (commits.Conflict place) does st next reached shown goes = reads_collected (Commit start writes) _ tt does.reads st next reached shown goes
+  commits_collected start writes (commits.Conflict s place) does st next reached shown goes = reads_collected (Commit start writes) _ tt does.reads st next reached shown goes
 
   -- a Commit or a Read, which leaves the tablets' places, the cleaners and the collectors unchanged
   goes_from : (operation : Operation) (answer : Answer) → StandsForSeveral operation → new.cleaners ≡ old.cleaners → new.collectors ≡ old.collectors → (seen_recorded contents).storage new.rows ≡ (seen_recorded contents).storage old.rows
@@ -137,11 +128,12 @@ module _ {F M : Type 0} (contents : F → Option Contents) (old new : Server F M
       → ((st : State) → IsReached st → HoldsIn contents old → clients.Shows (cells_in (contents old.rows.cluster.files) old.rows.cluster.tablets) old.clients old.oracle.last st → answer ≡ Said (Refused Damaged) → ⊥)
       → GoesFrom (Shows contents) old new operation answer
   goes_from operation answer several cleaners collectors storage collected goes still whole = λ before reached shown.
-      let (next, gone, shows) = goes shown.in_order before reached shown.shows in
+      let (next, gone, shows, known) = goes shown.in_order before (by_servers reached) shown.shows in
       let left = operations_leave_others before next operation answer reached several gone in
       let after : Shows contents new next = record {
         in_order = still shown.in_order;
         shows = shows;
+        alone = (known shown.alone.0, ap (λ (k : Collectors). k.greatest_floor) collectors ∙ shown.alone.1 ∙ sym left.floor);
         cleaners = subst (λ (k : Cleaners). ShowsCleaners k next) (sym cleaners) (left.cleaners old.cleaners shown.cleaners);
         collectors = subst (λ (k : Collectors). ShowsCollectors (server_cells contents new) k next) (sym collectors) (collected before next reached shown gone);
         places = ap (map machine_place) (ap spots_in storage) ∙ shown.places ∙ sym left.places;

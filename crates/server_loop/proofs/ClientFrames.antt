@@ -1,6 +1,6 @@
 -- Frames of clients, as the machine handles them.
-use Rattle.std.proofs.Common.{◌≡◌, ◌≢◌, ℕ, Bool, true, false, not, ◌&&◌, ◌||◌, List, [], ◌∷◌, ◌++◌, Option, Some, None, ◌⊎◌, inl, inr, refl, sym, ap, subst, ◌∙◌, arith}
-use Rattle.std.specs.Prelude.{nat_eq, is_some}
+use Rattle.std.proofs.Common.{◌≡◌, ◌≢◌, ℕ, Bool, true, false, not, ◌&&◌, ◌||◌, List, [], ◌∷◌, ◌++◌, Option, Some, None, Result, Ok, Err, ◌⊎◌, inl, inr, refl, sym, ap, subst, ◌∙◌, arith}
+use Rattle.std.specs.Prelude.{OnErr, is_err, nat_eq, is_some}
 use Rattle.std.specs.List.{AllByRecursion}
 use Rattle.std.proofs.lemmas.Bool.Decides.{nat_tests}
 use Rattle.std.proofs.lemmas.Option.{none-some, same_Some}
@@ -22,6 +22,7 @@ use Rattle.ownership.specs.Turns as turned
 use Rattle.ownership.specs.declared.names.Name.{Name}
 use Rattle.ownership.specs.declared.names.Name.TheVariants.{Session, Cleaner, Collector}
 use Rattle.ownership.proofs.Effects.{stop_closes, touches_its_own}
+use Rattle.ownership.proofs.Noted.{in_order, its_heir, left_other, left_session, stop_applies, stop_turn, turn_of}
 use Rattle.ownership.proofs.Steps.{differ, is_named, itself as same_itself, not_named, same, stays_open}
 use Rattle.ownership.proofs.Turns.{asked_own, handles_knows, handles_reached, itself, same_number, stops_reached, turn_knows}
 use Rattle.server_loop.specs.Batches.{AnswersAll}
@@ -37,52 +38,15 @@ dec : (b : Bool) → Dec b
 dec true = inl refl
 dec false = inr refl
 
--- ---- the table after an answer
-
--- what was owned and is closed is taken out, and what was given comes in
-settled : (own asked ends named live given : Bool) → (own ≡ true → given ≡ false) → (given ≡ true → live ≡ true) → (own ≡ true → named ≡ false → live ≡ true) → (own ≡ true → ends ≡ false → live ≡ true) → (own ≡ true → named ≡ true → asked ≡ true)
-    → ((own && not (asked && (ends && (named && not live)))) || (asked && given)) ≡ (live && (own || (asked && given)))
-settled false true ends named true true a b c d e = refl
-settled false true ends named false true a b c d e = absurd (differ (sym (b refl)))
-settled false true ends named true false a b c d e = refl
-settled false true ends named false false a b c d e = refl
-settled false false ends named true given a b c d e = refl
-settled false false ends named false given a b c d e = refl
-settled true asked ends named live true a b c d e = absurd (differ (a refl))
-settled true true true true true false a b c d e = refl
-settled true true true true false false a b c d e = refl
-settled true false ends true live false a b c d e = absurd (differ (sym (e refl refl)))
-settled true true true false true false a b c d e = refl
-settled true asked ends false false false a b c d e = absurd (differ (sym (c refl refl)))
-settled true asked false named false false a b c d e = absurd (differ (sym (d refl refl)))
-settled true true false named true false a b c d e = refl
-settled true false ends false true false a b c d e = refl
-
-module _ {st next : State} {table table' : Table} {client : ℕ} {operation : Operation} {answer : Answer} (reached : IsReached st) (known : Knows table st)
-    (own : (name : Name) → name_of operation ≡ Some name → owns table client name ≡ true) (goes : Goes st operation answer next)
-    (notes : (other : ℕ) (name : Name) → owns table' other name ≡ ((owns table other name && not (nat_eq client other && (may_end operation && (is_name (name_of operation) name && not (is_open next name))))) || (nat_eq client other && gives operation answer name))) where
-  pub turn_of : Turn st table client operation answer next table'
-  turn_of = let touched = touches_its_own st next operation answer reached goes in record {
-    goes = goes;
-    noted = λ other name. notes other name ∙ settled (owns table other name) (nat_eq client other) (may_end operation) (is_name (name_of operation) name) (is_open next name) (gives operation answer name)
-        (λ o. not_given other name o (dec (gives operation answer name)))
-        (λ g. touched.is_there name g)
-        (λ o n. stays_open st next name (touched.others name (known.is_there other name o) (not_named (name_of operation) name n)) ∙ known.is_there other name o)
-        (λ o e. touched.goes_on name e (known.is_there other name o))
-        (λ o n. subst (λ (c : ℕ). nat_eq client c ≡ true) (known.one client other name (own name (is_named (name_of operation) name n)) o) (itself client));
-  }
-    where
-      not_given : (other : ℕ) (name : Name) → owns table other name ≡ true → Dec (gives operation answer name) → gives operation answer name ≡ false
-      not_given other name o (inr g) = g
-      not_given other name o (inl g) = absurd (differ (sym (known.is_there other name o) ∙ (touches_its_own st next operation answer reached goes).was_new name g))
+-- what an error tells
+pub on_err : {A E : Type 0} {P : Type 0} (r : Result A E) → is_err r ≡ true → OnErr r P → P
+on_err (Err x) e told = told
+on_err (Ok a) e told = absurd (differ (sym e))
 
 -- ---- Stops
 
-applied : {st : State} {start : ℕ} {n : Refusal} → Applies st (Stop start) n → is_open st (Session start) ≡ false
-applied (stop_unknown e) = ap is_some e
-
 refused_stop : {st : State} {start : ℕ} {n : Refusal} → Refuses st (Stop start) n → n ≡ UnknownSession → is_open st (Session start) ≡ false
-refused_stop (applies_first f) e = applied f.applies
+refused_stop (applies_first f) e = stop_applies f.applies
 refused_stop (gives_up s) e = absurd (subst IsStorageRefusal e s)
 
 -- a session that is there is stopped
@@ -94,14 +58,6 @@ is_done (steps (accepts ok (tells t))) known live = elim t [ ]
 pub done_step : {st next : State} {start : ℕ} → Goes st (One (Stop start)) (Said StopDone) next → Step st (Stop start) StopDone next
 done_step (steps step) = step
 
-out : (own asked named live : Bool) → (named ≡ true → live ≡ false) → (own && not (asked && named)) ≡ ((own && not (asked && (true && (named && not live)))) || (asked && false))
-out true true true true h = absurd (differ (h refl))
-out true true true false h = refl
-out true true false live h = refl
-out true false named live h = refl
-out false true named live h = refl
-out false false named live h = refl
-
 module _ {S : Type 0} (shows : S → State → Type 0) (says : S → Lent → CodecAnswer → S → Type 0) where
   -- a Stop that the machine took
   pub stopped_by : (client start : ℕ) (old new : ClientServer S) (one : StopsOne shows says client old start new) (before : State) → IsReached before → ShowsOwned shows old before → (after : State) → Goes before (One (Stop start)) one.answer after → shows new.server after
@@ -109,10 +65,8 @@ module _ {S : Type 0} (shows : S → State → Type 0) (says : S → Lent → Co
   stopped_by client start old new one before reached shown after goes shows_after =
       let live = shown.1.is_there client (Session start) one.its in
       let done : Goes before (One (Stop start)) (Said StopDone) after = subst (λ (a : Answer). Goes before (One (Stop start)) a after) (is_done goes one.known live) goes in
-      let closed : (name : Name) → same_name (Session start) name ≡ true → is_open after name ≡ false = λ name e. subst (λ (n : Name). is_open after n ≡ false) (same (Session start) name e) (stop_closes (done_step done)) in
       let turn : Turn before (table_of old.owners) client (One (Stop start)) (Said StopDone) after (table_of new.owners) =
-      turn_of reached shown.1 (λ name e. subst (λ (n : Name). owns (table_of old.owners) client n ≡ true) (same_Some (Session start) name e) one.its) done
-      (λ other name. one.noted other name ∙ out (owns (table_of old.owners) other name) (nat_eq client other) (same_name (Session start) name) (is_open after name) (closed name)) in
+      stop_turn reached shown.1 (in_order new.owners) one.its done one.noted in
       (done, (shows_after, turn_knows reached shown.1 turn))
 
   stopped_one : (client start : ℕ) (old new : ClientServer S) → StopsOne shows says client old start new → (before : State) → IsReached before → ShowsOwned shows old before
@@ -185,25 +139,6 @@ module _ {S : Type 0} (shows : S → State → Type 0) (says : S → Lent → Co
       ∙ (each.1.noted other name ∙ aside (owns (table_of old.owners) other name) (nat_eq client other) (same_name (Session start) name) (is_session name) apart (named_session start name))
 
   -- the table after an end
-  left_session : (was now gone heir its : Bool) → (gone ≡ true → now ≡ false) → (gone ≡ false → now ≡ was) → ((now && (true || not gone)) || (heir && its && not true)) ≡ ((was && not gone) || (heir && its && not true))
-  left_session was true true heir its a b = absurd (differ (a refl))
-  left_session true false true heir its a b = refl
-  left_session false false true heir its a b = refl
-  left_session true true false heir its a b = refl
-  left_session false true false heir its a b = absurd (differ (b refl))
-  left_session true false false heir its a b = absurd (differ (sym (b refl)))
-  left_session false false false heir its a b = refl
-
-  left_other : (was now gone heir its its_now : Bool) → now ≡ was → its_now ≡ its → ((now && (false || not gone)) || (heir && its_now && not false)) ≡ ((was && not gone) || (heir && its && not false))
-  left_other was now gone heir its its_now e f = ap (λ (p : Bool × Bool). (p.0 && (false || not gone)) || (heir && p.1 && not false)) (λ i. (e i, f i))
-
-  its_heir : (heir its now : Bool) → (heir && its && not true) ≡ (heir && now && not true)
-  its_heir true true true = refl
-  its_heir true true false = refl
-  its_heir true false true = refl
-  its_heir true false false = refl
-  its_heir false its now = refl
-
   ends_noted : (client : ℕ) (old new : ClientServer S) (e : EndsClient shows says client old new) (other : ℕ) (name : Name) → owns (table_of new.owners) other name ≡ owned_without (heir_of old.admin) (table_of old.owners) client other name
   ends_noted client old new e other (Session s) =
       e.passed other (Session s)
@@ -234,7 +169,7 @@ module _ {S : Type 0} (shows : S → State → Type 0) (says : S → Lent → Co
   pub asked_by : (client : ℕ) (operation : Operation) (answer : Answer) (old new : ClientServer S) → refusal_for old.admin (table_of old.owners) client operation ≡ None → NotesAnswer shows says client operation answer old new → (before : State) → IsReached before → ShowsOwned shows old before
       → (after : State) → Goes before operation answer after → shows new.server after → Handles old.admin before (table_of old.owners) (Asks client operation) client answer after (table_of new.owners)
   asked_by client operation answer old new free notes before reached shown after goes shows_after =
-      turned.turns free (turn_of reached shown.1 (λ name e. asked_own old.admin (table_of old.owners) client operation name free e) goes (notes after shows_after))
+      turned.turns free (turn_of reached shown.1 (in_order new.owners) (λ name e. asked_own old.admin (table_of old.owners) client operation name free e) goes (notes after shows_after))
 
   -- a client that is gone
   pub ended_by : (client : ℕ) (old new : ClientServer S) (e : EndsClient shows says client old new) (before after : State) → Stops before e.starts after → Handles old.admin before (table_of old.owners) (Leaves client) client (Said StopDone) after (table_of new.owners)
@@ -244,6 +179,7 @@ module _ {S : Type 0} (shows : S → State → Type 0) (says : S → Lent → Co
     its = all_its client old e.mid e.starts e.stopped;
     each = each_stopped client old e.mid e.starts e.stopped e.none;
     noted = ends_noted client old new e;
+    ordered = in_order new.owners;
   })
 
   pub handled_from : {old new : ClientServer S} {frame : Frame} {to : ℕ} {answer : Answer} → HandlesFrame shows says old new frame to answer → (before : State) → IsReached before → ShowsOwned shows old before → HandledFrom before old new frame to answer
@@ -251,7 +187,7 @@ module _ {S : Type 0} (shows : S → State → Type 0) (says : S → Lent → Co
       let (after, goes, shows_after) = said.goes before reached shown.0 in
       (after, asked_by client operation answer old new free notes before reached shown after goes shows_after, shows_after)
   handled_from {old} {new} (refuses is same) before reached shown = same_state before old new _ _ _ same shown.0 (turned.refuses is)
-  handled_from {old} {new} (lacks_memory same) before reached shown = same_state before old new _ _ _ same shown.0 turned.lacks_memory
+  handled_from {old} {new} (lacks_memory takes same) before reached shown = same_state before old new _ _ _ same shown.0 (turned.lacks_memory takes)
   handled_from {old} {new} (is_malformed same) before reached shown = same_state before old new _ _ _ same shown.0 turned.is_malformed
   handled_from {old} {new} (has_no_client same) before reached shown = same_state before old new _ _ _ same shown.0 turned.has_no_client
   handled_from {old} {new} (is_too_large same) before reached shown = same_state before old new _ _ _ same shown.0 turned.is_too_large

@@ -13,7 +13,7 @@ use Rattle.si_model.specs.declared.replies.CollectReply.{CollectReply}
 use Rattle.si_model.specs.declared.replies.CollectReply.TheVariants as collects
 use Rattle.si_model.proofs.ChangedParts.{leaves_others}
 use Rattle.request_codec.specs.declared.replies.Reply.TheVariants as codec
-use Rattle.version_collector.specs.Shows.{ShowsCollectors}
+use Rattle.version_collector.specs.Shows.{KnowsFloor, ShowsCollectors}
 use Rattle.server_loop.specs.declared.server.Server.{Server}
 use Rattle.server_loop.specs.Server.{HoldsIn, Shows, server_cells}
 use Rattle.server_loop.specs.Runs.{IfRefused, StampsGoOn, StepsAs}
@@ -21,7 +21,7 @@ use Rattle.server_loop.proofs.CleanSteps.{spots_in}
 use Rattle.server_loop.proofs.SamePlaces.{KeepsPlaces}
 use Rattle.server_loop.proofs.SplitSteps.{still_placed, still_next}
 use Rattle.server_loop.proofs.SessionSteps.{as_refused, ok_not}
-use Rattle.server_loop.proofs.OthersShown.{cleaners_stay, collectors_not_cleaners, collectors_not_sessions, not_kind, sessions_stay}
+use Rattle.server_loop.proofs.OthersShown.{cleaners_stay, collectors_not_cleaners, collectors_not_sessions, not_kind, sessions_stay, top_stays}
 
 -- ---- whole steps
 
@@ -30,12 +30,13 @@ module _ {F M : Type 0} (contents : F → Option Contents) (old new : Server F M
   pub collects_as : (request : Request) (reply : Reply) → KeepsPlaces request → kind_of request ≡ OfCollectors → new.clients ≡ old.clients → new.oracle.last ≡ old.oracle.last
       → new.cleaners ≡ old.cleaners
       → ((st : State) → IsReached st → Shows contents old st
-      → (next : State) × Step st request reply next × ShowsCells (server_cells contents new) next × ShowsCollectors (server_cells contents new) new.collectors next)
+      → (next : State) × Step st request reply next × ShowsCells (server_cells contents new) next × ShowsCollectors (server_cells contents new) new.collectors next
+      × (KnowsFloor old.collectors st → KnowsFloor new.collectors next))
       → (HoldsIn contents old → HoldsIn contents new) → (seen_recorded contents).storage new.rows ≡ (seen_recorded contents).storage old.rows
       → ((st : State) → IsReached st → Shows contents old st → reply ≡ Refused Damaged → ⊥)
       → StepsAs (Shows contents) old new request reply
   collects_as request reply keeps kind same_clients same_last same_cleaners step still storage whole = λ before reached shown.
-      let (next, taken, cells, collectors) = step before reached shown in
+      let (next, taken, cells, collectors, known) = step before reached shown in
       let other = not_kind kind collectors_not_sessions in
       let after : Shows contents new next = record {
         in_order = still shown.in_order;
@@ -44,6 +45,7 @@ module _ {F M : Type 0} (contents : F → Option Contents) (old new : Server F M
           sessions = sessions_stay before next request reply taken old.clients new.clients other same_clients shown.shows.sessions;
           top = no_higher ((leaves_others before next request reply taken).sessions other).top same_last shown.shows.top;
         };
+        alone = (top_stays before next request reply taken old.clients new.clients other same_clients shown.alone.0, known shown.alone.1);
         cleaners = cleaners_stay before next request reply taken old.cleaners new.cleaners reached (not_kind kind collectors_not_cleaners) same_cleaners shown.cleaners;
         collectors = collectors;
         places = still_placed before next request reply taken keeps old.rows.cluster.places new.rows.cluster.places (ap spots_in storage) shown.places;

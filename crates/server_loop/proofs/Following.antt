@@ -16,6 +16,7 @@ module _ {F : Type 0} (contents : F → Option Contents) where
     logged_bytes = p.logged_bytes;
     waiting_bytes = p.waiting_bytes;
     counted = p.counted;
+    measured = p.measured;
     stored = p.stored;
     such = record {
       root = p.such.root;

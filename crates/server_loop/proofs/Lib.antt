@@ -6,9 +6,9 @@ pub mod ClientFrames
 mod CollectSteps
 mod CommitsCollected
 pub mod Filled
+mod FittingFrames
 mod Following
 pub mod FrameHeads
-mod Lengths
 mod MachinePlaces
 pub mod Opened
 mod OperationSteps

@@ -7,6 +7,7 @@ use Rattle.cell_key.specs.declared.keys.Qualifier.TheVariants.{Write}
 use Rattle.clean_up.specs.Shows.{ShowsCleaners}
 use Rattle.clean_up.specs.declared.cleaners.Cleaners.{Cleaners}
 use Rattle.clean_up.proofs.Table.{shows_on}
+use Rattle.si_model.proofs.ByServers.{by_servers}
 use Rattle.si_model.specs.Machine.{State, IsReached}
 use Rattle.si_model.specs.PutCells.{all_put_cells}
 use Rattle.si_model.specs.ShowsCells.{IsThere}
@@ -32,7 +33,7 @@ use Rattle.server_loop.proofs.OperationSteps.{RunKeeps, SessionRun, at_rest, goe
 run_cleaners : {st next : State} (cleaners : Cleaners) → IsReached st → SessionRun st next → ShowsCleaners cleaners st → ShowsCleaners cleaners next
 run_cleaners cleaners reached at_rest shown = shown
 run_cleaners {st = st} cleaners reached (goes_on {mid = mid} {q = q} {r = r} step kind rest) shown =
-    run_cleaners cleaners (reached_step reached step) rest (shows_on cleaners st mid q r reached step (not_cleaners q kind) shown)
+    run_cleaners cleaners (reached_step reached step) rest (shows_on cleaners st mid q r (by_servers reached) step (not_cleaners q kind) shown)
 
 pub operations_leave_others : OperationsLeaveOthers
 operations_leave_others st next operation answer reached several goes =
@@ -41,6 +42,7 @@ operations_leave_others st next operation answer reached several goes =
     record {
       places = keeps.places.places;
       next_tablet = keeps.places.next_tablet;
+      floor = keeps.collectors.floor;
       cleaners = λ cleaners shown. run_cleaners cleaners reached run shown;
     }
 
@@ -78,7 +80,7 @@ module _ (cells cells' : Cells) (st next : State) (reached : IsReached st) (run 
   collectors_kept : (collectors : Collectors) → ShowsCollectors cells collectors st → ShowsCollectors cells' collectors next
   collectors_kept collectors shown = record {
     next = shown.next ∙ sym run.collectors.next_collector;
-    floor = shown.floor ∙ sym run.collectors.floor;
+    floor = (let under = shown.floor in let same = run.collectors.floor in omega (arith, under, same));
     each = λ i. at_kept (kept_at collectors i) i (shown.each i);
     count = ap (λ m. finmap.len m) run.collectors.collectors ∙ shown.count;
   }

@@ -15,6 +15,7 @@ use Rattle.request_codec.specs.declared.replies.Reply.{Reply as CodecReply}
 use Rattle.request_codec.specs.declared.replies.Reply.TheVariants as codec
 use Rattle.request_codec.specs.declared.requests.Request.{Request as Lent}
 use Rattle.request_codec.specs.declared.requests.Request.TheVariants as lent
+use Rattle.tablet.specs.declared.merge_policy.MergePolicy.{MergePolicy}
 use Rattle.row_atomic.specs.Clusters.{ClusterState}
 use Rattle.row_atomic.specs.Roots.{KeepsRoot, RootIsStored, RootOutlastsFlushes, RootStays}
 use Rattle.row_atomic.specs.declared.commands.Command.{Command}
@@ -90,7 +91,7 @@ marked_now : (told : Option ℕ) (top last : ℕ) → IsSome told → IsWithinMa
 marked_now None top last is within low = cc
 marked_now (Some m) top last is within low = omega (arith, within, low)
 
-module _ {F M : Type 0} (files : Files F) (store : MarkStore M) where
+module _ {F M W : Type 0} (files : Files F W) (store : MarkStore M) where
   told_left : (e : Refusal) (old new : Server F M) → LeavesOracle store.mark e old new → IsSome (store.mark (marks_of old)) → IsSome (store.mark (marks_of new))
   told_left Device old new left told = may_told _ _ _ left.0 told
   told_left e old new left told = subst (λ (o : OracleState M). IsSome (store.mark o.marks)) (sym left) told
@@ -207,8 +208,8 @@ module _ {F M : Type 0} (files : Files F) (store : MarkStore M) where
           cells = _;
           keeps = plain.tablets.1 refl shown.in_order.0;
           tells = record {
-            top = shown.shows.sessions.top;
-            floor = shown.collectors.floor;
+            top = shown.alone.0;
+            floor = shown.alone.1;
             places = shows.places;
             next = shows.next;
             marked = marked_now _ _ _ (subst (λ (o : OracleState M). IsSome (store.mark o.marks)) (sym plain.sessions.oracle) told) within shows.shows.top;
@@ -235,8 +236,8 @@ module _ {F M : Type 0} (files : Files F) (store : MarkStore M) where
             cells = _;
             has = (rests shown.in_order.0).has;
             tells = record {
-              top = shown.shows.sessions.top;
-              floor = shown.collectors.floor;
+              top = shown.alone.0;
+              floor = shown.alone.1;
               places = shows.places;
               next = shows.next;
               marked = marked_now _ _ _ (subst (λ (o : Option ℕ). IsSome o) (sym same) (some_told _ _ stores.tells.marked)) within shows.shows.top;
@@ -255,11 +256,11 @@ module _ {F M : Type 0} (files : Files F) (store : MarkStore M) where
 
   -- ---- between two requests
 
-  merged_none : (b : Bool) (merge : Option ℕ) (old new : ClusterState F) → (merge ≡ None) ⊎ (b ≡ false) → MergesWhere b files.contents files.faults merge old new → new ≡ old
+  merged_none : (b : Bool) (merge : Option MergePolicy) (old new : ClusterState F) → (merge ≡ None) ⊎ (b ≡ false) → MergesWhere b files.contents files.faults merge old new → new ≡ old
   merged_none false merge old new none merges = merges
   merged_none true None old new none merges = merges
-  merged_none true (Some most) old new (inl none) merges = cc
-  merged_none true (Some most) old new (inr none) merges = cc
+  merged_none true (Some policy) old new (inl none) merges = cc
+  merged_none true (Some policy) old new (inr none) merges = cc
 
   pub rests_between : RootOutlastsFlushes files.contents files.faults → RestsBetween files.contents files.faults store.mark
   rests_between outlasts old new st tended none rests = record {

@@ -6,6 +6,7 @@ use Rattle.cell_key.specs.Faults.{HasRisen}
 use Rattle.cell_key.specs.Keys.{key_cmp}
 use Rattle.cell_key.specs.declared.refusals.Refusal.{Refusal}
 use Rattle.cell_key.specs.declared.refusals.Refusal.TheVariants.{BadRow, BadColumn, Damaged, Device, Exhausted, NoMemory, TooManySessions}
+use Rattle.si_model.proofs.ByServers.{by_servers}
 use Rattle.si_model.specs.Machine.{State, Request, Reply, Begun, SetDone, DeleteDone, StopDone, Refused, IsReached, OracleRestart, RestartDone, accepts, refuses, tells, restarts, new_machine}
 use Rattle.si_model.specs.Collection.{ChangesCells}
 use Rattle.si_model.specs.Kinds.{OfSessions, kind_of}
@@ -26,15 +27,15 @@ use Rattle.oracle.specs.Ranges.{SameNumbers}
 use Rattle.txn_client.specs.Refusals.{HasOneReason, IsBeginRefusal}
 use Rattle.txn_client.specs.Shows as clients
 use Rattle.txn_client.specs.Shows.{DrawsNext, top_after}
-use Rattle.request_codec.specs.Replies.{replied}
+use Rattle.request_codec.specs.Replies.{replied, HoldsWithinLimits}
 use Rattle.request_codec.specs.declared.replies.Reply.{Reply as CodecReply}
 use Rattle.request_codec.specs.declared.replies.Reply.TheVariants as codec
 use Rattle.server_loop.specs.declared.server.Server.{Server}
 use Rattle.server_loop.specs.Server.{HoldsIn, Shows, server_cells}
 use Rattle.server_loop.specs.Sessions.{LeavesMark, LeavesOracle}
-use Rattle.server_loop.specs.Runs.{GoesFrom, KeepsToLimits, StampsGoOn, StepsAs, IfRefused}
+use Rattle.server_loop.specs.Runs.{GoesFrom, StampsGoOn, StepsAs, IfRefused}
 use Rattle.server_loop.proofs.CleanSteps.{spots_in}
-use Rattle.server_loop.proofs.OthersShown.{cleaners_stay, collectors_stay, not_kind, sessions_not_cleaners, sessions_not_collectors}
+use Rattle.server_loop.proofs.OthersShown.{floor_stays, cleaners_stay, collectors_stay, not_kind, sessions_not_cleaners, sessions_not_collectors}
 use Rattle.server_loop.proofs.SamePlaces.{KeepsPlaces}
 use Rattle.server_loop.proofs.SplitSteps.{still_placed, still_next}
 
@@ -47,10 +48,11 @@ module _ {F M : Type 0} (contents : F → Option Contents) (old new : Server F M
       → ((st : State) → IsReached st → HoldsIn contents old → clients.Shows (cells_in (contents old.rows.cluster.files) old.rows.cluster.tablets) old.clients old.oracle.last st → reply ≡ Refused Damaged → ⊥)
       → StepsAs (Shows contents) old new request reply
   steps_as request reply keeps kind same_cleaners same_collectors changes step still storage whole = λ before reached shown.
-      let (next, taken, shows) = step shown.in_order before reached shown.shows in
+      let (next, taken, shows, known) = step shown.in_order before (by_servers reached) shown.shows in
       let after : Shows contents new next = record {
         in_order = still shown.in_order;
         shows = shows;
+        alone = (known shown.alone.0, floor_stays before next request reply taken old.collectors new.collectors (not_kind kind sessions_not_collectors) same_collectors shown.alone.1);
         cleaners = cleaners_stay before next request reply taken old.cleaners new.cleaners reached (not_kind kind sessions_not_cleaners) same_cleaners shown.cleaners;
         collectors = collectors_stay before next request reply taken _ _ old.collectors new.collectors reached shown.shows.store (not_kind kind sessions_not_collectors) (changes before reached shown) same_collectors shown.collectors;
         places = still_placed before next request reply taken keeps old.rows.cluster.places new.rows.cluster.places (ap spots_in storage) shown.places;
@@ -146,6 +148,14 @@ progress_told P (progresses.Committed stamp) = tt
 progress_told P progresses.Lost = tt
 progress_told P (progresses.Finished place count) = tt
 
+pub progress_limits : (progress : Progress) → HoldsWithinLimits (progress_reply progress)
+progress_limits (progresses.Held place count) = tt
+progress_limits (progresses.Conflict place) = tt
+progress_limits (progresses.Stamped stamp) = tt
+progress_limits (progresses.Committed stamp) = tt
+progress_limits progresses.Lost = tt
+progress_limits (progresses.Finished place count) = tt
+
 module _ {F M : Type 0} (contents : F → Option Contents) (old new : Server F M) where
   -- a restart of the oracle, after which the server shows the same
   pub restart_done : ((st : State) → Shows contents old st → Shows contents new st) → StepsAs (Shows contents) old new OracleRestart RestartDone
@@ -185,7 +195,7 @@ found_stays founds.Nothing last = refl
 found_stays (founds.Pending start) last = refl
 
 -- a value in the answer is short
-pub short_found : (found : Found) → IsShort found → KeepsToLimits (codec.Get found)
+pub short_found : (found : Found) → IsShort found → HoldsWithinLimits (found_reply found)
 short_found (founds.Value value) short = short
 short_found founds.Nothing short = tt
 short_found (founds.Pending start) short = tt

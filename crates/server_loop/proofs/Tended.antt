@@ -2,6 +2,7 @@
 use Rattle.std.proofs.Common.{◌≡◌, ℕ, List, map, None, Option, Some, refl, arith, ap, sym, subst, ◌∙◌}
 use Rattle.cell_key.specs.Cells.{Cells}
 use Rattle.file_store.specs.Store.{Contents}
+use Rattle.tablet.specs.declared.merge_policy.MergePolicy.{MergePolicy}
 use Rattle.row_atomic.specs.Clusters.{ClusterState, Spot}
 use Rattle.row_atomic.specs.Changes.{Holds}
 use Rattle.row_atomic.specs.Flushes.{CompactsFull, KeepsShown}
@@ -28,6 +29,7 @@ still_shown contents faults old new st keeps follows sessions cleaners collector
       shows = subst (λ (c : Cells). clients.Shows c new.clients (last_of new) st) (sym cells)
           (subst (λ (s : Clients). clients.Shows (server_cells contents old) s (last_of new) st) (sym sessions)
           (subst (λ (l : ℕ). clients.Shows (server_cells contents old) old.clients l st) (sym last) shown.shows));
+      alone = (rw sessions shown.alone.0, rw collectors shown.alone.1);
       cleaners = subst (λ (s : Cleaners). ShowsCleaners s st) (sym cleaners) shown.cleaners;
       collectors = subst (λ (c : Cells). ShowsCollectors c new.collectors st) (sym cells)
           (subst (λ (s : Collectors). ShowsCollectors (server_cells contents old) s st) (sym collectors) shown.collectors);
@@ -49,12 +51,12 @@ module _ {F : Type 0} (contents : F → Option Contents) (faults : F → ℕ) wh
     later = let a = first.later in let b = then.later in omega arith;
   }
 
-  merges_follow : KeepsFollowing contents faults → (merge : Option ℕ) (journal : Option JournalView) (old new : ClusterState F) → Merges contents faults merge old new → KeepsShown contents faults old new → Holds contents old → Follows contents old journal → Follows contents new journal
+  merges_follow : KeepsFollowing contents faults → (merge : Option MergePolicy) (journal : Option JournalView) (old new : ClusterState F) → Merges contents faults merge old new → KeepsShown contents faults old new → Holds contents old → Follows contents old journal → Follows contents new journal
   merges_follow law None journal old new is keeps holds follows = subst (λ (state : ClusterState F). Follows contents state journal) (sym is) follows
-  merges_follow law (Some most) journal old new is keeps holds follows = law.merges most journal old new is keeps holds follows
+  merges_follow law (Some policy) journal old new is keeps holds follows = law.merges policy journal old new is keeps holds follows
 
   -- the journal follows the shown cells, after compactions and merges
-  pub tends_follow : KeepsFollowing contents faults → (limits : FlushLimits) (merge : Option ℕ) (journal : Option JournalView) (old mid new : ClusterState F) → CompactsFull contents faults limits old mid → KeepsShown contents faults old mid → Merges contents faults merge mid new → KeepsShown contents faults mid new
+  pub tends_follow : KeepsFollowing contents faults → (limits : FlushLimits) (merge : Option MergePolicy) (journal : Option JournalView) (old mid new : ClusterState F) → CompactsFull contents faults limits old mid → KeepsShown contents faults old mid → Merges contents faults merge mid new → KeepsShown contents faults mid new
       → Holds contents old → Follows contents old journal → Follows contents new journal
   tends_follow law limits merge journal old mid new compacts first merges then holds follows =
       merges_follow law merge journal mid new merges then (first.kept holds).0 (law.flushes limits journal old mid compacts first holds follows)

@@ -163,6 +163,7 @@ module _ {F M : Type 0} (contents : F → Option Contents) (old new : Server F M
   still_shown st spots shown = record {
     in_order = ((kept shown.in_order.0).0, follows shown.in_order.0 shown.in_order.1);
     shows = shows_kept st shown.in_order.0 shown.shows;
+    alone = (rw same_clients shown.alone.0, rw same_collectors shown.alone.1);
     cleaners = subst (λ (k : Cleaners). ShowsCleaners k st) (sym same_cleaners) shown.cleaners;
     collectors = subst (λ (cells : Cells). ShowsCollectors cells new.collectors st) (sym (kept shown.in_order.0).1)
         (subst (λ (k : Collectors). ShowsCollectors (cells_in (contents old.rows.cluster.files) old.rows.cluster.tablets) k st) (sym same_collectors) shown.collectors);
@@ -188,6 +189,7 @@ module _ {F M : Type 0} (contents : F → Option Contents) (old new : Server F M
         cleaners = cleaners_stay before next (Split row) (SplitOff left) step old.cleaners new.cleaners reached places_not_cleaners same_cleaners shown.cleaners;
         collectors = collectors_stay before next (Split row) (SplitOff left) step _ _ old.collectors new.collectors reached shown.shows.store places_not_collectors (unchanged_if _ _ before (kept shown.in_order.0).1) same_collectors shown.collectors;
         shows = shows_placed before (machine_places new.rows.cluster.places) (left + 1) _ new.clients new.oracle.last (shows_kept before shown.in_order.0 shown.shows);
+        alone = (rw same_clients shown.alone.0, rw same_collectors shown.alone.1);
         places = refl;
         next = split_next before old.rows.cluster.places same row left cut.place.tablet cut.names new.rows.cluster.places count cut.cut;
       } in
@@ -216,6 +218,7 @@ module _ {F M : Type 0} (contents : F → Option Contents) (old new : Server F M
                 cleaners = cleaners_stay before next (Move n server) MoveDone step old.cleaners new.cleaners reached places_not_cleaners same_cleaners shown.cleaners;
                 collectors = collectors_stay before next (Move n server) MoveDone step _ _ old.collectors new.collectors reached shown.shows.store places_not_collectors (unchanged_if _ _ before (kept shown.in_order.0).1) same_collectors shown.collectors;
                 shows = shows_placed before (machine_places new.rows.cluster.places) before.next_tablet _ new.clients new.oracle.last (shows_kept before shown.in_order.0 shown.shows);
+                alone = (rw same_clients shown.alone.0, rw same_collectors shown.alone.1);
                 places = refl;
                 next = move_next before old.rows.cluster.places same n server goes.names new.rows.cluster.places shown.next goes.moved;
               },

@@ -5,7 +5,7 @@ use Rattle.cell_key.specs.declared.refusals.Refusal.TheVariants.{Damaged, Device
 use Rattle.file_store.specs.Store.{Contents}
 use Rattle.file_store.specs.declared.files.Files.{Ghosts as Files}
 use Rattle.oracle.specs.declared.marks.MarkStore.{Ghosts as MarkStore}
-use Rattle.request_codec.specs.Replies.{replied}
+use Rattle.request_codec.specs.Replies.{replied, HoldsWithinLimits}
 use Rattle.request_codec.specs.Requests.{asked}
 use Rattle.request_codec.specs.declared.replies.Reply.{Reply}
 use Rattle.request_codec.specs.declared.replies.Reply.TheVariants as codec
@@ -21,7 +21,7 @@ use Rattle.si_model.specs.Replies.{range_of}
 use Rattle.server_loop.specs.Commands.{HasOutcome, command_of, outcome_of}
 use Rattle.server_loop.specs.Refusals.{IsRefusalOfRequest}
 use Rattle.server_loop.specs.Resting.{KeepsResting}
-use Rattle.server_loop.specs.Runs.{KeepsToLimits, IfRefused, StampsGoOn, StepsAs}
+use Rattle.server_loop.specs.Runs.{IfRefused, StampsGoOn, StepsAs}
 use Rattle.server_loop.specs.Sessions.{ChangesCells, IsAlwaysTold, KeepsCleaners, KeepsCollectors, KeepsOracle, KeepsSessions, LeavesServerRoom}
 use Rattle.server_loop.specs.Server.{HoldsIn, IsFaultSeen, SeesNoFault, Shows, server_cells, cluster_of, floor_of, journal_of, tending_of, last_of, marks_of, rows_of, top_of}
 use Rattle.server_loop.specs.declared.server.Server.{Server}
@@ -44,7 +44,7 @@ pub record IsMachineStep {F M : Type 0} (contents : F → Option Contents) (requ
     (reply : Reply) (old new : Server F M) : Type 0 where
   pub step : StepsAs (Shows contents) old new (asked request) (replied reply)
   pub refusal : IfRefused (IsRefusalOfRequest request) (replied reply)
-  pub limits : KeepsToLimits reply
+  pub limits : HoldsWithinLimits (replied reply)
 
 -- ---- stamps
 
@@ -97,7 +97,7 @@ pub record ServesSessions {F M : Type 0} (contents : F → Option Contents) (mar
 -- The effects of a request on tablets and files. A checkpoint writes the sessions' top and the collectors' greatest
 -- floor, and once it is accepted, the files keep the tablets' cells. If a put replaces files as a whole, a refused
 -- checkpoint leaves in the files the cells that they kept before, or the tablets' cells.
-abbrev pub TendsTablets : {F M : Type 0} → Files F → Request → Reply → Server F M → Server F M
+abbrev pub TendsTablets : {F M W : Type 0} → Files F W → Request → Reply → Server F M → Server F M
     → Type 0
 TendsTablets files Checkpoint reply old new =
     Checkpoints files.contents files.faults (top_of old) (floor_of old)
@@ -179,7 +179,7 @@ KeepsLogged request old new = logged_of new ≡ logged_of old
 
 -- The contract of an answer without the part on resting. It depends on the views of the files and the mark store: the
 -- files' bytes, the mark, and the counts of faults of both.
-pub record IsPlainAnswer {F M : Type 0} (files : Files F) (marks : MarkStore M)
+pub record IsPlainAnswer {F M W : Type 0} (files : Files F W) (marks : MarkStore M)
     (old : Server F M) (request : Request) (reply : Reply) (new : Server F M) : Type 0 where
   pub step : IsMachineStep files.contents request reply old new
   pub stamps : DrawsStamps files.contents marks.mark request reply old new
@@ -193,7 +193,7 @@ pub record IsPlainAnswer {F M : Type 0} (files : Files F) (marks : MarkStore M)
   pub logged : KeepsLogged request (journal_of old) (journal_of new)
 
 -- The contract of an answer.
-pub record IsAnswer {F M : Type 0} (files : Files F) (marks : MarkStore M)
+pub record IsAnswer {F M W : Type 0} (files : Files F W) (marks : MarkStore M)
     (old : Server F M) (request : Request) (reply : Reply) (new : Server F M) : Type 0 where
   pub plain : IsPlainAnswer files marks old request reply new
   pub resting : KeepsResting files marks.mark request reply old new

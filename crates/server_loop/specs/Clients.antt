@@ -1,5 +1,5 @@
 -- The answers of a server whose clients have their own sessions, cleaners and collectors.
-use Rattle.std.specs.Prelude.{◌≡◌, ◌≢◌, ◌⊎◌, ℕ, Bool, true, false, ◌&&◌, ◌||◌, not, nat_eq, List, [], ◌∷◌, ◌++◌, Option, None, Some, Result, Ok, Err, ⊤, unwrap_or}
+use Rattle.std.specs.Prelude.{◌≡◌, ◌≢◌, ℕ, true, false, ◌&&◌, ◌||◌, not, nat_eq, List, [], ◌∷◌, ◌++◌, Option, None, Some, Result, Err, ⊤}
 use Rattle.std.specs.List.{AllByRecursion}
 use Rattle.std.specs.Io.KnownBytes.{Consumes, Appends}
 use Rattle.cell_key.specs.declared.refusals.Refusal.{Refusal}
@@ -8,14 +8,14 @@ use Rattle.si_model.specs.Machine.{State, IsReached, Refused, Stop, StopDone}
 use Rattle.si_model.specs.Transactions.{Operation, One, Answer, Said, Goes}
 use Rattle.request_codec.specs.Answers.{answer_of}
 use Rattle.request_codec.specs.Operations.{operation_of}
-use Rattle.request_codec.specs.Stream.{frames, BeginsNoFrame, IsBody}
+use Rattle.request_codec.specs.Stream.{frame, frames, BeginsNoFrame, IsBody}
 use Rattle.request_codec.specs.declared.answers.Answer.{Answer as CodecAnswer}
 use Rattle.request_codec.specs.declared.operations.Operation.{Operation as Lent}
 use Rattle.ownership.specs.Effects.{may_end}
 use Rattle.ownership.specs.Frames.{IsBodyOf, client_body}
 use Rattle.ownership.specs.Names.{gives, is_name, is_open, is_session, name_of, same_name}
 use Rattle.ownership.specs.Tables.{Knows, heir_of, owns, refusal_for, table_of}
-use Rattle.ownership.specs.Turns.{Frame, Asks, Leaves, Malformed, NoClient, TooLarge, Exchange, HandlesAll}
+use Rattle.ownership.specs.Turns.{Frame, Asks, Leaves, Malformed, NoClient, TooLarge, TakesMemory, Exchange, HandlesAll}
 use Rattle.ownership.specs.declared.names.Name.{Name}
 use Rattle.ownership.specs.declared.names.Name.TheVariants.{Session}
 use Rattle.server_loop.specs.Batches.{AnswersAll, IsBatch}
@@ -109,7 +109,7 @@ module _ {S : Type 0} (shows : S → State → Type 0)
         → refusal_for old.admin (table_of old.owners) client operation ≡ Some refusal
         → Unchanged old new
         → HandlesFrame old new (Asks client operation) client (Said (Refused refusal))
-    lacks_memory : {client : ℕ} {operation : Operation} → Unchanged old new
+    lacks_memory : {client : ℕ} {operation : Operation} → TakesMemory operation → Unchanged old new
         → HandlesFrame old new (Asks client operation) client (Said (Refused NoMemory))
     leaves : {client : ℕ} → EndsClient client old new
         → HandlesFrame old new (Leaves client) client (Said StopDone)
@@ -118,6 +118,15 @@ module _ {S : Type 0} (shows : S → State → Type 0)
     has_no_client : Unchanged old new → HandlesFrame old new NoClient 0 (Said (Refused BadRequest))
     is_too_large : Unchanged old new
         → HandlesFrame old new TooLarge 0 (Said (Refused FrameTooLarge))
+
+  -- A frame that says this is so answered, and the frame of the reply is appended to those that wait.
+  pub record RepliesTo (said : Frame) (old new : ClientServer S) (waiting waiting' : List ℕ)
+      : Type 0 where
+    pub to : ℕ
+    pub answer : Answer
+    pub handled : HandlesFrame old new said to answer
+    pub admin : new.admin ≡ old.admin
+    pub appended : waiting' ≡ waiting ++ frame (client_body to answer)
 
   -- A frame is so answered.
   pub record AnswersFrame (old : ClientServer S) (taken : Taken) (to : ℕ) (answer : Answer)

@@ -16,10 +16,11 @@ StandsForSeveral (One request) = ⊥
 StandsForSeveral (Commit start writes) = ⊤
 StandsForSeveral (Read start cells stays_open) = ⊤
 
--- the same tablets at the same places, and cleaners show the state after it if they showed the one before it
+-- the same tablets at the same places, the same floor, and cleaners show the state after it if they showed the one before it
 pub record KeepsPlacesAndCleaners (st next : State) : Type 0 where
   pub places : next.places ≡ st.places
   pub next_tablet : next.next_tablet ≡ st.next_tablet
+  pub floor : next.floor ≡ st.floor
   pub cleaners : (cleaners : Cleaners) → ShowsCleaners cleaners st → ShowsCleaners cleaners next
 
 -- an operation that stands for several requests, from a reached state, leaves places and cleaners unchanged

@@ -6,7 +6,7 @@ use Rattle.file_store.specs.Store.{Contents}
 use Rattle.file_store.specs.declared.files.Files.{Ghosts as Files}
 use Rattle.oracle.specs.declared.marks.MarkStore.{Ghosts as MarkStore}
 use Rattle.oracle.specs.Ranges.{next_range_end}
-use Rattle.request_codec.specs.Answers.{answer_of}
+use Rattle.request_codec.specs.Answers.{answer_of, HoldsAnswerWithinLimits}
 use Rattle.request_codec.specs.declared.answers.Answer.{Answer as CodecAnswer}
 use Rattle.request_codec.specs.declared.answers.Answer.TheVariants as given
 use Rattle.request_codec.specs.declared.operations.Operation.{Operation as Lent}
@@ -15,7 +15,7 @@ use Rattle.request_codec.specs.declared.replies.Reply.TheVariants as codec
 use Rattle.row_atomic.specs.Clusters.{storage_of}
 use Rattle.row_atomic.specs.Recorded.{logged_of, seen_recorded}
 use Rattle.rows.specs.Calls.{AreReadableFrom, OnlyReads}
-use Rattle.si_model.specs.Answers.{cells_named, writes_named}
+use Rattle.si_model.specs.Answers.{cells_named, writes_named, told_items}
 use Rattle.si_model.specs.Machine.{IsReached, State, Writes}
 use Rattle.si_model.specs.Transactions.{Operation, Commit, Read, IsReadCount}
 use Rattle.si_model.specs.declared.replies.Cell.{Cell}
@@ -23,11 +23,11 @@ use Rattle.si_model.specs.declared.transactions.CommitReply.{CommitReply}
 use Rattle.si_model.specs.declared.transactions.ReadReply.{ReadReply}
 use Rattle.server_loop.specs.Answer.{IsAnswer}
 use Rattle.server_loop.specs.Resting.{RestsAt}
-use Rattle.server_loop.specs.Runs.{AnswerKeepsToLimits, GoesFrom, IfAnswerRefused}
+use Rattle.server_loop.specs.Runs.{GoesFrom, IfAnswerRefused}
 use Rattle.server_loop.specs.Server.{IsFaultSeen, SeesNoFault, Shows, server_cells, cluster_of, journal_of, last_of, marks_of, rows_of, tending_of}
 use Rattle.server_loop.specs.Sessions.{LeavesMark}
 use Rattle.server_loop.specs.declared.server.Server.{Server}
-use Rattle.txn_client.specs.CellReads.{AreRead, said_in}
+use Rattle.txn_client.specs.CellReads.{AreRead}
 use Rattle.txn_client.specs.Commits.{BeganAt, CommitDoes, CommitDraws, HasNoRoomToCommit, LacksStamps}
 use Rattle.txn_client.specs.Shows.{IsCrowded, IsInactive, SameClients}
 use Rattle.txn_client.specs.Transactions.{HasSession, IsCommitRefusal, IsReadRequestRefusal}
@@ -66,12 +66,12 @@ pub record LeavesAll {F M : Type 0} (contents : F → Option Contents) (mark : M
 
 -- The machine goes so, and the answer is within the limits. A device's fault is answered if and only if a count of
 -- faults rose.
-pub record AnswersAtOnce {F M : Type 0} (files : Files F) (marks : MarkStore M)
+pub record AnswersAtOnce {F M W : Type 0} (files : Files F W) (marks : MarkStore M)
     (operation : Operation) (IsOwnRefusal : Refusal → Type 0) (old : Server F M)
     (answer : CodecAnswer) (new : Server F M) : Type 0 where
   pub goes : GoesFrom (Shows files.contents) old new operation (answer_of answer)
   pub refusal : IfAnswerRefused IsOwnRefusal (answer_of answer)
-  pub limits : AnswerKeepsToLimits answer
+  pub limits : HoldsAnswerWithinLimits (answer_of answer)
   pub others : LeavesOthers files.contents old new
   pub refused : IfAnswerRefused (λ _. LeavesAll files.contents marks.mark old new)
       (answer_of answer)
@@ -91,7 +91,7 @@ StaysAtRest contents mark answer old new =
 
 -- The contract of an answer to a Commit, without the part on resting. It puts all of the session's writes, or only
 -- reads. Its stamps are the oracle's next ones. Refusals that need no memory are always answered.
-pub record IsPlainCommit {F M : Type 0} (files : Files F) (marks : MarkStore M)
+pub record IsPlainCommit {F M W : Type 0} (files : Files F W) (marks : MarkStore M)
     (old : Server F M) (start : ℕ) (writes : Writes) (answer : CodecAnswer)
     (new : Server F M) : Type 0 where
   pub result : Result CommitReply Refusal
@@ -112,7 +112,7 @@ pub record IsPlainCommit {F M : Type 0} (files : Files F) (marks : MarkStore M)
   pub full : IsErrOf result MemtableFull → HasNoRoomToCommit (seen_recorded files.contents)
       old.clients (last_of old) start writes (rows_of old)
 
-pub record IsCommitAnswer {F M : Type 0} (files : Files F) (marks : MarkStore M)
+pub record IsCommitAnswer {F M W : Type 0} (files : Files F W) (marks : MarkStore M)
     (old : Server F M) (start : ℕ) (writes : Writes) (answer : CodecAnswer)
     (new : Server F M) : Type 0 where
   pub plain : IsPlainCommit files marks old start writes answer new
@@ -123,7 +123,7 @@ pub record IsCommitAnswer {F M : Type 0} (files : Files F) (marks : MarkStore M)
 -- The contract of an answer to a Read, without the part on resting. It changes no cell, and says of each cell what its
 -- session reads there, whatever the cells contain. A new session begins with the oracle's next stamp; the oracle has no
 -- part in a session that is named.
-pub record IsPlainRead {F M : Type 0} (files : Files F) (marks : MarkStore M)
+pub record IsPlainRead {F M W : Type 0} (files : Files F W) (marks : MarkStore M)
     (old : Server F M) (start : ℕ) (cells : List Cell) (stays_open : Bool)
     (answer : CodecAnswer) (new : Server F M) : Type 0 where
   pub result : Result ReadReply Refusal
@@ -133,7 +133,7 @@ pub record IsPlainRead {F M : Type 0} (files : Files F) (marks : MarkStore M)
   pub reads : OnlyReads (seen_recorded files.contents) (rows_of old) (rows_of new)
   pub found : AreReadableFrom (seen_recorded files.contents) (rows_of old) None
       → IfOk result (λ reply. AreRead (server_cells files.contents old) reply.start 0 cells
-      (said_in reply.found.items))
+      (told_items reply.found.items))
   pub session : IfOk result (λ reply. HasSession old.clients (last_of old) start reply.start)
   pub drawn : start ≡ 0 → IfOk result (λ reply. last_of new ≡ reply.start)
   pub aside : start ≢ 0 → new.oracle ≡ old.oracle
@@ -144,7 +144,7 @@ pub record IsPlainRead {F M : Type 0} (files : Files F) (marks : MarkStore M)
       → Shows files.contents old st → IsCrowded st → IsErrOf result TooManySessions
   pub exhausted : IsErrOf result Exhausted → last_of old ≡ 9_223_372_036_854_775_807
 
-pub record IsReadAnswer {F M : Type 0} (files : Files F) (marks : MarkStore M)
+pub record IsReadAnswer {F M W : Type 0} (files : Files F W) (marks : MarkStore M)
     (old : Server F M) (start : ℕ) (cells : List Cell) (stays_open : Bool)
     (answer : CodecAnswer) (new : Server F M) : Type 0 where
   pub plain : IsPlainRead files marks old start cells stays_open answer new
@@ -153,7 +153,7 @@ pub record IsReadAnswer {F M : Type 0} (files : Files F) (marks : MarkStore M)
 -- ---- an operation
 
 -- The contract of an answer to an operation. One request has a reply.
-abbrev pub IsAnswerTo : {F M : Type 0} → Files F → MarkStore M → Server F M → Lent → CodecAnswer
+abbrev pub IsAnswerTo : {F M W : Type 0} → Files F W → MarkStore M → Server F M → Lent → CodecAnswer
     → Server F M → Type 0
 IsAnswerTo files marks old (lent.One request) (given.Said reply) new =
     IsAnswer files marks old request reply new

@@ -65,7 +65,7 @@ IsSparing (Raw row family qualifier lo hi) = ⊤
 IsSparing request = ⊥
 
 -- The effect of an answer on the state at which a server rests.
-pub record KeepsResting {F M : Type 0} (files : Files F) (mark : M → Option ℕ)
+pub record KeepsResting {F M W : Type 0} (files : Files F W) (mark : M → Option ℕ)
     (request : Request) (reply : Reply) (old new : Server F M) : Type 0 where
   -- After an accepted checkpoint a server that shows a reached state rests at it, if the mark is known.
   pub done : request ≡ Checkpoint → reply ≡ codec.Checkpoint → (st : State) → IsReached st

@@ -1,24 +1,16 @@
 -- The machine's run over the stream that a server reads.
-use Rattle.std.specs.Prelude.{◌≡◌, ℕ, ◌+◌, ◌≤◌, List, [], ◌∷◌, length, map, Some, ◌⊎◌, ⊤}
-use Rattle.cell_key.specs.Names.{IsRow, IsFamily}
+use Rattle.std.specs.Prelude.{◌≡◌, ℕ, ◌+◌, ◌≤◌, List, [], ◌∷◌, ◌⊎◌, ⊤}
 use Rattle.cell_key.specs.declared.refusals.Refusal.{Refusal}
 use Rattle.cell_key.specs.declared.refusals.Refusal.TheVariants.{BadRequest, FrameTooLarge, NoMemory, Damaged}
 use Rattle.si_model.specs.Machine.{State, Reply, Refused, Step, IsReached}
 use Rattle.si_model.specs.Transactions.{Operation, Answer, Said, Goes}
 use Rattle.si_model.specs.Laws.{IsSettled, FirstCommitterWins, OneFate, OneMark}
-use Rattle.si_model.specs.Replies.{item_of, reach_of}
 use Rattle.si_model.specs.ScanLaws.{ScansSettled}
-use Rattle.txn_client.specs.Scans.{IsInScanLimits}
-use Rattle.request_codec.specs.Answers.{answer_of, HoldsAnswerWithinLimits}
+use Rattle.request_codec.specs.Answers.{answer_of}
 use Rattle.request_codec.specs.Operations.{operation_of, IsOperation, IsNoOperation, NamesCells}
 use Rattle.request_codec.specs.declared.answers.Answer.{Answer as CodecAnswer}
-use Rattle.request_codec.specs.declared.answers.Answer.TheVariants as given
 use Rattle.request_codec.specs.declared.operations.Operation.{Operation as Lent}
 use Rattle.si_model.specs.Machine as machine
-use Rattle.si_model.specs.declared.replies.CollectReply.TheVariants.{Blocked}
-use Rattle.si_model.specs.declared.replies.Found.TheVariants.{Value}
-use Rattle.request_codec.specs.declared.replies.Reply.{Reply as CodecReply}
-use Rattle.request_codec.specs.declared.replies.Reply.TheVariants as codec
 
 -- an input of the machine: a whole body, or a length past the limit
 pub data Taken : Type 0 where
@@ -116,25 +108,10 @@ StepsAs shows old new request reply = (before : State) → IsReached before → 
     → (after : State) × Step before request reply after × shows new after
     × (reply ≡ Refused Damaged → ⊥)
 
--- A value in an answer has at most 65,536 bytes, the items of a scan have at most 61,440 bytes, and a named cell is
--- within the limits of rows and families.
-abbrev pub KeepsToLimits : CodecReply → Type 0
-KeepsToLimits (codec.Get (Value value)) = length value.items ≤ 65536
-KeepsToLimits (codec.Scan reply) =
-    IsInScanLimits (map item_of reply.items.items) (reach_of reply.reach)
-KeepsToLimits (codec.Raw (Some found)) = length found.1.items ≤ 65536
-KeepsToLimits (codec.CollectStep (Blocked cell start)) = IsRow cell.row × IsFamily cell.family
-KeepsToLimits other = ⊤
-
 -- a property of a reply's refusal, if it is one
 abbrev pub IfRefused : (Refusal → Type 0) → Reply → Type 0
 IfRefused P (Refused refusal) = P refusal
 IfRefused P reply = ⊤
-
--- the same for an answer of several cells, in the words of its longest frame
-abbrev pub AnswerKeepsToLimits : CodecAnswer → Type 0
-AnswerKeepsToLimits (given.Said reply) = KeepsToLimits reply
-AnswerKeepsToLimits answer = HoldsAnswerWithinLimits (answer_of answer)
 
 -- a property of an answer's refusal, if it is one
 abbrev pub IfAnswerRefused : (Refusal → Type 0) → Answer → Type 0

@@ -18,7 +18,7 @@ use Rattle.si_model.specs.Machine.{State}
 use Rattle.si_model.specs.ShowsCells.{ShowsCells}
 use Rattle.txn_client.specs.Shows as clients
 use Rattle.clean_up.specs.Shows.{ShowsCleaners}
-use Rattle.version_collector.specs.Shows.{ShowsCollectors}
+use Rattle.version_collector.specs.Shows.{KnowsFloor, ShowsCollectors}
 use Rattle.server_loop.specs.declared.server.Config.{Config}
 use Rattle.server_loop.specs.declared.server.Server.{Server}
 use Rattle.server_loop.specs.declared.server.Tending.{Tending}
@@ -78,13 +78,15 @@ abbrev pub machine_places : List PlaceView → List machine.Place
 machine_places places = map machine_place (map spot_of places)
 
 -- The tablets are in order over their files. Their cells, the sessions and the oracle show the state, and so do the
--- cleaners and the collectors. The tablets are at the state's places, and the next tablet gets the number after theirs.
+-- cleaners and the collectors. No other server draws stamps or begins collectors. The tablets are at the state's places,
+-- and the next tablet gets the number after theirs.
 pub record Shows {F M : Type 0} (contents : F → Option Contents) (server : Server F M)
     (st : State) : Type 0 where
   pub in_order : HoldsIn contents server
   pub shows : clients.Shows
       (cells_in (contents server.rows.cluster.files) server.rows.cluster.tablets)
       server.clients server.oracle.last st
+  pub alone : clients.KnowsTop server.clients st × KnowsFloor server.collectors st
   pub cleaners : ShowsCleaners server.cleaners st
   pub collectors : ShowsCollectors
       (cells_in (contents server.rows.cluster.files) server.rows.cluster.tablets)

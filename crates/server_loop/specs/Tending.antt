@@ -1,6 +1,7 @@
 -- The upkeep of a server between two requests.
 use Rattle.std.specs.Prelude.{◌≡◌, ◌||◌, ℕ, Bool, true, false, nat_eq, not, Option, None, Some}
 use Rattle.file_store.specs.Store.{Contents}
+use Rattle.tablet.specs.declared.merge_policy.MergePolicy.{MergePolicy}
 use Rattle.row_atomic.specs.Clusters.{ClusterState}
 use Rattle.row_atomic.specs.Flushes.{CompactsFull, KeepsShown, MergesMany}
 use Rattle.row_atomic.specs.Memtables.{is_any_full}
@@ -15,16 +16,16 @@ abbrev pub is_due : {F : Type 0} → Tending → ClusterState F → Bool
 is_due tending state =
     is_any_full tending.flush state.tablets || not (nat_eq state.next_name tending.merged_to)
 
--- If a server is to merge files, the newest files of each tablet that had this many or more were merged, or the merge
--- was refused, and nothing else was done.
-abbrev pub Merges : {F : Type 0} → (F → Option Contents) → (F → ℕ) → Option ℕ → ClusterState F
-    → ClusterState F → Type 0
+-- If a server has a merge policy, the newest files of each tablet were merged as it says, or the merge was refused, and
+-- nothing else was done.
+abbrev pub Merges : {F : Type 0} → (F → Option Contents) → (F → ℕ) → Option MergePolicy
+    → ClusterState F → ClusterState F → Type 0
 Merges contents faults None old new = new ≡ old
-Merges contents faults (Some most) old new = MergesMany contents faults most old new
+Merges contents faults (Some policy) old new = MergesMany contents faults policy old new
 
 -- the same if a merge was due; otherwise nothing was done
-abbrev pub MergesWhere : {F : Type 0} → Bool → (F → Option Contents) → (F → ℕ) → Option ℕ
-    → ClusterState F → ClusterState F → Type 0
+abbrev pub MergesWhere : {F : Type 0} → Bool → (F → Option Contents) → (F → ℕ)
+    → Option MergePolicy → ClusterState F → ClusterState F → Type 0
 MergesWhere true contents faults merge old new = Merges contents faults merge old new
 MergesWhere false contents faults merge old new = new ≡ old
 

@@ -3,7 +3,6 @@
 ghost use Rattle.std.specs.Prelude.{◌≡◌, ◌≤◌, ◌<◌, ◌+◌, ◌++◌, ◌&&◌, ◌⊎◌, List, ℕ, true, false, not, length, vec_capacity};
 ghost use Rattle.cell_key.specs.declared.refusals.Refusal.TheVariants.{UnknownSession};
 ghost use Rattle.si_model.specs.Machine.{State};
-ghost use Rattle.request_codec.specs.Answers.{answer_of};
 ghost use Rattle.request_codec.specs.Operations.{operation_of};
 ghost use Rattle.request_codec.specs.Replies.{replied};
 ghost use Rattle.request_codec.specs.Stream.{frame};
@@ -11,21 +10,21 @@ ghost use Rattle.request_codec.specs.declared.answers.Answer.TheVariants as told
 ghost use Rattle.request_codec.specs.declared.operations.Operation.TheVariants as lent;
 ghost use Rattle.request_codec.specs.declared.replies.Reply.{Reply as CodecReply};
 ghost use Rattle.request_codec.specs.declared.requests.Request.TheVariants as sent;
-ghost use Rattle.ownership.specs.Frames.{IsBodyOf, frame_of};
+ghost use Rattle.ownership.specs.Frames.{IsBodyOf};
 ghost use Rattle.ownership.specs.Names.{is_name, is_open};
 ghost use Rattle.ownership.specs.Tables.{held_in, owns, table_of};
 ghost use Rattle.ownership.specs.Turns.{Frame as FrameOf, Asks};
 ghost use Rattle.ownership.specs.declared.names.Name.{Name as NameOf};
 ghost use Rattle.server_loop.specs.Batches.{taken_by};
-ghost use Rattle.server_loop.specs.Clients.{AnswersFrame, EndsClient, HandlesFrame, IsAnsweredTo, ServesClients, SettlesOwned, ShowsOwned, StopsEach, StopsOne};
-ghost use Rattle.server_loop.specs.Runs.{AnswerKeepsToLimits, IfRefused};
+ghost use Rattle.server_loop.specs.Clients.{EndsClient, IsAnsweredTo, IsFrameOf, RepliesTo, ServesClients, SettlesOwned, ShowsOwned, StopsEach, StopsOne};
+ghost use Rattle.server_loop.specs.Runs.{IfRefused};
 
 use crate::frame_loop::{FrameHandler, Handler, Incoming, LONGEST_FRAME, serve_all};
-use crate::frames::push_client_frame;
+use crate::frames::{push_client_frame, push_refusal};
 use crate::statuses::{End, ServeFault};
 use cell_key::Refusal;
-use ownership::{Frame, Name, Owners, decode_frame, given, leaves_open, may_end, named};
-use request_codec::{Answer, Operation, Reply, Request};
+use ownership::{Name, Owners, given_kind, may_end, named, split_client};
+use request_codec::{Answer, Operation, Reply, Request, decode_operation};
 use std::alloc::Global;
 use std::io::{Read, Write};
 
@@ -87,26 +86,26 @@ impl<A: Lookup> ClientServer<A> {
         Some(name)
     }
 
-    /// Answers an operation of a client.
-    fn ask(&mut self, client: u32, operation: Operation<'_>) -> Answer
-        ensures handled { HandlesFrame A.shows A.says self.old self.new
-            (Asks client (operation_of operation.entry)) client (answer_of result) }
-        ensures limits { AnswerKeepsToLimits result }
-        ensures admin { self.new.admin ≡ self.old.admin }
+    /// Answers an operation of a client, and appends the frame of the reply to those that wait.
+    fn ask(&mut self, client: u32, operation: Operation<'_>, waiting: &mut Vec<u8>)
+        requires room { length waiting.old.items + LONGEST_FRAME ≤ vec_capacity waiting.old }
+        ensures replies { RepliesTo A.shows A.says (Asks client (operation_of operation.entry))
+            self.old self.new waiting.old.items waiting.new.items }
+        ensures capacity { vec_capacity waiting.old ≤ vec_capacity waiting.new }
     {
         if let Some(refusal) = self.owners.refusal_for(self.admin, client, &operation) {
-            return Answer::Said(Reply::Refused(refusal));
+            return push_refusal(client, refusal, waiting);
         }
-        if self.owners.reserve().is_err() {
-            return Answer::Said(Reply::Refused(Refusal::NoMemory));
+        let kind = given_kind(&operation);
+        if self.owners.reserve(kind).is_err() {
+            return push_refusal(client, Refusal::NoMemory, waiting);
         }
         let name = named(&operation);
-        let opens = leaves_open(&operation);
         let ends = may_end(&operation);
         let answer = self.server.answer_to(operation);
         let closed = self.closed(ends, name);
-        self.owners.note(client, closed, given(opens, &answer));
-        answer
+        self.owners.note(client, closed, kind, &answer);
+        push_client_frame(client, &answer, waiting);
     }
 
     /// Stops a session of a client, and says whether there was one.
@@ -148,48 +147,37 @@ impl<A: Lookup> ClientServer<A> {
         self.owners.pass(client, self.admin.unwrap_or(0));
     }
 
-    /// The answer to what a frame says, and the client that it is answered to.
-    fn answer_frame(&mut self, said: Frame<'_>) -> (u32, Answer)
-        ensures handled { HandlesFrame A.shows A.says self.old self.new (frame_of said.entry)
-            result.0 (answer_of result.1) }
-        ensures limits { AnswerKeepsToLimits result.1 }
-        ensures admin { self.new.admin ≡ self.old.admin }
+    /// Answers a body, whatever is in it, and appends the frame of the reply to those that wait.
+    fn answer_body(&mut self, body: &[u8], waiting: &mut Vec<u8>)
+        requires room { length waiting.old.items + LONGEST_FRAME ≤ vec_capacity waiting.old }
+        ensures replies { (said : FrameOf) × IsBodyOf said body.now
+            × RepliesTo A.shows A.says said self.old self.new waiting.old.items waiting.new.items }
+        ensures capacity { vec_capacity waiting.old ≤ vec_capacity waiting.new }
     {
-        match said {
-            Frame::Asks(client, operation) => (client, self.ask(client, operation)),
-            Frame::Leaves(client) => {
-                self.leave(client);
-                (client, Answer::Said(Reply::Stop))
-            }
-            Frame::Malformed(client) => {
-                (client, Answer::Said(Reply::Refused(Refusal::BadRequest)))
-            }
-            Frame::NoClient => (0, Answer::Said(Reply::Refused(Refusal::BadRequest))),
+        let Some((client, rest)) = split_client(body) else {
+            return push_refusal(0, Refusal::BadRequest, waiting);
+        };
+        if rest.is_empty() {
+            self.leave(client);
+            return push_client_frame(client, &Answer::Said(Reply::Stop), waiting);
+        }
+        match decode_operation(self.alloc, rest) {
+            Ok(Some(operation)) => self.ask(client, operation, waiting),
+            Ok(None) => push_refusal(client, Refusal::BadRequest, waiting),
+            Err(_) => push_refusal(client, Refusal::NoMemory, waiting),
         }
     }
 
-    /// The answer to a body, whatever is in it.
-    fn answer_body(&mut self, body: &[u8]) -> (u32, Answer)
-        ensures handled { (said : FrameOf) × IsBodyOf said body.now
-            × HandlesFrame A.shows A.says self.old self.new said result.0 (answer_of result.1) }
-        ensures limits { AnswerKeepsToLimits result.1 }
-        ensures admin { self.new.admin ≡ self.old.admin }
-    {
-        match decode_frame(self.alloc, body) {
-            Ok(said) => self.answer_frame(said),
-            Err(client) => (client, Answer::Said(Reply::Refused(Refusal::NoMemory))),
-        }
-    }
-
-    /// The answer to what is incoming.
-    fn answer_to(&mut self, incoming: Incoming<'_>) -> (u32, Answer)
-        ensures answered { AnswersFrame A.shows A.says self.old (taken_by incoming.entry) result.0
-            (answer_of result.1) self.new }
-        ensures limits { AnswerKeepsToLimits result.1 }
+    /// Answers what is incoming, and appends the frame of the reply to those that wait.
+    fn answer_to(&mut self, incoming: Incoming<'_>, waiting: &mut Vec<u8>)
+        requires room { length waiting.old.items + LONGEST_FRAME ≤ vec_capacity waiting.old }
+        ensures replies { (said : FrameOf) × IsFrameOf said (taken_by incoming.entry)
+            × RepliesTo A.shows A.says said self.old self.new waiting.old.items waiting.new.items }
+        ensures capacity { vec_capacity waiting.old ≤ vec_capacity waiting.new }
     {
         match incoming {
-            Incoming::Body(body) => self.answer_body(body),
-            Incoming::TooLarge => (0, Answer::Said(Reply::Refused(Refusal::FrameTooLarge))),
+            Incoming::Body(body) => self.answer_body(body, waiting),
+            Incoming::TooLarge => push_refusal(0, Refusal::FrameTooLarge, waiting),
         }
     }
 
@@ -201,8 +189,7 @@ impl<A: Lookup> ClientServer<A> {
             × (waiting.new.items ≡ waiting.old.items ++ frame body) }
         ensures capacity { vec_capacity waiting.old ≤ vec_capacity waiting.new }
     {
-        let (client, answer) = self.answer_to(incoming);
-        push_client_frame(client, &answer, waiting);
+        self.answer_to(incoming, waiting);
         self.server.tend();
     }
 

@@ -1,7 +1,7 @@
 //! The server's requests for collectors, one step of the snapshot machine each.
 
 ghost use Rattle.std.specs.Prelude.{◌≡◌};
-ghost use Rattle.server_loop.specs.Runs.{KeepsToLimits};
+ghost use Rattle.request_codec.specs.Replies.{replied, HoldsWithinLimits};
 
 use crate::server::Server;
 use cell_key::Refusal;
@@ -13,7 +13,7 @@ use si_model::CollectReply;
 /// The reply to a collector's accepted step. A cell that it names is within its limits.
 fn collected(done: CollectReply) -> Reply
     ensures reply { result ≡ Reply.CollectStep done }
-    ensures limits { KeepsToLimits result }
+    ensures limits { HoldsWithinLimits (replied result) }
 {
     if let CollectReply::Blocked(cell, _) = &done {
         // These calls show that row and family are within their limits.

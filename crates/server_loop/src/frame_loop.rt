@@ -3,15 +3,15 @@
 ghost use Rattle.std.specs.Prelude.{◌≡◌, ◌≤◌, ◌<◌, ◌+◌, ◌++◌, ◌∷◌, ◌⊎◌, List, ℕ, [], length, Err, IfErr, IfNone, IfOk, OnErr, OnOk, Some, vec_capacity};
 ghost use Rattle.std.specs.Io.KnownBytes.{Appends};
 ghost use Rattle.si_model.specs.Machine.{State};
-ghost use Rattle.request_codec.specs.Answers.{answer_of};
+ghost use Rattle.request_codec.specs.Answers.{answer_of, HoldsAnswerWithinLimits};
 ghost use Rattle.request_codec.specs.Operations.{operation_of};
-ghost use Rattle.request_codec.specs.Replies.{replied};
+ghost use Rattle.request_codec.specs.Replies.{replied, HoldsWithinLimits};
 ghost use Rattle.request_codec.specs.Requests.{asked};
 ghost use Rattle.request_codec.specs.Stream.{frame, frames, IsPartial};
 ghost use Rattle.request_codec.specs.declared.answers.Answer.{Answer as CodecAnswer};
 ghost use Rattle.request_codec.specs.declared.operations.Operation.{Operation as Lent};
 ghost use Rattle.server_loop.specs.Batches.{Answered, Cuts, Delivers, IsAnswered, IsBatch, IsCutBy, LeavesRest, ReadsOn, ServesOn, over_of, taken_by};
-ghost use Rattle.server_loop.specs.Runs.{AnswerKeepsToLimits, Body, GoesFrom, KeepsToLimits, RunsAs, SaysOf, StepsAs, Taken};
+ghost use Rattle.server_loop.specs.Runs.{Body, GoesFrom, RunsAs, SaysOf, StepsAs, Taken};
 
 use crate::frames::{finish, flush, push_frame, write_whole};
 use crate::statuses::{End, ServeFault};
@@ -61,14 +61,14 @@ pub trait Handler {
     fn reply_to(&mut self, request: Request<'_>) -> Reply
         ensures step { StepsAs shows self.old self.new (asked request.entry) (replied result) }
         ensures says { says self.old (Operation.One request.entry) (Answer.Said result) self.new }
-        ensures limits { KeepsToLimits result };
+        ensures limits { HoldsWithinLimits (replied result) };
 
     /// Answers as the machine goes, from each reached state that is shown.
     fn answer_to(&mut self, operation: Operation<'_>) -> Answer
         ensures goes { GoesFrom shows self.old self.new (operation_of operation.entry)
             (answer_of result) }
         ensures says { says self.old operation.entry result self.new }
-        ensures limits { AnswerKeepsToLimits result };
+        ensures limits { HoldsAnswerWithinLimits (answer_of result) };
 
     /// Does the upkeep between one answer and the next. It keeps showing each state that it shows.
     fn tend(&mut self)
@@ -118,7 +118,7 @@ fn answer_to_body<A: Handler>(alloc: Global, server: &mut A, body: &[u8]) -> Ans
     ensures run { RunsAs A.shows server.old server.new (Body body.now ∷ [])
         (answer_of result ∷ []) }
     ensures says { SaysOf A.says server.old (Body body.now) (answer_of result) server.new }
-    ensures limits { AnswerKeepsToLimits result }
+    ensures limits { HoldsAnswerWithinLimits (answer_of result) }
 {
     match decode_operation(alloc, body) {
         Ok(Some(operation)) => server.answer_to(operation),
@@ -133,7 +133,7 @@ fn answer_to_incoming<A: Handler>(alloc: Global, server: &mut A, incoming: Incom
         (answer_of result ∷ []) }
     ensures says { SaysOf A.says server.old (taken_by incoming.entry) (answer_of result)
         server.new }
-    ensures limits { AnswerKeepsToLimits result }
+    ensures limits { HoldsAnswerWithinLimits (answer_of result) }
 {
     match incoming {
         Incoming::Body(body) => answer_to_body(alloc, server, body),

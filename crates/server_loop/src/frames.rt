@@ -2,14 +2,16 @@
 
 ghost use Rattle.std.specs.Prelude.{◌≡◌, ℕ, ◌+◌, ◌++◌, ◌<◌, ◌≤◌, length, take, IfErr, IfOk, OnOk, OnErr, vec_capacity};
 ghost use Rattle.std.specs.Io.KnownBytes.{Appends, Keeps};
-ghost use Rattle.request_codec.specs.Answers.{answer_body, answer_of};
+ghost use Rattle.si_model.specs.Machine.{Refused};
+ghost use Rattle.si_model.specs.Transactions.{Said};
+ghost use Rattle.request_codec.specs.Answers.{answer_body, answer_of, HoldsAnswerWithinLimits};
 ghost use Rattle.request_codec.specs.Stream.{frame};
 ghost use Rattle.ownership.specs.Frames.{client_body};
-ghost use Rattle.server_loop.specs.Runs.{AnswerKeepsToLimits};
 
 use crate::frame_loop::LONGEST_FRAME;
 use crate::statuses::{End, ServeFault};
-use request_codec::{Answer, LONGEST_ANSWER, answer_length, push_answer};
+use cell_key::Refusal;
+use request_codec::{Answer, LONGEST_ANSWER, Reply, answer_length, answers_fit, push_answer};
 use std::io::Write;
 
 /// A write failed or accepted no byte.
@@ -34,31 +36,46 @@ pub(crate) fn write_whole<W: Write>(writer: &mut W, bytes: &[u8]) -> Result<(), 
 }
 
 /// Appends the frame of an answer to the buffer.
-#[tactic(auto, using(crate::proofs::Lengths::fits_frame), unfolding(request_codec::specs::Stream::frame))]
+#[tactic(auto, using(crate::proofs::FittingFrames::fits_frame), unfolding(request_codec::specs::Stream::frame))]
 pub(crate) fn push_frame(answer: &Answer, out: &mut Vec<u8>)
     requires room { length out.old.items + LONGEST_ANSWER ≤ vec_capacity out.old }
-    requires limits { AnswerKeepsToLimits answer.now }
+    requires limits { HoldsAnswerWithinLimits (answer_of answer.now) }
     ensures items { out.new.items ≡ out.old.items ++ frame (answer_body (answer_of answer.now)) }
     ensures capacity { vec_capacity out.old ≤ vec_capacity out.new }
 {
+    answers_fit();
     let length = answer_length(answer) as u32;
     out.extend_from_slice(&length.to_be_bytes()).unwrap();
     push_answer(answer, out);
 }
 
 /// Appends the frame of an answer to a client to the buffer.
-#[tactic(auto, using(crate::proofs::Lengths::fits_frame), unfolding(request_codec::specs::Stream::frame, request_codec::specs::Fields::number))]
+#[tactic(auto, using(crate::proofs::FittingFrames::fits_frame), unfolding(request_codec::specs::Stream::frame, request_codec::specs::Fields::number))]
+#[inline(always)]
 pub(crate) fn push_client_frame(client: u32, answer: &Answer, out: &mut Vec<u8>)
     requires room { length out.old.items + LONGEST_FRAME ≤ vec_capacity out.old }
-    requires limits { AnswerKeepsToLimits answer.now }
+    requires limits { HoldsAnswerWithinLimits (answer_of answer.now) }
     ensures items { out.new.items
         ≡ out.old.items ++ frame (client_body client (answer_of answer.now)) }
     ensures capacity { vec_capacity out.old ≤ vec_capacity out.new }
 {
-    let length = answer_length(answer) as u32 + 4;
-    out.extend_from_slice(&length.to_be_bytes()).unwrap();
-    out.extend_from_slice(&client.to_be_bytes()).unwrap();
+    answers_fit();
+    // Both numbers in one piece.
+    let [a, b, c, d] = (answer_length(answer) as u32 + 4).to_be_bytes();
+    let [e, f, g, h] = client.to_be_bytes();
+    out.extend_from_slice(&[a, b, c, d, e, f, g, h]).unwrap();
     push_answer(answer, out);
+}
+
+/// Appends the frame of a refusal to a client to the buffer.
+#[inline(never)]
+pub(crate) fn push_refusal(client: u32, refusal: Refusal, out: &mut Vec<u8>)
+    requires room { length out.old.items + LONGEST_FRAME ≤ vec_capacity out.old }
+    ensures items { out.new.items
+        ≡ out.old.items ++ frame (client_body client (Said (Refused refusal))) }
+    ensures capacity { vec_capacity out.old ≤ vec_capacity out.new }
+{
+    push_client_frame(client, &Answer::Said(Reply::Refused(refusal)), out);
 }
 
 /// Flushes the writer.

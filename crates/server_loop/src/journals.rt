@@ -26,7 +26,8 @@ impl<F: Files + Drop, M: MarkStore + Drop> Server<F, M> {
         self.oracle.last()
     }
 
-    /// The bytes of the edits that are not in the log yet: the log's next record. Empty if edits aren't recorded.
+    /// The bytes of the edits that are not in the log yet: the body of the log's next record. Empty if edits aren't
+    /// recorded.
     pub fn waiting(&self) -> &[u8]
         ensures bytes { result.now ≡ waiting_of (journal_of self.now) }
         ensures within { IfSome (journal_of self.now) IsWithin }

@@ -25,7 +25,7 @@ pub use laws::{
     commits_keep_collectors, operations_keep_collectors, operations_leave_others, resting_is_kept,
     rests_between,
 };
-pub use row_atomic::FlushLimits;
+pub use row_atomic::{FlushLimits, MergePolicy};
 pub use server::{Config, Server};
 pub use statuses::{End, ServeFault, end_status, open_status};
 pub use upkeep::RootName;

@@ -16,7 +16,8 @@ use oracle::{MarkStore, Oracle};
 use ownership::Name;
 use request_codec::{Answer, Operation, Reply, Request};
 use row_atomic::{
-    Cluster, Command, FlushLimits, Outcome, Recorded, keeps_following, root_is_stored, root_stays,
+    Cluster, Command, FlushLimits, MergePolicy, Outcome, Recorded, keeps_following, root_is_stored,
+    root_stays,
 };
 use si_model::shows_reopened;
 use std::alloc::Global;
@@ -40,8 +41,8 @@ pub struct Config {
 pub(crate) struct Tending {
     /// The size at which a memtable is compacted.
     pub(crate) flush: FlushLimits,
-    /// The number of files of a tablet at which its newest files are merged, or `None` for no merges.
-    pub(crate) merge: Option<u32>,
+    /// When a tablet's newest files are merged, or `None` for no merges.
+    pub(crate) merge: Option<MergePolicy>,
     /// The name of the next file at the last merge: as long as it is the same, no file was written since. 0 at first.
     pub(crate) merged_to: u64,
 }
@@ -154,15 +155,15 @@ impl<F: Files + Drop, M: MarkStore + Drop> Server<F, M> {
         }
     }
 
-    /// From now on `serve` merges the newest files of each tablet that has `most` files or more, so that it has fewer.
-    /// It does so after its first reply, and then after each reply if a file was written since the last merge. A
-    /// refusal is not reported. Without this call files are merged only on request.
-    pub fn merge_at(&mut self, most: u32)
+    /// From now on `serve` merges the newest files of each tablet as the policy says. It does so after its first reply,
+    /// and then after each reply if a file was written since the last merge. A refusal is not reported. Without this
+    /// call files are merged only on request.
+    pub fn merge_by(&mut self, policy: MergePolicy)
         ensures { self.new ≡ record self.old {
-          tending = record (tending_of self.old) { merge = Some most; merged_to = 0 };
+          tending = record (tending_of self.old) { merge = Some policy; merged_to = 0 };
         } }
     {
-        self.tending.merge = Some(most);
+        self.tending.merge = Some(policy);
         self.tending.merged_to = 0;
     }
 
@@ -187,7 +188,7 @@ impl<F: Files + Drop, M: MarkStore + Drop> Server<F, M> {
             || self.rows.cluster.next_name() != self.tending.merged_to
     }
 
-    /// Merges the newest files of the tablets that have too many, if merges are configured.
+    /// Merges the tablets' newest files as the policy says, if there is one.
     fn merge_newest(&mut self)
         ensures merges { Merges F.contents F.faults (tending_of self.old).merge
             (cluster_of self.old) (cluster_of self.new) }
@@ -196,8 +197,8 @@ impl<F: Files + Drop, M: MarkStore + Drop> Server<F, M> {
           rows = record (rows_of self.old) { cluster = cluster_of self.new };
         } }
     {
-        if let Some(most) = self.tending.merge {
-            self.rows.cluster.merge_many(most);
+        if let Some(policy) = self.tending.merge {
+            self.rows.cluster.merge_many(policy);
         }
     }
 
@@ -279,7 +280,7 @@ impl<F: Files + Drop, M: MarkStore + Drop> Server<F, M> {
     /// Serves framed requests until the input ends, with at most `most_reads` reads. It allocates its buffers first. It
     /// reads pieces of at most 65,536 bytes, and answers every whole frame before it reads again. After each
     /// answer, every memtable that has reached a limit of the configuration is compacted, and files are merged as
-    /// `merge_at` says. Then the reply is written completely, before the next frame is taken.
+    /// `merge_by` says. Then the reply is written completely, before the next frame is taken.
     ///
     /// The bytes read are cut into bodies and a rest, and the replies are given by a run of the snapshot machine over
     /// them. Each reply fulfils the contract of `answer`, and between two replies only those compactions and merges

@@ -1,6 +1,7 @@
 //! The store as its users meet it: streams of requests with their replies.
 
 mod checkpoint_faults;
+mod clients;
 mod faults;
 mod filling;
 mod memory;
@@ -13,7 +14,7 @@ use cell_key::Refusal;
 use file_store::MemFiles;
 use oracle::MemMark;
 use request_codec::{Reply, Request};
-use server_loop::{Config, End, FlushLimits, ServeFault, Server, end_status};
+use server_loop::{Config, End, FlushLimits, MergePolicy, ServeFault, Server, end_status};
 use std::alloc::Global;
 use std::cell::Cell;
 use std::io::{Read, Write};
@@ -331,7 +332,7 @@ fn flushing(alloc: Global, flush: u32, merge: Option<u32>, row: &Row) -> Result<
     };
     let mut server = flushing_server(alloc, limits, FILE_LIMIT)?;
     if let Some(most) = merge {
-        server.merge_at(most);
+        server.merge_by(MergePolicy::AtCount(most));
     }
     let mut reader = requests.as_slice();
     let mut writer = Holding::new(alloc);

@@ -7,15 +7,17 @@ use Rattle.std.proofs.lemmas.Cmp.{nat_cmp_total}
 use Rattle.std.proofs.lemmas.Bool.{cases_eq}
 use Rattle.std.proofs.lemmas.Bool.Decides.{nat_tests}
 use Rattle.si_model.specs.Sets.{◌∈◌, here, there, IsWithout}
-use Rattle.si_model.specs.Machine.{State, Change, Writes, Phase, Open, Holding, Stamped, Finishing, Commit, InPhase, Wrote, Marked, Puts, Gives, Names, IsDead, HasHeld, Clashes, Draws, finishing, end_of_stamps, IsReached, Advance, Step, accepts, holds, draws}
+use Rattle.si_model.specs.Machine.{State, Change, Writes, Phase, Open, Holding, Stamped, Finishing, Commit, InPhase, Wrote, Marked, Puts, Gives, Names, IsDead, HasHeld, Clashes, Draws, finishing, end_of_stamps, Advance, Step, accepts, holds, draws}
 use Rattle.si_model.specs.Machine as machine
 use Rattle.si_model.specs.Replies.{progress_reply}
+use Rattle.si_model.specs.Machine.{IsReached}
+use Rattle.si_model.specs.Servers.{IsReachedByServers}
 use Rattle.si_model.specs.declared.replies.Cell.{Cell}
 use Rattle.si_model.specs.declared.replies.Progress.{Progress}
 use Rattle.si_model.specs.declared.replies.Progress.TheVariants as progress
 use Rattle.si_model.proofs.Tools.{CellsDiffer, each_cons, get_same, get_other, get_removed, get_remains}
 use Rattle.si_model.proofs.Kept.{held_phase}
-use Rattle.si_model.proofs.Steps.{reached_step}
+use Rattle.si_model.proofs.ByServers.{by_servers, servers_step}
 use Rattle.si_model.proofs.Fates.{fate_seen}
 use Rattle.si_model.proofs.Acceptable.{advance_ok}
 use Rattle.si_model.specs.Transactions.{Advances, rests, advances}
@@ -148,7 +150,7 @@ module _ (s : ℕ) where
 
     module _ (st : State) (c : ℕ) (wrote : Wrote st s ws) (none : (x : Cell) → ¬ Marked st x s) where
       commit_from : (w : Cell × Change) (rest : Writes) → ws ≡ w ∷ rest → CellsDiffer (w ∷ rest) → (active : Phases) → SameBeside s active st.active → get active s ≡ Some (Stamped c)
-          → IsReached (record st { top = c; marks = marked (w ∷ rest) st.marks; active = active })
+          → IsReachedByServers (record st { top = c; marks = marked (w ∷ rest) st.marks; active = active })
           → Commits c (record st { top = c; marks = marked (w ∷ rest) st.marks; active = active }) (committed_state st s c ws)
       commit_from w rest e differ active same h reached = record {
         steps = progress.Committed c ∷ later.0;
@@ -183,7 +185,7 @@ module _ (s : ℕ) where
 
       -- the stamp is drawn once all cells are held
       draw_from : (active : Phases) → SameBeside s active st.active → get active s ≡ Some (Holding (length ws)) → Draws st c → CellsDiffer ws
-          → IsReached (held_to st active) → Commits c (held_to st active) (committed_state st s c ws)
+          → IsReachedByServers (held_to st active) → Commits c (held_to st active) (committed_state st s c ws)
       draw_from active same h d differ reached = one_more c (held_to st active) (stamped_to st c now) (committed_state st s c ws) (progress.Stamped c) step (commit_at ws refl differ)
         where
           now : Phases
@@ -196,7 +198,7 @@ module _ (s : ℕ) where
           commit_at [] e differ = let none : length ws ≡ 0 = ap length e in absurd (omega arith)
           commit_at (w ∷ rest) e differ = subst (λ (l : Writes). Commits c (record st { top = c; marks = marked l st.marks; active = now }) (committed_state st s c ws)) (sym e)
               (commit_from w rest e differ now (beside_insert s active st.active (Stamped c) same) (get_same active s (Stamped c))
-              (subst (λ (l : Writes). IsReached (record st { top = c; marks = marked l st.marks; active = now })) e (reached_step reached step)))
+              (subst (λ (l : Writes). IsReachedByServers (record st { top = c; marks = marked l st.marks; active = now })) e (servers_step reached step)))
 
     -- ---- the first steps: each cell is held
 
@@ -210,8 +212,8 @@ module _ (s : ℕ) where
     still_free st x active rest others free w i (inr later) = free w i (inr later)
 
     pub hold_all : (rest : Writes) (k : ℕ) (st next : State) (c : ℕ) → HasHeld st s k → Wrote st s ws → IsTail ws k rest → k + length rest ≡ length ws → CellsDiffer rest
-        → IsFree st rest → IsReached st
-        → ((active : Phases) → SameBeside s active st.active → get active s ≡ Some (Holding (length ws)) → IsReached (record st { marks = marked rest st.marks; active = active })
+        → IsFree st rest → IsReachedByServers st
+        → ((active : Phases) → SameBeside s active st.active → get active s ≡ Some (Holding (length ws)) → IsReachedByServers (record st { marks = marked rest st.marks; active = active })
         → Commits c (record st { marks = marked rest st.marks; active = active }) next)
         → Commits c st next
     hold_all [] k st next c (inl h) wrote tail count differ free reached then =
@@ -225,16 +227,21 @@ module _ (s : ℕ) where
         accepts (advance_ok hp.p ws hp.is wrote some) (holds held wrote (tail_here ws rest k w tail) (free w here)) in
         one_more c st (record st { marks = (w.0, s) ∷ st.marks; active = now }) next (progress.Held (k + 1) (length ws)) step
         (hold_all rest (k + 1) (record st { marks = (w.0, s) ∷ st.marks; active = now }) next c (inl (get_same st.active s (Holding (k + 1)))) wrote (tail_next ws rest k w tail) (omega arith) differ.1
-        (still_free st w.0 now rest differ.0 (λ u i. free u (there i))) (reached_step reached step)
+        (still_free st w.0 now rest differ.0 (λ u i. free u (there i))) (servers_step reached step)
         (λ active same h reached. then active (λ u ne. same u ne ∙ get_other st.active s (Holding (k + 1)) u ne) h reached))
 
 -- all of them
-pub all_steps : (st : State) (s c : ℕ) (ws : Writes) → IsReached st → InPhase st s Open → Wrote st s ws → (some : 1 ≤ length ws) → CellsDiffer ws
+pub servers_steps : (st : State) (s c : ℕ) (ws : Writes) → IsReachedByServers st → InPhase st s Open → Wrote st s ws → (some : 1 ≤ length ws) → CellsDiffer ws
     → ((w : Cell × Change) → w ∈ ws → ¬ Clashes st w.0 s) → ((x : Cell) → ¬ Marked st x s) → Draws st c
     → Commits s ws some c st (committed_state st s c ws)
-all_steps st s c ws reached h wrote some differ free none d =
+servers_steps st s c ws reached h wrote some differ free none d =
     hold_all s ws some ws 0 st (committed_state st s c ws) c (inr (h, refl)) wrote whole (omega arith) differ free reached
     (λ active same held reached. draw_from s ws some st c wrote none active same held d differ reached)
   where
     whole : IsTail s ws 0 ws
     whole j x v puts = let zero_plus : 0 + j ≡ j = omega arith in subst (λ (i : ℕ). Puts ws i x v) (sym zero_plus) puts
+
+pub all_steps : (st : State) (s c : ℕ) (ws : Writes) → IsReached st → InPhase st s Open → Wrote st s ws → (some : 1 ≤ length ws) → CellsDiffer ws
+    → ((w : Cell × Change) → w ∈ ws → ¬ Clashes st w.0 s) → ((x : Cell) → ¬ Marked st x s) → Draws st c
+    → Commits s ws some c st (committed_state st s c ws)
+all_steps st s c ws reached h wrote some differ free none d = servers_steps st s c ws (by_servers reached) h wrote some differ free none d

@@ -12,13 +12,14 @@ use Rattle.cell_key.specs.Columns.{IsRecordText, record_text}
 use Rattle.cell_key.proofs.RecordTexts.{same_start, same_write}
 use Rattle.cell_key.specs.declared.columns.WriteKind.TheVariants as write
 use Rattle.si_model.specs.Sets.{◌∈◌, here, there}
-use Rattle.si_model.specs.Machine.{State, Change, Commit, Gives, Names, Wrote, Writes, Marked, IsReached}
+use Rattle.si_model.specs.Machine.{State, Change, Commit, Gives, Names, Wrote, Writes, Marked}
+use Rattle.si_model.specs.Servers.{IsReachedByServers}
 use Rattle.si_model.specs.declared.replies.Cell.{Cell}
 use Rattle.si_model.specs.ShowsCells.{at, key_of, IsThere, IsReplaced, MayLack, NamesAt, ShowsCells, kind_of_change}
 use Rattle.si_model.specs.Collection.{Collects, IsNamed, IsTidy, IsUnmarkedBelow, Pass, FirstPass, SecondPass, HasCome, collected_cells, dropped_cells, forgotten_cells, IsOld, IsOldestDeletion, MayEraseBelow, HasNoNewKey, StaysShown}
 use Rattle.si_model.proofs.ShownAt.{cases_key, erased_at, erased_off, key_cell, key_stamp, no_lock_data, no_lock_write, no_data_write, no_write_data}
-use Rattle.si_model.proofs.Steps.{reached_sound}
-use Rattle.si_model.proofs.Bounds.{reached_bounds}
+use Rattle.si_model.proofs.Steps.{servers_sound}
+use Rattle.si_model.proofs.Bounds.{servers_bounds}
 use Rattle.si_model.proofs.CleanerFates.{one_commit}
 use Rattle.si_model.proofs.Tools.{one_change, same_entry}
 use Rattle.si_model.proofs.ChangeKinds.{is_deletion}
@@ -149,18 +150,18 @@ collected_fate x (v ∷ vs) cells k = elim (cases_key k (key_of x Write v.0)) [
 
 -- Records of x older than one at or below the floor, and the data that they name, may be erased if no mark is below the
 -- floor.
-module _ (cells : Cells) (st : State) (reached : IsReached st) (shown : ShowsCells cells st) (x : Cell) (floor : ℕ) (below : floor ≤ st.floor) (clear : IsUnmarkedBelow st floor) where
+module _ (cells : Cells) (st : State) (reached : IsReachedByServers st) (shown : ShowsCells cells st) (x : Cell) (floor : ℕ) (below : floor ≤ st.floor) (clear : IsUnmarkedBelow st floor) where
   start_low : (a : Commit) → a ∈ st.commits → a.start < 2 ^ 64
   start_low a i =
-      let low = (reached_sound reached).start_low a.start a.writes ((reached_sound reached).fair a i).wrote in
-      let top = (reached_bounds reached).top in
+      let low = (servers_sound reached).start_low a.start a.writes ((servers_sound reached).fair a i).wrote in
+      let top = (servers_bounds reached).top in
       omega arith
 
   value_low : (y : Cell) (t : ℕ) → IsThere cells y Data t → t < 2 ^ 64
   value_low y t was =
       let g = shown.given y t was.0 was.1 in
-      let low = (reached_sound reached).start_low t g.ws g.wrote in
-      let top = (reached_bounds reached).top in
+      let low = (servers_sound reached).start_low t g.ws g.wrote in
+      let top = (servers_bounds reached).top in
       omega arith
 
   -- the commit that a record names
@@ -174,7 +175,7 @@ module _ (cells : Cells) (st : State) (reached : IsReached st) (shown : ShowsCel
   one_record y c d t low h g =
       let a = named_commit y c t low h in
       let b = named_commit y d t low g in
-      sym a.2 ∙ (ap (λ (m : Commit). m.stamp) (one_commit st.commits (reached_sound reached).starts_differ a.0 b.0 a.1 b.1 (a.4 ∙ sym b.4)) ∙ b.2)
+      sym a.2 ∙ (ap (λ (m : Commit). m.stamp) (one_commit st.commits (servers_sound reached).starts_differ a.0 b.0 a.1 b.1 (a.4 ∙ sym b.4)) ∙ b.2)
 
   module _ (w : ℕ) (text : List ℕ) (newest : at cells x Write w ≡ Some text) (at_most : w ≤ floor) where
     -- the commit at c is older than the one at w, which is cleared
@@ -230,7 +231,7 @@ module _ (cells : Cells) (st : State) (reached : IsReached st) (shown : ShowsCel
             unmarked : ¬ Marked st x v.1
             unmarked m =
                 let k = named_commit x v.0 v.1 o.low o.there in
-                let later = ((reached_sound reached).fair k.0 k.1).later in
+                let later = ((servers_sound reached).fair k.0 k.1).later in
                 let up = clear x v.1 m in
                 let older = o.older in
                 let es = k.2 in
@@ -267,8 +268,8 @@ module _ (cells : Cells) (st : State) (reached : IsReached st) (shown : ShowsCel
     deletes a i is =
         let k = shown.records x c (record_text oldest.start write.Delete) oldest.there in
         let none : k.change ≡ None = is_deletion k.change (same_write k.commit.start oldest.start (kind_of_change k.change) write.Delete (record_text oldest.start write.Delete) k.is_text (inl refl)) in
-        let start : k.commit.start ≡ a.start = (reached_sound reached).stamps_differ k.commit a k.is_in i (k.stamp ∙ sym is) in
-        let same : k.commit ≡ a = one_commit st.commits (reached_sound reached).starts_differ k.commit a k.is_in i start in
+        let start : k.commit.start ≡ a.start = (servers_sound reached).stamps_differ k.commit a k.is_in i (k.stamp ∙ sym is) in
+        let same : k.commit ≡ a = one_commit st.commits (servers_sound reached).starts_differ k.commit a k.is_in i start in
         subst (λ (p : Commit × Change). Gives p.0.writes x p.1) (λ j. (same j, none j)) k.gives
 
     forgotten : (a : Commit) → a ∈ st.commits → a.stamp ≡ c → MayLack without st x a
@@ -287,9 +288,9 @@ module _ (cells : Cells) (st : State) (reached : IsReached st) (shown : ShowsCel
         let none : k.change ≡ None = is_deletion k.change (same_write k.commit.start oldest.start (kind_of_change k.change) write.Delete h.0 k.is_text (inl text)) in
         let start : k.commit.start ≡ t = same_start k.commit.start t (kind_of_change k.change) h.1 h.0 (start_low k.commit k.is_in) (value_low y t was) k.is_text h.3 in
         let g = shown.given y t was.0 was.1 in
-        let wrote : Wrote st t k.commit.writes = subst (λ (u : ℕ). Wrote st u k.commit.writes) start ((reached_sound reached).fair k.commit k.is_in).wrote in
+        let wrote : Wrote st t k.commit.writes = subst (λ (u : ℕ). Wrote st u k.commit.writes) start ((servers_sound reached).fair k.commit k.is_in).wrote in
         let gives : Gives g.ws y k.change = subst (λ (l : Writes). Gives l y k.change) (same_entry st.begun t k.commit.writes g.ws wrote g.wrote) k.gives in
-        none-some was.0 (sym none ∙ one_change g.ws y k.change (Some was.0) ((reached_sound reached).cells_differ t g.ws g.wrote) gives g.gives)
+        none-some was.0 (sym none ∙ one_change g.ws y k.change (Some was.0) ((servers_sound reached).cells_differ t g.ws g.wrote) gives g.gives)
 
     collects_deletion : Collects cells without st
     collects_deletion = record {
@@ -352,7 +353,7 @@ module _ (cells : Cells) (st : State) (x : Cell) (floor : ℕ) (clear : IsUnmark
       gone_value y t u low unnamed ey et = subst (λ (p : Cell × ℕ). (¬ Marked st p.0 p.1) × ((c : ℕ) → ¬ NamesAt (dropped_cells cells x ts) p.0 c p.1)) (λ j. (sym ey j, sym et j))
           ((λ m. let up = clear x u m in omega arith), (λ c h. unnamed (c, (h.0, h.1, sym (record_same x c) ∙ h.2, h.3))))
 
-pub may_erase : (cells : Cells) (st : State) → IsReached st → ShowsCells cells st → MayEraseBelow cells st
+pub may_erase : (cells : Cells) (st : State) → IsReachedByServers st → ShowsCells cells st → MayEraseBelow cells st
 may_erase cells st reached shown floor below clear = record {
   old = λ x w vs newest low old. collects_old cells st reached shown x floor below clear w newest.0 newest.1 low vs old;
   unnamed = λ x ts old. collects_unnamed cells st x floor clear ts old;

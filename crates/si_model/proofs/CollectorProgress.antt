@@ -14,16 +14,17 @@ use Rattle.cell_key.specs.declared.keys.Qualifier.{Qualifier}
 use Rattle.cell_key.specs.declared.keys.Qualifier.TheVariants.{Data, Lock, Write}
 use Rattle.cell_key.specs.Columns.{lock_text, record_text}
 use Rattle.cell_key.specs.declared.columns.WriteKind.{WriteKind}
-use Rattle.si_model.specs.Machine.{State, Change, Stamped, InPhase, Marked, CommittedAt, IsReached}
+use Rattle.si_model.specs.Machine.{State, Change, Stamped, InPhase, Marked, CommittedAt}
+use Rattle.si_model.specs.Servers.{IsReachedByServers}
 use Rattle.si_model.specs.declared.replies.Cell.{Cell}
 use Rattle.si_model.specs.ShowsCells.{at, key_of, IsThere, ShowsCells, kind_of_change, changed_cells, held_cells, recorded_cells, erased_cells}
 use Rattle.si_model.specs.Enduring.{Endures}
 use Rattle.si_model.specs.Collection.{IsUnmarkedBelow, IsTidy, place_at, Pass, FirstPass, SecondPass, HasCome, ComesFurther, ComeStays, ChangesCells, unchanged, locks_cell, records_commit, erases_lock, erases_versions}
 use Rattle.si_model.proofs.Left.{exact_places, place_cmp_total}
 use Rattle.si_model.proofs.ShownAt.{cases_key, put_off, erased_off, changed_off, key_stamp, no_data_lock, no_data_write, no_write_lock, no_write_data}
-use Rattle.si_model.proofs.Steps.{reached_sound}
-use Rattle.si_model.proofs.Floors.{reached_floors}
-use Rattle.si_model.proofs.LastingMarks.{endures}
+use Rattle.si_model.proofs.Steps.{servers_sound}
+use Rattle.si_model.proofs.Floors.{servers_floors}
+use Rattle.si_model.proofs.LastingMarks.{servers_endures}
 use Rattle.si_model.proofs.Collected.{come_collected}
 
 -- a cell with a key is one
@@ -105,7 +106,7 @@ comes_further cells st shown floor after = record {
 }
 
 -- the record that replaces a mark is new, and younger than the start
-module _ (cells : Cells) (st : State) (reached : IsReached st) (shown : ShowsCells cells st) (x : Cell) (t : ℕ) (m : Marked st x t) where
+module _ (cells : Cells) (st : State) (reached : IsReachedByServers st) (shown : ShowsCells cells st) (x : Cell) (t : ℕ) (m : Marked st x t) where
   absent : (c : ℕ) → ((b : List ℕ) → at cells x Write c ≡ Some b → ⊥) → at cells x Write c ≡ None
   absent c never = by_case (at cells x Write c) refl
     where
@@ -115,16 +116,16 @@ module _ (cells : Cells) (st : State) (reached : IsReached st) (shown : ShowsCel
 
   fresh_committed : (c : ℕ) → CommittedAt st t c → (t < c) × (at cells x Write c ≡ None)
   fresh_committed c (ws, i) = (
-    ((reached_sound reached).fair (record { start = t; stamp = c; writes = ws }) i).later,
+    ((servers_sound reached).fair (record { start = t; stamp = c; writes = ws }) i).later,
     absent c (λ b h.
         let k = shown.records x c b h in
-        let same : k.commit.start ≡ t = (reached_sound reached).stamps_differ k.commit (record { start = t; stamp = c; writes = ws }) k.is_in i k.stamp in
+        let same : k.commit.start ≡ t = (servers_sound reached).stamps_differ k.commit (record { start = t; stamp = c; writes = ws }) k.is_in i k.stamp in
         k.unmarked (subst (λ (u : ℕ). Marked st x u) (sym same) m)),
   )
 
   fresh_stamped : (c : ℕ) → InPhase st t (Stamped c) → (t < c) × (at cells x Write c ≡ None)
   fresh_stamped c h =
-      let own = (reached_sound reached).drawn t (Stamped c) h c refl in
+      let own = (servers_sound reached).drawn t (Stamped c) h c refl in
       (own.later, absent c (λ b g. let k = shown.records x c b g in own.no_commit k.commit k.is_in k.stamp))
 
 -- The progress of a collector is kept by a step of another that changes the cells as a client or a cleaner does.
@@ -188,17 +189,15 @@ module _ (cells : Cells) (st st' : State) (floor : ℕ) (low : floor ≤ st.floo
       off : (x : Cell) (q : Qualifier) (a : ℕ) → key_of x q a ≢ key_of y Lock t → at (erased_cells cells y t) x q a ≡ at cells x q a
       off x q a ne = erased_off cells (key_of y Lock t) (key_of x q a) ne
 
--- no step of anyone undoes a collector's progress
-pub come_stays : (cells : Cells) (st : State) → IsReached st → ShowsCells cells st → ComeStays cells st
-come_stays cells st reached shown next q r step cells' changes floor low pass after come = by_change cells' changes
+-- what marks and fates rely on keeps a collector's progress
+pub come_on : (cells : Cells) (st next : State) → IsReachedByServers st → ShowsCells cells st → Endures st next → (cells' : Cells) → ChangesCells cells st cells'
+    → (floor : ℕ) → floor ≤ st.floor → (pass : Pass) (after : Option Place) → HasCome cells st floor pass after → HasCome cells' next floor pass after
+come_on cells st next reached shown keeps cells' changes floor low pass after come = by_change cells' changes
   where
-    keeps : Endures st next
-    keeps = endures st next q r reached step
-
     by_change : (cells' : Cells) → ChangesCells cells st cells' → HasCome cells' next floor pass after
     by_change _ unchanged = come_beside cells st next floor low keeps pass after come
     by_change _ (locks_cell x t p v first h) =
-        come_held cells st next floor low keeps x t v first ((reached_floors reached).above t p h) pass after come
+        come_held cells st next floor low keeps x t v first ((servers_floors reached).above t p h) pass after come
     by_change _ (records_commit x t c kind m by) =
         let fresh : (t < c) × (at cells x Write c ≡ None) = elim by [
           | inl committed ↦ fresh_committed cells st reached shown x t m c committed
@@ -208,3 +207,7 @@ come_stays cells st reached shown next q r step cells' changes floor low pass af
     by_change _ (erases_lock x t) = come_erased cells st next floor low keeps x t pass after come
     by_change _ (erases_versions more collects) =
         come_beside more st next floor low keeps pass after (come_collected cells more st shown collects floor pass after come)
+
+-- no step of anyone undoes a collector's progress
+pub come_stays : (cells : Cells) (st : State) → IsReachedByServers st → ShowsCells cells st → ComeStays cells st
+come_stays cells st reached shown next q r step = come_on cells st next reached shown (servers_endures st next q r reached step)

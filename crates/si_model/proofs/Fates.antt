@@ -1,20 +1,21 @@
 -- The mark of a start's first cell tells its fate: it is gone once the start is dead or committed, and is there before.
-use Rattle.std.proofs.Common.{◌≡◌, ◌≢◌, ℕ, zero, suc, ◌<◌, true, false, List, [], ◌∷◌, Option, Some, ◌⊎◌, inl, inr, refl, sym, ap, subst, ◌∙◌, arith}
+use Rattle.std.proofs.Common.{◌≡◌, ◌≢◌, ℕ, max, zero, suc, ◌<◌, true, false, List, [], ◌∷◌, Option, Some, ◌⊎◌, inl, inr, refl, sym, ap, subst, ◌∙◌, arith}
 use Rattle.std.specs.Prelude.{slice_get}
 use Rattle.std.specs.Ordering.{nat_cmp}
 use Rattle.std.specs.FinMap.{get, insert, remove, get-empty}
 use Rattle.std.proofs.lemmas.Bool.{cases_eq}
 use Rattle.std.proofs.lemmas.Option.{same_Some, none-some}
 use Rattle.si_model.specs.Sets.{◌∈◌, here, there, IsWithout}
-use Rattle.si_model.specs.Machine.{State, Change, Writes, Open, Stamped, Finishing, Commit, Cleaner, Request, Reply, InPhase, Wrote, Marked, Puts, IsDead, IsCommitted, HasHeld}
+use Rattle.si_model.specs.Machine.{State, Change, Writes, Phase, Open, Holding, Stamped, Finishing, Commit, Cleaner, Request, Reply, InPhase, Wrote, Marked, Puts, IsDead, IsCommitted, HasHeld}
 use Rattle.si_model.specs.declared.replies.Cell.{Cell}
-use Rattle.si_model.specs.Machine.{Acts, tells, begins, reads, scans, sets, deletes, holds, conflicts, draws, loses, commits, finishes, stops, opens, kills, learns, rolls_forward, rolls_back, finds_gone, collects, has_collected, splits, moves_tablet, Step, refuses, accepts}
-use Rattle.si_model.specs.Machine.{Run, rests, goes_on, IsReached, begins_new, runs, reopens, new_machine, reopened}
+use Rattle.si_model.specs.Machine.{Acts, tells, begins, reads, scans, sets, deletes, holds, conflicts, draws, loses, commits, finishes, stops, opens, kills, learns, rolls_forward, rolls_back, finds_gone, collects, has_collected, splits, moves_tablet}
+use Rattle.si_model.specs.Machine.{new_machine}
+use Rattle.si_model.specs.Servers.{Own, IsPartOf, IsRightCleaner, view, IsReachedByServers, starts_new, acts, raises, sees}
 use Rattle.si_model.specs.Laws.{FateSeen}
 use Rattle.si_model.proofs.Tools.{each_cons, get_other, each_insert, each_remove, same_entry}
 use Rattle.si_model.proofs.Invariant.{IsPast, HasTried, Sound}
 use Rattle.si_model.proofs.Kept.{HeldPhase, held_phase}
-use Rattle.si_model.proofs.Steps.{acts_sound, step_sound, reached_sound}
+use Rattle.si_model.proofs.Steps.{acts_sound, servers_sound}
 use Rattle.si_model.proofs.Gone.{acts_placed, acts_no_return}
 
 -- the first cell of t, which t has held
@@ -43,7 +44,7 @@ pub record Fates (st : State) : Type 0 where
   pub of_commit : (a : Commit) → a ∈ st.commits → IsOver st a.start
 
 -- the writes of a start that has held a cell are unchanged
-acts_wrote : {st st' : State} {q : Request} {r : Reply} → Sound st → Acts st q r st' → (y : Cell) (u : ℕ) → HasTried st y u → (ws : Writes) → Wrote st u ws → Wrote st' u ws
+pub acts_wrote : {st st' : State} {q : Request} {r : Reply} → Sound st → Acts st q r st' → (y : Cell) (u : ℕ) → HasTried st y u → (ws : Writes) → Wrote st u ws → Wrote st' u ws
 acts_wrote i (tells t) y u p ws w = w
 acts_wrote {st} i (begins {s = s} d) y u p ws w = let low = i.start_low u ws w in let new = d.0 in let ne : u ≢ s = omega arith in get_other st.begun s [] u ne ∙ w
 acts_wrote {st} i (sets {s = s} {ws' = ws'} h w' by) y u p ws w = elim (cases_eq u s) [
@@ -86,7 +87,7 @@ left_known st st' x t less fate later y u (inl m) = elim (cases_eq u t) [
   | inr ne ↦ inl ((less.same (y, u)).1 (m, λ e. ne (ap (λ q. q.1) e)))
 ]
 
-acts_fate : {st st' : State} {q : Request} {r : Reply} → Sound st → Acts st q r st' → (y : Cell) (u : ℕ) → Marked st y u ⊎ (IsCommitted st u ⊎ IsDead st u) → Marked st' y u ⊎ (IsCommitted st' u ⊎ IsDead st' u)
+pub acts_fate : {st st' : State} {q : Request} {r : Reply} → Sound st → Acts st q r st' → (y : Cell) (u : ℕ) → Marked st y u ⊎ (IsCommitted st u ⊎ IsDead st u) → Marked st' y u ⊎ (IsCommitted st' u ⊎ IsDead st' u)
 acts_fate i (tells t) y u f = f
 acts_fate i (holds h w puts free) y u f = elim f [ inl m ↦ inl (there m) | inr d ↦ inr d ]
 acts_fate {st} {st'} i (commits {t = t} {c = c} {ws = ws} {x = x} h alive w puts less) y u f =
@@ -130,6 +131,24 @@ primary_is st t ws x v p w puts =
 first_put : (ws : Writes) (k : ℕ) (x : Cell) (v : Change) → Puts ws k x v → (q : Cell × Change) × (slice_get ws 0 ≡ Some q)
 first_put [] k x v puts = absurd (none-some (x, v) puts)
 first_put (q ∷ ws) k x v puts = (q, refl)
+
+-- a phase that has gone past a cell has gone past the first
+past_first : (p : Phase) (k : ℕ) → IsPast p k → IsPast p 0
+past_first Open k past = past
+past_first (Holding n) k past = omega arith
+past_first (Stamped c) k past = tt
+past_first (Finishing c n) k past = tt
+
+-- the first cell of a start that has had its chance at a cell
+abbrev first_of : {st : State} {x : Cell} {t : ℕ} (tried : HasTried st x t) (first : (q : Cell × Change) × (slice_get tried.ws 0 ≡ Some q)) → Primary st t
+first_of tried first = record {
+  x = first.0.0;
+  ws = tried.ws;
+  v = first.0.1;
+  wrote = tried.wrote;
+  puts = first.1;
+  placed = record { ws = tried.ws; k = 0; v = first.0.1; wrote = tried.wrote; puts = first.1; past = λ p h. past_first p tried.k (tried.past p h) };
+}
 
 -- the fate of a start that holds a further cell is known: its first mark is there, unless it is dead
 known_before : (st : State) (t k : ℕ) (ws : Writes) (x : Cell) (v : Change) → Sound st → HasHeld st t k → Wrote st t ws → Puts ws k x v → 0 < k → IsKnown st t
@@ -240,14 +259,6 @@ acts_fates {st} {st'} i f (rolls_forward {i = n} is m committed less) = let s : 
 acts_fates {st} {st'} i f (rolls_back {i = n} is m nc less) = let s : Acts st _ _ st' = rolls_back is m nc less in fates_by i f s (λ y u m. ((less.same (y, u)).0 m).0) (others_known st n f) (λ u d. d) (λ a m. m)
 acts_fates {st} {st'} i f (finds_gone {i = n} is m) = let s : Acts st _ _ st' = finds_gone is m in fates_by i f s (λ y u m. m) (others_known st n f) (λ u d. d) (λ a m. m)
 
-step_fates : {st st' : State} {q : Request} {r : Reply} → Sound st → Fates st → Step st q r st' → Fates st'
-step_fates i f (refuses n) = f
-step_fates i f (accepts ok a) = acts_fates i f a
-
-run_fates : {st st' : State} {qs : List Request} {rs : List Reply} → Sound st → Fates st → Run st qs rs st' → Fates st'
-run_fates i f rests = f
-run_fates i f (goes_on s r) = run_fates (step_sound i s) (step_fates i f s) r
-
 new_fates : Fates new_machine
 new_fates = record {
   of_mark = λ x t m. elim m [ ];
@@ -256,31 +267,67 @@ new_fates = record {
   of_commit = λ a m. elim m [ ];
 }
 
-abbrev reopened_primary : (st : State) (t : ℕ) → Primary st t → Primary (reopened st) t
-reopened_primary st t p = record {
-  x = p.x;
-  ws = p.ws;
-  v = p.v;
-  wrote = p.wrote;
-  puts = p.puts;
-  placed = record { ws = p.placed.ws; k = p.placed.k; v = p.placed.v; wrote = p.placed.wrote; puts = p.placed.puts; past = λ q h. absurd (none-some q (sym (get-empty nat_cmp t) ∙ h)) };
-}
+-- what a server sees of them
+module _ (st : State) (own : Own) (part : IsPartOf own st) where
+  abbrev seen_primary : (t : ℕ) → Primary st t → Primary (view st own) t
+  seen_primary t p = record {
+    x = p.x;
+    ws = p.ws;
+    v = p.v;
+    wrote = p.wrote;
+    puts = p.puts;
+    placed = record { ws = p.placed.ws; k = p.placed.k; v = p.placed.v; wrote = p.placed.wrote; puts = p.placed.puts; past = λ q h. p.placed.past q (part.sessions t q h) };
+  }
 
-reopened_over : (st : State) (t : ℕ) → IsOver st t → IsOver (reopened st) t
-reopened_over st t o = record { first = reopened_primary st t o.first; left = o.left }
+  seen_over : (t : ℕ) → IsOver st t → IsOver (view st own) t
+  seen_over t o = record { first = seen_primary t o.first; left = o.left }
 
-reopened_fates : (st : State) → Fates st → Fates (reopened st)
-reopened_fates st f = record {
-  of_mark = λ x t m. let k = f.of_mark x t m in record { first = reopened_primary st t k.first; fate = k.fate };
-  of_cleaner = λ n k h. absurd (none-some k (sym (get-empty nat_cmp n) ∙ h));
-  of_dead = λ t d. reopened_over st t (f.of_dead t d);
-  of_commit = λ a m. reopened_over st a.start (f.of_commit a m);
-}
+  -- of a right cleaner's start
+  right_known : (k : Cleaner) (right : IsRightCleaner st k) (first : (q : Cell × Change) × (slice_get right.tried.ws 0 ≡ Some q)) → IsKnown st k.start
+  right_known k right first = record { first = first_of right.tried first; fate = right.known first.0.0 (right.tried.ws, first.0.1, right.tried.wrote, first.1) }
 
-pub reached_fates : {st : State} → IsReached st → Fates st
-reached_fates begins_new = new_fates
-reached_fates (runs r run) = run_fates (reached_sound r) (reached_fates r) run
-reached_fates (reopens {st = st} r) = reopened_fates st (reached_fates r)
+  seen_fates : Fates st → Fates (view st own)
+  seen_fates f = record {
+    of_mark = λ x t m. let k = f.of_mark x t m in record { first = seen_primary t k.first; fate = k.fate };
+    of_cleaner = λ n k h. let r = part.cleaners n k h in let i = right_known k r (first_put r.tried.ws r.tried.k k.cell r.tried.v r.tried.puts) in record { first = seen_primary k.start i.first; fate = i.fate };
+    of_dead = λ t d. seen_over t (f.of_dead t d);
+    of_commit = λ a m. seen_over a.start (f.of_commit a m);
+  }
+
+-- with a greater floor
+module _ (st : State) (floor : ℕ) where
+  abbrev raised : State
+  raised = record st { floor = floor }
+
+  abbrev raised_primary : (t : ℕ) → Primary st t → Primary raised t
+  raised_primary t p = record {
+    x = p.x;
+    ws = p.ws;
+    v = p.v;
+    wrote = p.wrote;
+    puts = p.puts;
+    placed = record { ws = p.placed.ws; k = p.placed.k; v = p.placed.v; wrote = p.placed.wrote; puts = p.placed.puts; past = p.placed.past };
+  }
+
+  raised_known : (t : ℕ) → IsKnown st t → IsKnown raised t
+  raised_known t k = record { first = raised_primary t k.first; fate = k.fate }
+
+  raised_over : (t : ℕ) → IsOver st t → IsOver raised t
+  raised_over t o = record { first = raised_primary t o.first; left = o.left }
+
+  raised_fates : Fates st → Fates raised
+  raised_fates f = record {
+    of_mark = λ x t m. raised_known t (f.of_mark x t m);
+    of_cleaner = λ n k h. raised_known k.start (f.of_cleaner n k h);
+    of_dead = λ t d. raised_over t (f.of_dead t d);
+    of_commit = λ a m. raised_over a.start (f.of_commit a m);
+  }
+
+pub servers_fates : {st : State} → IsReachedByServers st → Fates st
+servers_fates starts_new = new_fates
+servers_fates (acts mine r ok a) = acts_fates (servers_sound r) (servers_fates r) a
+servers_fates (raises {st = st} {f = f} r low) = raised_fates st (max st.floor f) (servers_fates r)
+servers_fates (sees {st = st} {own = own} r part) = seen_fates st own part (servers_fates r)
 
 first_gone : (st : State) (t : ℕ) (ws : Writes) (x : Cell) (v : Change) → Wrote st t ws → Puts ws 0 x v → IsOver st t → ¬ Marked st x t
 first_gone st t ws x v w puts o m = o.left (subst (λ (y : Cell). Marked st y t) (sym (primary_is st t ws x v o.first w puts)) m)
@@ -288,8 +335,8 @@ first_gone st t ws x v w puts o m = o.left (subst (λ (y : Cell). Marked st y t)
 first_known : (st : State) (t : ℕ) (ws : Writes) (x : Cell) (v : Change) → Wrote st t ws → Puts ws 0 x v → IsKnown st t → Marked st x t ⊎ (IsCommitted st t ⊎ IsDead st t)
 first_known st t ws x v w puts k = subst (λ (y : Cell). Marked st y t ⊎ (IsCommitted st t ⊎ IsDead st t)) (primary_is st t ws x v k.first w puts) k.fate
 
-pub fate_seen : (st : State) → IsReached st → FateSeen st
-fate_seen st r t ws x v w puts = let f = reached_fates r in record {
+pub fate_seen : (st : State) → IsReachedByServers st → FateSeen st
+fate_seen st r t ws x v w puts = let f = servers_fates r in record {
   dead = λ d. first_gone st t ws x v w puts (f.of_dead t d);
   committed = λ m. first_gone st t ws x v w puts (f.of_commit (record { start = t; stamp = m.0; writes = m.1.0 }) m.1.1);
   marked = λ y m. first_known st t ws x v w puts (f.of_mark y t m);

@@ -9,12 +9,14 @@ use Rattle.si_model.specs.Machine.{State, Phase, Open, Holding, Stamped, Finishi
 use Rattle.si_model.specs.declared.replies.Cell.{Cell}
 use Rattle.si_model.specs.Machine.IsFloor.{least, none_active}
 use Rattle.si_model.specs.Machine.{Acts, tells, begins, reads, scans, sets, deletes, holds, conflicts, draws, loses, commits, finishes, stops, opens, kills, learns, rolls_forward, rolls_back, finds_gone, collects, has_collected, splits, moves_tablet, Step, refuses, accepts}
-use Rattle.si_model.specs.Machine.{Run, rests, goes_on, IsReached, begins_new, runs, reopens}
+use Rattle.si_model.specs.Machine.{Run, rests, goes_on, IsReached}
+use Rattle.si_model.specs.Servers.{IsReachedByServers, starts_new, acts, raises, sees}
 use Rattle.si_model.specs.Laws.{FloorStaysLow, IsCleared, StaysCleared}
 use Rattle.si_model.proofs.Tools.{same_entry, each_cons, each_insert, each_remove}
 use Rattle.si_model.proofs.Invariant.{Sound}
 use Rattle.si_model.proofs.Kept.{held_phase}
-use Rattle.si_model.proofs.Steps.{step_sound, reached_sound}
+use Rattle.si_model.proofs.ByServers.{by_servers}
+use Rattle.si_model.proofs.Steps.{step_sound, servers_sound}
 
 -- an active session continues
 goes : (st : State) (t : ℕ) (p p' : Phase) → InPhase st t p → FloorStaysLow st → (u : ℕ) (q : Phase) → get (insert st.active t p') u ≡ Some q → st.floor ≤ u
@@ -64,16 +66,20 @@ step_floors : {st st' : State} {q : Request} {r : Reply} → Sound st → FloorS
 step_floors i f (refuses n) = f
 step_floors i f (accepts ok a) = acts_floors i f a
 
-run_floors : {st st' : State} {qs : List Request} {rs : List Reply} → Sound st → FloorStaysLow st → Run st qs rs st' → FloorStaysLow st'
-run_floors i f rests = f
-run_floors i f (goes_on s r) = run_floors (step_sound i s) (step_floors i f s) r
+pub servers_floors : {st : State} → IsReachedByServers st → FloorStaysLow st
+servers_floors starts_new = record { above = λ t p h. absurd (none-some p (sym (get-empty nat_cmp t) ∙ h)); low = omega arith; each = λ i g h. absurd (none-some g (sym (get-empty nat_cmp i) ∙ h)) }
+servers_floors (acts mine r ok a) = acts_floors (servers_sound r) (servers_floors r) a
+servers_floors (raises {st = st} {f = g} r below) = let f = servers_floors r in record {
+  above = λ t p h. max-le (f.above t p h) (below.1 t p h);
+  low = max-le f.low below.0;
+  each = λ i h is. le_trans (f.each i h is) (le-max_left st.floor g);
+}
+servers_floors (sees r part) = let f = servers_floors r in record { above = λ t p h. f.above t p (part.sessions t p h); low = f.low; each = part.collectors }
 
 pub reached_floors : {st : State} → IsReached st → FloorStaysLow st
-reached_floors begins_new = record { above = λ t p h. absurd (none-some p (sym (get-empty nat_cmp t) ∙ h)); low = omega arith; each = λ i g h. absurd (none-some g (sym (get-empty nat_cmp i) ∙ h)) }
-reached_floors (runs r run) = run_floors (reached_sound r) (reached_floors r) run
-reached_floors (reopens r) = record { above = λ t p h. absurd (none-some p (sym (get-empty nat_cmp t) ∙ h)); low = (reached_floors r).low; each = λ i g h. absurd (none-some g (sym (get-empty nat_cmp i) ∙ h)) }
+reached_floors r = servers_floors (by_servers r)
 
-acts_cleared : {st st' : State} {q : Request} {r : Reply} → FloorStaysLow st → Acts st q r st' → (c : ℕ) → IsCleared st c → IsCleared st' c
+pub acts_cleared : {st st' : State} {q : Request} {r : Reply} → FloorStaysLow st → Acts st q r st' → (c : ℕ) → IsCleared st c → IsCleared st' c
 acts_cleared f (tells t) c k = k
 acts_cleared {st} f (holds {t = t} {k = k} {x = x} h w puts free) c k' =
     let hp = held_phase st t k h in let above = f.above t hp.p hp.is in let low = k'.0 in
@@ -109,8 +115,8 @@ run_cleared : {st st' : State} {qs : List Request} {rs : List Reply} → Sound s
 run_cleared i f rests c k = k
 run_cleared i f (goes_on s r) c k = run_cleared (step_sound i s) (step_floors i f s) r c (step_cleared f s c k)
 
-pub stays_cleared : (st : State) → IsReached st → StaysCleared st
-stays_cleared st r end qs rs run c k = run_cleared (reached_sound r) (reached_floors r) run c k
+pub stays_cleared : (st : State) → IsReachedByServers st → StaysCleared st
+stays_cleared st r end qs rs run c k = run_cleared (servers_sound r) (servers_floors r) run c k
 
 pub clears_floor : {st : State} {i n : ℕ} {next : State} → FloorStaysLow st → (f : ℕ) → get st.collectors i ≡ Some f → Step st (CollectStep i n) Collected next → IsCleared next f
 clears_floor k f g (accepts ok (tells t)) = elim t [ ]

@@ -3,12 +3,13 @@ use Rattle.std.proofs.Common.{◌≡◌, ◌≢◌, ℕ, true, false, cond, [], 
 use Rattle.std.specs.Prelude.{nat_eq}
 use Rattle.std.specs.FinMap.{get, insert, remove}
 use Rattle.si_model.specs.Machine.{State, Phase, Open, Holding, Stamped, Finishing, Request, Reply, Writes, Wrote, InPhase, finishing}
-use Rattle.si_model.specs.Machine.{Acts, tells, begins, reads, scans, sets, deletes, holds, conflicts, draws, loses, commits, finishes, stops, opens, kills, learns, rolls_forward, rolls_back, finds_gone, collects, has_collected, splits, moves_tablet, Step, refuses, accepts, goes_on, rests, IsReached}
+use Rattle.si_model.specs.Machine.{Acts, tells, begins, reads, scans, sets, deletes, holds, conflicts, draws, loses, commits, finishes, stops, opens, kills, learns, rolls_forward, rolls_back, finds_gone, collects, has_collected, splits, moves_tablet, Step, refuses, accepts, goes_on, rests}
+use Rattle.si_model.specs.Servers.{IsReachedByServers}
 use Rattle.si_model.specs.Laws.{Goes}
 use Rattle.si_model.proofs.Tools.{get_other, each_insert, each_remove}
 use Rattle.si_model.proofs.Invariant.{Sound}
-use Rattle.si_model.proofs.Steps.{reached_sound}
-use Rattle.si_model.proofs.Floors.{stays_cleared}
+use Rattle.si_model.proofs.Steps.{servers_sound}
+use Rattle.si_model.proofs.Floors.{stays_cleared, acts_cleared, servers_floors}
 use Rattle.si_model.proofs.LastingMarks.{have_tried}
 
 -- the writes of a start that isn't open are unchanged, and it doesn't become open again
@@ -72,12 +73,22 @@ step_open : {st st' : State} {q : Request} {r : Reply} → Sound st → Step st 
 step_open {st} {st'} i (refuses n) = goes_by st st' refl (λ u h. h)
 step_open i (accepts ok a) = acts_open i a
 
-pub goes : {st st' : State} {q : Request} {r : Reply} → IsReached st → Step st q r st' → Goes st st'
+pub goes : {st st' : State} {q : Request} {r : Reply} → IsReachedByServers st → Step st q r st' → Goes st st'
 goes {st} {st'} {q} {r} reached s =
-    let o = step_open (reached_sound reached) s in
+    let o = step_open (servers_sound reached) s in
     record {
       wrote = o.wrote;
       marked = λ x u ws m w. o.wrote u ws w (λ h. ((have_tried st reached).marked x u m).past Open h);
       late = o.late;
       cleared = λ n k. stays_cleared st reached st' (q ∷ []) (r ∷ []) (goes_on s rests) n k;
+    }
+
+pub acts_goes : {st st' : State} {q : Request} {r : Reply} → IsReachedByServers st → Acts st q r st' → Goes st st'
+acts_goes {st} {st'} reached a =
+    let o = acts_open (servers_sound reached) a in
+    record {
+      wrote = o.wrote;
+      marked = λ x u ws m w. o.wrote u ws w (λ h. ((have_tried st reached).marked x u m).past Open h);
+      late = o.late;
+      cleared = acts_cleared (servers_floors reached) a;
     }

@@ -8,11 +8,13 @@ use Rattle.si_model.specs.Machine.{State, Change, Writes, Phase, Finishing, Comm
 use Rattle.si_model.specs.declared.replies.Cell.{Cell}
 use Rattle.si_model.specs.Machine.{Acts, tells, begins, reads, scans, sets, deletes, holds, conflicts, draws, loses, commits, finishes, stops, opens, kills, learns, rolls_forward, rolls_back, finds_gone, collects, has_collected, splits, moves_tablet, Step, refuses, accepts}
 use Rattle.si_model.specs.Machine.{Run, rests, goes_on, IsReached}
+use Rattle.si_model.specs.Servers.{IsReachedByServers}
 use Rattle.si_model.specs.Laws.{OneFate, GoneForGood}
 use Rattle.si_model.proofs.Tools.{each_cons, each_insert, each_remove, same_entry, one_place}
 use Rattle.si_model.proofs.Invariant.{IsPast, HasTried, StartsDiffer, Sound}
 use Rattle.si_model.proofs.Kept
-use Rattle.si_model.proofs.Steps.{step_sound, run_sound, reached_sound}
+use Rattle.si_model.proofs.ByServers.{by_servers}
+use Rattle.si_model.proofs.Steps.{step_sound, run_sound, reached_sound, servers_sound}
 
 -- t has had its chance in any state where its writes and its phase are the same
 pub same_placed : (st st' : State) → st'.begun ≡ st.begun → st'.active ≡ st.active → (x : Cell) (t : ℕ) → HasTried st x t → HasTried st' x t
@@ -139,5 +141,8 @@ not_twice (c ∷ cs) d zero (suc j) a b g h e = absurd (d.0 b (at_in cs j b h) (
 not_twice (c ∷ cs) d (suc i) zero a b g h e = absurd (d.0 a (at_in cs i a g) (e ∙ ap (λ r. r.start) (sym (same_Some c b h))))
 not_twice (c ∷ cs) d (suc i) (suc j) a b g h e = ap suc (not_twice cs d.1 i j a b g h e)
 
+pub servers_fate : (st : State) → IsReachedByServers st → OneFate st
+servers_fate st reached = let i = servers_sound reached in record { not_both = i.not_dead; not_twice = not_twice st.commits i.starts_differ }
+
 pub fates : (st : State) → IsReached st → OneFate st
-fates st reached = let i = reached_sound reached in record { not_both = i.not_dead; not_twice = not_twice st.commits i.starts_differ }
+fates st reached = servers_fate st (by_servers reached)

@@ -1,5 +1,5 @@
 -- Effects of steps on the marks and fates on which a cleaner or a collector relies, whoever takes the step.
-use Rattle.std.proofs.Common.{◌≡◌, ℕ, ◌≤◌, true, false, List, Some, ◌⊎◌, inl, inr, sym, ◌∙◌}
+use Rattle.std.proofs.Common.{◌≡◌, ℕ, ◌≤◌, true, false, Some, ◌⊎◌, inl, inr, sym, ◌∙◌}
 use Rattle.std.specs.Ordering.{nat_cmp}
 use Rattle.std.specs.FinMap.{get, get-empty}
 use Rattle.std.proofs.lemmas.Option.{none-some}
@@ -7,14 +7,16 @@ use Rattle.si_model.specs.Sets.{◌∈◌, there}
 use Rattle.si_model.specs.Machine.{State, Commit, Cleaner, Request, Reply, Marked, IsDead}
 use Rattle.si_model.specs.declared.replies.Cell.{Cell}
 use Rattle.si_model.specs.Machine.{Acts, tells, begins, reads, scans, sets, deletes, holds, conflicts, draws, loses, commits, finishes, stops, opens, kills, learns, rolls_forward, rolls_back, finds_gone, collects, has_collected, splits, moves_tablet, Step, refuses, accepts}
-use Rattle.si_model.specs.Machine.{Run, rests, goes_on, IsReached, begins_new, runs, reopens}
+use Rattle.si_model.specs.Machine.{IsReached}
+use Rattle.si_model.specs.Servers.{IsReachedByServers, starts_new, acts, raises, sees}
 use Rattle.si_model.specs.Laws.{FloorStaysLow}
 use Rattle.si_model.specs.Enduring.{HasTried, HaveTried, Endures}
 use Rattle.si_model.proofs.Tools.{each_cons, each_insert, each_remove}
 use Rattle.si_model.proofs.Invariant.{Sound}
 use Rattle.si_model.proofs.Kept.{held_phase}
-use Rattle.si_model.proofs.Steps.{step_sound, reached_sound}
-use Rattle.si_model.proofs.Floors.{reached_floors}
+use Rattle.si_model.proofs.ByServers.{by_servers}
+use Rattle.si_model.proofs.Steps.{servers_sound}
+use Rattle.si_model.proofs.Floors.{servers_floors}
 use Rattle.si_model.proofs.Gone.{acts_placed, acts_no_return}
 
 -- an added mark is at or above the floor
@@ -129,25 +131,27 @@ acts_cleaners s p (has_collected {n = visits} h none) = λ i k g. acts_placed s 
 acts_cleaners s p (splits cut) = λ i k g. acts_placed s (splits cut) k.cell k.start (p i k g)
 acts_cleaners s p (moves_tablet is_moved) = λ i k g. acts_placed s (moves_tablet is_moved) k.cell k.start (p i k g)
 
-run_cleaners : {st st' : State} {qs : List Request} {rs : List Reply} → Sound st → AreHasTried st → Run st qs rs st' → AreHasTried st'
-run_cleaners s p rests = p
-run_cleaners s p (goes_on (refuses n) r) = run_cleaners s p r
-run_cleaners s p (goes_on (accepts ok a) r) = run_cleaners (step_sound s (accepts ok a)) (acts_cleaners s p a) r
+servers_cleaners : {st : State} → IsReachedByServers st → AreHasTried st
+servers_cleaners starts_new = λ i k g. absurd (none-some k (sym (get-empty nat_cmp i) ∙ g))
+servers_cleaners (acts mine r ok a) = acts_cleaners (servers_sound r) (servers_cleaners r) a
+servers_cleaners (raises r low) = λ i k g. let p = servers_cleaners r i k g in record { ws = p.ws; k = p.k; v = p.v; wrote = p.wrote; puts = p.puts; past = p.past }
+servers_cleaners (sees r part) = λ i k g. let p = (part.cleaners i k g).tried in record { ws = p.ws; k = p.k; v = p.v; wrote = p.wrote; puts = p.puts; past = λ q h. p.past q (part.sessions k.start q h) }
 
-reached_cleaners : {st : State} → IsReached st → AreHasTried st
-reached_cleaners begins_new = λ i k g. absurd (none-some k (sym (get-empty nat_cmp i) ∙ g))
-reached_cleaners (runs r run) = run_cleaners (reached_sound r) (reached_cleaners r) run
-reached_cleaners (reopens r) = λ i k g. absurd (none-some k (sym (get-empty nat_cmp i) ∙ g))
+pub have_tried : (st : State) → IsReachedByServers st → HaveTried st
+have_tried st reached = record { marked = (servers_sound reached).placed; cleaned = servers_cleaners reached }
 
-pub have_tried : (st : State) → IsReached st → HaveTried st
-have_tried st reached = record { marked = (reached_sound reached).placed; cleaned = reached_cleaners reached }
-
-pub endures : (st next : State) (q : Request) (r : Reply) → IsReached st → Step st q r next → Endures st next
-endures st next q _ reached (refuses n) = record { tried = λ x t h. h; gone = λ x t h m. m; joins = λ x t m. inl m; committed = λ a i. i; dead = λ t d. d }
-endures st next q r reached (accepts ok a) = record {
-  tried = acts_placed (reached_sound reached) a;
-  gone = acts_no_return (reached_sound reached) a;
-  joins = acts_marks (reached_floors reached) a;
+pub acts_endures : {st next : State} {q : Request} {r : Reply} → IsReachedByServers st → Acts st q r next → Endures st next
+acts_endures reached a = record {
+  tried = acts_placed (servers_sound reached) a;
+  gone = acts_no_return (servers_sound reached) a;
+  joins = acts_marks (servers_floors reached) a;
   committed = acts_commits a;
   dead = acts_dead a;
 }
+
+pub servers_endures : (st next : State) (q : Request) (r : Reply) → IsReachedByServers st → Step st q r next → Endures st next
+servers_endures st next q _ reached (refuses n) = record { tried = λ x t h. h; gone = λ x t h m. m; joins = λ x t m. inl m; committed = λ a i. i; dead = λ t d. d }
+servers_endures st next q r reached (accepts ok a) = acts_endures reached a
+
+pub endures : (st next : State) (q : Request) (r : Reply) → IsReached st → Step st q r next → Endures st next
+endures st next q r reached step = servers_endures st next q r (by_servers reached) step

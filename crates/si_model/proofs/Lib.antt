@@ -1,4 +1,5 @@
 mod Cleaned
+mod FewSessions
 mod Deletions
 mod OneMoment
 mod Races
@@ -11,6 +12,7 @@ pub mod Acceptable
 pub mod AllSteps
 pub mod AtOnce
 pub mod Bounds
+pub mod ByServers
 pub mod ChangeKinds
 pub mod ChangedParts
 pub mod CleanerFates
@@ -28,13 +30,16 @@ pub mod Invariant
 pub mod Kept
 pub mod LastingMarks
 pub mod Left
+pub mod Lifted
 pub mod Limits
 pub mod NextCells
+pub mod OpenNumbers
 pub mod Numbers
 pub mod Reached
 pub mod Recovered
 pub mod Refusals
 pub mod Pages
+pub mod Parts
 pub mod ScanLaws
 pub mod Scannable
 pub mod Scanned
@@ -45,6 +50,7 @@ pub mod ShownTouched
 pub mod Snapshots
 pub mod Steps
 pub mod Stuck
+pub mod TakenWrites
 pub mod Told
 pub mod Tools
 pub mod Without

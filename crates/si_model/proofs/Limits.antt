@@ -9,8 +9,8 @@ use Rattle.cell_key.specs.Names.{IsRow, IsFamily, IsFamilyByte}
 use Rattle.cell_key.specs.declared.refusals.Refusal.TheVariants.{BadRow, BadColumn, BadValue}
 use Rattle.si_model.specs.declared.replies.Cell.{Cell}
 use Rattle.si_model.specs.Machine.{State, Value, Change, Writes, Request, Reply, Set, Delete, Wrote, Puts, Gives, Sets, appends, replaces, passes, IsAcceptable, most_value}
-use Rattle.si_model.specs.Machine.{Acts, tells, begins, reads, scans, sets, deletes, holds, conflicts, draws, loses, commits, finishes, stops, opens, kills, learns, rolls_forward, rolls_back, finds_gone, collects, has_collected, splits, moves_tablet, refuses, accepts}
-use Rattle.si_model.specs.Machine.{Run, rests, goes_on, IsReached, begins_new, runs, reopens}
+use Rattle.si_model.specs.Machine.{Acts, tells, begins, reads, scans, sets, deletes, holds, conflicts, draws, loses, commits, finishes, stops, opens, kills, learns, rolls_forward, rolls_back, finds_gone, collects, has_collected, splits, moves_tablet}
+use Rattle.si_model.specs.Servers.{Sessions, seen_with, IsReachedByServers, starts_new, acts, raises, sees}
 use Rattle.si_model.specs.Refusing.{set_row, set_family, set_long, delete_row, delete_family}
 use Rattle.si_model.specs.Laws.{IsWritable, WritesWithinLimits}
 use Rattle.si_model.proofs.Tools.{each_insert}
@@ -92,41 +92,37 @@ rewritten_within st s x v ws ws' w by writable within = each_insert st.begun s (
     ])
     (λ t us ne g. within t us g)
 
-acts_within : {st st' : State} {q : Request} {r : Reply} → IsAcceptable st q → Acts st q r st' → WritesWithinLimits st → WritesWithinLimits st'
-acts_within {st} ok (begins {s = s} d) within = each_insert st.begun s (λ t ws. (x : Cell) (v : Change) → Gives ws x v → IsWritable x v) []
+acts_within : {st st' : State} {q : Request} {r : Reply} (mine : Sessions) → IsAcceptable (seen_with st mine) q → Acts st q r st' → WritesWithinLimits st → WritesWithinLimits st'
+acts_within {st} mine ok (begins {s = s} d) within = each_insert st.begun s (λ t ws. (x : Cell) (v : Change) → Gives ws x v → IsWritable x v) []
     (λ x v g. absurd (none-some (x, v) g.1)) (λ t ws ne w. within t ws w)
-acts_within {st} ok (sets {s = s} {x = x} {v = v} {ws = ws} {ws' = ws'} h w by) within = rewritten_within st s x (Some v) ws ws' w by (set_writable st s x v ok) within
-acts_within {st} ok (deletes {s = s} {x = x} {ws = ws} {ws' = ws'} h w by) within = rewritten_within st s x None ws ws' w by (delete_writable st s x ok) within
-acts_within ok (tells t) within = within
-acts_within ok (reads h none shown) within = within
-acts_within ok (scans h is) within = within
-acts_within ok (holds h w puts free) within = within
-acts_within ok (conflicts h w puts clash) within = within
-acts_within ok (draws h w d) within = within
-acts_within ok (loses h d) within = within
-acts_within ok (commits h alive w puts less) within = within
-acts_within ok (finishes h w puts less) within = within
-acts_within ok (stops h) within = within
-acts_within ok (opens m room) within = within
-acts_within ok (kills is nc alive w puts less) within = within
-acts_within ok (learns is fate) within = within
-acts_within ok (rolls_forward is m committed less) within = within
-acts_within ok (rolls_back is m nc less) within = within
-acts_within ok (finds_gone is m) within = within
-acts_within ok (collects is_floor room) within = within
-acts_within ok (has_collected h none) within = within
-acts_within ok (splits cut) within = within
-acts_within ok (moves_tablet is_moved) within = within
+acts_within {st} mine ok (sets {s = s} {x = x} {v = v} {ws = ws} {ws' = ws'} h w by) within = rewritten_within st s x (Some v) ws ws' w by (set_writable (seen_with st mine) s x v ok) within
+acts_within {st} mine ok (deletes {s = s} {x = x} {ws = ws} {ws' = ws'} h w by) within = rewritten_within st s x None ws ws' w by (delete_writable (seen_with st mine) s x ok) within
+acts_within mine ok (tells t) within = within
+acts_within mine ok (reads h none shown) within = within
+acts_within mine ok (scans h is) within = within
+acts_within mine ok (holds h w puts free) within = within
+acts_within mine ok (conflicts h w puts clash) within = within
+acts_within mine ok (draws h w d) within = within
+acts_within mine ok (loses h d) within = within
+acts_within mine ok (commits h alive w puts less) within = within
+acts_within mine ok (finishes h w puts less) within = within
+acts_within mine ok (stops h) within = within
+acts_within mine ok (opens m room) within = within
+acts_within mine ok (kills is nc alive w puts less) within = within
+acts_within mine ok (learns is fate) within = within
+acts_within mine ok (rolls_forward is m committed less) within = within
+acts_within mine ok (rolls_back is m nc less) within = within
+acts_within mine ok (finds_gone is m) within = within
+acts_within mine ok (collects is_floor room) within = within
+acts_within mine ok (has_collected h none) within = within
+acts_within mine ok (splits cut) within = within
+acts_within mine ok (moves_tablet is_moved) within = within
 
-run_within : {st st' : State} {qs : List Request} {rs : List Reply} → Run st qs rs st' → WritesWithinLimits st → WritesWithinLimits st'
-run_within rests within = within
-run_within (goes_on (refuses n) r) within = run_within r within
-run_within (goes_on (accepts ok a) r) within = run_within r (acts_within ok a within)
+servers_within : {st : State} → IsReachedByServers st → WritesWithinLimits st
+servers_within starts_new = λ t ws w. absurd (none-some ws (sym (get-empty nat_cmp t) ∙ w))
+servers_within (acts mine r ok a) = acts_within mine ok a (servers_within r)
+servers_within (raises r low) = servers_within r
+servers_within (sees r part) = servers_within r
 
-reached_within : {st : State} → IsReached st → WritesWithinLimits st
-reached_within begins_new = λ t ws w. absurd (none-some ws (sym (get-empty nat_cmp t) ∙ w))
-reached_within (runs r run) = run_within run (reached_within r)
-reached_within (reopens r) = reached_within r
-
-pub writes_within_limits : (st : State) → IsReached st → WritesWithinLimits st
-writes_within_limits st reached = reached_within reached
+pub writes_within_limits : (st : State) → IsReachedByServers st → WritesWithinLimits st
+writes_within_limits st reached = servers_within reached

@@ -11,6 +11,7 @@ use Rattle.si_model.specs.Machine.{State, Phase, Open, Request, Begin, CollectBe
 use Rattle.si_model.specs.Machine.IsFloor.{none_active}
 use Rattle.si_model.specs.ShowsCells.{ShowsCells}
 use Rattle.si_model.proofs.Acceptable.{begin_ok, collect_begin_ok}
+use Rattle.si_model.proofs.ByServers.{by_servers}
 use Rattle.si_model.proofs.Floors.{reached_floors}
 use Rattle.si_model.proofs.Goes.{goes}
 use Rattle.si_model.proofs.ShownKept.{shows_beside, shows_reopened}
@@ -48,7 +49,7 @@ module _ (cells : Cells) where
   after_step : (st next : State) (q : Request) (r : Reply) → Shown st → Step st q r next → next.marks ≡ st.marks → next.commits ≡ st.commits → Shown next
   after_step st next q r shown step marks commits = record {
     reached = runs shown.reached (goes_on step rests);
-    shows = shows_beside cells st next (goes shown.reached step) shown.shows
+    shows = shows_beside cells st next (goes (by_servers shown.reached) step) shown.shows
         (λ y u m. subst (λ ms. (y, u) ∈ ms) marks m) (λ y u m. subst (λ ms. (y, u) ∈ ms) (sym marks) m) commits;
   }
 

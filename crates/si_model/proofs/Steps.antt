@@ -8,11 +8,13 @@ use Rattle.si_model.specs.Sets.{here, IsWithout}
 use Rattle.si_model.specs.Machine.{State, Writes, Read, Stamped, Finishing, Cleaner, Request, Reply, InPhase, Wrote, IsDead, CommittedAt, IsCommitted, finishing}
 use Rattle.si_model.specs.declared.replies.Cell.{Cell}
 use Rattle.si_model.specs.Machine.{Acts, tells, begins, reads, scans, sets, deletes, holds, conflicts, draws, loses, commits, finishes, stops, opens, kills, learns, rolls_forward, rolls_back, finds_gone, collects, has_collected, splits, moves_tablet, Step, refuses, accepts}
-use Rattle.si_model.specs.Machine.{Run, rests, goes_on, IsReached, begins_new, runs, reopens, new_machine, reopened}
+use Rattle.si_model.specs.Machine.{Run, rests, goes_on, IsReached, runs, new_machine}
+use Rattle.si_model.specs.Servers.{Own, IsPartOf, view, IsReachedByServers, starts_new, acts, raises, sees}
 use Rattle.si_model.proofs.Tools.{get_remains, each_insert, each_remove, cells_differ_after}
 use Rattle.si_model.proofs.Invariant.{IsOwn, Told, Sound}
 use Rattle.si_model.proofs.Scanned.{scan_right}
 use Rattle.si_model.proofs.Kept
+use Rattle.si_model.proofs.ByServers.{by_servers}
 
 -- a live stamped session that isn't dead may commit
 joins : (st : State) (t c : ℕ) (ws : Writes) → Sound st → InPhase st t (Stamped c) → ¬ IsDead st t → Wrote st t ws → Kept.Joins (record st { active = remove st.active t }) t c ws
@@ -140,14 +142,18 @@ new_sound = record {
     nothing : {X : Type 0} (v : X) (k : ℕ) → get (empty {X = X} {R = nat_cmp}) k ≡ Some v → ⊥
     nothing v k h = none-some v (sym (get-empty nat_cmp k) ∙ h)
 
-reopened_sound : (st : State) → Sound st → Sound (reopened st)
-reopened_sound st i = Kept.aside_sound (record st { active = empty }) empty 1 empty 1 st.floor st.places st.next_tablet (λ n k h. absurd (none-some k (sym (get-empty nat_cmp n) ∙ h)))
-    (Kept.receded_sound st empty (λ u p h. absurd (none-some p (sym (get-empty nat_cmp u) ∙ h))) i)
+seen_sound : (st : State) (own : Own) → IsPartOf own st → Sound st → Sound (view st own)
+seen_sound st own part i = Kept.aside_sound (record st { active = own.sessions }) own.cleaners own.next_cleaner own.collectors own.next_collector st.floor st.places st.next_tablet
+    (λ n k h. (part.cleaners n k h).decided) (Kept.receded_sound st own.sessions (λ u p h. inl (part.sessions u p h)) i)
+
+pub servers_sound : {st : State} → IsReachedByServers st → Sound st
+servers_sound starts_new = new_sound
+servers_sound (acts mine r ok a) = acts_sound (servers_sound r) a
+servers_sound (raises {st = st} {f = f} r low) = Kept.beside_sound st st.collectors st.next_collector (max st.floor f) st.places st.next_tablet (servers_sound r)
+servers_sound (sees {st = st} {own = own} r part) = seen_sound st own part (servers_sound r)
 
 pub reached_sound : {st : State} → IsReached st → Sound st
-reached_sound begins_new = new_sound
-reached_sound (runs r run) = run_sound (reached_sound r) run
-reached_sound (reopens {st = st} r) = reopened_sound st (reached_sound r)
+reached_sound r = servers_sound (by_servers r)
 
 -- a step leads from a reached state to a reached state
 pub reached_step : {st st' : State} {q : Request} {r : Reply} → IsReached st → Step st q r st' → IsReached st'

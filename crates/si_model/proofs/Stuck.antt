@@ -4,15 +4,16 @@ use Rattle.std.specs.Ordering.{nat_cmp}
 use Rattle.std.specs.FinMap.{FinMap, get}
 use Rattle.std.proofs.lemmas.Bool.{cases_eq, cases_lt}
 use Rattle.cell_key.specs.declared.refusals.Refusal.TheVariants.{UnknownSession, EmptyCommit, UnknownCleaner}
+use Rattle.si_model.specs.Servers.{IsReachedByServers}
 use Rattle.si_model.specs.declared.replies.Cell.{Cell}
-use Rattle.si_model.specs.Machine.{State, Value, Writes, Phase, Open, Holding, Stamped, Finishing, Cleaner, Request, Reply, InPhase, Wrote, Marked, HasHeld, IsAcceptable, end_of_stamps, IsReached}
+use Rattle.si_model.specs.Machine.{State, Value, Writes, Phase, Open, Holding, Stamped, Finishing, Cleaner, Request, Reply, InPhase, Wrote, Marked, HasHeld, IsAcceptable, end_of_stamps}
 use Rattle.si_model.specs.Machine.{Begin, Get, Set, Delete, ScanFrom, Advance, Stop, CleanBegin, CleanStep}
 use Rattle.si_model.specs.Machine.{Acts, tells, waits, finds_none, begins, reads, sets, deletes, holds, conflicts, draws, loses, commits, finishes, stops, opens, kills, learns, rolls_forward, rolls_back, finds_gone}
 use Rattle.si_model.specs.Refusing.{advance_unknown, advance_empty, stop_unknown, clean_unknown}
 use Rattle.si_model.specs.Laws.{OneMark, Bounds, IsNeverStuck}
-use Rattle.si_model.proofs.Steps.{reached_sound}
-use Rattle.si_model.proofs.Bounds.{reached_bounds}
-use Rattle.si_model.proofs.Fates.{Fates, Primary, reached_fates}
+use Rattle.si_model.proofs.Steps.{servers_sound}
+use Rattle.si_model.proofs.Bounds.{servers_bounds}
+use Rattle.si_model.proofs.Fates.{Fates, Primary, servers_fates}
 use Rattle.si_model.proofs.Without.{without}
 use Rattle.si_model.proofs.Acceptable.{get_is_open, set_is_open, delete_is_open, scan_is_open, scan_is_some}
 use Rattle.si_model.proofs.Scannable.{can_scan}
@@ -102,32 +103,32 @@ can_step : (st : State) (i : ℕ) (k : Cleaner) → OneMark st → Fates st → 
 can_step st i k one f h true e = can_clear st i k.start k.cell one (h ∙ ap (λ b. Some (record { cell = k.cell; start = k.start; decided = b })) e)
 can_step st i k one f h false e = can_decide st i k.start k.cell (h ∙ ap (λ b. Some (record { cell = k.cell; start = k.start; decided = b })) e) (f.of_cleaner i k h).first
 
-pub never_stuck : (st : State) → IsReached st → IsNeverStuck st
+pub never_stuck : (st : State) → IsReachedByServers st → IsNeverStuck st
 never_stuck st reached Begin of ok stamps numbers = let c = can_begin st stamps in c
-never_stuck st reached (Get s x) of ok stamps numbers = let c = can_get st s x (reached_sound reached).one_mark (get_is_open st s x ok) in c
+never_stuck st reached (Get s x) of ok stamps numbers = let c = can_get st s x (servers_sound reached).one_mark (get_is_open st s x ok) in c
 never_stuck st reached (Set s x v) of ok stamps numbers =
     let h = set_is_open st s x v ok in
-    let w = (reached_sound reached).has_begun s Open h in
+    let w = (servers_sound reached).has_begun s Open h in
     let c = can_set st s x v w.0 h w.1 in
     c
 never_stuck st reached (Delete s x) of ok stamps numbers =
     let h = delete_is_open st s x ok in
-    let w = (reached_sound reached).has_begun s Open h in
+    let w = (servers_sound reached).has_begun s Open h in
     let c = can_delete st s x w.0 h w.1 in
     c
 never_stuck st reached (ScanFrom s range keys_only n) of ok stamps numbers =
     let h = scan_is_open st s range keys_only n ok in
-    let c = can_scan st s n range keys_only (reached_sound reached).one_mark h (scan_is_some st s range keys_only n ok) in
+    let c = can_scan st s n range keys_only (servers_sound reached).one_mark h (scan_is_some st s range keys_only n ok) in
     c
 never_stuck st reached (Advance s) of ok stamps numbers =
     let p = found st.active s (λ e. ok UnknownSession (advance_unknown e)) (get st.active s) refl in
-    let w = (reached_sound reached).has_begun s p.0 p.1 in
-    let c = can_advance st s p.0 w.0 (reached_bounds reached) p.1 w.1 (has_writes st s w.0 ok w.1) stamps in
+    let w = (servers_sound reached).has_begun s p.0 p.1 in
+    let c = can_advance st s p.0 w.0 (servers_bounds reached) p.1 w.1 (has_writes st s w.0 ok w.1) stamps in
     c
 never_stuck st reached (Stop s) of ok stamps numbers = let p = found st.active s (λ e. ok UnknownSession (stop_unknown e)) (get st.active s) refl in (_, _, stops p.1)
 never_stuck st reached (CleanBegin x) of ok stamps numbers = let c = can_clean st x numbers in c
 never_stuck st reached (CleanStep i) of ok stamps numbers =
     let k = found st.cleaners i (λ e. ok UnknownCleaner (clean_unknown e)) (get st.cleaners i) refl in
-    let c = can_step st i k.0 (reached_sound reached).one_mark (reached_fates reached) k.1 k.0.decided refl in
+    let c = can_step st i k.0 (servers_sound reached).one_mark (servers_fates reached) k.1 k.0.decided refl in
     c
 never_stuck st reached _ of ok stamps numbers = absurd of

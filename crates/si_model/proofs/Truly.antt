@@ -10,8 +10,9 @@ use Rattle.si_model.specs.declared.replies.Progress.TheVariants as progress
 use Rattle.si_model.proofs.LastingMarks.{endures}
 use Rattle.si_model.proofs.Steps.{reached_sound, reached_step}
 use Rattle.si_model.proofs.Told.{tells_fate}
-use Rattle.si_model.specs.TransactionLaws.{AnswersTruly, SameHeld}
-use Rattle.si_model.specs.Transactions.{request_of, reply_of, Opens, is_open, Buffers, all_taken, takes, Advances, rests, advances, Transacts, Said, CommitDone, CommitConflict}
+use Rattle.si_model.proofs.Tools.{get_removed}
+use Rattle.si_model.specs.TransactionLaws.{AnswersTruly, HasClashed, SameHeld}
+use Rattle.si_model.specs.Transactions.{request_of, reply_of, Opens, is_open, Buffers, all_taken, takes, Advances, rests, advances, ClashesFirst, Transacts, Said, CommitDone, CommitConflict}
 use Rattle.si_model.specs.Transactions as transacts
 use Rattle.si_model.proofs.Reached.{reached_open, reached_buffers}
 
@@ -49,15 +50,17 @@ same_buffers : {s : ℕ} {st next : State} {ws : Writes} → Buffers s st ws nex
 same_buffers all_taken = record { marks = refl; commits = refl }
 same_buffers {s = s} (takes {st = st} {mid = mid} {x = x} {v = v} step more) = same_then (same_taken s st mid x v step) (same_buffers more)
 
-same_stop : (s : ℕ) (st next : State) → Step st (machine.Stop s) StopDone next → SameHeld st next
-same_stop s st next (accepts ok (stops h)) = record { marks = refl; commits = refl }
-same_stop s st next (accepts ok (tells t)) = elim t [ ]
+stopped : (s place : ℕ) (st next : State) → ClashesFirst st s place → Step st (machine.Stop s) StopDone next → HasClashed st s place next
+stopped s place st next first (accepts ok (stops h)) = record { first = first; ended = get_removed st.active s; held = record { marks = refl; commits = refl } }
+stopped s place st next first (accepts ok (tells t)) = elim t [ ]
 
 committed : {st next : State} {start s c : ℕ} {ws : Writes} → IsReached st → Transacts st start ws (CommitDone s c) next → CommittedAt next s c
 committed {c = c} reached (transacts.commits opens buffers run is_in ended) = has_committed c (reached_buffers (reached_open reached opens) buffers) run is_in
 
-conflict : {st next : State} {start place : ℕ} {ws : Writes} → Transacts st start ws (CommitConflict place) next → SameHeld st next
-conflict {next = next} (transacts.conflicts {s = s} {written = written} opens buffers clash end) = same_then (same_open opens) (same_then (same_buffers buffers) (same_stop s written next end))
+conflict : {st next : State} {start s place : ℕ} {ws : Writes} → Transacts st start ws (CommitConflict s place) next → HasClashed st s place next
+conflict {next = next} {s = s} {place = place} (transacts.conflicts {written = written} opens buffers clash end) =
+    let met = stopped s place written next clash end in
+    record { first = met.first; ended = met.ended; held = same_then (same_open opens) (same_then (same_buffers buffers) met.held) }
 
 refused : {st next : State} {start : ℕ} {ws : Writes} {n : Refusal} → Transacts st start ws (Said (Refused n)) next → next ≡ st
 refused (transacts.is_unknown some none) = refl
@@ -68,6 +71,6 @@ refused (transacts.refuses comes why) = refl
 pub answers_truly : AnswersTruly
 answers_truly st start ws next reached = record {
   committed = λ s c is. committed reached is;
-  conflict = λ place is. conflict is;
+  conflict = λ s place is. conflict is;
   refused = λ n is. refused is;
 }

@@ -151,6 +151,10 @@ FitsPhase (Holding k) n = (1 ≤ k) × (k ≤ n)
 FitsPhase (Stamped c) n = 1 ≤ n
 FitsPhase (Finishing c k) n = (1 ≤ k) × (k < n)
 
+-- the most sessions are active, or fewer
+abbrev pub HasFewSessions : State → Type 0
+HasFewSessions st = len st.active ≤ most_sessions
+
 -- the bounds of a state's numbers
 pub record Bounds (st : State) : Type 0 where
   pub top : st.top < end_of_stamps
@@ -160,7 +164,6 @@ pub record Bounds (st : State) : Type 0 where
   pub few_writes : (t : ℕ) (ws : Writes) → Wrote st t ws → length ws ≤ most_writes
   -- sessions
   pub has_begun : (t : ℕ) (p : Phase) → InPhase st t p → (ws : Writes) × Wrote st t ws
-  pub few_sessions : len st.active ≤ most_sessions
   pub fits : (t : ℕ) (p : Phase) → InPhase st t p → (ws : Writes) → Wrote st t ws
       → FitsPhase p (length ws)
   -- commit stamps

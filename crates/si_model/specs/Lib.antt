@@ -22,3 +22,6 @@ pub mod Transactions
 pub mod TransactionLaws
 pub mod Answers
 pub mod Takings
+pub mod AnswerLimits
+pub mod Servers
+pub mod ServerLaws

@@ -7,7 +7,7 @@ use Rattle.si_model.specs.Machine.{State, Item, Change, Writes, Wrote, Gives, Cl
 use Rattle.si_model.specs.PutCells.{all_put_cells}
 use Rattle.si_model.specs.Scans.{IsSaid}
 use Rattle.si_model.specs.ShowsCells.{ShowsCells}
-use Rattle.si_model.specs.Transactions.{Answer, Said, CommitDone, CommitConflict, Opens, Buffers, ReadsAll, Transacts, Goes, Operation}
+use Rattle.si_model.specs.Transactions.{Answer, Said, CommitDone, CommitConflict, Opens, Buffers, ReadsAll, HasEnded, ClashesFirst, Transacts, Goes, Operation}
 use Rattle.si_model.specs.declared.replies.Cell.{Cell}
 
 -- a request leads from a reached state to a reached state
@@ -56,11 +56,19 @@ pub record SameHeld (st next : State) : Type 0 where
   pub marks : next.marks ≡ st.marks
   pub commits : next.commits ≡ st.commits
 
--- The answer of a transaction is true: it is committed, or it holds nothing after a conflict, or it leaves nothing if
+-- The session of s met a conflict: the cell at this place of its writes is the first that clashes. It has ended, and
+-- holds nothing.
+pub record HasClashed (st : State) (s place : ℕ) (next : State) : Type 0 where
+  pub first : ClashesFirst next s place
+  pub ended : HasEnded next s
+  pub held : SameHeld st next
+
+-- The answer of a transaction is true: it is committed, or it met a conflict and holds nothing, or it leaves nothing if
 -- it is refused.
 pub record TellsTruth (st : State) (start : ℕ) (ws : Writes) (next : State) : Type 0 where
   pub committed : (s c : ℕ) → Transacts st start ws (CommitDone s c) next → CommittedAt next s c
-  pub conflict : (place : ℕ) → Transacts st start ws (CommitConflict place) next → SameHeld st next
+  pub conflict : (s place : ℕ) → Transacts st start ws (CommitConflict s place) next
+      → HasClashed st s place next
   pub refused : (n : Refusal) → Transacts st start ws (Said (Refused n)) next → next ≡ st
 
 abbrev pub AnswersTruly : Type 0

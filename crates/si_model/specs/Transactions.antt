@@ -26,9 +26,9 @@ pub data Answer : Type 0 where
   Said : (reply : Reply) → Answer
   -- the transaction began at the start and is committed at the stamp
   CommitDone : (start stamp : ℕ) → Answer
-  -- the cell at this place of the session's writes is locked, or was written since the session began; places count
-  -- from 1
-  CommitConflict : (place : ℕ) → Answer
+  -- the transaction began at the start, and the cell at this place of the session's writes is locked, or was written
+  -- since; places count from 1
+  CommitConflict : (start place : ℕ) → Answer
   -- the start of the session, and what it reads in each cell, as a scan would name it
   ReadDone : (start : ℕ) (said : List (Option Item)) → Answer
 
@@ -95,7 +95,7 @@ pub data Transacts (st : State) (start : ℕ) (ws : Writes) : Answer → State �
   -- a cell clashes: the session ends before it holds any
   conflicts : {s place : ℕ} {mid written next : State} → Opens st start s mid
       → Buffers s mid ws written → ClashesFirst written s place
-      → Step written (Stop s) StopDone next → Transacts st start ws (CommitConflict place) next
+      → Step written (Stop s) StopDone next → Transacts st start ws (CommitConflict s place) next
   -- a start whose session isn't open is refused as by a Set, even without writes
   is_unknown : start ≢ 0 → get st.active start ≡ None
       → Transacts st start ws (Said (Refused UnknownSession)) st

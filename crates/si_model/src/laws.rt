@@ -8,7 +8,7 @@ ghost use Rattle.si_model.specs.Deciding.{CleanersKnow, FirstTells};
 ghost use Rattle.si_model.specs.Edits.{MakeCells};
 ghost use Rattle.si_model.specs.Enduring.{Endures, HaveTried};
 ghost use Rattle.si_model.specs.Kinds.{EachLeavesOthers};
-ghost use Rattle.si_model.specs.Laws.{AtEachStep, Bounds, ClearsItsFloor, CommitSeen, FateSeen, FirstCommitterWins, FloorStaysLow, Goes, GoneForGood, IsNeverStuck, IsSettled, Numbers, OneFate, OneMark, OneSnapshot, RefusesFirst, StartsLow, StaysCleared, TellsFate, TellsMarks, WritesWithinLimits};
+ghost use Rattle.si_model.specs.Laws.{AtEachStep, Bounds, ClearsItsFloor, CommitSeen, FateSeen, FirstCommitterWins, FloorStaysLow, Goes, GoneForGood, HasFewSessions, IsNeverStuck, IsSettled, Numbers, OneFate, OneMark, OneSnapshot, RefusesFirst, StartsLow, StaysCleared, TellsFate, TellsMarks, WritesWithinLimits};
 ghost use Rattle.si_model.specs.Machine.{IsReached, State, reopened};
 ghost use Rattle.si_model.specs.Recovered.{Recovers};
 ghost use Rattle.si_model.specs.ScanLaws.{NothingThere, PagesCover, PagesGoOn, ScansAsGets, ScansMeet, ScansSettled};
@@ -103,7 +103,8 @@ pub fn stays_cleared()
 
 /// The numbers of the machine are within their limits, and each session that has not ended has begun.
 pub fn bounded()
-    ensures { (st : State) → IsReached st → Bounds st }
+    ensures numbers { (st : State) → IsReached st → Bounds st }
+    ensures sessions { (st : State) → IsReached st → HasFewSessions st }
 {}
 
 /// The effects of each step on starts that are no longer open or have a mark, and on cleared stamps.

@@ -5,6 +5,7 @@ mod laws;
 mod replies;
 mod scans;
 mod scripts;
+mod servers;
 mod transactions;
 
 pub use laws::{
@@ -22,4 +23,8 @@ pub use scripts::{
     commit_point, deleted_cell, first_cell, first_holder, lost, mark_stays, rolled_back,
     scanned_cells, split_tablet, stranded_mark, transfer, write_skew, younger_first,
 };
-pub use transactions::{CellName, CellWrite, CommitReply, ReadReply};
+pub use servers::{
+    parts_stay, reached_by_servers, servers_lawful, servers_never_stuck, views_lift, views_reached,
+    views_shown,
+};
+pub use transactions::{CellName, CellWrite, CommitReply, ReadReply, told_bytes};

@@ -1,5 +1,9 @@
 //! The range of a scan, and its answer.
 
+ghost use Rattle.std.specs.Prelude.{◌≡◌, ◌+◌, ◌<◌, ◌^◌};
+ghost use Rattle.si_model.specs.Replies.{found_item};
+ghost use Rattle.si_model.specs.Scans.{found_length};
+
 use crate::replies::Cell;
 use cell_key::Stamp;
 
@@ -23,6 +27,20 @@ pub enum ScanFound {
     Pending(Stamp),
     /// The cell has a value that isn't sent: only keys were asked for, or it is too long.
     Unsent,
+}
+
+impl ScanFound {
+    /// The bytes of the result in a reply: one for its kind, a value with its length in four, and a stamp in eight.
+    pub fn said_bytes(&self) -> usize
+        requires { found_length (found_item self.now) < 2 ^ 32 }
+        ensures { result ≡ 1 + found_length (found_item self.now) }
+    {
+        match self {
+            ScanFound::Value(value) => 5 + value.len(),
+            ScanFound::Pending(_) => 9,
+            ScanFound::Unsent => 1,
+        }
+    }
 }
 
 /// A cell that a scan names.

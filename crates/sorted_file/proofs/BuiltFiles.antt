@@ -2,6 +2,7 @@
 use Rattle.std.proofs.Common.{◌≡◌, ◌≢◌, ◌+◌, ◌≤◌, ◌<◌, ℕ, List, [], ◌∷◌, ◌++◌, length, drop, Some, refl, sym, ap, subst, ◌∙◌, arith, length-append, append_assoc}
 use Rattle.std.proofs.Math.Seq.{drop-append_seam}
 use Rattle.std.specs.Prelude.{flat_map}
+use Rattle.std.specs.Global.{Vec}
 use Rattle.file_store.specs.Store.{part}
 use Rattle.std.specs.declared.cmp.Ordering.TheVariants.{Less}
 use Rattle.std.proofs.lemmas.List.{append-nil}
@@ -32,6 +33,10 @@ use Rattle.sorted_file.proofs.Starts.{last_on, rising_on, seam, some_text}
 -- all its entries are a list
 pub is_list : (b : FileBuilder) → IsSound b → IsEntryList (built b)
 is_list b s = record { rising = s.rising; each = all_joined IsEntry (entries_in (blocks_of b.opening.rows.items)) (entries_of b.current.block) s.opening.list.each s.parsed.list.each }
+
+-- what it keeps of the closed blocks may be pushed
+pub same_sound : (b : FileBuilder) (out : Vec ℕ) → IsSound b → IsSound (record b { out = out })
+same_sound b out s = record { opening = s.opening; format = s.format; parsed = s.parsed; columns = s.columns; rising = s.rising; within = s.within }
 
 -- its length in bytes so far
 pub reached : (b : FileBuilder) → IsSound b → b.opening.end + length b.current.block.bytes.items ≡ 8 + length (flat_map spelled (built b))

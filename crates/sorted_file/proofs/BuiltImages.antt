@@ -93,7 +93,7 @@ module _ (o : Opening) (opening : IsOpening o) (format : o.format ≡ Two) (out 
         ∙ ap (λ (l : List ℕ). (head Two ++ body blocks) ++ (index Two 8 blocks ++ l)) foot_is
         ∙ append_assoc (head Two) (body blocks) _
 
-    pub image_size : length image ≡ size
+    image_size : length image ≡ size
     image_size = omega (arith, ap length image_is, image_length blocks (length (entries_in blocks)), size_is)
 
     has_blocks : HasBlocks Two (entries_in blocks) image blocks
@@ -117,8 +117,8 @@ module _ (o : Opening) (opening : IsOpening o) (format : o.format ≡ Two) (out 
         image_small : o.size < 2 ^ 64 → length image < 2 ^ 64
         image_small h = omega (arith, h, image_size, small)
 
-    -- the image is the file of its blocks
-    pub is_formed : IsFormed o image
+    -- the image is the file of its blocks, within its limit
+    pub is_formed : IsFormed o image × (length image ≤ o.size)
     is_formed =
         let h = subst (λ (f : Format). HasBlocks f (entries_in blocks) image blocks) (sym format) has_blocks in
-        record { form = h.form; blocks = h.split }
+        (record { form = h.form; blocks = h.split }, omega (arith, image_size, small))

@@ -8,9 +8,7 @@ use Rattle.std.specs.FinMap.Entries.{find, below_all}
 use Rattle.cell_key.specs.Keys.{byte_cmp}
 use Rattle.cell_key.specs.Entries.{Entry, IsRising, entries_from, entry_of_key}
 use Rattle.cell_key.proofs.TextPlaces.{find_lower, first, from_place, less, second}
-use Rattle.sorted_file.specs.Block.{first_value}
 use Rattle.sorted_file.proofs.Rows.{below_text}
-use Rattle.sorted_file.proofs.Searched.{find_from, head_from, lower, rising_from}
 
 two_orders : (o : Ordering) → o ≡ Less → o ≡ Greater → ⊥
 two_orders o p q = cc
@@ -57,38 +55,11 @@ drop_past [] (suc i) g = refl
 drop_past (d ∷ es) zero g = cc
 drop_past (d ∷ es) (suc i) g = drop_past es i g
 
-module _ (text : List ℕ) (es : List Entry) (i : ℕ) (place : entries_from text es ≡ drop i es) where
-  pub none_at : slice_get es i ≡ None → entry_of_key es text ≡ None
-  none_at g = sym (find_from text es) ∙ ap (λ (l : List Entry). entry_of_key l text) (place ∙ drop_past es i g)
-
-  module _ (e : Entry) (g : slice_get es i ≡ Some e) where
-    cut : entries_from text es ≡ e ∷ drop (suc i) es
-    cut = place ∙ drop_at es i e g
-
-    pub found_at : is_eq (byte_cmp text e.0) ≡ true → entry_of_key es text ≡ Some e.1
-    found_at p = sym (find_from text es) ∙ ap (λ (l : List Entry). entry_of_key l text) cut ∙ ap (λ (t : Bool). cond t (Some e.1) (find byte_cmp text (drop (suc i) es))) p
-
-    pub missed_at : IsRising es → is_eq (byte_cmp text e.0) ≡ false → entry_of_key es text ≡ None
-    missed_at r p =
-        let below = lower _ (head_from text es e (drop (suc i) es) cut) p in
-        sym (find_from text es) ∙ ap (λ (l : List Entry). entry_of_key l text) cut
-        ∙ find_lower text e (drop (suc i) es) (subst (λ (l : List Entry). IsRising l) cut (rising_from text es r)) below
-
--- ---- the first value
-
-pub value_at : (es : List Entry) (i : ℕ) (e : Entry) → slice_get es i ≡ Some e → is_some e.1 ≡ true → first_value (drop i es) ≡ Some e
-value_at es i e g some = ap first_value (drop_at es i e g) ∙ go e.0 e.1 (drop (suc i) es) some
-  where
-    go : (n : List ℕ) (v : Option (List ℕ)) (more : List Entry) → is_some v ≡ true → first_value ((n, v) ∷ more) ≡ Some (n, v)
-    go n None more p = cc
-    go n (Some v) more p = refl
-
-pub erasure_at : (es : List Entry) (i : ℕ) (e : Entry) → slice_get es i ≡ Some e → is_some e.1 ≡ false → first_value (drop i es) ≡ first_value (drop (suc i) es)
-erasure_at es i e g none = ap first_value (drop_at es i e g) ∙ go e.0 e.1 (drop (suc i) es) none
-  where
-    go : (n : List ℕ) (v : Option (List ℕ)) (more : List Entry) → is_some v ≡ false → first_value ((n, v) ∷ more) ≡ first_value more
-    go n None more p = refl
-    go n (Some v) more p = cc
+pub first_at : (es : List Entry) (i : ℕ) → slice_get es i ≡ slice_get (drop i es) 0
+first_at [] zero = refl
+first_at [] (suc i) = refl
+first_at (e ∷ es) zero = refl
+first_at (e ∷ es) (suc i) = first_at es i
 
 -- ---- the halves of a search
 

@@ -33,7 +33,7 @@ pub all_joined : {A : Type 0} (P : A → Type 0) (xs ys : List A) → AllByRecur
 all_joined P [] ys h k = k
 all_joined P (x ∷ xs) ys h k = (h.0, all_joined P xs ys h.1 k)
 
-below_front : (name : List ℕ) (xs ys : List Entry) → T (below_all byte_cmp name (xs ++ ys)) → T (below_all byte_cmp name xs)
+pub below_front : (name : List ℕ) (xs ys : List Entry) → T (below_all byte_cmp name (xs ++ ys)) → T (below_all byte_cmp name xs)
 below_front name [] ys h = tt
 below_front name (x ∷ xs) ys h = both _ _ (first _ _ h) (below_front name xs ys (second _ _ h))
 

@@ -1,15 +1,14 @@
 mod AcceptedBlocks
-mod Behind
 mod BuiltFiles
 mod BuiltImages
 mod Breaks
 mod ColumnsOf
-mod Counting
 mod Covered
 mod CursorSteps
 mod EntryParts
 mod Framing
 mod Filtered
+mod FirstBlocks
 mod Fronts
 mod Growth
 mod GrowingBlocks
@@ -21,8 +20,10 @@ mod Locked
 mod LockIndexes
 mod LockTimes
 mod LookUps
+mod MayHave
 mod NextBlocks
 mod NamedLocks
+mod Newest
 mod Numbered
 mod Opened
 mod OpenBlocks
@@ -40,8 +41,6 @@ mod Seams
 mod Bounded
 mod Spelling
 mod Splits
-mod Stamps
 mod Starts
-mod Values
 mod WholeFiles
 mod Widths

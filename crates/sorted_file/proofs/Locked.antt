@@ -4,15 +4,11 @@ use Rattle.std.specs.List.{AllByRecursion}
 use Rattle.std.specs.Ordering.{eq_by_cmp}
 use Rattle.std.specs.FinMap.Entries.{find}
 use Rattle.cell_key.specs.Keys.{byte_cmp, text, IsStored}
-use Rattle.cell_key.specs.Entries.{Entry, entry_of_key, value_of}
+use Rattle.cell_key.specs.Entries.{Entry, entry_of_key}
 use Rattle.cell_key.specs.declared.keys.CellKey.{CellKey}
 use Rattle.cell_key.specs.declared.keys.Qualifier.TheVariants.{Lock}
-use Rattle.sorted_file.specs.File.{MayHaveIn}
-use Rattle.sorted_file.specs.Newest.{at_stamp}
-use Rattle.sorted_file.specs.Numbers.{number_of, text_number, IsAmong, IsLockKept, IsLockKeyNumbered, IsNumbered}
-use Rattle.sorted_file.specs.declared.file.SortedFile.{SortedFile}
+use Rattle.sorted_file.specs.Numbers.{text_number, IsAmong, IsLockKept, IsLockKeyNumbered, IsNumbered}
 use Rattle.sorted_file.proofs.Bounded.{one_text}
-use Rattle.sorted_file.proofs.Numbered.{no_entry}
 
 pub keyed_on : (old new : List ℕ) → IsAmong old new → (es : List Entry) → AllByRecursion (IsLockKeyNumbered old) es → AllByRecursion (IsLockKeyNumbered new) es
 keyed_on old new keeps [] all = tt
@@ -33,8 +29,3 @@ module _ (numbers : List ℕ) (key : CellKey) (stored : IsStored key) (lock : ke
           let same = one_text (text key) name e in
           absurd (out (subst (λ (t : List ℕ). Contains numbers (text_number t)) (sym same) (all.0 key stored (sym same) lock)))
       go more false e = more
-
--- a column that may have no entry has no value
-pub no_value_numbered : (file : SortedFile) (es : List Entry) → AllByRecursion (IsNumbered file.numbers) es → (key : CellKey) (s : ℕ)
-    → ¬ MayHaveIn file (number_of (text key)) → value_of (entry_of_key es (text (at_stamp key s))) ≡ None
-no_value_numbered file es numbered key s out = ap value_of (no_entry file.numbers key out es numbered s)

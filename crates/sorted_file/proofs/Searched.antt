@@ -12,7 +12,6 @@ use Rattle.cell_key.specs.Keys.{byte_cmp}
 use Rattle.cell_key.specs.Entries.{Entry, IsEntry, IsRising, entries_from, entry_of_key, spelled}
 use Rattle.cell_key.proofs.TextPlaces.{first, second, from_place, find_lower}
 use Rattle.sorted_file.specs.Grammar.{block_bytes}
-use Rattle.sorted_file.specs.Block.{first_value}
 use Rattle.sorted_file.proofs.Joining.{both}
 use Rattle.sorted_file.proofs.Spelling.{no_more, short, spelled_length, spelled_split}
 
@@ -81,23 +80,6 @@ module _ (text rest : List ℕ) (es : List Entry) (past : IsPast text rest es) w
       let none = as_empty rest past.more z past.bytes in
       past.bytes ∙ ap block_bytes (none ∙ sym (ap (entries_from text) none) ∙ sym past.same)
 
--- ---- the entry at a text
-
-pub find_from : (text : List ℕ) (es : List Entry) → entry_of_key (entries_from text es) text ≡ entry_of_key es text
-find_from text [] = refl
-find_from text (e ∷ es) = go (byte_cmp text e.0) refl (find_from text es)
-  where
-    kept : {o : Ordering} → byte_cmp text e.0 ≡ o → entry_of_key (entries_from text (e ∷ es)) text ≡ entry_of_key (cond (is_le o) (e ∷ entries_from text es) (entries_from text es)) text
-    kept p = ap (λ (o : Ordering). entry_of_key (cond (is_le o) (e ∷ entries_from text es) (entries_from text es)) text) p
-
-    missed : {o : Ordering} → byte_cmp text e.0 ≡ o → cond (is_eq o) (Some e.1) (find byte_cmp text es) ≡ entry_of_key (e ∷ es) text
-    missed p = sym (ap (λ (o : Ordering). cond (is_eq o) (Some e.1) (find byte_cmp text es)) p)
-
-    go : (o : Ordering) → byte_cmp text e.0 ≡ o → entry_of_key (entries_from text es) text ≡ entry_of_key es text → entry_of_key (entries_from text (e ∷ es)) text ≡ entry_of_key (e ∷ es) text
-    go Less p more = kept p ∙ ap (λ (o : Ordering). cond (is_eq o) (Some e.1) (find byte_cmp text (entries_from text es))) p ∙ more ∙ missed p
-    go Equal p more = kept p ∙ ap (λ (o : Ordering). cond (is_eq o) (Some e.1) (find byte_cmp text (entries_from text es))) p ∙ missed p
-    go Greater p more = kept p ∙ more ∙ missed p
-
 below_from : (name text : List ℕ) (es : List Entry) → T (below_all byte_cmp name es) → T (below_all byte_cmp name (entries_from text es))
 below_from name text [] h = tt
 below_from name text (e ∷ es) h = go (is_le (byte_cmp text e.0)) (below_from name text es (second _ _ h))
@@ -121,59 +103,6 @@ head_from text (x ∷ es) b more e = go (is_le (byte_cmp text x.0)) refl e (head
     go : (t : Bool) → is_le (byte_cmp text x.0) ≡ t → cond t (x ∷ entries_from text es) (entries_from text es) ≡ b ∷ more → (entries_from text es ≡ b ∷ more → is_le (byte_cmp text b.0) ≡ true) → is_le (byte_cmp text b.0) ≡ true
     go true p q rest = let same : x ≡ b = cc in ap (λ (z : Entry). is_le (byte_cmp text z.0)) (sym same) ∙ p
     go false p q rest = rest q
-
-pub lower : (o : Ordering) → is_le o ≡ true → is_eq o ≡ false → o ≡ Less
-lower Less p q = refl
-lower Equal p q = cc
-lower Greater p q = cc
-
-module _ (text rest : List ℕ) (es : List Entry) (rising : IsRising es) (bytes : rest ≡ block_bytes (entries_from text es)) where
-  pub none_at : length rest ≡ 0 → entry_of_key es text ≡ None
-  none_at z = sym (find_from text es) ∙ ap (λ (l : List Entry). entry_of_key l text) (as_empty rest (entries_from text es) z bytes)
-
-  pub found_at : (after : List ℕ) (b : Entry) → length rest < 2 ^ 32 → rest ≡ spelled b ++ after → is_eq (byte_cmp text b.0) ≡ true → entry_of_key es text ≡ Some b.1
-  found_at after b small r e =
-      let f = front rest after b (entries_from text es) small r bytes in
-      sym (find_from text es) ∙ ap (λ (l : List Entry). entry_of_key l text) f.list ∙ ap (λ (t : Bool). cond t (Some b.1) (find byte_cmp text f.more)) e
-
-  pub missed_at : (after : List ℕ) (b : Entry) → length rest < 2 ^ 32 → rest ≡ spelled b ++ after → is_eq (byte_cmp text b.0) ≡ false → entry_of_key es text ≡ None
-  missed_at after b small r e =
-      let f = front rest after b (entries_from text es) small r bytes in
-      let less = lower _ (head_from text es b f.more f.list) e in
-      sym (find_from text es) ∙ ap (λ (l : List Entry). entry_of_key l text) f.list
-      ∙ find_lower text b f.more (subst (λ (l : List Entry). IsRising l) f.list (rising_from text es rising)) less
-
--- ---- the first value
-
-pub record HasValueOf (rest : List ℕ) (es : List Entry) : Type 0 where
-  pub more : List Entry
-  pub bytes : rest ≡ block_bytes more
-  pub same : first_value es ≡ first_value more
-
-pub erasure_passed : (rest after : List ℕ) (b : Entry) (es : List Entry) → HasValueOf rest es → length rest < 2 ^ 32 → rest ≡ spelled b ++ after → is_some b.1 ≡ false → HasValueOf after es
-erasure_passed rest after b es h small r none =
-    let f = front rest after b h.more small r h.bytes in
-    record { more = f.more; bytes = f.bytes; same = h.same ∙ ap first_value f.list ∙ go b.1 none f.more }
-  where
-    go : (v : Option (List ℕ)) → is_some v ≡ false → (more : List Entry) → first_value ((b.0, v) ∷ more) ≡ first_value more
-    go None e more = refl
-    go (Some v) e more = cc
-
-pub value_here : (rest after : List ℕ) (b : Entry) (es : List Entry) → HasValueOf rest es → length rest < 2 ^ 32 → rest ≡ spelled b ++ after → is_some b.1 ≡ true → Some b ≡ first_value es
-value_here rest after b es h small r some =
-    let f = front rest after b h.more small r h.bytes in
-    sym (h.same ∙ ap first_value f.list ∙ go b.1 some f.more)
-  where
-    go : (v : Option (List ℕ)) → is_some v ≡ true → (more : List Entry) → first_value ((b.0, v) ∷ more) ≡ Some (b.0, v)
-    go None e more = cc
-    go (Some v) e more = refl
-
-pub no_value_left : (rest : List ℕ) (es : List Entry) → HasValueOf rest es → length rest ≡ 0 → None ≡ first_value es
-no_value_left rest es h z = sym (h.same ∙ ap first_value (as_empty rest h.more z h.bytes))
-
-pub copied_some : (o : Option (Bor (List ℕ))) → is_some (option_copied o) ≡ is_some o
-copied_some None = refl
-copied_some (Some x) = refl
 
 pub each_from : (text : List ℕ) (es : List Entry) → AllByRecursion IsEntry es → AllByRecursion IsEntry (entries_from text es)
 each_from text [] h = tt

@@ -88,10 +88,10 @@ pub record IsDone (bytes rest last starts : List ℕ) : Type 0 where
   pub starts_are : starts ≡ starts_from 0 done
   pub last_is : IsLastText done last
 
-is_less : (o : Ordering) → o ≡ Less → T (is_lt o)
+pub is_less : (o : Ordering) → o ≡ Less → T (is_lt o)
 is_less o e = subst (λ (o : Ordering). T (is_lt o)) (sym e) tt
 
-below_last : (name last : List ℕ) (e : Entry) (es : List Entry) → T (below_all byte_cmp name (e ∷ es)) → IsLastText (e ∷ es) last → byte_cmp name last ≡ Less
+pub below_last : (name last : List ℕ) (e : Entry) (es : List Entry) → T (below_all byte_cmp name (e ∷ es)) → IsLastText (e ∷ es) last → byte_cmp name last ≡ Less
 below_last name last e [] h is = subst (λ (t : List ℕ). byte_cmp name t ≡ Less) (sym is) (less _ (first _ _ h))
 below_last name last e (f ∷ es) h is = below_last name last f es (second _ _ h) is
 

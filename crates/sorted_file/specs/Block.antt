@@ -1,10 +1,10 @@
 -- Blocks of entries: their bytes, and look-ups in them.
-use Rattle.std.specs.Prelude.{List, map, option_map, ◌≡◌, ◌≢◌, ◌⊎◌, None, ℕ, ◌+◌, ◌<◌, [], ◌∷◌, ◌++◌, length, take, drop, zero, suc, Option, Some, ◌^◌}
+use Rattle.std.specs.Prelude.{List, map, option_map, slice_get, ◌≡◌, ◌≢◌, ◌⊎◌, None, ℕ, ◌+◌, ◌<◌, [], ◌∷◌, ◌++◌, length, take, drop, zero, suc, Option, Some, ◌^◌}
 use Rattle.std.specs.Int.{w32, from_be_bytes}
 use Rattle.std.specs.List.{AllByRecursion}
 use Rattle.std.specs.declared.cmp.Ordering.TheVariants.{Greater}
 use Rattle.cell_key.specs.Keys.{byte_cmp}
-use Rattle.cell_key.specs.Entries.{Entry, IsEntryList, spelled}
+use Rattle.cell_key.specs.Entries.{Entry, IsEntryList, entries_from, spelled}
 use Rattle.file_store.specs.Store.{part}
 use Rattle.sorted_file.specs.Grammar.{block_bytes, Fits}
 use Rattle.cell_key.specs.declared.lent_keys.KeyRef.{KeyRef}
@@ -71,11 +71,9 @@ abbrev pub BeginsWith : List ℕ → List Entry → Type 0
 BeginsWith name [] = ⊥
 BeginsWith name (e ∷ es) = name ≡ e.0
 
--- the first entry that is a value
-abbrev pub first_value : List Entry → Option Entry
-first_value [] = None
-first_value ((name, None) ∷ es) = first_value es
-first_value ((name, Some value) ∷ es) = Some (name, Some value)
+-- the first entry at or above a text
+abbrev pub first_from : List ℕ → List Entry → Option Entry
+first_from name es = slice_get (entries_from name es) 0
 
 -- the bytes of an extent, and the entry whose text and value have these extents
 abbrev pub bytes_at : List ℕ → Extent → List ℕ

@@ -1,8 +1,8 @@
--- Bounds of the values among entries.
-use Rattle.std.specs.Prelude.{◌≡◌, ◌≤◌, ℕ, List, [], ◌∷◌, get_or, None, IsSome}
+-- Bounds of entries: of their rows and stamps, for each kind of column.
+use Rattle.std.specs.Prelude.{◌≡◌, ◌≤◌, ℕ, List, [], ◌∷◌, get_or, None}
 use Rattle.std.specs.Int.{w64, from_be_bytes}
 use Rattle.cell_key.specs.Keys.{text, IsStored}
-use Rattle.cell_key.specs.Entries.{Entry, entry_of_key, value_of}
+use Rattle.cell_key.specs.Entries.{Entry, entry_of_key}
 use Rattle.cell_key.specs.declared.keys.CellKey.{CellKey}
 use Rattle.cell_key.specs.declared.keys.Qualifier.{Qualifier}
 use Rattle.cell_key.specs.declared.keys.Qualifier.TheVariants.{Data, Lock, Write}
@@ -32,14 +32,14 @@ AreWithin old new =
     (q : Qualifier) (row : List ℕ) (stamp : ℕ) → IsWithin (column_bounds old q) row stamp
     → IsWithin (column_bounds new q) row stamp
 
--- the row and the stamp of an entry's key are within the bounds, if the entry is a value
+-- the row and the stamp of an entry's key are within the bounds
 abbrev pub IsBounded : ColumnBounds → Entry → Type 0
 IsBounded bounds entry =
-    (key : CellKey) → IsStored key → entry.0 ≡ text key → IsSome entry.1
+    (key : CellKey) → IsStored key → entry.0 ≡ text key
     → IsWithin (column_bounds bounds key.qualifier) key.row key.stamp
 
--- entries have no value in columns of this kind at these stamps; they may have erasures
-abbrev pub HasNoValue : Qualifier → ℕ → ℕ → List Entry → Type 0
-HasNoValue qualifier lo hi es =
+-- entries have no entry, value or erasure, in columns of this kind at these stamps
+abbrev pub HasNoneOfKind : Qualifier → ℕ → ℕ → List Entry → Type 0
+HasNoneOfKind qualifier lo hi es =
     (key : CellKey) → IsStored key → key.qualifier ≡ qualifier → lo ≤ key.stamp → key.stamp ≤ hi
-    → value_of (entry_of_key es (text key)) ≡ None
+    → entry_of_key es (text key) ≡ None

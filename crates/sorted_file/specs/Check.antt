@@ -4,7 +4,7 @@ use Rattle.std.specs.FinMap as map
 use Rattle.std.specs.List.{AllByRecursion}
 use Rattle.cell_key.specs.Entries.{Entry, IsEntryList, IsRising}
 use Rattle.file_store.specs.Store.{Contents, part}
-use Rattle.sorted_file.specs.Index.{IsFirstText, blocks_of, entries_in, AreRows, IsBoundedRow, row_head, texts_of, Tells}
+use Rattle.sorted_file.specs.Index.{IsFirstText, blocks_of, entries_in, AreRows, IsBoundedRow, IsLastRow, Tells}
 use Rattle.sorted_file.specs.Grammar.{body, foot_len, head, index, most, number_bytes, IsFullBlock, AreBlocks, IsFile}
 use Rattle.sorted_file.specs.Block.{IsLastText}
 use Rattle.sorted_file.specs.Columns.{AreColumnsOf}
@@ -41,7 +41,7 @@ pub record IsOpening (o : Opening) : Type 0 where
   pub rows_are : AreRows 8 o.rows.items
   pub grammar : AreBlocks (blocks_of o.rows.items)
   pub list : IsEntryList (entries_in (blocks_of o.rows.items))
-  pub heads : texts_of o.heads.items ≡ map row_head o.rows.items
+  pub lasts : AllByRecursion IsLastRow o.rows.items
   pub bounded : AllByRecursion IsBoundedRow o.rows.items
   pub columns : AreColumnsOf o.columns (entries_in (blocks_of o.rows.items))
   pub counted : o.count ≡ length (entries_in (blocks_of o.rows.items))

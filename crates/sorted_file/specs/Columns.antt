@@ -7,7 +7,7 @@ use Rattle.sorted_file.specs.Bounds.{IsBounded}
 use Rattle.sorted_file.specs.Numbers.{IsLockKeyNumbered, IsNumbered, KeepsLocks}
 use Rattle.sorted_file.specs.declared.gathering.Columns.{Columns}
 
--- The bounds contain all values of the entries. The hashes of their columns and of their lock keys, and the keys of
+-- The bounds contain all entries. The hashes of their columns and of their lock keys, and the keys of
 -- their locks with a value, are listed.
 pub record AreColumnsOf (columns : Columns) (es : List Entry) : Type 0 where
   pub bounded : AllByRecursion (IsBounded columns.bounds) es

@@ -1,21 +1,21 @@
 -- Open files: their entries, and the blocks that they cache.
-use Rattle.std.specs.Prelude.{◌≡◌, ℕ, nat_eq, List, Some, None, slice_get, Contains, ◌⊎◌, ◌+◌, ◌-◌, ◌≤◌, [], drop, length, map, Option, IfSome, option_map}
+use Rattle.std.specs.Prelude.{◌≡◌, ℕ, nat_eq, List, Some, None, slice_get, Contains, ◌⊎◌, ◌-◌, ◌≤◌, [], drop, length, map, Option, IfSome, IsSome}
 use Rattle.std.specs.Map.{lookup}
 use Rattle.std.specs.FinMap as map
 use Rattle.std.specs.List.{AllByRecursion}
-use Rattle.std.specs.declared.vec.Vec.{Vec}
-use Rattle.cell_key.specs.Entries.{Entry, IsEntryList, IsRising, entry_of_key}
-use Rattle.cell_key.specs.Keys.{text}
+use Rattle.std.specs.declared.cmp.Ordering.TheVariants.{Less}
+use Rattle.cell_key.specs.Entries.{Entry, IsEntryList, IsRising}
+use Rattle.cell_key.specs.Keys.{byte_cmp, text}
 use Rattle.cell_key.specs.declared.keys.CellKey.{CellKey}
-use Rattle.cell_key.specs.declared.keys.Qualifier.{Qualifier}
-use Rattle.cell_key.specs.declared.keys.Qualifier.TheVariants.{Data, Lock, Write}
+use Rattle.cell_key.specs.declared.keys.Qualifier.TheVariants.{Lock}
 use Rattle.file_store.specs.Store.{Contents, part}
 use Rattle.lru.specs.LruCache.{LruCache}
-use Rattle.sorted_file.specs.Index.{block_of, blocks_of, entries_in, first_of, row_head, texts_of, AreRows, IsRowPosition, IsBoundedRow, Tells, skips}
+use Rattle.sorted_file.specs.Index.{block_of, blocks_of, entries_in, first_of, AreRows, IsBlockNumber, IsRowPosition, IsBoundedRow, IsLastRow, Tells}
 use Rattle.sorted_file.specs.Block.{IsParsed, BeginsWith}
 use Rattle.sorted_file.specs.Grammar.{block_bytes, IsFile}
 use Rattle.sorted_file.specs.Bounds.{IsBounded, IsWithin, column_bounds}
-use Rattle.sorted_file.specs.Numbers.{IsLockKeyNumbered, IsNumbered, KeepsLocks, number_of}
+use Rattle.sorted_file.specs.Newest.{at_stamp, IsNewestEntry, IsOutside}
+use Rattle.sorted_file.specs.Numbers.{IsLockKeyNumbered, IsNumbered, KeepsLocks, number_of, text_number}
 use Rattle.sorted_file.specs.declared.block.BlockRow.{BlockRow}
 use Rattle.sorted_file.specs.declared.block.Block.{Block}
 use Rattle.sorted_file.specs.declared.format.Format.{Format}
@@ -25,6 +25,10 @@ use Rattle.sorted_file.specs.declared.file.SortedFile.{SortedFile}
 
 abbrev pub name_of : SortedFile → ℕ
 name_of file = file.name
+
+-- how many entries it has, erasures among them
+abbrev pub count_of : SortedFile → ℕ
+count_of file = file.count
 
 -- under this name there is an entry list's file, in either format
 pub record HasFile (m : Contents) (name : ℕ) : Type 0 where
@@ -66,8 +70,7 @@ pub record IsOpen (m : Contents) (file : SortedFile) : Type 0 where
   pub numbered : AllByRecursion (IsNumbered file.numbers) (listed m file)
   pub keyed : AllByRecursion (IsLockKeyNumbered file.lock_keys) (listed m file)
   pub locks_kept : IsTelling file
-  pub heads : texts_of file.heads.items ≡ map row_head file.rows.items
-  pub skips : file.skips.items ≡ skips file.heads.items
+  pub lasts : AllByRecursion IsLastRow file.rows.items
   pub counted : file.count ≡ length (listed m file)
   pub format : Format
   pub image : List ℕ
@@ -112,48 +115,38 @@ KeepsWhatItRead disk old new =
     (e : ℕ × Block) → Contains new.cache.entries e
     → Contains old.cache.entries e ⊎ WasRead disk old e
 
--- An entry found in a block that wasn't cached is in the present bytes under the file's name: they have an entry list
--- at the row's offset, and this is the list's entry at the text.
-abbrev pub IsFoundNow : Option Contents → SortedFile → List ℕ → Option (Option (List ℕ)) → Type 0
-IsFoundNow disk file name found =
+-- By its hashes and bounds, an open file may have an entry of a key. Locks have a hash of each key, other keys one of
+-- their column.
+pub record MayHaveKey (file : SortedFile) (key : CellKey) : Type 0 where
+  pub column : Contains file.numbers (number_of (text key))
+  pub lock : key.qualifier ≡ Lock → Contains file.lock_keys (text_number (text key))
+  pub bounds : IsWithin (column_bounds file.bounds key.qualifier) key.row key.stamp
+
+-- By its bounds and its first text, a block may have an entry of the key's column at this stamp as its first one at or
+-- above the key's text.
+pub record MayHaveInBlock (row : BlockRow) (key : CellKey) (lo stamp : ℕ) : Type 0 where
+  pub bounds : IsWithin (column_bounds row.bounds key.qualifier) key.row stamp
+  pub first : byte_cmp (text key) row.first.items ≡ Less → ¬ IsOutside key lo row.first.items
+
+-- without a read, an open file may have an entry of the key's column in the block of a row, from lo to the key's stamp
+pub record MayHaveFrom (file : SortedFile) (row : BlockRow) (key : CellKey) (lo : ℕ) : Type 0 where
+  pub stamp : ℕ
+  pub from : lo ≤ stamp
+  pub to : stamp ≤ key.stamp
+  pub in_file : MayHaveKey file (at_stamp key stamp)
+  pub in_block : MayHaveInBlock row key lo stamp
+
+-- The first block with an entry at or above the key's text, if an entry was found or the block may have one, is in the
+-- present bytes under the file's name, unless it was cached: they have an entry list at the row's offset, and what was
+-- found is its newest entry of the key's column from lo to the key's stamp.
+abbrev pub IsFoundNow
+    : Option Contents → SortedFile → CellKey → ℕ → Option (ℕ × Option (List ℕ)) → Type 0
+IsFoundNow disk file key lo found =
     (m : Contents) → IsOpen m file → (number : ℕ) (row : BlockRow) (image : List ℕ)
-    → IsRowPosition name file.rows.items (number + 1) → slice_get file.rows.items number ≡ Some row
+    → IsBlockNumber (text key) file.rows.items number → slice_get file.rows.items number ≡ Some row
+    → IsSome found ⊎ MayHaveFrom file row key lo
     → IsUncached number file.cache.entries → Tells disk (name_of file) image
-    → (es : List Entry) × IsReadFrom image row es × (found ≡ entry_of_key es name)
-
--- The block of a number, if it wasn't cached, is in the present bytes under the file's name: they have an entry list at
--- the row's offset.
-abbrev pub HasBlockNow : Option Contents → SortedFile → ℕ → Type 0
-HasBlockNow disk file number =
-    (row : BlockRow) (image : List ℕ) → slice_get file.rows.items number ≡ Some row
-    → IsUncached number file.cache.entries → Tells disk (name_of file) image
-    → (es : List Entry) × IsReadFrom image row es
-
--- by its hashes, an open file may have an entry in the column with this hash
-abbrev pub MayHaveIn : SortedFile → ℕ → Type 0
-MayHaveIn file number = Contains file.numbers number
-
--- By its hashes and bounds, without a read, the block of a row may have a value in the key's column at this stamp.
-pub record MayHaveAt (file : SortedFile) (row : BlockRow) (key : CellKey) (stamp : ℕ) : Type 0 where
-  pub in_column : MayHaveIn file (number_of (text key))
-  pub in_file : IsWithin (column_bounds file.bounds key.qualifier) key.row stamp
-  pub in_block : IsWithin (column_bounds row.bounds key.qualifier) key.row stamp
-
--- The block of a key, if it may have a value in the key's column from lo to the key's stamp, was read from the present
--- bytes under an open file's name.
-abbrev pub IsSearchedNow : Option Contents → SortedFile → CellKey → ℕ → Type 0
-IsSearchedNow disk file key lo =
-    (m : Contents) → IsOpen m file → (number : ℕ) (row : BlockRow) (stamp : ℕ)
-    → IsRowPosition (text key) file.rows.items (number + 1) → slice_get file.rows.items number ≡ Some row
-    → lo ≤ stamp → stamp ≤ key.stamp → MayHaveAt file row key stamp → HasBlockNow disk file number
-
--- the bytes of a value; none for an erasure
-abbrev pub value_bytes : {Z : Type 0} → Option (Vec ℕ Z) → Option (List ℕ)
-value_bytes value = option_map (λ bytes. bytes.items) value
-
--- a value has at most 65,536 bytes
-abbrev pub IsShortValue : {Z : Type 0} → Option (Vec ℕ Z) → Type 0
-IsShortValue value = IfSome value (λ bytes. length bytes.items ≤ 65536)
+    → (es : List Entry) × IsReadFrom image row es × IsNewestEntry es key lo found
 
 -- An open file stays open and has the same entries, as long as the bytes under its name don't change.
 abbrev pub StaysOpen : Type 0

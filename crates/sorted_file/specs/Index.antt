@@ -1,14 +1,13 @@
 -- The index of an open file: a row for each block, and the blocks in the file.
-use Rattle.std.specs.Prelude.{◌≡◌, ◌≢◌, ⊤, zero, suc, None, ℕ, ◌+◌, ◌≤◌, List, [], ◌∷◌, ◌++◌, length, map, flat_map, Option, Some, IsSomeAnd, option_map}
+use Rattle.std.specs.Prelude.{◌≡◌, ◌≢◌, ⊤, zero, suc, None, ℕ, ◌+◌, ◌≤◌, List, [], ◌∷◌, ◌++◌, length, map, flat_map, Option, Some, IsSomeAnd}
 use Rattle.std.specs.FinMap as map
-use Rattle.std.specs.Global.{Vec}
 use Rattle.std.specs.List.{AllByRecursion}
 use Rattle.std.specs.declared.cmp.Ordering.TheVariants.{Less}
 use Rattle.cell_key.specs.Keys.{byte_cmp}
-use Rattle.cell_key.specs.Entries.{Entry, IsEntryList, field}
+use Rattle.cell_key.specs.Entries.{Entry, IsEntryList, IsPlace, field}
 use Rattle.file_store.specs.Store.{Contents, part}
 use Rattle.sorted_file.specs.Grammar.{block_bytes, number_bytes}
-use Rattle.sorted_file.specs.Block.{first_value, entries_of}
+use Rattle.sorted_file.specs.Block.{entries_of, IsLastText}
 use Rattle.sorted_file.specs.Bounds.{IsBounded}
 use Rattle.sorted_file.specs.declared.block.BlockRow.{BlockRow}
 use Rattle.sorted_file.specs.declared.format.RowRef.{RowRef}
@@ -46,7 +45,7 @@ abbrev pub AreRows : ℕ → List BlockRow → Type 0
 AreRows at [] = Unit {0}
 AreRows at (row ∷ rows) = IsRowAt at row × AreRows (at + length (block_bytes (block_of row))) rows
 
--- the bounds of a row contain the values of its block
+-- the bounds of a row contain the entries of its block
 abbrev pub IsBoundedRow : BlockRow → Type 0
 IsBoundedRow row = AllByRecursion (IsBounded row.bounds) (block_of row)
 
@@ -62,29 +61,17 @@ IsRowPosition text (row ∷ rows) (suc i) =
 abbrev pub first_of : BlockRow → Entry
 first_of row = (row.first.items, None)
 
--- the text of a block's first value, if it has a value
-abbrev pub row_head : BlockRow → Option (List ℕ)
-row_head row = option_map (λ e. e.0) (first_value (block_of row))
+-- a row has the text of its block's last entry
+abbrev pub IsLastRow : BlockRow → Type 0
+IsLastRow row = IsLastText (block_of row) row.last.items
 
--- the bytes of the texts that are present
-abbrev pub texts_of : List (Option (Vec ℕ)) → List (Option (List ℕ))
-texts_of texts = map (option_map (λ text. text.items)) texts
+-- a row's last text as an entry
+abbrev pub last_of : BlockRow → Entry
+last_of row = (row.last.items, None)
 
--- the first one that is present
-abbrev pub first_some : {A : Type 0} → List (Option A) → Option A
-first_some [] = None
-first_some (None ∷ xs) = first_some xs
-first_some (Some x ∷ xs) = Some x
-
--- how many are missing before the first that is present, and for each element how many from it on
-abbrev pub missing_first : {A : Type 0} → List (Option A) → ℕ
-missing_first [] = 0
-missing_first (None ∷ xs) = missing_first xs + 1
-missing_first (Some x ∷ xs) = 0
-
-abbrev pub skips : {A : Type 0} → List (Option A) → List ℕ
-skips [] = []
-skips (x ∷ xs) = missing_first (x ∷ xs) ∷ skips xs
+-- the number of the first row with a last text at or above this text: its block has the first entry at or above it
+abbrev pub IsBlockNumber : List ℕ → List BlockRow → ℕ → Type 0
+IsBlockNumber text rows number = IsPlace text (map last_of rows) number
 
 -- the contents are known and have these bytes under a name
 abbrev pub Tells : Option Contents → ℕ → List ℕ → Type 0

@@ -3,19 +3,21 @@
 ghost use Rattle.std.specs.Option.{option_copied};
 ghost use Rattle.std.specs.Prelude.{◌≡◌, ◌↔◌, IsTrue, ◌≢◌, ◌<◌, ◌+◌, ◌^◌, List, length, IfOk, IfErr, IfSome, IfNone, true, false, drop, slice_get, option_map, IsSomeAnd, ◌≤◌, ◌⊎◌, IsErrOf, map, ◌++◌, ◌∷◌, [], ℕ, IsOkUnless};
 ghost use Rattle.std.specs.declared.cmp.Ordering.TheVariants.{Less, Greater};
-ghost use Rattle.cell_key.specs.Entries.{IsEntry, lent_entry, Entry, IsEntryList, entries_from, entry_of_key, IsRising, spelled};
-ghost use Rattle.cell_key.specs.Keys.{byte_cmp};
+ghost use Rattle.cell_key.specs.Entries.{IsEntry, lent_entry, Entry, IsEntryList, entries_from, IsRising, spelled};
+ghost use Rattle.cell_key.specs.Keys.{byte_cmp, text};
 ghost use Rattle.cell_key.specs.LentKeys.{IsLentKey};
-ghost use Rattle.sorted_file.specs.Index.{first_of, IsFirstText, IsRowPosition, blocks_of, AreRows};
+ghost use Rattle.sorted_file.specs.Index.{first_of, last_of, IsBlockNumber, IsFirstText, IsRowPosition, blocks_of, AreRows};
 ghost use Rattle.sorted_file.specs.Check.{IsFollowed};
 ghost use Rattle.sorted_file.specs.Grammar.{block_bytes, Fits};
-ghost use Rattle.sorted_file.specs.Block.{last_text, BeginsFrom, IsLastText, IsBehind, IsSpelling, BeginsWith, IsParsed, bytes_at, entry_at, first_value};
-ghost use Rattle.sorted_file.specs.File.{IsShortValue, value_bytes};
+ghost use Rattle.sorted_file.specs.Block.{last_text, BeginsFrom, IsLastText, IsBehind, IsSpelling, BeginsWith, IsParsed, bytes_at, entry_at, first_from};
+ghost use Rattle.sorted_file.specs.File.{MayHaveInBlock};
+ghost use Rattle.sorted_file.specs.Newest.{IsOfColumn, IsShortValue, found_bytes};
 ghost use Rattle.sorted_file.specs.Source.{IsReadRefusal};
 
 use crate::bounds::ColumnBounds;
 use crate::format::{BLOCK_LIMIT, LENGTH, MOST_VALUE, is_short, read_entry, spelled_len};
-use cell_key::{EntryRef, KeyRef, Refusal, are_same, compare_texts, next_key};
+use crate::lookup_key::LookupKey;
+use cell_key::{EntryRef, KeyRef, Refusal, Stamp, are_same, compare_texts, next_key};
 use std::alloc::Global;
 use std::snapshot::Snapshot;
 
@@ -221,25 +223,12 @@ impl Block {
         low
     }
 
-    /// The entry with this text.
-    pub(crate) fn find(&self, text: &[u8]) -> Option<EntryRef<'_>>
+    /// The first entry at or above this text.
+    fn first_from(&self, text: &[u8]) -> Option<EntryRef<'_>>
         ensures { (es : List Entry) → IsParsed es self.now
-            → option_map (λ entry. (lent_entry entry).1) result ≡ entry_of_key es text.now }
+            → option_map lent_entry result ≡ first_from text.now es }
     {
-        let entry = self.entry(self.position(text))?;
-        if compare_texts(text, entry.key).is_eq() {
-            Some(entry)
-        } else {
-            None
-        }
-    }
-
-    /// The first value at or above this text.
-    pub(crate) fn first_value(&self, text: &[u8]) -> Option<EntryRef<'_>>
-        ensures { (es : List Entry) → IsParsed es self.now
-            → option_map lent_entry result ≡ first_value (entries_from text.now es) }
-    {
-        self.first_value_from(self.position(text))
+        self.entry(self.position(text))
     }
 
     /// The text of the last entry; empty if there is none.
@@ -251,22 +240,6 @@ impl Block {
             Some(entry) => entry.key,
             None => &[],
         }
-    }
-
-    /// The first value at this index or a later one.
-    pub(crate) fn first_value_from(&self, from: usize) -> Option<EntryRef<'_>>
-        ensures { (es : List Entry) → IsParsed es self.now
-            → option_map lent_entry result ≡ first_value (drop from es) }
-    {
-        let mut at = from;
-        'erasures: while at < self.starts.len() {
-            let entry = self.entry(at)?;
-            if entry.value.is_some() {
-                return Some(entry);
-            }
-            at += 1;
-        }
-        None
     }
 }
 
@@ -291,50 +264,68 @@ fn copy_value(alloc: Global, value: Option<&[u8]>) -> Result<Option<Vec<u8>>, Re
     Ok(Some(copy))
 }
 
-/// The block's entry at a text: `Some(Some(..))` a value, `Some(None)` an erasure, `None` no entry. Answers `Damaged`
-/// if the value is too long, and `NoMemory` if there is no memory for it.
-pub(crate) fn value_at(
+/// The stamp and the value of the block's first entry at or above the key's text, if the entry is of the key's column and
+/// its stamp is from `lo` to the key's; an erasure has no value. Answers `Damaged` if the value is too long, and
+/// `NoMemory` if there is no memory for it.
+pub(crate) fn newest_at(
     alloc: Global,
     block: &Block,
-    text: &[u8],
-) -> Result<Option<Option<Vec<u8>>>, Refusal>
+    key: &LookupKey,
+    lo: Stamp,
+) -> Result<Option<(Stamp, Option<Vec<u8>>)>, Refusal>
     ensures found { IfOk result (λ found. (es : List Entry) → IsParsed es block.now
-        → option_map value_bytes found ≡ entry_of_key es text.now) }
-    ensures short { IfOk result (λ found. IfSome found IsShortValue) }
+        → IsOfColumn key.now lo (first_from (text key.now) es) (option_map found_bytes found)) }
+    ensures within { IfOk result (λ found.
+        IfSome found (λ entry. (lo ≤ entry.0) × (entry.0 ≤ key.now.stamp))) }
+    ensures short { IfOk result (λ found. IfSome found (λ entry. IsShortValue entry.1)) }
     ensures damaged { IsErrOf result Refusal.Damaged → (es : List Entry)
         → ¬ IsParsed es block.now }
     ensures refusal { IfErr result IsReadRefusal }
     ensures inside { ¬ IsErrOf result Refusal.Device }
 {
-    match block.find(text) {
-        Some(entry) => Ok(Some(copy_value(alloc, entry.value)?)),
-        None => Ok(None),
-    }
+    let Some(entry) = block.first_from(key.text()) else {
+        return Ok(None);
+    };
+    let Some(stamp) = key.stamp_from(lo, entry.key) else {
+        return Ok(None);
+    };
+    let value = copy_value(alloc, entry.value)?;
+    Ok(Some((stamp, value)))
 }
 
-/// The text of the block's first value at or above this text. Answers `NoMemory` if there is no memory.
-pub(crate) fn text_at(alloc: Global, block: &Block, text: &[u8]) -> Result<Option<Vec<u8>>, Refusal>
-    ensures found { IfOk result (λ found. (es : List Entry) → IsParsed es block.now
-        → option_map (λ bytes. bytes.items) found
-        ≡ option_map (λ e. e.0) (first_value (entries_from text.now es))) }
-    ensures refusal { IsOkUnless result Refusal.NoMemory }
-{
-    match block.first_value(text) {
-        Some(entry) => Ok(Some(Vec::from_slice(alloc, entry.key)?)),
-        None => Ok(None),
-    }
-}
-
-/// An open file's record of a block: its offset, its length in bytes and its first text.
+/// An open file's record of a block: its offset, its length in bytes, and its first and its last text.
 #[derive(Drop)]
 pub(crate) struct BlockRow {
     pub(crate) offset: u64,
     pub(crate) length: u32,
     pub(crate) first: Vec<u8>,
-    /// The bounds of its values.
+    pub(crate) last: Vec<u8>,
+    /// The bounds of its entries.
     pub(crate) bounds: ColumnBounds,
     /// The block when the file was opened. A ghost: it takes no memory.
     pub(crate) was: Snapshot<Block>,
+}
+
+impl BlockRow {
+    /// Whether the block may have an entry of the key's column, from `lo` to the key's stamp, as its first one at or above
+    /// the key's text: no, if its bounds rule it out, or if it begins above the key's text with another column or below
+    /// `lo`.
+    pub(crate) fn may_have(&self, key: &LookupKey, lo: Stamp) -> bool
+        ensures { result ≡ false → (s : ℕ) → lo ≤ s → s ≤ key.now.stamp
+            → ¬ MayHaveInBlock self.now key.now lo s }
+    {
+        if !self.bounds.meet_column(key.key(), lo) {
+            return false;
+        }
+        compare_texts(key.text(), &self.first).is_ge() || key.stamp_from(lo, &self.first).is_some()
+    }
+}
+
+/// The number of the first row with a last text at or above this one (the lower bound).
+pub(crate) fn number_of_block(rows: &[BlockRow], text: &[u8]) -> usize
+    ensures number { IsRising (map last_of rows.now) → IsBlockNumber text.now rows.now result }
+{
+    rows.partition_point(|row| compare_texts(text, &row.last).is_gt())
 }
 
 /// How many of the rows have a first text at or below this one (the upper bound).

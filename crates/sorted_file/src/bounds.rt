@@ -1,21 +1,13 @@
-//! Bounds of the values of a file and of its blocks, by which a read skips those without a value that it seeks.
+//! Bounds of the entries of a file and of its blocks, by which a read skips those without the entry that it seeks.
 
-ghost use Rattle.std.specs.List.{AllByRecursion};
-ghost use Rattle.std.specs.Option.{option_copied};
-ghost use Rattle.std.specs.Prelude.{◌≡◌, get_or, ◌≤◌, ℕ, List, false, IfOk, drop, option_map, ◌≢◌, ◌<◌, ◌^◌, length, IfSome, IfNone, ◌++◌, Option, IsOkUnless};
+ghost use Rattle.std.specs.Prelude.{◌≡◌, get_or, ◌≤◌, ℕ, List, false, ◌≢◌, IfSome, IfNone, ◌++◌, Option};
 ghost use Rattle.cell_key.specs.Keys.{text};
-ghost use Rattle.cell_key.specs.Texts.{escaped_byte, stamp_text};
-ghost use Rattle.cell_key.specs.Entries.{Entry};
+ghost use Rattle.cell_key.specs.Texts.{escaped_byte};
 ghost use Rattle.cell_key.specs.LentKeys.{IsLentKey};
 ghost use Rattle.cell_key.specs.declared.keys.CellKey.{CellKey as KeyOf};
-ghost use Rattle.sorted_file.specs.Block.{first_value, IsParsed};
-ghost use Rattle.sorted_file.specs.Newest.{at_stamp};
-ghost use Rattle.sorted_file.specs.Index.{first_some, skips};
 ghost use Rattle.sorted_file.specs.Bounds.{front, IsWithin, column_bounds, AreWithin, IsBounded};
 
-use crate::block::Block;
-use cell_key::{CellKey, KeyRef, Qualifier, Refusal, Stamp, are_same, stamp_of};
-use std::alloc::Global;
+use cell_key::{CellKey, KeyRef, Qualifier, Stamp};
 
 /// The byte of a row at an index; 0 past its end.
 fn byte_at(row: &[u8], at: usize) -> u8
@@ -99,7 +91,7 @@ fn front_in(bytes: &[u8]) -> u64
     }
 }
 
-/// Bounds of values: their least and greatest stamps, and the least and greatest first eight bytes of their rows. Empty
+/// Bounds of entries: their least and greatest stamps, and the least and greatest first eight bytes of their rows. Empty
 /// if a least is above its greatest.
 #[derive(Clone, Copy)]
 pub(crate) struct Bounds {
@@ -110,7 +102,7 @@ pub(crate) struct Bounds {
 }
 
 impl Bounds {
-    /// The bounds of no values.
+    /// The bounds of no entries.
     const NONE: Bounds = Bounds {
         least: u64::MAX,
         greatest: 0,
@@ -118,7 +110,7 @@ impl Bounds {
         last: 0,
     };
 
-    /// Widens the bounds to a value at this stamp in a row whose first eight bytes are this number.
+    /// Widens the bounds to an entry at this stamp in a row whose first eight bytes are this number.
     fn widen(&mut self, number: u64, stamp: Stamp)
         ensures has { (row : List ℕ) → number ≡ front row → IsWithin self.new row stamp }
         ensures keeps { (row : List ℕ) (s : ℕ) → IsWithin self.old row s → IsWithin self.new row s }
@@ -129,7 +121,7 @@ impl Bounds {
         self.last = self.last.max(number);
     }
 
-    /// Bounds of the values of both (their union).
+    /// Bounds of the entries of both (their union).
     fn joined(self, other: Bounds) -> Bounds
         ensures first { (row : List ℕ) (s : ℕ) → IsWithin self row s → IsWithin result row s }
         ensures second { (row : List ℕ) (s : ℕ) → IsWithin other row s → IsWithin result row s }
@@ -159,7 +151,7 @@ impl Bounds {
     }
 }
 
-/// The bounds of values, for each kind of column.
+/// The bounds of entries, values and erasures, for each kind of column.
 #[derive(Clone, Copy)]
 pub(crate) struct ColumnBounds {
     pub(crate) data: Bounds,
@@ -168,7 +160,7 @@ pub(crate) struct ColumnBounds {
 }
 
 impl ColumnBounds {
-    /// The bounds of no values.
+    /// The bounds of no entries.
     pub(crate) const NONE: ColumnBounds = ColumnBounds {
         data: Bounds::NONE,
         lock: Bounds::NONE,
@@ -186,7 +178,7 @@ impl ColumnBounds {
         }
     }
 
-    /// Widens the bounds to a value at this key.
+    /// Widens the bounds to an entry at this key.
     #[inline(always)]
     pub(crate) fn widen(&mut self, key: KeyRef<'_>)
         requires { IsLentKey key }
@@ -201,7 +193,7 @@ impl ColumnBounds {
         }
     }
 
-    /// Bounds of the values of both (their union).
+    /// Bounds of the entries of both (their union).
     pub(crate) fn joined(self, other: ColumnBounds) -> ColumnBounds
         ensures first { AreWithin self result }
         ensures second { AreWithin other result }
@@ -213,7 +205,7 @@ impl ColumnBounds {
         }
     }
 
-    /// Whether there may be a value in a column of this kind at a stamp in `lo..=hi`.
+    /// Whether there may be an entry in a column of this kind at a stamp in `lo..=hi`.
     pub(crate) fn meet(&self, qualifier: Qualifier, lo: Stamp, hi: Stamp) -> bool
         ensures { result ≡ false → (row : List ℕ) (s : ℕ) → lo ≤ s → s ≤ hi
             → ¬ (IsWithin (column_bounds self.now qualifier) row s) }
@@ -221,77 +213,12 @@ impl ColumnBounds {
         self.of(qualifier).meets(lo, hi)
     }
 
-    /// Whether there may be a value in the key's column at a stamp from `lo` to the key's.
+    /// Whether there may be an entry in the key's column at a stamp from `lo` to the key's.
     pub(crate) fn meet_column(&self, key: &CellKey, lo: Stamp) -> bool
         ensures { result ≡ false → (s : ℕ) → lo ≤ s → s ≤ key.now.stamp
             → ¬ (IsWithin (column_bounds self.now key.now.qualifier) key.now.row s) }
     {
         let bounds = self.of(key.qualifier);
         bounds.meets(lo, key.stamp) && bounds.has_front(front_of(key.row.as_bytes()))
-    }
-}
-
-/// The text of the first value of a block, if it has one. Answers `NoMemory` if there is no memory.
-pub(crate) fn head_of(alloc: Global, block: &Block) -> Result<Option<Vec<u8>>, Refusal>
-    ensures head { IfOk result (λ head. (es : List Entry) → IsParsed es block.now
-        → option_map (λ text. text.items) head ≡ option_map (λ e. e.0) (first_value es)) }
-    ensures refusal { IsOkUnless result Refusal.NoMemory }
-{
-    match block.first_value_from(0) {
-        Some(entry) => Ok(Some(Vec::from_slice(alloc, entry.key)?)),
-        None => Ok(None),
-    }
-}
-
-/// For each head, how many heads from it on are missing before the next one that is present. Answers `NoMemory` if
-/// there is no memory.
-pub(crate) fn skips_of(alloc: Global, heads: &[Option<Vec<u8>>]) -> Result<Vec<usize>, Refusal>
-    ensures skips { IfOk result (λ counts. counts.items ≡ skips heads.now) }
-    ensures refusal { IsOkUnless result Refusal.NoMemory }
-{
-    let mut skips = Vec::with_capacity(alloc, heads.len())?;
-    let mut rest = heads;
-    let mut missing = 0;
-    'heads: while let Some((head, before)) = rest.split_last() {
-        missing = if head.is_some() { 0 } else { missing + 1 };
-        skips.push(missing)?;
-        rest = before;
-    }
-    skips.reverse();
-    Ok(skips)
-}
-
-/// The first head that is present at or behind an index; `counts` are the heads' skips.
-pub(crate) fn next_head<'a>(
-    heads: &'a [Option<Vec<u8>>],
-    counts: &[usize],
-    at: usize,
-) -> Option<&'a Vec<u8>>
-    ensures { counts.now ≡ skips heads.now
-        → option_copied result ≡ first_some (drop at heads.now) }
-{
-    let skip = *counts.get(at)?;
-    let head = heads.split_at(at.min(heads.len())).1.get(skip)?;
-    head.as_ref()
-}
-
-/// The stamp of the text `bytes`, if it is in the column of the text `column`.
-pub(crate) fn stamp_in(column: &[u8], bytes: &[u8]) -> Option<Stamp>
-    requires { 8 ≤ length column.now }
-    ensures some { IfSome result (λ stamp. (key : KeyOf) → column.now ≡ text key
-        → bytes.now ≡ text (at_stamp key stamp)) }
-    ensures none { IfNone result ((key : KeyOf) → column.now ≡ text key
-        → (stamp : ℕ) → bytes.now ≢ text (at_stamp key stamp)) }
-    ensures small { IfSome result (λ stamp. stamp < 2 ^ 64) }
-{
-    if bytes.len() != column.len() {
-        return None;
-    }
-    let at = column.len() - 8;
-    let (front, falling) = bytes.split_at(at);
-    if are_same(front, column.split_at(at).0) {
-        stamp_of(falling)
-    } else {
-        None
     }
 }

@@ -1,14 +1,15 @@
-//! A file built in memory entry by entry, and the state of an open file for it.
+//! A file that is written in pieces, entry by entry, and the state of an open file for it.
 
 ghost use Rattle.std.specs.List.{AllByRecursion};
-ghost use Rattle.std.specs.Prelude.{◌≡◌, ◌≤◌, ◌<◌, ◌+◌, ◌^◌, ◌++◌, ◌∷◌, [], true, false, List, length, flat_map, IfOk, IfErr, IfSome, IfNone, OnOk, IsErrOf, IsOkUnless, ◌⊎◌};
+ghost use Rattle.std.specs.Prelude.{◌≡◌, ◌≤◌, ◌<◌, ◌+◌, ◌^◌, ◌++◌, ◌∷◌, [], true, false, ℕ, List, length, flat_map, IfOk, IfErr, IfSome, IfNone, OnOk, IsErrOf, IsOkUnless, ◌⊎◌};
 ghost use Rattle.cell_key.specs.Entries.{Entry, IsEntryList, entry_len, lent_entry};
 ghost use Rattle.cell_key.specs.LentKeys.{IsLentKey};
 ghost use Rattle.sorted_file.specs.Block.{IsLastText, entries_of, last_text};
-ghost use Rattle.sorted_file.specs.Builder.{HasRoom, HasShortText, IsReady, IsSound, built, row_spelled};
+ghost use Rattle.sorted_file.specs.Builder.{HasClosed, HasImage, HasRoom, HasShortText, IsReady, IsSound, Pushes, built, closed, row_spelled};
 ghost use Rattle.sorted_file.specs.Check.{IsFollowed, IsFormed, IsOpening};
-ghost use Rattle.sorted_file.specs.Grammar.{Fits, FitsIn};
+ghost use Rattle.sorted_file.specs.Grammar.{Fits, FitsIn, body, head};
 ghost use Rattle.sorted_file.specs.Index.{blocks_of, entries_in};
+ghost use Rattle.sorted_file.specs.Source.{IsFaultRefusal, IsWriteRefusal};
 ghost use Rattle.sorted_file.specs.declared.format.Format.TheVariants.{Two};
 
 use crate::block::{BlockRow, Extent, key_behind};
@@ -16,7 +17,9 @@ use crate::check::Opening;
 use crate::format::{Format, push_field, push_foot, push_number, spelled_len};
 use crate::gathering::GatheredBlock;
 use crate::lock_index::LockIndex;
+use crate::source::refusal_of;
 use cell_key::{EntryRef, KeyRef, Qualifier, Refusal, Stamp};
+use file_store::Files;
 use std::alloc::Global;
 use std::mem;
 
@@ -31,11 +34,14 @@ pub(crate) struct LastKey {
     pub(crate) stamp: Stamp,
 }
 
+/// How many bytes of closed blocks are pushed at once, or more.
+const PIECE_LEN: usize = 65_536;
+
 /// A file of format 2 under construction. It cannot be used after an `Err`.
 #[derive(Drop)]
 pub(crate) struct FileBuilder {
     alloc: Global,
-    /// The head and the closed blocks.
+    /// The bytes of the head and the closed blocks that aren't pushed yet.
     out: Vec<u8>,
     /// An open file's state of these blocks.
     pub(crate) opening: Opening,
@@ -52,6 +58,7 @@ impl FileBuilder {
         ensures ready { IfOk result IsReady }
         ensures size { IfOk result (λ builder. builder.opening.size ≡ limit) }
         ensures built { IfOk result (λ builder. built builder ≡ []) }
+        ensures out { IfOk result (λ builder. builder.out.items ≡ closed builder) }
         ensures memory { IsOkUnless result Refusal.NoMemory }
     {
         Ok(FileBuilder {
@@ -100,6 +107,9 @@ impl FileBuilder {
         requires followed { IsFollowed (blocks_of self.old.opening.rows.items)
             (entries_of self.old.current.block) }
         ensures sound { OnOk result (IsSound self.new) }
+        ensures closed { OnOk result ((front : List ℕ)
+            → front ++ self.old.out.items ≡ closed self.old
+            → front ++ self.new.out.items ≡ closed self.new) }
         ensures blocks { OnOk result (blocks_of self.new.opening.rows.items
             ≡ blocks_of self.old.opening.rows.items ++ entries_of self.old.current.block ∷ []) }
         ensures none { OnOk result (entries_of self.new.current.block ≡ []) }
@@ -112,19 +122,30 @@ impl FileBuilder {
         self.opening.add(closed)
     }
 
-    /// Closes the open block if it has no room for the entry. Answers `NoMemory` if there is no memory.
-    fn make_room(&mut self, entry: EntryRef<'_>) -> Result<(), Refusal>
-        requires { IsReady self.old }
+    /// Closes the open block if it has no room for the entry. Answers `Device` if a device fails, and `NoMemory` if
+    /// there is no memory.
+    fn make_room<F: Files>(
+        &mut self,
+        entry: EntryRef<'_>,
+        writing: &mut F::Writing,
+        files: &mut F,
+    ) -> Result<(), Refusal>
+        requires ready { IsReady self.old }
+        requires closed { HasClosed F.has writing.old self.old }
         ensures sound { OnOk result (IsSound self.new) }
+        ensures closed { OnOk result (HasClosed F.has writing.new self.new) }
         ensures built { OnOk result (built self.new ≡ built self.old) }
         ensures size { OnOk result (self.new.opening.size ≡ self.old.opening.size) }
         ensures room { OnOk result (HasRoom self.new (lent_entry entry.entry)) }
-        ensures memory { IsOkUnless result Refusal.NoMemory }
+        ensures refusal { IfErr result IsFaultRefusal }
+        ensures pushes { Pushes F.contents F.faults F.writes_to
+            files.old files.new writing.old writing.new result }
     {
         if self.current.block.has_room(entry) {
             return Ok(());
         }
-        self.close_block()
+        self.close_block()?;
+        push_piece(&mut self.out, writing, files)
     }
 
     /// Whether the file with one more entry stays within its limit, without index and foot.
@@ -141,11 +162,19 @@ impl FileBuilder {
     }
 
     /// Adds an entry. `over` is the index of the older files' locks. Answers `Damaged` if the entries with it are no
-    /// entry list, `FileTooLarge` if it doesn't fit behind the bytes so far, and `NoMemory` if there is no memory for
-    /// it.
-    pub(crate) fn push(&mut self, entry: EntryRef<'_>, over: &LockIndex) -> Result<(), Refusal>
-        requires { IsReady self.old }
+    /// entry list, `FileTooLarge` if it doesn't fit behind the bytes so far, `Device` if a device fails, and `NoMemory`
+    /// if there is no memory for it.
+    pub(crate) fn push<F: Files>(
+        &mut self,
+        entry: EntryRef<'_>,
+        over: &LockIndex,
+        writing: &mut F::Writing,
+        files: &mut F,
+    ) -> Result<(), Refusal>
+        requires ready { IsReady self.old }
+        requires closed { HasClosed F.has writing.old self.old }
         ensures ready { OnOk result (IsReady self.new) }
+        ensures closed { OnOk result (HasClosed F.has writing.new self.new) }
         ensures size { OnOk result (self.new.opening.size ≡ self.old.opening.size) }
         ensures built { OnOk result (built self.new
             ≡ built self.old ++ lent_entry entry.entry ∷ []) }
@@ -153,8 +182,9 @@ impl FileBuilder {
             → ¬ IsEntryList (built self.old ++ lent_entry entry.entry ∷ []) }
         ensures large { IsErrOf result Refusal.FileTooLarge → (es : List Entry)
             → ¬ FitsIn self.old.opening.size (built self.old ++ lent_entry entry.entry ∷ es) }
-        ensures refusal { IfErr result (λ refusal. (refusal ≡ Refusal.Damaged)
-            ⊎ (refusal ≡ Refusal.FileTooLarge) ⊎ (refusal ≡ Refusal.NoMemory)) }
+        ensures refusal { IfErr result IsWriteRefusal }
+        ensures pushes { Pushes F.contents F.faults F.writes_to
+            files.old files.new writing.old writing.new result }
     {
         let Some(key) = self.key_of_next(entry) else {
             return Err(Refusal::Damaged);
@@ -162,7 +192,7 @@ impl FileBuilder {
         if !self.allows(entry) {
             return Err(Refusal::FileTooLarge);
         }
-        self.make_room(entry)?;
+        self.make_room(entry, writing, files)?;
         self.last = Some(LastKey {
             text: self.current.block.next_text(entry.key),
             place_len: key.place_len,
@@ -173,65 +203,116 @@ impl FileBuilder {
         Ok(())
     }
 
-    /// The state of the open file, and the file's bytes. Answers `FileTooLarge` if they are more than the limit, and
-    /// `NoMemory` if there is no memory for them.
-    pub(crate) fn finish(self) -> Result<(Opening, Vec<u8>), Refusal>
-        requires { IsReady self }
-        ensures opening { IfOk result (λ made. IsOpening made.0) }
-        ensures formed { IfOk result (λ made. IsFormed made.0 made.1.items) }
-        ensures entries { IfOk result (λ made.
-            entries_in (blocks_of made.0.rows.items) ≡ built self) }
-        ensures format { IfOk result (λ made. made.0.format ≡ Two) }
-        ensures within { IfOk result (λ made. length made.1.items ≤ self.opening.size) }
+    /// Pushes the rest of the file, and answers the state of the open file. Answers `FileTooLarge` if the file has more
+    /// bytes than the limit, `Device` if a device fails, and `NoMemory` if there is no memory for it.
+    pub(crate) fn finish<F: Files>(
+        self,
+        writing: &mut F::Writing,
+        files: &mut F,
+    ) -> Result<Opening, Refusal>
+        requires ready { IsReady self }
+        requires closed { HasClosed F.has writing.old self }
+        ensures opening { IfOk result IsOpening }
+        ensures image { IfOk result (λ opening.
+            HasImage F.has writing.new opening self.opening.size) }
+        ensures entries { IfOk result (λ opening.
+            entries_in (blocks_of opening.rows.items) ≡ built self) }
+        ensures format { IfOk result (λ opening. opening.format ≡ Two) }
         ensures large { IsErrOf result Refusal.FileTooLarge
             → ¬ FitsIn self.opening.size (built self) }
-        ensures refusal { IfErr result (λ refusal. (refusal ≡ Refusal.FileTooLarge)
-            ⊎ (refusal ≡ Refusal.NoMemory)) }
+        ensures refusal { IfErr result (λ refusal.
+            (refusal ≡ Refusal.FileTooLarge) ⊎ IsFaultRefusal refusal) }
+        ensures pushes { Pushes F.contents F.faults F.writes_to
+            files.old files.new writing.old writing.new result }
     {
         if self.current.block.is_empty() {
-            return self.into_image();
+            return self.push_rest(writing, files);
         }
         let mut builder = self;
         builder.close_block()?;
-        builder.into_image()
+        builder.push_rest(writing, files)
     }
 
-    /// An open file's state of the closed blocks, and the bytes of the file of them. Answers `FileTooLarge` if they are
-    /// more than the limit, and `NoMemory` if there is no memory for them.
-    fn into_image(self) -> Result<(Opening, Vec<u8>), Refusal>
-        requires { IsSound self }
-        ensures opening { IfOk result (λ made. made.0 ≡ self.opening) }
-        ensures formed { IfOk result (λ made. IsFormed self.opening made.1.items) }
-        ensures within { IfOk result (λ made. length made.1.items ≤ self.opening.size) }
+    /// Does the same of the file of the closed blocks.
+    fn push_rest<F: Files>(
+        self,
+        writing: &mut F::Writing,
+        files: &mut F,
+    ) -> Result<Opening, Refusal>
+        requires sound { IsSound self }
+        requires closed { HasClosed F.has writing.old self }
+        ensures opening { IfOk result (λ opening. opening ≡ self.opening) }
+        ensures image { IfOk result (λ opening.
+            HasImage F.has writing.new opening self.opening.size) }
         ensures large { IsErrOf result Refusal.FileTooLarge → ¬ FitsIn self.opening.size
             (entries_in (blocks_of self.opening.rows.items)) }
-        ensures refusal { IfErr result (λ refusal. (refusal ≡ Refusal.FileTooLarge)
-            ⊎ (refusal ≡ Refusal.NoMemory)) }
+        ensures refusal { IfErr result (λ refusal.
+            (refusal ≡ Refusal.FileTooLarge) ⊎ IsFaultRefusal refusal) }
+        ensures pushes { Pushes F.contents F.faults F.writes_to
+            files.old files.new writing.old writing.new result }
     {
         let FileBuilder {
-            alloc,
             mut out,
             opening,
             ..
         } = self;
-        let rows = index_of(alloc, &opening.rows)?;
-        let foot_len = Format::Two.foot_len();
-        let size = out.len() as u128 + rows.len() as u128 + foot_len as u128;
-        if size > opening.size as u128 {
-            return Err(Refusal::FileTooLarge);
-        }
-        out.reserve_exact(rows.len() + foot_len as usize)?;
-        out.extend_from_slice(&rows)?;
-        push_foot(
-            &mut out,
-            Format::Two,
-            opening.end,
-            opening.rows.len() as u64,
-            opening.count,
-            size as u64,
-        )?;
-        Ok((opening, out))
+        push_end(&mut out, &opening)?;
+        files.push(writing, &out).map_err(refusal_of)?;
+        Ok(opening)
     }
+}
+
+/// Pushes bytes to a file and clears them, if they are many. Answers `Device` if a device fails, and `NoMemory` if
+/// there is no memory.
+fn push_piece<F: Files>(
+    out: &mut Vec<u8>,
+    writing: &mut F::Writing,
+    files: &mut F,
+) -> Result<(), Refusal>
+    ensures pushed { OnOk result ((front : List ℕ) → F.has writing.old front
+        → (now : List ℕ)
+        × (F.has writing.new now × (now ++ out.new.items ≡ front ++ out.old.items))) }
+    ensures refusal { IfErr result IsFaultRefusal }
+    ensures pushes { Pushes F.contents F.faults F.writes_to
+        files.old files.new writing.old writing.new result }
+{
+    if out.len() < PIECE_LEN {
+        return Ok(());
+    }
+    files.push(writing, out).map_err(refusal_of)?;
+    out.clear();
+    Ok(())
+}
+
+/// Appends the index and the foot of a file. Answers `FileTooLarge` if the file has more bytes than the limit, and
+/// `NoMemory` if there is no memory.
+fn push_end(out: &mut Vec<u8>, opening: &Opening) -> Result<(), Refusal>
+    requires opening { IsOpening opening.now }
+    requires format { opening.now.format ≡ Two }
+    ensures formed { OnOk result ((pushed : List ℕ)
+        → pushed ++ out.old.items ≡ head Two ++ body (blocks_of opening.now.rows.items)
+        → IsFormed opening.now (pushed ++ out.new.items)
+        × (length (pushed ++ out.new.items) ≤ opening.now.size)) }
+    ensures large { IsErrOf result Refusal.FileTooLarge → ¬ FitsIn opening.now.size
+        (entries_in (blocks_of opening.now.rows.items)) }
+    ensures refusal { IfErr result (λ refusal. (refusal ≡ Refusal.FileTooLarge)
+        ⊎ (refusal ≡ Refusal.NoMemory)) }
+{
+    let rows_at = out.len();
+    push_index(out, &opening.rows)?;
+    let foot_len = Format::Two.foot_len();
+    let size = opening.end as u128 + (out.len() - rows_at) as u128 + foot_len as u128;
+    if size > opening.size as u128 {
+        return Err(Refusal::FileTooLarge);
+    }
+    push_foot(
+        out,
+        Format::Two,
+        opening.end,
+        opening.rows.len() as u64,
+        opening.count,
+        size as u64,
+    )
 }
 
 /// Appends a block's row to an index. Answers `NoMemory` if there is no memory.
@@ -245,17 +326,16 @@ fn push_row(index: &mut Vec<u8>, row: &BlockRow) -> Result<(), Refusal>
     push_field(index, &row.first)
 }
 
-/// The index with these rows. Answers `NoMemory` if there is no memory.
-fn index_of(alloc: Global, rows: &[BlockRow]) -> Result<Vec<u8>, Refusal>
+/// Appends the index of these rows. Answers `NoMemory` if there is no memory.
+fn push_index(out: &mut Vec<u8>, rows: &[BlockRow]) -> Result<(), Refusal>
     requires { AllByRecursion HasShortText rows.now }
-    ensures index { IfOk result (λ index. index.items ≡ flat_map row_spelled rows.now) }
+    ensures ok { OnOk result (out.new.items ≡ out.old.items ++ flat_map row_spelled rows.now) }
     ensures memory { IsOkUnless result Refusal.NoMemory }
 {
-    let mut index = Vec::new(alloc);
     let mut rest = rows;
     'rows: while let Some((row, after)) = rest.split_first() {
-        push_row(&mut index, row)?;
+        push_row(out, row)?;
         rest = after;
     }
-    Ok(index)
+    Ok(())
 }

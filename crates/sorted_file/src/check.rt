@@ -14,7 +14,6 @@ ghost use Rattle.sorted_file.specs.File.{HasFile};
 ghost use Rattle.sorted_file.specs.Source.{ReadsFiles, IsReadRefusal};
 
 use crate::block::{Block, BlockRow, is_followed};
-use crate::bounds::head_of;
 use crate::format::{
     Format, HEAD, LONGEST_BLOCK, RowRef, format_of, index_offset, is_below, push_foot, read_row,
 };
@@ -131,8 +130,6 @@ pub(crate) struct Opening {
     /// The size of the file in bytes, or its limit if it is being written.
     pub(crate) size: u64,
     pub(crate) rows: Vec<BlockRow>,
-    /// The text of each block's first value, if the block has a value.
-    pub(crate) heads: Vec<Option<Vec<u8>>>,
     pub(crate) columns: Columns,
     /// How many entries there are.
     pub(crate) count: u64,
@@ -159,7 +156,6 @@ impl Opening {
             format,
             size,
             rows: Vec::new(alloc),
-            heads: Vec::new(alloc),
             columns: Columns::new(alloc),
             count: 0,
             last: Vec::new(alloc),
@@ -244,8 +240,8 @@ impl Opening {
         let GatheredBlock { block, columns } = next;
         let length = block.bytes.len();
         let first = Vec::from_slice(self.alloc, block.first_text())?;
-        let head = head_of(self.alloc, &block)?;
         let last = Vec::from_slice(self.alloc, block.last_text())?;
+        let row_last = Vec::from_slice(self.alloc, block.last_text())?;
         let bounds = columns.bounds;
         self.columns.join(columns)?;
         let was = Snapshot::of(&block);
@@ -253,10 +249,10 @@ impl Opening {
             offset: self.end,
             length: length as u32,
             first,
+            last: row_last,
             bounds,
             was,
         })?;
-        self.heads.push(head)?;
         self.last = last;
         self.count += block.len() as u64;
         self.end += length as u64;

@@ -1,20 +1,19 @@
 //! A file of entries, open for reading.
 
-ghost use Rattle.std.specs.Prelude.{OnOk, ◌≡◌, ◌≤◌, ◌<◌, ◌^◌, ◌-◌, List, ℕ, drop, Option, Some, None, true, false, length, slice_get, take, option_map, IfOk, IfSome, IsErrOf, Contains, IsOkUnless};
+ghost use Rattle.std.specs.Prelude.{◌≡◌, ◌≤◌, ◌<◌, List, ℕ, Option, Some, None, false, length, slice_get, take, option_map, IfOk, IfSome, IsErrOf, IsOkUnless};
 ghost use Rattle.std.specs.NonZero.{non_zero_usize_get};
-ghost use Rattle.cell_key.specs.Entries.{Entry, entry_of_key, entries_from};
-ghost use Rattle.cell_key.specs.Faults.{HasReason};
+ghost use Rattle.cell_key.specs.Entries.{Entry, entries_from};
 ghost use Rattle.cell_key.specs.Keys.{text};
 ghost use Rattle.file_store.specs.Store.{Contents};
 ghost use Rattle.lru.specs.LruCache.{lru_cache};
-ghost use Rattle.sorted_file.specs.Index.{block_of, blocks_of, entries_in, Tells};
-ghost use Rattle.sorted_file.specs.File.{IsUncached, IsShortValue, value_bytes};
-ghost use Rattle.sorted_file.specs.Block.{IsParsed, first_value};
+ghost use Rattle.sorted_file.specs.Index.{block_of, Tells};
+ghost use Rattle.sorted_file.specs.File.{IsUncached};
+ghost use Rattle.sorted_file.specs.Block.{IsParsed, first_from};
 ghost use Rattle.sorted_file.specs.Source.{ReadsFiles};
 ghost use Rattle.sorted_file.specs.declared.block.BlockRow.{BlockRow as Row};
 
-use crate::block::{Block, BlockRow, rows_to, text_at, value_at};
-use crate::bounds::{ColumnBounds, next_head, skips_of, stamp_in};
+use crate::block::{Block, BlockRow, newest_at, number_of_block, rows_to};
+use crate::bounds::ColumnBounds;
 use crate::cache::{few_blocks, keep, no_blocks, promote, resize};
 use crate::check::{Opening, read_file};
 use crate::cursor::FileCursor;
@@ -24,7 +23,7 @@ use crate::lock_values::LockValue;
 use crate::lookup_key::LookupKey;
 use crate::numbers::Numbers;
 use crate::source::read_part;
-use cell_key::{CellKey, Qualifier, Refusal, Stamp};
+use cell_key::{CellKey, Refusal, Stamp};
 use file_store::Files;
 use lru::LruCache;
 use std::alloc::Global;
@@ -37,10 +36,6 @@ pub struct SortedFile {
     name: u64,
     /// The index: a row for each block.
     rows: Vec<BlockRow>,
-    /// The text of each block's first value, if the block has a value.
-    heads: Vec<Option<Vec<u8>>>,
-    /// For each block, how many blocks from it on have no value before the next one that has.
-    skips: Vec<usize>,
     /// How many entries there are.
     count: u64,
     pub(crate) bounds: ColumnBounds,
@@ -59,11 +54,9 @@ pub struct SortedFile {
 
 impl SortedFile {
     ghost use Rattle.sorted_file.specs.Cursor.{cursor_lent, cursor_remaining, CursorHolds};
-    ghost use Rattle.sorted_file.specs.Newest.{IsFirstIn, IsNewestStamp};
-    ghost use Rattle.sorted_file.specs.Numbers.{number_of};
-    ghost use Rattle.sorted_file.specs.Bounds.{column_bounds, HasNoValue, IsWithin};
+    ghost use Rattle.sorted_file.specs.Newest.{at_stamp, found_bytes, IsNewestEntry, IsOfColumn, IsShortValue};
     ghost use Rattle.sorted_file.specs.Check.{IsOpening, IsWhole};
-    ghost use Rattle.sorted_file.specs.File.{HasBlockNow, HasFile, IsCursorOf, IsFoundNow, IsOpen, IsReadFrom, IsReadNow, IsSameFile, IsSearchedNow, KeepsWhatItRead, listed, name_of, MayHaveIn};
+    ghost use Rattle.sorted_file.specs.File.{count_of, HasFile, IsCursorOf, IsFoundNow, IsOpen, IsReadFrom, IsReadNow, IsSameFile, KeepsWhatItRead, listed, name_of, MayHaveKey};
 
     /// Opens a file with a cache of 8 blocks. Answers `Damaged` if the file doesn't exist or is no entry list's file,
     /// `Device` if a device fails, and `NoMemory` if there is no memory.
@@ -133,7 +126,6 @@ impl SortedFile {
     {
         let Opening {
             rows,
-            heads,
             count,
             columns,
             ..
@@ -145,7 +137,6 @@ impl SortedFile {
             lock_values,
             named_locks,
         } = columns;
-        let skips = skips_of(alloc, &heads)?;
         let cache = no_blocks(alloc, most_blocks)?;
         let numbers = Numbers::new(alloc, numbers)?;
         let lock_keys = Numbers::new(alloc, lock_keys)?;
@@ -153,8 +144,6 @@ impl SortedFile {
             alloc,
             name,
             rows,
-            heads,
-            skips,
             count,
             bounds,
             numbers,
@@ -174,104 +163,92 @@ impl SortedFile {
 
     /// How many entries the file has, erasures included. Allocates nothing and reads nothing.
     pub fn len(&self) -> usize
-        ensures { (m : Contents) → IsOpen m self.now → result ≡ length (listed m self.now) }
+        ensures count { result ≡ count_of self.now }
+        ensures listed { (m : Contents) → IsOpen m self.now
+            → result ≡ length (listed m self.now) }
     {
         self.count as usize
     }
 
-    /// Whether the file may have an entry in the key's column.
-    fn may_have_value(&self, key: &LookupKey) -> bool
-        ensures { result ≡ false → ¬ MayHaveIn self.now (number_of (text key.now)) }
+    /// Whether, by its hashes and bounds, the file may have an entry of the key's column at a stamp from `lo` to the key's.
+    /// A single lock is tested by its key. Allocates nothing and reads nothing.
+    fn may_have(&self, key: &LookupKey, lo: Stamp) -> bool
+        ensures { result ≡ false → (s : ℕ) → lo ≤ s → s ≤ key.now.stamp
+            → ¬ MayHaveKey self.now (at_stamp key.now s) }
     {
-        self.numbers.has(key.column_number())
-    }
-
-    /// Whether the file may have an entry of a key, value or erasure. A lock's key is tested itself; for any other key
-    /// the test is whether the file may have an entry in the key's column. Allocates nothing and reads nothing.
-    pub fn may_have_key(&self, key: &LookupKey) -> bool
-        requires from { 1 ≤ key.now.stamp }
-        requires to { key.now.stamp < 2 ^ 63 }
-        ensures none { result ≡ false → (m : Contents) → IsOpen m self.now
-            → entry_of_key (listed m self.now) (text key.now) ≡ None }
-    {
-        match key.key().qualifier {
-            Qualifier::Lock => self.lock_keys.has(key.entry_number()),
-            Qualifier::Data | Qualifier::Write => self.numbers.has(key.entry_number()),
+        if key.is_one_lock(lo) {
+            return self.lock_keys.has(key.entry_number());
         }
+        self.numbers.has(key.column_number()) && self.bounds.meet_column(key.key(), lo)
     }
 
-    /// The file's entry of a key: a value of at most 65,536 bytes, `Some(None)` if it is an erasure, `None` if the file
-    /// has no entry of the key. Reads at most one block, and none that is still cached from an earlier look-up. The
-    /// file is unchanged, even after an `Err`.
+    /// The file's newest entry of the key's column at a stamp from `lo` to the key's: its stamp, and its value of at most
+    /// 65,536 bytes, or `None` for an erasure. With `lo` the key's stamp it is the look-up of one version. Reads at most
+    /// one block, and none that is still cached from an earlier read, or if what is kept in memory rules such an entry
+    /// out: hashes, bounds, and the first and last texts of blocks. The file is unchanged, even after an `Err`.
     ///
     /// # Errors
     ///
     /// `Device`, `NoMemory`, and `Damaged` only if the file has changed since it was opened.
-    pub fn lookup<F: Files>(
-        &mut self,
-        key: &CellKey,
-        files: &mut F,
-    ) -> Result<Option<Option<Vec<u8>>>, Refusal>
-        ensures found { IfOk result (λ found. IfSome (F.contents files.old) (λ m. IsOpen m self.old
-            → option_map value_bytes found ≡ entry_of_key (listed m self.old) (text key.now))) }
-        ensures now { IfOk result (λ found. IsFoundNow (F.contents files.old) self.old
-            (text key.now) (option_map value_bytes found)) }
-        ensures short { IfOk result (λ found. IfSome found IsShortValue) }
-        ensures stays { IsSameFile (F.contents files.old) self.old self.new }
-        ensures kept { KeepsWhatItRead (F.contents files.old) self.old self.new }
-        ensures damaged { IsErrOf result Refusal.Damaged
-            → IfSome (F.contents files.old) (λ m. ¬ IsOpen m self.old) }
-        ensures reads { ReadsFiles F.contents F.faults files.old files.new result }
-    {
-        let key = LookupKey::new(self.alloc, key.clone()?)?;
-        self.find(&key, files)
-    }
-
-    /// The same as `lookup`, for a key whose text was encoded once for all files.
-    ///
-    /// # Errors
-    ///
-    /// `Device`, `NoMemory`, and `Damaged` only if the file has changed since it was opened.
-    pub fn find<F: Files>(
+    pub fn newest<F: Files>(
         &mut self,
         key: &LookupKey,
+        lo: Stamp,
         files: &mut F,
-    ) -> Result<Option<Option<Vec<u8>>>, Refusal>
+    ) -> Result<Option<(Stamp, Option<Vec<u8>>)>, Refusal>
         ensures found { IfOk result (λ found. IfSome (F.contents files.old) (λ m. IsOpen m self.old
-            → option_map value_bytes found ≡ entry_of_key (listed m self.old) (text key.now))) }
-        ensures now { IfOk result (λ found. IsFoundNow (F.contents files.old) self.old
-            (text key.now) (option_map value_bytes found)) }
-        ensures short { IfOk result (λ found. IfSome found IsShortValue) }
+            → IsNewestEntry (listed m self.old) key.now lo (option_map found_bytes found))) }
+        ensures now { IfOk result (λ found. IsFoundNow (F.contents files.old) self.old key.now lo
+            (option_map found_bytes found)) }
+        ensures within { IfOk result (λ found.
+            IfSome found (λ entry. (lo ≤ entry.0) × (entry.0 ≤ key.now.stamp))) }
+        ensures short { IfOk result (λ found. IfSome found (λ entry. IsShortValue entry.1)) }
         ensures stays { IsSameFile (F.contents files.old) self.old self.new }
         ensures kept { KeepsWhatItRead (F.contents files.old) self.old self.new }
         ensures damaged { IsErrOf result Refusal.Damaged
             → IfSome (F.contents files.old) (λ m. ¬ IsOpen m self.old) }
         ensures reads { ReadsFiles F.contents F.faults files.old files.new result }
     {
-        match rows_to(&self.rows, key.text()) {
-            0 => Ok(None),
-            to => self.value_in(to - 1, key.text(), files),
+        // It shows that row, family and stamp are within their limits.
+        let _own = key.key();
+        if !self.may_have(key, lo) {
+            return Ok(None);
         }
+        let number = number_of_block(&self.rows, key.text());
+        let Some(row) = self.rows.get(number) else {
+            return Ok(None);
+        };
+        if !row.may_have(key, lo) {
+            return Ok(None);
+        }
+        self.newest_in(number, key, lo, files)
     }
 
-    /// The entry of a block at a text. Answers `Damaged` if the block isn't there, `Device` if a device fails, and
+    /// The stamp and the value of a block's first entry at or above the key's text, if the entry is of the key's column and
+    /// its stamp is from `lo` to the key's. Answers `Damaged` if the block isn't there, `Device` if a device fails, and
     /// `NoMemory` if there is no memory.
-    fn value_in<F: Files>(
+    fn newest_in<F: Files>(
         &mut self,
         number: usize,
-        text: &[u8],
+        key: &LookupKey,
+        lo: Stamp,
         files: &mut F,
-    ) -> Result<Option<Option<Vec<u8>>>, Refusal>
+    ) -> Result<Option<(Stamp, Option<Vec<u8>>)>, Refusal>
         requires { number < length self.old.rows.items }
         ensures found { IfOk result (λ found. IfSome (F.contents files.old) (λ m. IsOpen m self.old
             → (row : Row) → slice_get self.old.rows.items number ≡ Some row
-            → option_map value_bytes found ≡ entry_of_key (block_of row) text.now)) }
+            → IsOfColumn key.now lo (first_from (text key.now) (block_of row))
+            (option_map found_bytes found))) }
         ensures now { IfOk result (λ found. (row : Row) (image : List ℕ)
             → slice_get self.old.rows.items number ≡ Some row
             → IsUncached number self.old.cache.entries
             → Tells (F.contents files.old) (name_of self.old) image → (es : List Entry)
-            × IsReadFrom image row es × (option_map value_bytes found ≡ entry_of_key es text.now)) }
-        ensures short { IfOk result (λ found. IfSome found IsShortValue) }
+            × IsReadFrom image row es
+            × IsOfColumn key.now lo (first_from (text key.now) es)
+            (option_map found_bytes found)) }
+        ensures within { IfOk result (λ found.
+            IfSome found (λ entry. (lo ≤ entry.0) × (entry.0 ≤ key.now.stamp))) }
+        ensures short { IfOk result (λ found. IfSome found (λ entry. IsShortValue entry.1)) }
         ensures stays { IsSameFile (F.contents files.old) self.old self.new }
         ensures kept { KeepsWhatItRead (F.contents files.old) self.old self.new }
         ensures damaged { IsErrOf result Refusal.Damaged
@@ -280,13 +257,13 @@ impl SortedFile {
     {
         match self.cache.peek(&number) {
             Some(block) => {
-                let found = value_at(self.alloc, block, text)?;
+                let found = newest_at(self.alloc, block, key, lo)?;
                 promote(&mut self.cache, number);
                 Ok(found)
             }
             None => {
                 let block = self.read_block(number, files)?;
-                let found = value_at(self.alloc, &block, text)?;
+                let found = newest_at(self.alloc, &block, key, lo)?;
                 keep(&mut self.cache, number, block);
                 Ok(found)
             }
@@ -316,142 +293,6 @@ impl SortedFile {
             return Err(Refusal::Damaged);
         }
         Ok(block)
-    }
-
-    /// The greatest stamp from `lo` to the key's at which the file has a value in the key's column. Reads at most one
-    /// block, and none if the file's column hashes or the bounds of file or block rule out such a value. The file is
-    /// unchanged, even after an `Err`.
-    ///
-    /// # Errors
-    ///
-    /// `Device`, `NoMemory`, and `Damaged` only if the file has changed since it was opened.
-    pub fn newest_stamp<F: Files>(
-        &mut self,
-        key: &LookupKey,
-        lo: Stamp,
-        files: &mut F,
-    ) -> Result<Option<Stamp>, Refusal>
-        ensures found { IfOk result (λ found. IfSome (F.contents files.old) (λ m. IsOpen m self.old
-            → IsNewestStamp (listed m self.old) key.now lo found)) }
-        ensures now { OnOk result (IsSearchedNow (F.contents files.old) self.old key.now lo) }
-        ensures within { IfOk result (λ found.
-            IfSome found (λ stamp. (lo ≤ stamp) × (stamp ≤ key.now.stamp))) }
-        ensures stays { IsSameFile (F.contents files.old) self.old self.new }
-        ensures kept { KeepsWhatItRead (F.contents files.old) self.old self.new }
-        ensures damaged { IsErrOf result Refusal.Damaged
-            → IfSome (F.contents files.old) (λ m. ¬ IsOpen m self.old) }
-        ensures reads { ReadsFiles F.contents F.faults files.old files.new result }
-    {
-        let own = key.key();
-        if !self.may_have_value(key) {
-            return Ok(None);
-        }
-        if !self.bounds.meet_column(own, lo) {
-            return Ok(None);
-        }
-        let Some(text) = self.first_text(own, lo, key.text(), files)? else {
-            return Ok(None);
-        };
-        let Some(stamp) = stamp_in(key.text(), &text) else {
-            return Ok(None);
-        };
-        if stamp < lo || own.stamp < stamp {
-            return Ok(None);
-        }
-        Ok(Some(stamp))
-    }
-
-    /// The text of a block's first value at or above this text. Answers `Damaged` if the block isn't there, `Device` if
-    /// a device fails, and `NoMemory` if there is no memory.
-    fn text_in<F: Files>(
-        &mut self,
-        number: usize,
-        text: &[u8],
-        files: &mut F,
-    ) -> Result<Option<Vec<u8>>, Refusal>
-        requires { number < length self.old.rows.items }
-        ensures found { IfOk result (λ found. IfSome (F.contents files.old) (λ m. IsOpen m self.old
-            → (row : Row) → slice_get self.old.rows.items number ≡ Some row
-            → option_map (λ bytes. bytes.items) found
-            ≡ option_map (λ e. e.0) (first_value (entries_from text.now (block_of row))))) }
-        ensures now { OnOk result (HasBlockNow (F.contents files.old) self.old number) }
-        ensures rows { self.new.rows ≡ self.old.rows }
-        ensures stays { IsSameFile (F.contents files.old) self.old self.new }
-        ensures kept { KeepsWhatItRead (F.contents files.old) self.old self.new }
-        ensures damaged { IsErrOf result Refusal.Damaged
-            → IfSome (F.contents files.old) (λ m. ¬ IsOpen m self.old) }
-        ensures reads { ReadsFiles F.contents F.faults files.old files.new result }
-    {
-        match self.cache.peek(&number) {
-            Some(block) => {
-                let found = text_at(self.alloc, block, text)?;
-                promote(&mut self.cache, number);
-                Ok(found)
-            }
-            None => {
-                let block = self.read_block(number, files)?;
-                let found = text_at(self.alloc, &block, text)?;
-                keep(&mut self.cache, number, block);
-                Ok(found)
-            }
-        }
-    }
-
-    /// The text of the first value in this block or a later one. Answers `NoMemory` if there is no memory.
-    fn head_from(&self, at: usize) -> Result<Option<Vec<u8>>, Refusal>
-        ensures found { IfOk result (λ found. (m : Contents) → IsOpen m self.now
-            → option_map (λ bytes. bytes.items) found ≡ option_map (λ e. e.0)
-            (first_value (entries_in (blocks_of (drop at self.now.rows.items))))) }
-        ensures refusal { IsOkUnless result Refusal.NoMemory }
-    {
-        match next_head(&self.heads, &self.skips, at) {
-            Some(head) => Ok(Some(Vec::from_slice(self.alloc, head)?)),
-            None => Ok(None),
-        }
-    }
-
-    /// The text of the first value at or above `sought`, the key's text. If the block of that text cannot hold a value
-    /// of the column from `lo` to the key's stamp, the search starts at the next block. Answers `Damaged` if the file
-    /// has changed since it was opened, `Device` if a device fails, and `NoMemory` if there is no memory.
-    fn first_text<F: Files>(
-        &mut self,
-        key: &CellKey,
-        lo: Stamp,
-        sought: &[u8],
-        files: &mut F,
-    ) -> Result<Option<Vec<u8>>, Refusal>
-        requires { sought.now ≡ text key.now }
-        ensures found { IfOk result (λ found. IfSome (F.contents files.old) (λ m. IsOpen m self.old
-            → IsFirstIn (listed m self.old) key.now lo
-            (option_map (λ bytes. bytes.items) found))) }
-        ensures now { OnOk result (IsSearchedNow (F.contents files.old) self.old key.now lo) }
-        ensures stays { IsSameFile (F.contents files.old) self.old self.new }
-        ensures kept { KeepsWhatItRead (F.contents files.old) self.old self.new }
-        ensures damaged { IsErrOf result Refusal.Damaged
-            → IfSome (F.contents files.old) (λ m. ¬ IsOpen m self.old) }
-        ensures reads { ReadsFiles F.contents F.faults files.old files.new result }
-    {
-        let to = rows_to(&self.rows, sought);
-        if !self.may_have_before(to, key, lo) {
-            return self.head_from(to);
-        }
-        match self.text_in(to - 1, sought, files)? {
-            Some(found) => Ok(Some(found)),
-            None => self.head_from(to),
-        }
-    }
-
-    /// Whether there is a block before this index, and that block may have a value in the key's column from `lo` to the
-    /// key's stamp.
-    fn may_have_before(&self, index: usize, key: &CellKey, lo: Stamp) -> bool
-        requires { index ≤ length self.now.rows.items }
-        ensures there { result ≡ true → 0 < index }
-        ensures none { result ≡ false → (row : Row) → 0 < index
-            → slice_get self.now.rows.items (index - 1) ≡ Some row → (s : ℕ) → lo ≤ s
-            → s ≤ key.now.stamp
-            → ¬ IsWithin (column_bounds row.bounds key.now.qualifier) key.now.row s }
-    {
-        index > 0 && self.rows[index - 1].bounds.meet_column(key, lo)
     }
 
     /// Empties the cache. The file is unchanged. Allocates nothing.

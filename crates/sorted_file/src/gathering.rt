@@ -25,7 +25,7 @@ const MOST_NUMBERS: usize = 64;
 /// The column data of some entries.
 #[derive(Drop)]
 pub(crate) struct Columns {
-    /// The bounds of the values.
+    /// The bounds of the entries.
     pub(crate) bounds: ColumnBounds,
     /// A hash of each column that has an entry.
     pub(crate) numbers: Vec<u64>,
@@ -80,12 +80,11 @@ impl Columns {
         push_number(&mut self.numbers, number)?;
         push_lock_key(&mut self.lock_keys, key)?;
         push_named(&mut self.named_locks, key, number, over)?;
+        self.bounds.widen(key);
         let Some(_) = entry.value else {
             return Ok(());
         };
-        push_lock_value(&mut self.lock_values, key, number)?;
-        self.bounds.widen(key);
-        Ok(())
+        push_lock_value(&mut self.lock_values, key, number)
     }
 
     /// Adds the data of more entries. Answers `NoMemory` if there is no memory.

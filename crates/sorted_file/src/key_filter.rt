@@ -1,13 +1,11 @@
 //! A filter of the keys of several files, by which a read skips all of them with one test.
 
-ghost use Rattle.std.specs.Prelude.{◌≡◌, ◌≤◌, ◌<◌, ◌^◌, ℕ, None, false, All, IfOk, OnErr, OnOk, IsOkUnless};
-ghost use Rattle.cell_key.specs.Entries.{entry_of_key};
-ghost use Rattle.cell_key.specs.Keys.{text};
+ghost use Rattle.std.specs.Prelude.{◌≡◌, ℕ, None, false, All, IfOk, OnErr, OnOk, IsOkUnless};
 ghost use Rattle.file_store.specs.Store.{Contents};
-ghost use Rattle.sorted_file.specs.Bounds.{HasNoValue};
+ghost use Rattle.sorted_file.specs.Bounds.{HasNoneOfKind};
 ghost use Rattle.sorted_file.specs.File.{IsOpen, listed};
 ghost use Rattle.sorted_file.specs.KeyFilters.{Covers};
-ghost use Rattle.sorted_file.specs.Newest.{IsNewestStamp};
+ghost use Rattle.sorted_file.specs.Newest.{IsNewestEntry};
 ghost use Rattle.sorted_file.specs.declared.file.SortedFile.{SortedFile as FileOf};
 
 use crate::bounds::ColumnBounds;
@@ -59,7 +57,7 @@ pub struct KeyFilter {
     numbers: Filter,
     /// A filter of the hashes of locks' key texts.
     lock_keys: Filter,
-    /// The bounds of the values.
+    /// The bounds of the entries.
     bounds: ColumnBounds,
 }
 
@@ -121,33 +119,26 @@ impl KeyFilter {
         self.bounds = self.bounds.joined(file.bounds);
     }
 
-    /// Whether a file that the filter covers may have a value in a column of this kind at a stamp in `lo..=hi`.
+    /// Whether a file that the filter covers may have an entry in a column of this kind at a stamp in `lo..=hi`.
     /// Allocates nothing.
     pub fn may_have(&self, qualifier: Qualifier, lo: Stamp, hi: Stamp) -> bool
         ensures { result ≡ false → (file : FileOf) → Covers self.now file → (m : Contents)
-            → IsOpen m file → HasNoValue qualifier lo hi (listed m file) }
+            → IsOpen m file → HasNoneOfKind qualifier lo hi (listed m file) }
     {
         self.bounds.meet(qualifier, lo, hi)
     }
 
-    /// Whether a file that the filter covers may have a value in a key's column. Allocates nothing.
-    pub fn may_have_value(&self, key: &LookupKey) -> bool
+    /// Whether a file that the filter covers may have an entry, value or erasure, of the key's column at a stamp from `lo`
+    /// to the key's. A single lock is tested by its key, else the column is. Allocates nothing.
+    pub fn may_have_from(&self, key: &LookupKey, lo: Stamp) -> bool
         ensures { result ≡ false → (file : FileOf) → Covers self.now file → (m : Contents)
-            → IsOpen m file → (lo : ℕ) → IsNewestStamp (listed m file) key.now lo None }
+            → IsOpen m file → IsNewestEntry (listed m file) key.now lo None }
     {
-        self.numbers.has(key.column_number())
-    }
-
-    /// Whether a file that the filter covers may have an entry of a key, value or erasure. Allocates nothing.
-    pub fn may_have_key(&self, key: &LookupKey) -> bool
-        requires from { 1 ≤ key.now.stamp }
-        requires to { key.now.stamp < 2 ^ 63 }
-        ensures none { result ≡ false → (file : FileOf) → Covers self.now file → (m : Contents)
-            → IsOpen m file → entry_of_key (listed m file) (text key.now) ≡ None }
-    {
-        match key.key().qualifier {
-            Qualifier::Lock => self.lock_keys.has(key.entry_number()),
-            Qualifier::Data | Qualifier::Write => self.numbers.has(key.entry_number()),
+        // It shows that row, family and stamp are within their limits.
+        let _own = key.key();
+        if key.is_one_lock(lo) {
+            return self.lock_keys.has(key.entry_number());
         }
+        self.numbers.has(key.column_number())
     }
 }

@@ -7,6 +7,7 @@ mod folders;
 mod keys;
 mod memory;
 mod memtables;
+mod pieces;
 mod places;
 mod slow;
 mod slow_roots;

@@ -6,9 +6,11 @@ pub mod Found
 pub mod GatheredCells
 pub mod GatheredEntries
 pub mod Held
-pub mod InMemory
+pub mod InFiles
+mod InMemory
 pub mod KeptCells
 pub mod LeftOut
+pub mod Levels
 pub mod Lookups
 pub mod MadeTablets
 pub mod Newer

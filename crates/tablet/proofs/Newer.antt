@@ -95,26 +95,31 @@ module _ (o : Option Contents) (t : Tablet) (row family : List ℕ) (q : Qualifi
       map_some (Some m) f h = f m h
 
   module _ (now : Option Contents) (w : Tablet) (same : now ≡ o) (is : IsSameTablet o t w) (stamp : ℕ) (low : lo ≤ stamp) (high : stamp ≤ hi) (after : NoneAfter (Some stamp)) where
-    moved : (m : Contents) → o ≡ Some m → Holds m t → IsTrue (has_row (range_of t) row) → (found : Option (ℕ × List ℕ)) → (Holds m w → IsTrue (has_row (range_of w) row) → IsNewest (cells_at m w) at stamp stamp found) → IsNewest (cells_at m t) at stamp stamp found
-    moved m told held has found h =
-        subst (λ (cells : Cells). IsNewest cells at stamp stamp found) (same_cells o m t w told is held)
-        (h (still_at o m t w told is held).0 (subst (λ (r : RowRange). IsTrue (has_row r row)) (sym is.range) has))
+    -- at this stamp the tablet has this version, if the memtable has none
+    abbrev pub ShowsAt : Option (ℕ × List ℕ) → Contents → Type 0
+    ShowsAt found m = Holds m w → IsTrue (has_row (range_of w) row) → get (cells_of (memory_of w)) (at stamp) ≡ None → IsNewest (cells_at m w) at stamp stamp found
 
-    pub hidden : (before : ℕ) → before + 1 ≡ stamp → IfSome now (λ m. Holds m w → IsTrue (has_row (range_of w) row) → IsNewest (cells_at m w) at stamp stamp None) → NoneAbove before
+    moved : (m : Contents) → o ≡ Some m → Holds m t → IsTrue (has_row (range_of t) row) → IsNewest (cells_of (memory_of t)) at lo hi None → (found : Option (ℕ × List ℕ)) → ShowsAt found m → IsNewest (cells_at m t) at stamp stamp found
+    moved m told held has memory found h =
+        subst (λ (cells : Cells). IsNewest cells at stamp stamp found) (same_cells o m t w told is held)
+        (h (still_at o m t w told is held).0 (subst (λ (r : RowRange). IsTrue (has_row r row)) (sym is.range) has)
+        (ap (λ (es : List Entry). get (cells_of es) (at stamp)) is.memory ∙ memory stamp low high))
+
+    pub hidden : (before : ℕ) → before + 1 ≡ stamp → IfSome now (ShowsAt None) → NoneAbove before
     hidden before one finds =
-        told_both o now same _ (λ m. Holds m w → IsTrue (has_row (range_of w) row) → IsNewest (cells_at m w) at stamp stamp None) _
+        told_both o now same _ (ShowsAt None) _
         (λ m told later h held has memory s a b.
-        go m (nat_lt stamp s) s refl a b (later held has memory s) (moved m told held has None h)) after finds
+        go m (nat_lt stamp s) s refl a b (later held has memory s) (moved m told held has memory None h)) after finds
       where
         go : (m : Contents) (c : Bool) (s : ℕ) → nat_lt stamp s ≡ c → before < s → s ≤ hi → (stamp < s → lo ≤ s → s ≤ hi → get (cells_at m t) (at s) ≡ None) → IsNewest (cells_at m t) at stamp stamp None → get (cells_at m t) (at s) ≡ None
         go m true s e a b later none = let lt : stamp < s = grind (arith, nat_tests, e) in later lt (omega (arith, lt, low)) b
         go m false s e a b later none = let ge : s ≤ stamp = grind (arith, nat_tests, e) in none s (omega (arith, a, one)) ge
 
-    pub shows : (v : ℕ × List ℕ) → IfSome now (λ m. Holds m w → IsTrue (has_row (range_of w) row) → IsNewest (cells_at m w) at stamp stamp (Some v)) → Tells (λ m. IsNewest (cells_at m t) at lo hi (Some v))
+    pub shows : (v : ℕ × List ℕ) → IfSome now (ShowsAt (Some v)) → Tells (λ m. IsNewest (cells_at m t) at lo hi (Some v))
     shows v finds =
-        told_both o now same _ (λ m. Holds m w → IsTrue (has_row (range_of w) row) → IsNewest (cells_at m w) at stamp stamp (Some v)) _
+        told_both o now same _ (ShowsAt (Some v)) _
         (λ m told later h held has memory.
-        let here = moved m told held has (Some v) h in
+        let here = moved m told held has memory (Some v) h in
         let a = here.0 in let b = here.1 in
         (omega (arith, a, low), omega (arith, b, high), here.2, λ s c d. later held has memory s (omega (arith, a, b, c)) (omega (arith, a, low, c)) d)) after finds
 

@@ -8,20 +8,21 @@ use Rattle.std.specs.Prelude.{All}
 use Rattle.std.specs.Vec.{with_items}
 use Rattle.std.specs.declared.vec.Vec.{Vec}
 use Rattle.cell_key.specs.Keys.{text, IsStored}
-use Rattle.cell_key.specs.Entries.{entry_of_key, first_naming, or_else, value_of}
+use Rattle.cell_key.specs.Entries.{entry_of_key, first_naming, merged, or_else, value_of}
+use Rattle.cell_key.proofs.EntryLaws.{key_of_merged}
 use Rattle.cell_key.specs.declared.keys.CellKey.{CellKey}
 use Rattle.file_store.specs.Store.{Contents}
 use Rattle.cell_key.specs.declared.keys.Qualifier.{Qualifier}
 use Rattle.cell_key.specs.declared.keys.Qualifier.TheVariants.{Lock}
-use Rattle.sorted_file.specs.Bounds.{HasNoValue}
+use Rattle.sorted_file.specs.Bounds.{HasNoneOfKind}
 use Rattle.sorted_file.specs.File.{IsOpen, IsSameFile, IsTelling, listed}
 use Rattle.sorted_file.specs.KeyFilters.{Covers, StaysCovered}
 use Rattle.sorted_file.specs.LockIndexes.{IsIndexOf, StaysIndexed}
-use Rattle.sorted_file.specs.Newest.{IsNewestStamp, at_stamp}
+use Rattle.sorted_file.specs.Newest.{IsNewestEntry, at_stamp}
 use Rattle.sorted_file.specs.declared.file.SortedFile.{SortedFile}
 use Rattle.sorted_file.specs.declared.key_filter.KeyFilter.{KeyFilter}
-use Rattle.tablet.specs.Reads.{HasNoLater, HaveNoValue}
-use Rattle.tablet.proofs.LeftOut.{none_named as none_in_each, value_or}
+use Rattle.tablet.specs.Reads.{HaveNoValue}
+use Rattle.tablet.proofs.LeftOut.{none_named as none_in_each}
 
 -- files that are the same as before are still covered
 still_covered : StaysCovered → (o : Option Contents) (filter : KeyFilter) (xs ys : List SortedFile) → AllZip (IsSameFile o) xs ys → All (Covers filter) xs → All (Covers filter) ys
@@ -44,14 +45,14 @@ covered_more old new count file xs covers keeps all =
     All-cons (Covers new) file (drop count xs) covers (All-drop (Covers new) count xs (All-weaker (Covers old) (Covers new) keeps xs all))
 
 -- no covered file has a value that the filter rules out
-none_each : (filter : KeyFilter) (q : Qualifier) (lo hi : ℕ) → ((file : SortedFile) → Covers filter file → (m : Contents) → IsOpen m file → HasNoValue q lo hi (listed m file))
+none_each : (filter : KeyFilter) (q : Qualifier) (lo hi : ℕ) → ((file : SortedFile) → Covers filter file → (m : Contents) → IsOpen m file → HasNoneOfKind q lo hi (listed m file))
     → (xs : List SortedFile) → All (Covers filter) xs → (m : Contents) → AllByRecursion (IsOpen m) xs → (key : CellKey) → IsStored key → key.qualifier ≡ q → lo ≤ key.stamp → key.stamp ≤ hi
     → AllByRecursion (λ es. value_of (entry_of_key es (text key)) ≡ None) (map (listed m) xs)
 none_each filter q lo hi none [] all m opened key stored kind low high = tt
 none_each filter q lo hi none (x ∷ xs) all m opened key stored kind low high =
-    (none x (All-head (Covers filter) x xs all) m opened.0 key stored kind low high, none_each filter q lo hi none xs (All-tail (Covers filter) x xs all) m opened.1 key stored kind low high)
+    (ap value_of (none x (All-head (Covers filter) x xs all) m opened.0 key stored kind low high), none_each filter q lo hi none xs (All-tail (Covers filter) x xs all) m opened.1 key stored kind low high)
 
-pub none_valued : (filter : KeyFilter) (row : List ℕ) (q : Qualifier) (lo hi : ℕ) → ((file : SortedFile) → Covers filter file → (m : Contents) → IsOpen m file → HasNoValue q lo hi (listed m file))
+pub none_valued : (filter : KeyFilter) (row : List ℕ) (q : Qualifier) (lo hi : ℕ) → ((file : SortedFile) → Covers filter file → (m : Contents) → IsOpen m file → HasNoneOfKind q lo hi (listed m file))
     → (xs : List SortedFile) → All (Covers filter) xs → HaveNoValue row q lo hi xs
 none_valued filter row q lo hi none xs all m opened key stored same kind low high =
     none_in_each (map (listed m) xs) (text key) (none_each filter q lo hi none xs all m opened key stored kind low high)
@@ -78,19 +79,13 @@ pub indexed_after : {Z : Type 0} → StaysIndexed → (o : Option Contents) (ind
 indexed_after stays o index files lent now is size same before =
     subst (IsIndexOf index) (sym (with_items_is files now (size ∙ ap length is ∙ sym files.ok.0))) (stays o index lent now same (subst (IsIndexOf index) (sym is) before))
 
-module _ (m : Contents) (filter : KeyFilter) where
-  -- no file names a key that the filter rules out
-  pub none_named : (name : List ℕ) → ((file : SortedFile) → Covers filter file → (n : Contents) → IsOpen n file → entry_of_key (listed n file) name ≡ None)
-      → (xs : List SortedFile) → All (Covers filter) xs → AllByRecursion (IsOpen m) xs → None ≡ first_naming (map (listed m) xs) name
-  none_named name none [] all each = refl
-  none_named name none (x ∷ xs) all each =
-      none_named name none xs (All-tail (Covers filter) x xs all) each.1
-      ∙ ap (λ e. or_else e (first_naming (map (listed m) xs) name)) (sym (none x (All-head (Covers filter) x xs all) m each.0))
+-- no file has an entry of the key's column that the filter rules out
+module _ (m : Contents) (filter : KeyFilter) (key : CellKey) (lo : ℕ) (none : (file : SortedFile) → Covers filter file → (n : Contents) → IsOpen n file → IsNewestEntry (listed n file) key lo None) where
+  none_naming : (xs : List SortedFile) → All (Covers filter) xs → AllByRecursion (IsOpen m) xs → (s : ℕ) → lo ≤ s → s ≤ key.stamp → first_naming (map (listed m) xs) (text (at_stamp key s)) ≡ None
+  none_naming [] all each s low high = refl
+  none_naming (x ∷ xs) all each s low high =
+      ap (λ e. or_else e (first_naming (map (listed m) xs) (text (at_stamp key s)))) (none x (All-head (Covers filter) x xs all) m each.0 s low high)
+      ∙ none_naming xs (All-tail (Covers filter) x xs all) each.1 s low high
 
-  pub none_later : (key : CellKey) (lo : ℕ) → ((file : SortedFile) → Covers filter file → (n : Contents) → IsOpen n file → (least : ℕ) → IsNewestStamp (listed n file) key least None)
-      → (xs : List SortedFile) → All (Covers filter) xs → AllByRecursion (IsOpen m) xs → HasNoLater key lo None (map (listed m) xs)
-  none_later key lo none [] all each = λ s low high stored. refl
-  none_later key lo none (x ∷ xs) all each = λ s low high stored.
-      let rest = none_later key lo none xs (All-tail (Covers filter) x xs all) each.1 s low high stored in
-      value_or (entry_of_key (listed m x) (text (at_stamp key s))) (first_naming (map (listed m) xs) (text (at_stamp key s))) rest
-      ∙ none x (All-head (Covers filter) x xs all) m each.0 lo s low high stored
+  pub none_newest : (xs : List SortedFile) → All (Covers filter) xs → AllByRecursion (IsOpen m) xs → IsNewestEntry (merged (map (listed m) xs)) key lo None
+  none_newest xs all each s low high = key_of_merged (map (listed m) xs) (text (at_stamp key s)) ∙ none_naming xs all each s low high

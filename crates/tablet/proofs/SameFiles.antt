@@ -1,22 +1,17 @@
 -- Files that are the same as before but for their caches.
-use Rattle.std.proofs.Common.{◌≡◌, ◌+◌, ◌<◌, ◌≤◌, ℕ, zero, suc, List, [], ◌∷◌, map, drop, set, get_or, length, Option, Some, None, refl, sym, ap, subst, ◌∙◌, arith}
+use Rattle.std.proofs.Common.{◌≡◌, ◌+◌, ◌<◌, ◌≤◌, ℕ, zero, suc, List, [], ◌∷◌, ◌⊎◌, inl, inr, map, drop, set, get_or, length, Option, Some, None, refl, sym, ap, subst, ◌∙◌, arith}
 use Rattle.std.specs.Prelude.{IfSome, ⊤}
 use Rattle.std.specs.List.{AllByRecursion, AllZip}
-use Rattle.cell_key.specs.Keys.{text, IsStored}
-use Rattle.cell_key.specs.Entries.{Entry, IsEntryList, first_naming, entry_of_key, or_else, value_of}
+use Rattle.cell_key.specs.Keys.{text}
+use Rattle.cell_key.specs.Entries.{Entry, IsEntryList, entry_of_key, first_naming, merged, or_else}
+use Rattle.cell_key.proofs.EntryLaws.{key_of_merged}
 use Rattle.cell_key.specs.declared.keys.CellKey.{CellKey}
 use Rattle.file_store.specs.Store.{Contents}
-use Rattle.sorted_file.specs.Newest.{at_stamp, HasNoneAfter, IsAfterStamp, IsNewestStamp}
+use Rattle.sorted_file.specs.Newest.{at_stamp, IsNewestEntry}
 use Rattle.sorted_file.specs.File.{IsOpen, IsSameFile, listed, name_of}
 use Rattle.sorted_file.specs.declared.file.SortedFile.{SortedFile}
-use Rattle.tablet.specs.Reads.{HasNoLater}
 use Rattle.tablet.specs.Views.{range_of, memory_of, files_of, Holds, IsSameTablet}
 use Rattle.tablet.specs.declared.tablet.Tablet.{Tablet}
-
--- after the newest stamp there is no value
-pub none_after : (es : List Entry) (key : CellKey) (lo : ℕ) (found : Option ℕ) → IsNewestStamp es key lo found → HasNoneAfter es key lo found
-none_after es key lo None newest s later high = newest s later high
-none_after es key lo (Some found) newest s later high = newest.3 s later high
 
 -- facts about files with the same contents
 pub told_both : (o now : Option Contents) → now ≡ o → (P Q R : Contents → Type 0) → ((m : Contents) → o ≡ Some m → P m → Q m → R m) → IfSome o P → IfSome now Q → IfSome o R
@@ -52,6 +47,12 @@ module _ (o : Option Contents) where
   same_lists m (x ∷ xs) [] all = absurd all
   same_lists m (x ∷ xs) (y ∷ ys) all = ap (λ es. es ∷ map (listed m) ys) (all.0.lists m) ∙ ap (λ lists. listed m x ∷ lists) (same_lists m xs ys all.1)
 
+  pub same_length : (xs ys : List SortedFile) → AllZip (IsSameFile o) xs ys → length ys ≡ length xs
+  same_length [] [] all = refl
+  same_length [] (y ∷ ys) all = absurd all
+  same_length (x ∷ xs) [] all = absurd all
+  same_length (x ∷ xs) (y ∷ ys) all = ap suc (same_length xs ys all.1)
+
 module _ (m : Contents) where
   -- they are still open, and list the same entries
   pub record AreStill (xs ys : List SortedFile) : Type 0 where
@@ -66,6 +67,37 @@ module _ (m : Contents) where
       let first = all.0.still is.0 in
       let rest = still_files xs ys all.1 is.1 in
       record { each = (first, rest.each); lists = ap (λ es. es ∷ map (listed m) ys) (all.0.lists m) ∙ ap (λ lists. listed m x ∷ lists) rest.lists }
+
+-- a list has the entry of a first list, else of a second one
+module _ (all es rest : List Entry) (key : CellKey) (joined : (name : List ℕ) → entry_of_key all name ≡ or_else (entry_of_key es name) (entry_of_key rest name)) where
+  of_rest : (name : List ℕ) → entry_of_key es name ≡ None → entry_of_key all name ≡ entry_of_key rest name
+  of_rest name none = joined name ∙ ap (λ (e : Option (Option (List ℕ))). or_else e (entry_of_key rest name)) none
+
+  behind_none : (from : ℕ) → IsNewestEntry es key from None → (newest : Option (ℕ × Option (List ℕ))) → IsNewestEntry rest key from newest → IsNewestEntry all key from newest
+  behind_none from none None h = λ s a b. of_rest (text (at_stamp key s)) (none s a b) ∙ h s a b
+  behind_none from none (Some n) h =
+      let low = h.0 in (
+        h.0,
+        h.1,
+        of_rest (text (at_stamp key n.0)) (none n.0 h.0 h.1) ∙ h.2,
+        λ s a b. of_rest (text (at_stamp key s)) (none s (omega (arith, low, a)) b) ∙ h.3 s a b,
+      )
+
+  over_found : (from : ℕ) (entry : ℕ × Option (List ℕ)) → IsNewestEntry es key from (Some entry) → (newest : Option (ℕ × Option (List ℕ))) → IsNewestEntry rest key (entry.0 + 1) newest → IsNewestEntry all key from (or_else newest (Some entry))
+  over_found from entry is None h = (
+    is.0,
+    is.1,
+    joined (text (at_stamp key entry.0)) ∙ ap (λ (e : Option (Option (List ℕ))). or_else e (entry_of_key rest (text (at_stamp key entry.0)))) is.2,
+    λ s a b. of_rest (text (at_stamp key s)) (is.3 s a b) ∙ h s (omega (arith, a)) b,
+  )
+  over_found from entry is (Some n) h =
+      let low = h.0 in
+      let least = is.0 in (
+        omega (arith, low, least),
+        h.1,
+        of_rest (text (at_stamp key n.0)) (is.3 n.0 (omega (arith, low)) h.1) ∙ h.2,
+        λ s a b. of_rest (text (at_stamp key s)) (is.3 s (omega (arith, low, a)) b) ∙ h.3 s a b,
+      )
 
 -- One file is searched, after those before it.
 module _ (o now : Option Contents) (same : now ≡ o) (xs ys : List SortedFile) (i : ℕ) (d : SortedFile) (below : i < length ys) (all : AllZip (IsSameFile o) xs ys) where
@@ -100,72 +132,69 @@ module _ (o now : Option Contents) (same : now ≡ o) (xs ys : List SortedFile) 
   pub not_open : IfSome now (λ m. ¬ IsOpen m (get_or ys i d)) → IfSome o (λ m. ¬ AllByRecursion (IsOpen m) xs)
   not_open closed = told_both o now same (λ m. ⊤) (λ m. ¬ IsOpen m (get_or ys i d)) _ (λ m is _ not each. not (still_at m [] is each).0) (told_any o) closed
 
-  -- the files from `at` on give the same entry for the key as all files
-  abbrev pub AreLeft : ℕ → List ℕ → Type 0
-  AreLeft at name = IfSome o (λ m. AllByRecursion (IsOpen m) xs → first_naming (map (listed m) (drop at xs)) name ≡ first_naming (map (listed m) xs) name)
+  next : suc i ≡ i + 1
+  next = omega arith
 
-  pub found_here : (name : List ℕ) (v : Option (List ℕ)) → AreLeft i name → IfSome now (λ m. IsOpen m (get_or ys i d) → Some v ≡ entry_of_key (listed m (get_or ys i d)) name)
-      → IfSome o (λ m. AllByRecursion (IsOpen m) xs → Some v ≡ first_naming (map (listed m) xs) name)
-  found_here name v left found = told_both o now same _ (λ m. IsOpen m (get_or ys i d) → Some v ≡ entry_of_key (listed m (get_or ys i d)) name) _
-      (λ m is before here each. let still = still_at m name is each in ap (λ e. or_else e (first_naming (map (listed m) (drop (suc i) xs)) name)) (here still.0) ∙ sym still.1 ∙ before each) left found
+  -- with the newest entry of the files from `at` on, from a stamp, this is the newest of all
+  abbrev pub Goes : CellKey → ℕ → ℕ → ℕ → Option (ℕ × Option (List ℕ)) → Type 0
+  Goes key lo at from found =
+      IfSome o (λ m. AllByRecursion (IsOpen m) xs → (newest : Option (ℕ × Option (List ℕ))) → IsNewestEntry (merged (map (listed m) (drop at xs))) key from newest
+      → IsNewestEntry (merged (map (listed m) xs)) key lo (or_else newest found))
 
-  pub none_here : (name : List ℕ) → AreLeft i name → IfSome now (λ m. IsOpen m (get_or ys i d) → None ≡ entry_of_key (listed m (get_or ys i d)) name) → AreLeft (i + 1) name
-  none_here name left none = subst (λ (k : ℕ). AreLeft k name) next (told_both o now same _ (λ m. IsOpen m (get_or ys i d) → None ≡ entry_of_key (listed m (get_or ys i d)) name) _
-      (λ m is before here each. let still = still_at m name is each in ap (λ e. or_else e (first_naming (map (listed m) (drop (suc i) xs)) name)) (here still.0) ∙ sym still.1 ∙ before each) left none)
+  -- the merged list of the files from this one on has the entry of this file, else of the others
+  split_at : (m : Contents) → o ≡ Some m → AllByRecursion (IsOpen m) xs → (name : List ℕ)
+      → entry_of_key (merged (map (listed m) (drop i xs))) name ≡ or_else (entry_of_key (listed m (get_or ys i d)) name) (entry_of_key (merged (map (listed m) (drop (suc i) xs))) name)
+  split_at m is each name =
+      key_of_merged (map (listed m) (drop i xs)) name ∙ (still_at m name is each).1
+      ∙ ap (or_else (entry_of_key (listed m (get_or ys i d)) name)) (sym (key_of_merged (map (listed m) (drop (suc i) xs)) name))
+
+  -- this file has no such entry
+  pub goes_on : (key : CellKey) (lo from : ℕ) (found : Option (ℕ × Option (List ℕ))) → Goes key lo i from found → IfSome now (λ m. IsOpen m (get_or ys i d) → IsNewestEntry (listed m (get_or ys i d)) key from None)
+      → Goes key lo (i + 1) from found
+  goes_on key lo from found goes none =
+      subst (λ (k : ℕ). Goes key lo k from found) next
+      (told_both o now same _ (λ m. IsOpen m (get_or ys i d) → IsNewestEntry (listed m (get_or ys i d)) key from None) _
+      (λ m is before here each newest rest.
+      before each newest (behind_none (merged (map (listed m) (drop i xs))) (listed m (get_or ys i d)) (merged (map (listed m) (drop (suc i) xs))) key (split_at m is each) from (here (still_at m [] is each).0) newest rest)) goes none)
+
+  -- its entry is newer than those before
+  pub goes_over : (key : CellKey) (lo from : ℕ) (found : Option (ℕ × Option (List ℕ))) (entry : ℕ × Option (List ℕ)) → Goes key lo i from found → IfSome now (λ m. IsOpen m (get_or ys i d) → IsNewestEntry (listed m (get_or ys i d)) key from (Some entry))
+      → Goes key lo (i + 1) (entry.0 + 1) (Some entry)
+  goes_over key lo from found entry goes some =
+      subst (λ (k : ℕ). Goes key lo k (entry.0 + 1) (Some entry)) next
+      (told_both o now same _ (λ m. IsOpen m (get_or ys i d) → IsNewestEntry (listed m (get_or ys i d)) key from (Some entry)) _
+      (λ m is before here each newest rest.
+      or_first newest (λ n. IsNewestEntry (merged (map (listed m) xs)) key lo n)
+      (before each (or_else newest (Some entry)) (over_found (merged (map (listed m) (drop i xs))) (listed m (get_or ys i d)) (merged (map (listed m) (drop (suc i) xs))) key (split_at m is each) from entry (here (still_at m [] is each).0) newest rest))) goes some)
     where
-      next : suc i ≡ i + 1
-      next = omega arith
+      or_first : (newest : Option (ℕ × Option (List ℕ))) (P : Option (ℕ × Option (List ℕ)) → Type 0) → P (or_else (or_else newest (Some entry)) found) → P (or_else newest (Some entry))
+      or_first None P h = h
+      or_first (Some n) P h = h
 
-  -- the newest stamp is this file's, or the one found before
-  module _ (key : CellKey) (lo from : ℕ) (found new : Option ℕ) (after : IsAfterStamp from lo found) (starts : (s : ℕ) → IsAfterStamp s lo found → from ≤ s) where
-    abbrev pub Shows : ℕ → Option ℕ → Type 0
-    Shows at stamp = IfSome o (λ m. AllByRecursion (IsOpen m) xs
-        → (s : ℕ) → IsAfterStamp s lo stamp → s ≤ key.stamp → IsStored (at_stamp key s)
-        → value_of (first_naming (map (listed m) (drop at xs)) (text (at_stamp key s))) ≡ None
-        → value_of (first_naming (map (listed m) xs) (text (at_stamp key s))) ≡ None)
+pub or_none : {A : Type 0} (x : Option A) (P : Option A → Type 0) → P x → P (or_else x None)
+or_none None P h = h
+or_none (Some a) P h = h
 
-    later_still : (f n : Option ℕ) → f ≡ found → IfSome n (λ s. (from ≤ s) × (s ≤ key.stamp)) → IsAfterStamp from lo f → (s : ℕ) → IsAfterStamp s lo (or_else n f) → IsAfterStamp s lo f
-    later_still f None is within low s h = h
-    later_still None (Some n) is within low s h = let a = within.0 in omega (arith, a, low, h)
-    later_still (Some f) (Some n) is within low s h = let a = within.0 in omega (arith, a, low, h)
+module _ (o : Option Contents) (xs : List SortedFile) (key : CellKey) (lo at from : ℕ) (found : Option (ℕ × Option (List ℕ))) where
+  -- there are no newer stamps, or no further files
+  pub ended : IfSome o (λ m. AllByRecursion (IsOpen m) xs → (newest : Option (ℕ × Option (List ℕ))) → IsNewestEntry (merged (map (listed m) (drop at xs))) key from newest → IsNewestEntry (merged (map (listed m) xs)) key lo (or_else newest found))
+      → (key.stamp < from) ⊎ (length xs ≤ at) → IfSome o (λ m. AllByRecursion (IsOpen m) xs → IsNewestEntry (merged (map (listed m) xs)) key lo found)
+  ended goes end = go o goes
+    where
+      all_dropped : (xs : List SortedFile) (i : ℕ) → length xs ≤ i → drop i xs ≡ []
+      all_dropped [] zero le = refl
+      all_dropped [] (suc i) le = refl
+      all_dropped (x ∷ xs) zero le = absurd (omega (arith, le))
+      all_dropped (x ∷ xs) (suc i) le = all_dropped xs i (omega (arith, le))
 
-    none_in_it : (es : List Entry) (n : Option ℕ) → HasNoneAfter es key from n → (s : ℕ) → IsAfterStamp s lo (or_else n found) → s ≤ key.stamp → IsStored (at_stamp key s) → value_of (entry_of_key es (text (at_stamp key s))) ≡ None
-    none_in_it es None is s h high stored = is s (starts s h) high stored
-    none_in_it es (Some n) is s h high stored = is s h high stored
+      none_left : (m : Contents) → (key.stamp < from) ⊎ (length xs ≤ at) → IsNewestEntry (merged (map (listed m) (drop at xs))) key from None
+      none_left m (inl past) s a b = absurd (omega (arith, past, a, b))
+      none_left m (inr le) s a b = key_of_merged (map (listed m) (drop at xs)) (text (at_stamp key s)) ∙ ap (λ (fs : List SortedFile). first_naming (map (listed m) fs) (text (at_stamp key s))) (all_dropped xs at le)
 
-    none_in_both : (x y : Option (Option (List ℕ))) → value_of x ≡ None → value_of y ≡ None → value_of (or_else x y) ≡ None
-    none_in_both None y p q = q
-    none_in_both (Some v) y p q = p
-
-    pub newest_here : IfSome new (λ s. (from ≤ s) × (s ≤ key.stamp)) → Shows i found → IfSome now (λ m. IsOpen m (get_or ys i d) → HasNoneAfter (listed m (get_or ys i d)) key from new) → Shows (i + 1) (or_else new found)
-    newest_here within shows finds = subst (λ (k : ℕ). Shows k (or_else new found)) next (told_both o now same _ (λ m. IsOpen m (get_or ys i d) → HasNoneAfter (listed m (get_or ys i d)) key from new) _
-        (λ m is before here each s h high stored rest.
-        let still = still_at m (text (at_stamp key s)) is each in
-        before each s (later_still found new refl within after s h) high stored
-        (ap value_of still.1 ∙ none_in_both (entry_of_key (listed m (get_or ys i d)) (text (at_stamp key s))) (first_naming (map (listed m) (drop (suc i) xs)) (text (at_stamp key s)))
-        (none_in_it (listed m (get_or ys i d)) new (here still.0) s h high stored) rest)) shows finds)
-      where
-        next : suc i ≡ i + 1
-        next = omega arith
-
-    pub within_still : (f n : Option ℕ) → IfSome f (λ s. (lo ≤ s) × (s ≤ key.stamp)) → IfSome n (λ s. (from ≤ s) × (s ≤ key.stamp)) → IsAfterStamp from lo f → IfSome (or_else n f) (λ s. (lo ≤ s) × (s ≤ key.stamp))
-    within_still f None old new low = old
-    within_still None (Some n) old new low = (let a = new.0 in omega (arith, a, low), new.1)
-    within_still (Some f) (Some n) old new low = (let a = new.0 in let b = old.0 in omega (arith, a, b, low), new.1)
-
--- after all files were asked, none shows a later value
-pub no_later : (o : Option Contents) (xs : List SortedFile) (i : ℕ) (key : CellKey) (lo : ℕ) (stamp : Option ℕ) → length xs ≤ i
-    → IfSome o (λ m. AllByRecursion (IsOpen m) xs → (s : ℕ) → IsAfterStamp s lo stamp → s ≤ key.stamp → IsStored (at_stamp key s)
-    → value_of (first_naming (map (listed m) (drop i xs)) (text (at_stamp key s))) ≡ None → value_of (first_naming (map (listed m) xs) (text (at_stamp key s))) ≡ None)
-    → IfSome o (λ m. AllByRecursion (IsOpen m) xs → HasNoLater key lo stamp (map (listed m) xs))
-no_later None xs i key lo stamp le h = tt
-no_later (Some m) xs i key lo stamp le h = λ each s after high stored. h each s after high stored (ap (λ (fs : List SortedFile). value_of (first_naming (map (listed m) fs) (text (at_stamp key s)))) (all_dropped xs i le))
-  where
-    all_dropped : (xs : List SortedFile) (i : ℕ) → length xs ≤ i → drop i xs ≡ []
-    all_dropped [] zero le = refl
-    all_dropped [] (suc i) le = refl
-    all_dropped (x ∷ xs) zero le = absurd (omega (arith, le))
-    all_dropped (x ∷ xs) (suc i) le = all_dropped xs i (omega (arith, le))
+      go : (o : Option Contents) → IfSome o (λ m. AllByRecursion (IsOpen m) xs → (newest : Option (ℕ × Option (List ℕ))) → IsNewestEntry (merged (map (listed m) (drop at xs))) key from newest → IsNewestEntry (merged (map (listed m) xs)) key lo (or_else newest found))
+          → IfSome o (λ m. AllByRecursion (IsOpen m) xs → IsNewestEntry (merged (map (listed m) xs)) key lo found)
+      go None h = tt
+      go (Some m) h = λ each. h each None (none_left m end)
 
 -- a tablet is the same if its files are
 pub same_tablet : (o : Option Contents) (t u : Tablet) → range_of u ≡ range_of t → memory_of u ≡ memory_of t → AllZip (IsSameFile o) (files_of t) (files_of u) → IsSameTablet o t u

@@ -203,3 +203,17 @@ left_after (Err e) next old mid new range empty memory names same = record {
   empty = λ none. let was = empty none in record { range = same.range ∙ was.range; memory = same.memory ∙ was.memory; files = same.files ∙ was.files };
   may = inr (same.memory ∙ memory, ap (map name_of) same.files ∙ names);
 }
+
+-- cells that a call kept are still there after a refusal that keeps them
+pub keeps_after : {A E : Type 0} (r : Result A E) (old mid new : Option Contents) (next after : ℕ) (t u w : Tablet) → Keeps old next t mid after u → OnErr r ((name : ℕ) → Keeps mid name u new name w) → OnErr r (Keeps old next t new after w)
+keeps_after (Ok x) old mid new next after t u w first second = tt
+keeps_after (Err e) old mid new next after t u w first second = joined old mid first (second after)
+  where
+    by : (m k : Contents) (new : Option Contents) → cells_at k u ≡ cells_at m t → IsSomeAnd new (λ n. Holds n w × IsBelow after w × (cells_at n w ≡ cells_at k u)) → IsSomeAnd new (λ n. Holds n w × IsBelow after w × (cells_at n w ≡ cells_at m t))
+    by m k None same kept = absurd kept
+    by m k (Some n) same kept = (kept.0, kept.1, kept.2 ∙ same)
+
+    joined : (old mid : Option Contents) → Keeps old next t mid after u → Keeps mid after u new after w → Keeps old next t new after w
+    joined None mid a b = tt
+    joined (Some m) None a b = λ h below. absurd (a h below)
+    joined (Some m) (Some k) a b = λ h below. let kept = a h below in by m k new kept.2 (b kept.0 kept.1)

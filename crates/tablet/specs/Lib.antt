@@ -1,6 +1,7 @@
 pub mod Compactions
 pub mod Gathering
 pub mod Laws
+pub mod MergePolicies
 pub mod Ranges
 pub mod Reads
 pub mod Sources

@@ -1,11 +1,12 @@
 -- Results of reads.
-use Rattle.std.specs.Prelude.{◌≡◌, ℕ, ◌≤◌, ◌<◌, length, List, [], ◌∷◌, Option, Some, None, if◌then◌else◌, map, IfSome, Result, IsErrOf}
+use Rattle.std.specs.Prelude.{◌≡◌, ℕ, ◌≤◌, ◌<◌, length, List, [], ◌∷◌, Option, Some, None, if◌then◌else◌, map, option_map, IfSome, IsTrue, Result, IsErrOf}
+use Rattle.std.specs.FinMap.{get}
 use Rattle.std.specs.List.{AllByRecursion}
 use Rattle.std.specs.Ordering.{is_le}
 use Rattle.cell_key.specs.Names.{IsRow, IsFamily}
 use Rattle.cell_key.specs.Keys.{byte_cmp, text, IsStored}
-use Rattle.cell_key.specs.Cells.{version}
-use Rattle.cell_key.specs.Entries.{Entry, entries_from, first_naming, key_of_text, value_of}
+use Rattle.cell_key.specs.Cells.{IsNewest, version}
+use Rattle.cell_key.specs.Entries.{Entry, cells_of, entries_from, first_naming, key_of_text, value_of}
 use Rattle.cell_key.specs.Places.{Place, place_of}
 use Rattle.cell_key.specs.declared.keys.CellKey.{CellKey}
 use Rattle.cell_key.specs.declared.keys.Qualifier.{Qualifier}
@@ -17,8 +18,8 @@ use Rattle.sorted_file.specs.Newest.{at_stamp, IsAfterStamp}
 use Rattle.sorted_file.specs.File.{IsOpen, listed}
 use Rattle.sorted_file.specs.Source.{ReadsFiles}
 use Rattle.sorted_file.specs.declared.file.SortedFile.{SortedFile}
-use Rattle.tablet.specs.Ranges.{lower_fence}
-use Rattle.tablet.specs.Views.{Holds}
+use Rattle.tablet.specs.Ranges.{has_row, lower_fence}
+use Rattle.tablet.specs.Views.{cells_at, files_of, memory_of, range_of, Holds}
 use Rattle.tablet.specs.declared.ranges.RowRange.{RowRange}
 use Rattle.tablet.specs.declared.tablet.Tablet.{Tablet}
 
@@ -66,6 +67,18 @@ abbrev pub HasNoLater : CellKey → ℕ → Option ℕ → List (List Entry) →
 HasNoLater key lo found lists =
     (s : ℕ) → IsAfterStamp s lo found → s ≤ key.stamp → IsStored (at_stamp key s)
     → value_of (first_naming lists (text (at_stamp key s))) ≡ None
+
+-- The version found in files is the newest one from lo to the key's stamp, if it has a value and the memtable has none
+-- there; without a value there is no version at its stamp. The files have no later one.
+pub record IsNextVersion
+    (m : Contents) (tablet : Tablet) (key : CellKey) (lo : ℕ) (found : Option (ℕ × Option (List ℕ)))
+    : Type 0 where
+  pub later : HasNoLater key lo (option_map (λ next. next.0) found)
+      (map (listed m) (files_of tablet))
+  pub here : IfSome found (λ next. IsTrue (has_row (range_of tablet) key.row)
+      → get (cells_of (memory_of tablet)) (at_stamp key next.0) ≡ None
+      → IsNewest (cells_at m tablet) (at_stamp key) next.0 next.0
+      (option_map (λ value. (next.0, value)) next.1))
 
 -- the values of entries, each with the stamp of its key
 abbrev pub stamped_values : List Entry → List (ℕ × List ℕ)

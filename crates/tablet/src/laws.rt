@@ -1,5 +1,6 @@
 //! Laws of tablets. Each is the contract of a function that does nothing.
 
+ghost use Rattle.tablet.specs.MergePolicies.{FewLevels, StayInLevels};
 ghost use Rattle.tablet.specs.Laws.{StaysInRange, ShowsItsLists, OthersStay, UnnamedMayGo, SameCells, FilesAreThere, EditsShow};
 
 use sorted_file::{one_listing, open_is_there, stays_open};
@@ -46,4 +47,14 @@ pub fn files_are_there()
 /// Edits of rows in its range, put into the memtable of a tablet, are edits of its cells.
 pub fn edits_show()
     ensures { EditsShow }
+{}
+
+/// Files in levels are few: at most one for each doubling of the size.
+pub fn few_levels()
+    ensures { FewLevels }
+{}
+
+/// A merge of the files up to the oldest small one leaves all files in levels.
+pub fn stay_in_levels()
+    ensures { StayInLevels }
 {}

@@ -18,10 +18,11 @@ mod tablet;
 
 pub use compactions::Compaction;
 pub use laws::{
-    edits_show, files_are_there, others_stay, same_cells, shows_its_lists, stays_in_range,
-    unnamed_may_go,
+    edits_show, few_levels, files_are_there, others_stay, same_cells, shows_its_lists,
+    stay_in_levels, stays_in_range, unnamed_may_go,
 };
 pub use memtable::Prepared;
+pub use merge_policy::MergePolicy;
 pub use ranges::RowRange;
 pub use rows::{BatchLimits, CellVersion, CellVersions, VersionBatch};
 pub use tablet::Tablet;

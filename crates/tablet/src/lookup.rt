@@ -1,15 +1,15 @@
-//! Lookups of one version in a memtable and files: the newest one that names it decides (Bigtable, tablet serving).
+//! Look-ups in a memtable and files: of one version, and of the newest entry of a column (Bigtable, tablet serving).
 
-ghost use Rattle.std.specs.Prelude.{◌≡◌, ℕ, ◌≤◌, ◌<◌, ◌^◌, ◌∷◌, option_map, map, length, IfOk, IfErr, IfSome, IsErrOf};
+ghost use Rattle.std.specs.Prelude.{◌≡◌, ◌≤◌, ◌<◌, ◌^◌, ◌∷◌, option_map, map, length, IfOk, IfErr, IfSome, IsErrOf};
 ghost use Rattle.std.specs.Option.{option_copied};
 ghost use Rattle.std.specs.List.{AllByRecursion, AllZip};
-ghost use Rattle.cell_key.specs.Entries.{entry_of_key, first_naming, value_of};
+ghost use Rattle.cell_key.specs.Entries.{first_naming, merged, value_of};
 ghost use Rattle.cell_key.specs.Keys.{text};
 ghost use Rattle.file_store.specs.Store.{Contents};
-ghost use Rattle.sorted_file.specs.File.{IsOpen, IsSameFile, IsShortValue, listed, value_bytes};
+ghost use Rattle.sorted_file.specs.File.{IsOpen, IsSameFile, listed};
 ghost use Rattle.sorted_file.specs.Source.{ReadsFiles};
-ghost use Rattle.sorted_file.specs.Newest.{IsAfterStamp};
-ghost use Rattle.tablet.specs.Reads.{HasNoLater, IsValue};
+ghost use Rattle.sorted_file.specs.Newest.{IsNewestEntry, IsShortValue, found_bytes};
+ghost use Rattle.tablet.specs.Reads.{IsValue};
 ghost use Rattle.tablet.specs.Gathering.{IsGatheringRefusal};
 
 use crate::open_files::OpenFiles;
@@ -42,92 +42,39 @@ pub(crate) fn copy_value(alloc: Global, value: Option<&[u8]>) -> Result<Option<V
     Ok(Some(copy))
 }
 
-/// The first stamp after `found`, or `lo` if it is `None`.
-pub(crate) fn first_after(found: Option<Stamp>, lo: Stamp) -> Stamp
-    requires { IfSome found (λ stamp. stamp < 2 ^ 63) }
-    ensures after { IsAfterStamp result lo found }
-    ensures first { (s : ℕ) → IsAfterStamp s lo found → result ≤ s }
-{
-    match found {
-        Some(stamp) => stamp + 1,
-        None => lo,
-    }
-}
-
-/// The newest stamp, from `lo` up to the key's, at which any of some files may have a value of the key's column: none
-/// has a later one. The files are unchanged.
-pub(crate) fn newest_stamp<F: Files>(
+/// The newest entry of the key's column in some files, at a stamp from `lo` to the key's: its stamp, and its value or
+/// `None` for an erasure. Where several files have an entry at this stamp, the first of them, which is the newest,
+/// decides. The files are unchanged.
+pub(crate) fn newest<F: Files>(
     files: &mut [SortedFile],
     key: &LookupKey,
     lo: Stamp,
     store: &mut F,
-) -> Result<Option<Stamp>, Refusal>
+) -> Result<Option<(Stamp, Option<Vec<u8>>)>, Refusal>
     requires { key.now.stamp < 2 ^ 63 }
     ensures found { IfOk result (λ found. IfSome (F.contents store.old) (λ m.
-        AllByRecursion (IsOpen m) files.old
-        → HasNoLater key.now lo found (map (listed m) files.old))) }
+        AllByRecursion (IsOpen m) files.old → IsNewestEntry (merged (map (listed m) files.old))
+        key.now lo (option_map found_bytes found))) }
     ensures within { IfOk result (λ found.
-        IfSome found (λ stamp. (lo ≤ stamp) × (stamp ≤ key.now.stamp))) }
+        IfSome found (λ entry. (lo ≤ entry.0) × (entry.0 ≤ key.now.stamp))) }
+    ensures short { IfOk result (λ found. IfSome found (λ entry. IsShortValue entry.1)) }
     ensures stay { AllZip (IsSameFile (F.contents store.old)) files.old files.new }
     ensures damaged { IsErrOf result Refusal.Damaged → IfSome (F.contents store.old)
         (λ m. ¬ AllByRecursion (IsOpen m) files.old) }
     ensures reads { ReadsFiles F.contents F.faults store.old store.new result }
 {
     let mut found = None;
+    let mut from = lo;
     for file in files.iter_mut() {
-        let from = first_after(found, lo);
-        let later = file.newest_stamp(key, from, store)?;
-        found = later.or(found);
-    }
-    Ok(found)
-}
-
-/// The file's entry of a key, if it has one. No block is read if the file's filter rules out the key. The file is
-/// unchanged.
-fn find_in_file<F: Files>(
-    file: &mut SortedFile,
-    key: &LookupKey,
-    store: &mut F,
-) -> Result<Option<Option<Vec<u8>>>, Refusal>
-    requires from { 1 ≤ key.now.stamp }
-    requires to { key.now.stamp < 2 ^ 63 }
-    ensures found { IfOk result (λ found. IfSome (F.contents store.old) (λ m. IsOpen m file.old
-        → option_map value_bytes found ≡ entry_of_key (listed m file.old) (text key.now))) }
-    ensures short { IfOk result (λ found. IfSome found IsShortValue) }
-    ensures stays { IsSameFile (F.contents store.old) file.old file.new }
-    ensures damaged { IsErrOf result Refusal.Damaged
-        → IfSome (F.contents store.old) (λ m. ¬ IsOpen m file.old) }
-    ensures reads { ReadsFiles F.contents F.faults store.old store.new result }
-{
-    if !file.may_have_key(key) {
-        return Ok(None);
-    }
-    file.find(key, store)
-}
-
-/// The entry of a key in the first file that names it. The files are unchanged.
-pub(crate) fn find_in_files<F: Files>(
-    files: &mut [SortedFile],
-    key: &LookupKey,
-    store: &mut F,
-) -> Result<Option<Option<Vec<u8>>>, Refusal>
-    requires from { 1 ≤ key.now.stamp }
-    requires to { key.now.stamp < 2 ^ 63 }
-    ensures found { IfOk result (λ found.
-        IfSome (F.contents store.old) (λ m. AllByRecursion (IsOpen m) files.old
-        → option_map value_bytes found ≡ first_naming (map (listed m) files.old) (text key.now))) }
-    ensures short { IfOk result (λ found. IfSome found IsShortValue) }
-    ensures stay { AllZip (IsSameFile (F.contents store.old)) files.old files.new }
-    ensures damaged { IsErrOf result Refusal.Damaged
-        → IfSome (F.contents store.old) (λ m. ¬ AllByRecursion (IsOpen m) files.old) }
-    ensures reads { ReadsFiles F.contents F.faults store.old store.new result }
-{
-    for file in files.iter_mut() {
-        if let Some(value) = find_in_file(file, key, store)? {
-            return Ok(Some(value));
+        if key.key().stamp < from {
+            return Ok(found);
+        }
+        if let Some(entry) = file.newest(key, from, store)? {
+            from = entry.0 + 1;
+            found = Some(entry);
         }
     }
-    Ok(None)
+    Ok(found)
 }
 
 /// The value of a key in the memtable or, if that does not name the key, in the first file that does; `None` for an
@@ -154,8 +101,8 @@ pub(crate) fn lookup<F: Files>(
     if let Some(newest) = memtable.lookup(key.key()) {
         return copy_value(alloc, newest.value);
     }
-    match files.find(key, store)? {
-        Some(value) => Ok(value),
+    match files.newest(key, key.key().stamp, store)? {
+        Some((_, value)) => Ok(value),
         None => Ok(None),
     }
 }

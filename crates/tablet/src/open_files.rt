@@ -2,15 +2,16 @@
 
 ghost use Rattle.std.specs.Prelude.{◌≡◌, ◌≤◌, ◌<◌, ◌^◌, ◌∷◌, [], false, Option, option_map, map, drop, length, vec_len, IfOk, IfSome, IsErrOf, OnOk, OnErr, IsOkUnless};
 ghost use Rattle.std.specs.List.{AllByRecursion, AllZip};
-ghost use Rattle.cell_key.specs.Entries.{first_naming};
-ghost use Rattle.cell_key.specs.Keys.{text};
+ghost use Rattle.cell_key.specs.Entries.{merged};
+ghost use Rattle.cell_key.specs.declared.keys.Qualifier.TheVariants.{Lock};
 ghost use Rattle.file_store.specs.Store.{Contents};
-ghost use Rattle.sorted_file.specs.File.{IsOpen, IsSameFile, IsShortValue, listed, value_bytes};
+ghost use Rattle.sorted_file.specs.File.{IsOpen, IsSameFile, listed};
 ghost use Rattle.sorted_file.specs.LockIndexes.{IsIndexOf};
+ghost use Rattle.sorted_file.specs.Newest.{IsNewestEntry, IsShortValue, found_bytes};
 ghost use Rattle.sorted_file.specs.Source.{ReadsFiles};
 ghost use Rattle.tablet.specs.Reads.{HasNoLater, HaveNoValue};
 
-use crate::lookup::{find_in_files, newest_stamp};
+use crate::lookup::newest;
 use cell_key::{Qualifier, Refusal, Row, Stamp};
 use file_store::Files;
 use sorted_file::{KeyFilter, LockIndex, LookupKey, SortedFile, stays_covered, stays_indexed};
@@ -143,16 +144,13 @@ impl OpenFiles {
     }
 
     /// Whether the files' merged list may have a value of a column of this kind in the row, at a stamp in `lo..=hi`.
-    /// For a lock the index is also checked for the row. Allocates nothing and reads no file.
+    /// For a lock the index says whether the row may have one. Allocates nothing and reads no file.
     pub(crate) fn may_have(&self, row: &Row, qualifier: Qualifier, lo: Stamp, hi: Stamp) -> bool
         ensures { result ≡ false → HaveNoValue row.now qualifier lo hi self.now }
     {
-        if !self.filter.may_have(qualifier, lo, hi) {
-            return false;
-        }
         match qualifier {
             Qualifier::Lock => self.locks.may_have_row(row),
-            Qualifier::Data | Qualifier::Write => true,
+            Qualifier::Data | Qualifier::Write => self.filter.may_have(qualifier, lo, hi),
         }
     }
 
@@ -182,20 +180,33 @@ impl OpenFiles {
         Ok(())
     }
 
-    /// `newest_stamp` by the files instead of the index. No file is asked if the filter rules out a value of the
-    /// column.
-    fn newest_in_files<F: Files>(
+    /// The latest stamp, from `lo` up to the key's, at which the files may have a value of a lock's column: their merged
+    /// list has no later one. Allocates nothing and reads no file.
+    pub(crate) fn latest_lock(&self, key: &LookupKey, lo: Stamp) -> Option<Stamp>
+        ensures none { key.now.qualifier ≡ Lock → (m : Contents)
+            → AllByRecursion (IsOpen m) self.now
+            → HasNoLater key.now lo result (map (listed m) self.now) }
+        ensures within { IfSome result (λ stamp. (lo ≤ stamp) × (stamp ≤ key.now.stamp)) }
+    {
+        self.locks.latest(key, lo)
+    }
+
+    /// The newest entry of the key's column in the files, at a stamp from `lo` to the key's: its stamp, and its value or
+    /// `None` for an erasure. Where several files have an entry at this stamp, the newest of them decides. No file is
+    /// asked if the filter rules out such an entry. The files are unchanged.
+    pub(crate) fn newest<F: Files>(
         &mut self,
         key: &LookupKey,
         lo: Stamp,
         store: &mut F,
-    ) -> Result<Option<Stamp>, Refusal>
+    ) -> Result<Option<(Stamp, Option<Vec<u8>>)>, Refusal>
         requires { key.now.stamp < 2 ^ 63 }
         ensures found { IfOk result (λ found. IfSome (F.contents store.old) (λ m.
-            AllByRecursion (IsOpen m) self.old
-            → HasNoLater key.now lo found (map (listed m) self.old))) }
+            AllByRecursion (IsOpen m) self.old → IsNewestEntry (merged (map (listed m) self.old))
+            key.now lo (option_map found_bytes found))) }
         ensures within { IfOk result (λ found.
-            IfSome found (λ stamp. (lo ≤ stamp) × (stamp ≤ key.now.stamp))) }
+            IfSome found (λ entry. (lo ≤ entry.0) × (entry.0 ≤ key.now.stamp))) }
+        ensures short { IfOk result (λ found. IfSome found (λ entry. IsShortValue entry.1)) }
         ensures stay { AllZip (IsSameFile (F.contents store.old)) self.old self.new }
         ensures damaged { IsErrOf result Refusal.Damaged → IfSome (F.contents store.old)
             (λ m. ¬ AllByRecursion (IsOpen m) self.old) }
@@ -203,62 +214,10 @@ impl OpenFiles {
     {
         stays_covered();
         stays_indexed();
-        if !self.filter.may_have_value(key) {
+        if !self.filter.may_have_from(key, lo) {
             return Ok(None);
         }
-        newest_stamp(&mut self.files, key, lo, store)
-    }
-
-    /// The newest stamp, from `lo` up to the key's, at which the files may have a value of the key's column: their
-    /// merged list has no later value. For a lock the index answers. Otherwise the files are asked, unless the filter
-    /// rules out a value of the column. The files are unchanged.
-    pub(crate) fn newest_stamp<F: Files>(
-        &mut self,
-        key: &LookupKey,
-        lo: Stamp,
-        store: &mut F,
-    ) -> Result<Option<Stamp>, Refusal>
-        requires { key.now.stamp < 2 ^ 63 }
-        ensures found { IfOk result (λ found. IfSome (F.contents store.old) (λ m.
-            AllByRecursion (IsOpen m) self.old
-            → HasNoLater key.now lo found (map (listed m) self.old))) }
-        ensures within { IfOk result (λ found.
-            IfSome found (λ stamp. (lo ≤ stamp) × (stamp ≤ key.now.stamp))) }
-        ensures stay { AllZip (IsSameFile (F.contents store.old)) self.old self.new }
-        ensures damaged { IsErrOf result Refusal.Damaged → IfSome (F.contents store.old)
-            (λ m. ¬ AllByRecursion (IsOpen m) self.old) }
-        ensures reads { ReadsFiles F.contents F.faults store.old store.new result }
-    {
-        match key.key().qualifier {
-            Qualifier::Lock => Ok(self.locks.latest(key, lo)),
-            Qualifier::Data | Qualifier::Write => self.newest_in_files(key, lo, store),
-        }
-    }
-
-    /// The entry of a key in the first file that names it. No file is asked if the filter rules out the key. The files
-    /// are unchanged.
-    pub(crate) fn find<F: Files>(
-        &mut self,
-        key: &LookupKey,
-        store: &mut F,
-    ) -> Result<Option<Option<Vec<u8>>>, Refusal>
-        requires from { 1 ≤ key.now.stamp }
-        requires to { key.now.stamp < 2 ^ 63 }
-        ensures found { IfOk result (λ found. IfSome (F.contents store.old) (λ m.
-            AllByRecursion (IsOpen m) self.old → option_map value_bytes found
-            ≡ first_naming (map (listed m) self.old) (text key.now))) }
-        ensures short { IfOk result (λ found. IfSome found IsShortValue) }
-        ensures stay { AllZip (IsSameFile (F.contents store.old)) self.old self.new }
-        ensures damaged { IsErrOf result Refusal.Damaged
-            → IfSome (F.contents store.old) (λ m. ¬ AllByRecursion (IsOpen m) self.old) }
-        ensures reads { ReadsFiles F.contents F.faults store.old store.new result }
-    {
-        stays_covered();
-        stays_indexed();
-        if !self.filter.may_have_key(key) {
-            return Ok(None);
-        }
-        find_in_files(&mut self.files, key, store)
+        newest(&mut self.files, key, lo, store)
     }
 
     /// Empties the caches of the files. The files are unchanged. Allocates nothing.

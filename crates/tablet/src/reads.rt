@@ -6,14 +6,13 @@ ghost use Rattle.cell_key.specs.Entries.{cells_of};
 ghost use Rattle.cell_key.specs.Places.{AreNextCells, IsNextCell, place_named};
 ghost use Rattle.cell_key.specs.Versions.{IsVersion, IsVersionIn, stamped};
 ghost use Rattle.memtable.specs.Slots.{lent_version};
-ghost use Rattle.sorted_file.specs.File.{listed};
-ghost use Rattle.sorted_file.specs.Newest.{at_stamp};
+ghost use Rattle.sorted_file.specs.Newest.{at_stamp, found_bytes, IsShortValue};
 ghost use Rattle.std.specs.Bool.{OnFalse};
 ghost use Rattle.std.specs.List.{AllByRecursion};
 ghost use Rattle.rows.specs.Batches.{AreNextVersions, IsFull};
 ghost use Rattle.tablet.specs.Ranges.{has_row};
 ghost use Rattle.rows.specs.Reads.{AreNewestFirst, HasVersion};
-ghost use Rattle.tablet.specs.Reads.{HasNoLater, HaveNoValue, IsLater, ReadsTablet};
+ghost use Rattle.tablet.specs.Reads.{HaveNoValue, IsLater, IsNextVersion, ReadsTablet};
 
 use crate::lookup::lookup;
 use crate::scan::{later, merged_places, merged_values, merged_versions, past_place, version_text};
@@ -97,9 +96,9 @@ impl Tablet {
         }
     }
 
-    /// The newest version in `lo..=hi`, given that the memtable has none there. A single stamp is looked up; otherwise
-    /// the files' newest stamps tell which versions to look up. A version that a newer erasure hides is skipped; after
-    /// eight of them one pass over the rest of the column decides.
+    /// The newest version in `lo..=hi`, given that the memtable has none there. A single stamp is looked up; otherwise the
+    /// files are asked for their newest entry. A version that a newer erasure hides is skipped; after eight of them one
+    /// pass over the rest of the column decides.
     fn newest_in_files<F: Files>(
         &mut self,
         row: &Row,
@@ -129,12 +128,11 @@ impl Tablet {
         }
         let mut passed = 0;
         'hidden: while passed < FEW_HIDDEN {
-            let Some(stamp) = self.newest_file_stamp(&key, lo, files)? else {
+            let Some((stamp, value)) = self.next_version(&mut key, lo, files)? else {
                 return Ok(None);
             };
-            key.set_stamp(stamp);
-            if let Some(found) = self.version_at(&key, files)? {
-                return Ok(Some(found));
+            if let Some(value) = value {
+                return Ok(Some((stamp, value)));
             }
             key.set_stamp(stamp - 1);
             passed += 1;
@@ -168,32 +166,51 @@ impl Tablet {
         }
     }
 
-    /// The newest stamp, from `lo` up to the key's, at which the files may have a value of the key's column: their
-    /// merged list has no later value. No file is asked for a lock, or if the filter of their keys rules out such a
-    /// value.
-    fn newest_file_stamp<F: Files>(
+    /// The stamp of the newest entry in files that may be the newest version from `lo` to the key's stamp, and its value,
+    /// or `None` if the version is hidden or erased: then the search goes on below it. The key gets its stamp. For a lock
+    /// the index tells the stamp.
+    fn next_version<F: Files>(
         &mut self,
-        key: &LookupKey,
+        key: &mut LookupKey,
         lo: Stamp,
         files: &mut F,
-    ) -> Result<Option<Stamp>, Refusal>
-        requires { key.now.stamp < 2 ^ 63 }
+    ) -> Result<Option<(Stamp, Option<Vec<u8>>)>, Refusal>
+        requires from { 1 ≤ lo }
+        requires to { key.old.stamp < 2 ^ 63 }
         ensures found { IfOk result (λ found. IfSome (F.contents files.old) (λ m. Holds m self.old
-            → HasNoLater key.now lo found (map (listed m) (files_of self.old)))) }
+            → IsNextVersion m self.old key.old lo (option_map found_bytes found))) }
         ensures within { IfOk result (λ found.
-            IfSome found (λ stamp. (lo ≤ stamp) × (stamp ≤ key.now.stamp))) }
+            IfSome found (λ next. (lo ≤ next.0) × (next.0 ≤ key.old.stamp))) }
+        ensures short { IfOk result (λ found. IfSome found (λ next. IsShortValue next.1)) }
+        ensures key { IfOk result (λ found.
+            IfSome found (λ next. key.new ≡ at_stamp key.old next.0)) }
         ensures stays { IsSameTablet (F.contents files.old) self.old self.new }
         ensures reads { ReadsTablet F.contents F.faults self.old files.old files.new result }
     {
-        self.files.newest_stamp(key, lo, files)
+        if key.key().qualifier == Qualifier::Lock {
+            let Some(stamp) = self.files.latest_lock(key, lo) else {
+                return Ok(None);
+            };
+            key.set_stamp(stamp);
+            let value = lookup(self.alloc, &self.memtable, &mut self.files, key, files)?;
+            return Ok(Some((stamp, value)));
+        }
+        let Some((stamp, value)) = self.files.newest(key, lo, files)? else {
+            return Ok(None);
+        };
+        key.set_stamp(stamp);
+        if self.memtable.lookup(key.key()).is_some() {
+            return Ok(Some((stamp, None)));
+        }
+        Ok(Some((stamp, value)))
     }
 
     /// The version of a cell's column with the greatest stamp in `lo..=hi` (Bigtable, timestamps), or `None`. The
     /// memtable is searched first. If no file can have a later version, it decides: no file is asked, and only the copy
-    /// of the value allocates. Otherwise each file is asked for the stamp of its newest value later than the
-    /// memtable's, and the version at the greatest of these stamps is looked up. If a newer erasure hides it, the read
-    /// goes on below it; after eight hidden versions one pass reads the rest of the column. The tablet is unchanged,
-    /// also after an `Err`.
+    /// of the value allocates. Otherwise each file is asked for its newest entry later than the memtable's version, and
+    /// the one with the greatest stamp decides, of several the newest file's. If it is an erasure or the memtable erases
+    /// it, the read goes on below it; after eight hidden versions one pass reads the rest of the column. The tablet is
+    /// unchanged, also after an `Err`.
     ///
     /// # Errors
     ///

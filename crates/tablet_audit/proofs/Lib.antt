@@ -1,2 +1,3 @@
 mod FirstFrames
 mod Recordings
+mod SharedFrames

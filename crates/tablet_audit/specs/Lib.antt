@@ -1,6 +1,8 @@
 pub mod Frames
 pub mod Flaws
+pub mod Limits
 pub mod Runs
+pub mod Judges
 pub mod Verdicts
 pub mod Reopenings
 pub mod Pairs

@@ -1,6 +1,7 @@
 //! The command line of `tablet_audit`: its options, and its parser.
 
 use crate::reopenings::Reopening;
+use crate::sharing::Sharing;
 use clap::builder::ValueParser;
 use clap::{Arg, ArgAction, ArgMatches, Command, Error};
 use std::alloc::{AllocError, Global};
@@ -26,6 +27,16 @@ const RECOVERED: &str = "recovered-at";
 const RECOVERED_HELP: &str =
     "Replies behind which a store with a log was opened again, each with the mark of its oracle then";
 
+const CLIENTS: &str = "clients";
+
+const CLIENTS_HELP: &str =
+    "The body of each frame begins with a client's number, as `tabletd --clients` has it";
+
+const ADMIN: &str = "admin";
+
+const ADMIN_HELP: &str =
+    "With --clients, the one client that might ask for upkeep and raw reads: 1 to 4,294,967,295";
+
 /// The options given on the command line.
 #[derive(Drop)]
 pub struct Options<'a> {
@@ -33,6 +44,8 @@ pub struct Options<'a> {
     pub requests: &'a str,
     /// The file of the replies' frames.
     pub replies: &'a str,
+    /// How the stream was shared.
+    pub sharing: Sharing,
     /// The places at which the store was reopened.
     pub reopenings: Vec<Reopening>,
 }
@@ -86,12 +99,33 @@ fn command<'a>(alloc: Global) -> Result<Command<'a>, AllocError> {
         u64::MAX,
     ));
     let recovered = list(alloc, RECOVERED, "K:MARK,..", RECOVERED_HELP);
+    let clients = Arg::new(alloc, CLIENTS)
+        .long(CLIENTS)
+        .help(CLIENTS_HELP)
+        .action(ArgAction::SetTrue);
+    let admin = Arg::new(alloc, ADMIN)
+        .long(ADMIN)
+        .value_name("A")
+        .help(ADMIN_HELP)
+        .action(ArgAction::Set)
+        .value_parser(ValueParser::unsigned(1, u32::MAX as u64))
+        .requires_arg(CLIENTS)?;
     Command::new(alloc, "tablet_audit")
         .about(ABOUT)
         .arg(requests)?
         .arg(replies)?
         .arg(reopened)?
-        .arg(recovered)
+        .arg(recovered)?
+        .arg(clients)?
+        .arg(admin)
+}
+
+/// How the stream was shared.
+fn sharing_of(matches: &ArgMatches<'_>) -> Sharing {
+    if !matches.get_flag(CLIENTS) {
+        return Sharing::Alone;
+    }
+    Sharing::Shared(matches.get_one::<u32>(ADMIN))
 }
 
 /// The places at which a store without a log was reopened.
@@ -140,6 +174,7 @@ pub fn read_options<'a>(alloc: Global, words: &'a [&'a str]) -> Result<Options<'
     Ok(Options {
         requests: matches.get_str(REQUESTS).unwrap_or(""),
         replies: matches.get_str(REPLIES).unwrap_or(""),
+        sharing: sharing_of(&matches),
         reopenings,
     })
 }

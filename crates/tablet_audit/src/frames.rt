@@ -1,11 +1,10 @@
 //! The frames of a recording.
 
-ghost use Rattle.std.specs.Prelude.{◌≡◌, IfErr, IfOk, Some};
-ghost use Rattle.request_codec.specs.Stream.{BeginsNoFrame};
+ghost use Rattle.std.specs.Prelude.{◌≡◌, ◌≤◌, IfErr, IfOk, Some};
+ghost use Rattle.std.specs.Int.{from_be_bytes, to_be_bytes, w32};
 ghost use Rattle.tablet_audit.specs.Frames.{IsFlawed, Splits};
 ghost use Rattle.tablet_audit.specs.Flaws.{flaw_text};
 
-use request_codec::{LONGEST_BODY, split_frame};
 use std::fmt;
 
 /// A flaw of a frame in a recording.
@@ -19,33 +18,33 @@ pub enum Flaw {
     OutsideGrammar,
 }
 
-/// Why bytes do not begin with a frame.
-fn flaw_of(bytes: &[u8]) -> Flaw
-    requires { BeginsNoFrame bytes.now }
-    ensures { IsFlawed bytes.now result }
+/// The length that a header gives.
+fn length_in(header: [u8; 4]) -> u32
+    ensures value { result ≡ from_be_bytes w32 header }
+    ensures spells { to_be_bytes w32 result ≡ header }
 {
-    if bytes.is_empty() {
-        return Flaw::Missing;
-    }
-    let Some(header) = bytes.first_chunk::<4>() else {
-        return Flaw::Cut;
-    };
-    let length = u32::from_be_bytes(*header) as usize;
-    if length > LONGEST_BODY {
-        return Flaw::OutsideGrammar;
-    }
-    Flaw::Cut
+    u32::from_be_bytes(header)
 }
 
-/// The body of the first frame, and the bytes after the frame.
-pub fn first_frame(bytes: &[u8]) -> Result<(&[u8], &[u8]), Flaw>
-    ensures ok { IfOk result (λ p. Splits bytes.now p.0.now p.1.now) }
-    ensures err { IfErr result (λ flaw. IsFlawed bytes.now flaw) }
+/// The body of the first frame, which may have at most `most` bytes, and the bytes after the frame.
+pub fn first_frame(bytes: &[u8], most: usize) -> Result<(&[u8], &[u8]), Flaw>
+    ensures ok { IfOk result (λ p. Splits most bytes.now p.0.now p.1.now) }
+    ensures err { IfErr result (λ flaw. IsFlawed most bytes.now flaw) }
 {
-    match split_frame(bytes) {
-        Some(parts) => Ok(parts),
-        None => Err(flaw_of(bytes)),
+    if bytes.is_empty() {
+        return Err(Flaw::Missing);
     }
+    let Some((header, after)) = bytes.split_first_chunk::<4>() else {
+        return Err(Flaw::Cut);
+    };
+    let length = length_in(*header) as usize;
+    if length > most {
+        return Err(Flaw::OutsideGrammar);
+    }
+    let Some((body, rest)) = after.split_at_checked(length) else {
+        return Err(Flaw::Cut);
+    };
+    Ok((body, rest))
 }
 
 impl fmt::Display for Flaw {

@@ -1,12 +1,15 @@
-//! `tablet_audit REQUESTS REPLIES [--reopened-at K,..] [--recovered-at K:MARK,..]` judges a recorded run of a store:
-//! whether each reply is a step of the snapshot machine. REQUESTS is the file of request frames, REPLIES the file of
-//! reply frames.
+//! `tablet_audit REQUESTS REPLIES [--clients [--admin A]] [--reopened-at K,..] [--recovered-at K:MARK,..]` judges a
+//! recorded run of a store: whether each reply is a step of the snapshot machine, and, with `--clients`, whether each is
+//! what its client may be answered. REQUESTS is the file of request frames, REPLIES the file of reply frames.
 #![tactic(auto)]
 
 mod command_line;
 mod frames;
 mod judge;
+mod judges;
 mod reopenings;
+mod shared;
+mod sharing;
 mod verdicts;
 mod words;
 
@@ -93,7 +96,13 @@ where
     R: AllocGlobal + Print + Folders<File = File> + Clone + Drop,
 {
     let (requests, replies) = read_files(rt, options)?;
-    let verdict = judge(rt.alloc(), &requests, &replies, &options.reopenings)?;
+    let verdict = judge(
+        rt.alloc(),
+        &requests,
+        &replies,
+        options.sharing,
+        &options.reopenings,
+    )?;
     println!(rt; "{verdict}")?;
     Ok(verdict.status())
 }

@@ -4,17 +4,22 @@ ghost use Rattle.std.specs.Prelude.{◌≡◌};
 ghost use Rattle.tablet_audit.specs.Statuses.{status_of, verdict_text};
 
 use crate::frames::Flaw;
-use crate::words::{AnswerWords, OperationWords};
+use crate::sharing::Sharing;
+use crate::words::{AnswerWords, FrameWords, OperationWords};
+use ownership::Frame;
 use request_codec::{Answer, Operation};
 use std::fmt;
 
 /// The verdict of an audit. Requests and replies are numbered from 1.
 #[derive(Drop)]
 pub enum Verdict<'a> {
-    /// Each of this many replies is a step of the machine.
-    Steps(u64),
+    /// Each of this many replies is a step of the machine, or what its client may be answered if several clients made
+    /// the recording.
+    Correct(Sharing, u64),
     /// The reply with this number is no step.
     NoStep(u64, Operation<'a>, Answer),
+    /// The reply with this number isn't what the client that sent the request may be answered.
+    NotAllowed(u64, Frame<'a>, u32, Answer),
     /// The frame of the request with this number is flawed.
     BadRequest(u64, Flaw),
     /// The frame of the reply with this number is flawed.
@@ -30,8 +35,8 @@ impl Verdict<'_> {
         ensures { result ≡ status_of self.now }
     {
         match self {
-            Verdict::Steps(_) => 0,
-            Verdict::NoStep(..) | Verdict::BadMark(_) => 1,
+            Verdict::Correct(..) => 0,
+            Verdict::NoStep(..) | Verdict::NotAllowed(..) | Verdict::BadMark(_) => 1,
             Verdict::BadRequest(..) | Verdict::BadReply(..) => 2,
         }
     }
@@ -42,13 +47,26 @@ impl fmt::Display for Verdict<'_> {
 
     fn fmt<W: fmt::Write>(&self, f: &mut fmt::Formatter<W>) -> fmt::Result {
         match self {
-            Verdict::Steps(count) => write!(f, "{count} replies, each a step of the machine"),
+            Verdict::Correct(Sharing::Alone, count) => {
+                write!(f, "{count} replies, each a step of the machine")
+            }
+            Verdict::Correct(Sharing::Shared(_), count) => {
+                write!(f, "{count} replies, each allowed")
+            }
             Verdict::NoStep(number, operation, answer) => {
                 let operation = OperationWords(operation);
                 let answer = AnswerWords(answer);
                 write!(
                     f,
                     "reply {number} is no step of the machine: {operation} -> {answer}"
+                )
+            }
+            Verdict::NotAllowed(number, frame, to, answer) => {
+                let frame = FrameWords(frame);
+                let answer = AnswerWords(answer);
+                write!(
+                    f,
+                    "reply {number} is not allowed: {frame} -> client {to}: {answer}"
                 )
             }
             Verdict::BadRequest(number, flaw) => write!(f, "request {number} {flaw}"),

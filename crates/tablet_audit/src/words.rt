@@ -1,6 +1,7 @@
 //! Requests and answers in words.
 
 use cell_key::Qualifier;
+use ownership::Frame;
 use request_codec::{Answer, Operation, Reply, Request};
 use si_model::{
     CleanReply, CleanStart, CollectReply, CommitReply, Found, Progress, ScanRange, ScanReach,
@@ -37,6 +38,24 @@ fn column_name(qualifier: Qualifier) -> &'static str {
         Qualifier::Data => "data",
         Qualifier::Lock => "lock",
         Qualifier::Write => "write",
+    }
+}
+
+/// What a client sent, in words: its number, and the request.
+#[derive(Drop)]
+pub struct FrameWords<'a>(pub &'a Frame<'a>);
+
+impl fmt::Display for FrameWords<'_> {
+    fn fmt<W: fmt::Write>(&self, f: &mut fmt::Formatter<W>) -> fmt::Result {
+        match self.0 {
+            Frame::Asks(client, operation) => {
+                let operation = OperationWords(operation);
+                write!(f, "client {client}: {operation}")
+            }
+            Frame::Leaves(client) => write!(f, "client {client}: gone"),
+            Frame::Malformed(client) => write!(f, "client {client}: no request"),
+            Frame::NoClient => write!(f, "no client"),
+        }
     }
 }
 
@@ -81,7 +100,9 @@ impl fmt::Display for AnswerWords<'_> {
             Answer::Commit(CommitReply::Committed(start, stamp)) => {
                 write!(f, "Committed {start} {stamp}")
             }
-            Answer::Commit(CommitReply::Conflict(place)) => write!(f, "Conflict {place}"),
+            Answer::Commit(CommitReply::Conflict(start, place)) => {
+                write!(f, "Conflict {start} {place}")
+            }
             Answer::Read(reply) => {
                 write!(f, "Read {}, {} cells", reply.start, reply.found.len())
             }

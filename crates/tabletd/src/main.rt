@@ -3,7 +3,7 @@
 //! output. The store is in memory, or in a folder, with or without a log. Several clients may share the streams.
 #![tactic(auto)]
 
-ghost use Rattle.std.specs.Prelude.{◌≡◌, ◌≤◌, IfErr, IfOk, IfSome, OnOk};
+ghost use Rattle.std.specs.Prelude.{◌≡◌, ◌≤◌, IfErr, IfOk, IfSome, None, OnOk, Some, false, true};
 
 use cell_key::Refusal;
 use clap::error::ErrorKind;
@@ -12,7 +12,9 @@ use commit_log::{DirLog, Log, LogFault, OpenLog, make_log, open_log};
 use durable::{AtomicPut, DurableServer, ROOT_NAME};
 use file_store::{DirFiles, FileFault, Files, MemFiles, read_whole};
 use oracle::{DirMark, MarkStore, MemMark};
-use server_loop::{ClientServer, Config, FlushLimits, Server, end_status, open_status};
+use server_loop::{
+    ClientServer, Config, FlushLimits, MergePolicy, Server, end_status, open_status,
+};
 use std::alloc::{AllocError, Global};
 use std::fs::File;
 use std::io::BufWriter;
@@ -181,6 +183,20 @@ where
     Ok(Some(log))
 }
 
+/// When files are merged without a request: at the number that the command line gives, or with upkeep by levels.
+fn merge_policy(options: &Options<'_>) -> Option<MergePolicy>
+    ensures count { IfSome options.now.merge (λ most. result ≡ Some (MergePolicy.AtCount most)) }
+    ensures levels { options.now.merge ≡ None → options.now.upkeep ≡ true
+        → result ≡ Some MergePolicy.Levels }
+    ensures never { options.now.merge ≡ None → options.now.upkeep ≡ false → result ≡ None }
+{
+    match options.merge {
+        Some(most) => Some(MergePolicy::AtCount(most)),
+        None if options.upkeep => Some(MergePolicy::Levels),
+        None => None,
+    }
+}
+
 /// Serves the clients that share standard input. Returns the exit status, with its line on standard error.
 fn serve_clients<R: AllocGlobal + Input + Print, F: Files + Drop, M: MarkStore + Drop>(
     rt: &R,
@@ -209,8 +225,8 @@ fn serve<R: AllocGlobal + Input + Print, F: Files + Drop, M: MarkStore + Drop>(
         Ok(server) => server,
         Err((refusal, _, _)) => return open_status(&refusal),
     };
-    if let Some(most) = options.merge {
-        server.merge_at(most);
+    if let Some(policy) = merge_policy(options) {
+        server.merge_by(policy);
     }
     if let Some(most_blocks) = NonZeroUsize::new(options.cache as usize) {
         server.cache_blocks(most_blocks);
@@ -281,8 +297,8 @@ fn serve_logged<
     if options.upkeep {
         server.sweep_after_checkpoints();
     }
-    if let Some(most) = options.merge {
-        server.merge_at(most);
+    if let Some(policy) = merge_policy(options) {
+        server.merge_by(policy);
     }
     if let Some(most_blocks) = NonZeroUsize::new(options.cache as usize) {
         server.cache_blocks(most_blocks);

@@ -86,10 +86,10 @@ const CLASHES: [Exchange; 15] = [
         b"\x32\0\0\0\0\0\0\0\0\0\0\0\x01\0\0\0\x01s\0\0\0\x01c\x01\0\0\0\x01y",
         b"\xB2\x01\0\0\0\0\0\0\0\x08\0\0\0\0\0\0\0\x09",
     ),
-    // Commit 7: q c y, s c z: Conflict 2
+    // Commit 7: q c y, s c z: Conflict 7 2
     (
         b"\x32\0\0\0\0\0\0\0\x07\0\0\0\x02\0\0\0\x01q\0\0\0\x01c\x01\0\0\0\x01y\0\0\0\x01s\0\0\0\x01c\x01\0\0\0\x01z",
-        b"\xB2\x02\0\x02",
+        b"\xB2\x02\0\0\0\0\0\0\0\x07\0\x02",
     ),
     // Raw q c data 0..99: nothing
     (
@@ -112,10 +112,10 @@ const CLASHES: [Exchange; 15] = [
     ),
     // Step 10: Held 1 1
     (b"\x04\0\0\0\0\0\0\0\x0A", b"\x84\x01\0\x01\0\x01"),
-    // Commit 0: l c w: Conflict 1
+    // Commit 0: l c w: Conflict 11 1
     (
         b"\x32\0\0\0\0\0\0\0\0\0\0\0\x01\0\0\0\x01l\0\0\0\x01c\x01\0\0\0\x01w",
-        b"\xB2\x02\0\x01",
+        b"\xB2\x02\0\0\0\0\0\0\0\x0B\0\x01",
     ),
     // Read 0: l c, s c; ends: 12; Pending 10, y
     (

@@ -1,38 +1,25 @@
 -- Reads of cells one after the other.
-use Rattle.std.proofs.Common.{◌≡◌, ◌∙◌, ℕ, zero, suc, ◌+◌, ◌*◌, ◌≤◌, ◌⊎◌, inl, inr, [], ◌∷◌, ◌++◌, List, map, take, drop, length, length-append, get_or, ◌<◌, Option, Some, option_map, refl, sym, subst, ap, arith}
-use Rattle.std.specs.Prelude.{slice_get}
-use Rattle.std.proofs.lemmas.List.{map-append}
-use Rattle.std.proofs.lemmas.Option.{none-some, same_Some, slice_get-get_or}
+use Rattle.std.proofs.Common.{◌≡◌, ◌∙◌, ℕ, ◌+◌, ◌≤◌, ◌⊎◌, inl, inr, [], ◌∷◌, ◌++◌, List, take, drop, length, length-append, get_or, ◌<◌, Option, sym, subst, ap, arith}
+use Rattle.std.proofs.lemmas.List.{length-map, map-append}
 use Rattle.cell_key.specs.Cells.{Cells}
 use Rattle.cell_key.specs.declared.refusals.Refusal.{Refusal}
-use Rattle.si_model.specs.Answers.{cell_named, cells_named}
+use Rattle.si_model.specs.AnswerLimits.{IsInReadLimits}
+use Rattle.si_model.specs.Answers.{cell_named, cells_named, told_item, told_items}
 use Rattle.si_model.specs.Machine.{Item}
-use Rattle.si_model.specs.Replies.{found_item}
 use Rattle.si_model.specs.Transactions.{told_length, told_lengths}
 use Rattle.si_model.specs.declared.replies.Cell.{Cell}
 use Rattle.si_model.specs.declared.scans.ScanFound.{ScanFound}
 use Rattle.si_model.specs.declared.transactions.CellName.{CellName}
-use Rattle.txn_client.specs.CellReads.{AreRead, IsReadingRefusal, IsReadSo, IsRefusedAmong, IsShortAnswer, IsShortOf, said_in}
+use Rattle.txn_client.specs.CellReads.{AreRead, IsReadingRefusal, IsReadSo, IsRefusedAmong, IsShortOf}
 use Rattle.si_model.specs.Takings.{IsNamed}
+use Rattle.si_model.proofs.TakenWrites.{next_taken}
 
-pub said_next : (old new : List (Option ScanFound)) (said : Option ScanFound) → new ≡ old ++ said ∷ [] → said_in new ≡ said_in old ++ option_map found_item said ∷ []
-said_next old new said is = ap said_in is ∙ map-append (λ (s : Option ScanFound). option_map found_item s) old (said ∷ [])
-
--- the i-th element is the next one after the first i
-next_of : {X : Type 0} (xs : List X) (i : ℕ) (x : X) → slice_get xs i ≡ Some x → (take (suc i) xs ≡ take i xs ++ x ∷ []) × (xs ≡ take i xs ++ x ∷ drop (suc i) xs)
-next_of [] i x e = absurd (none-some x e)
-next_of (y ∷ ys) zero x e = let same = same_Some y x e in (ap (λ z. z ∷ []) same, ap (λ z. z ∷ ys) same)
-next_of (y ∷ ys) (suc i) x e = let r = next_of ys i x e in (ap (λ zs. y ∷ zs) r.0, ap (λ zs. y ∷ zs) r.1)
+pub said_next : (old new : List (Option ScanFound)) (said : Option ScanFound) → new ≡ old ++ said ∷ [] → told_items new ≡ told_items old ++ told_item said ∷ []
+said_next old new said is = ap told_items is ∙ map-append told_item old (said ∷ [])
 
 lengths_more : (said : List (Option Item)) (one : Option Item) → told_lengths (said ++ one ∷ []) ≡ told_lengths said + told_length one
 lengths_more [] one = omega arith
 lengths_more (r ∷ rs) one = let more = lengths_more rs one in omega (arith, more)
-
-pub next_taken : {X : Type 0} (xs : List X) (i : ℕ) (d : X) → i < length xs → (take (i + 1) xs ≡ take i xs ++ get_or xs i d ∷ []) × (xs ≡ take i xs ++ get_or xs i d ∷ drop (i + 1) xs)
-next_taken xs i d less =
-    let r = next_of xs i (get_or xs i d) (slice_get-get_or xs i d less) in
-    let more : suc i ≡ i + 1 = omega arith in
-    subst (λ (n : ℕ). (take n xs ≡ take i xs ++ get_or xs i d ∷ []) × (xs ≡ take i xs ++ get_or xs i d ∷ drop n xs)) more r
 
 module _ (cells : Cells) (s : ℕ) where
   pub reads_one_more : (xs : List Cell) (said : List (Option Item)) (used : ℕ) (x : Cell) (one : Option Item) → AreRead cells s used xs said → IsNamed x → IsReadSo cells s (used + told_lengths said) x one
@@ -77,5 +64,9 @@ short_more old new one b t b' items had which is =
       | inr few ↦ elim had [ inl low ↦ inl (omega (arith, low, few, is, count)) | inr low ↦ inr (omega (arith, low, few, is, count)) ]
     ]
 
-pub short_answer : (found : List (Option ScanFound)) (i n b : ℕ) → length found ≡ i → i ≤ n → n ≤ 256 → b ≡ told_lengths (said_in found) → IsShortOf (length found) b → IsShortAnswer found
-short_answer found i n b count within most sum short = (omega (arith, count, within, most), elim short [ inl low ↦ omega (arith, low, count, within, most, sum) | inr low ↦ omega (arith, low, count, within, most, sum) ])
+pub short_answer : (found : List (Option ScanFound)) (i n b : ℕ) → length found ≡ i → i ≤ n → n ≤ 256 → b ≡ told_lengths (told_items found) → IsShortOf (length found) b → IsInReadLimits (told_items found)
+short_answer found i n b count within most sum short =
+    let same = length-map found told_item in (
+      omega (arith, same, count, within, most),
+      elim short [ inl low ↦ omega (arith, low, count, within, most, sum) | inr low ↦ omega (arith, low, count, within, most, sum) ],
+    )

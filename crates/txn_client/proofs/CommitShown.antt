@@ -1,5 +1,5 @@
 -- A transaction in one call, where cells and sessions show the machine's state.
-use Rattle.std.proofs.Common.{◌≡◌, ◌≢◌, ◌∙◌, ℕ, ◌+◌, ◌-◌, ◌<◌, ◌≤◌, ◌^◌, inl, inr, cond, List, [], ◌∷◌, ◌++◌, length, map, Option, Some, None, refl, sym, subst, ap, arith}
+use Rattle.std.proofs.Common.{◌≡◌, ◌≢◌, ◌∙◌, ℕ, ◌+◌, ◌-◌, ◌<◌, ◌≤◌, ◌^◌, inl, inr, cond, List, [], ◌∷◌, length, map, Option, Some, None, refl, sym, subst, ap, arith}
 use Rattle.std.specs.Prelude.{slice_get, option_map, is_some, IfNone, IfSome}
 use Rattle.std.specs.Ordering.{nat_cmp}
 use Rattle.std.specs.Cmp.{nat_cmp_total}
@@ -10,30 +10,30 @@ use Rattle.std.proofs.lemmas.List.{length-map}
 use Rattle.std.proofs.lemmas.Option.{none-some, same_Some, slice_get-map, slice_get_within}
 use Rattle.cell_key.specs.Cells.{Cells}
 use Rattle.cell_key.specs.declared.refusals.Refusal.{Refusal}
-use Rattle.cell_key.specs.declared.refusals.Refusal.TheVariants.{UnknownSession, WrongPhase, BadRow, BadColumn, BadValue, TooManyWrites, TooManySessions, EmptyCommit, MemtableFull, Exhausted, Device, NoMemory}
+use Rattle.cell_key.specs.declared.refusals.Refusal.TheVariants.{UnknownSession, WrongPhase, TooManySessions, EmptyCommit, MemtableFull, Exhausted, NoMemory}
 use Rattle.rows.specs.Refusals.{IsApplyRefusal}
-use Rattle.si_model.specs.Sets.{◌∈◌}
 use Rattle.si_model.specs.Machine as machine
-use Rattle.si_model.specs.Machine.{State, Change, Writes, Open, InPhase, Wrote, Puts, Gives, Clashes, IsReached, IsStorageRefusal, Refuses, Refused, StopDone, Step, accepts, sets, deletes, stops}
+use Rattle.si_model.specs.Machine.{State, Change, Writes, Open, Wrote, Puts, Gives, Clashes, IsStorageRefusal, Refused, StopDone, Step, accepts, stops}
 use Rattle.si_model.specs.PutCells.{all_put_cells}
-use Rattle.si_model.specs.Refusing.Refuses.{gives_up}
+use Rattle.si_model.specs.Servers.{IsReachedByServers}
 use Rattle.si_model.specs.ShowsCells.{ShowsCells}
 use Rattle.si_model.specs.TransactionLaws.{committed_state}
-use Rattle.si_model.specs.Transactions.{Answer, Goes, Commit, Said, CommitDone, CommitConflict, Opens, Buffers, all_taken, takes, Advances, rests, is_unknown, is_late, request_of, reply_of, Transacts, conflicts, refuses, to_begin, to_write, to_step, transacts, ClashesFirst}
+use Rattle.si_model.specs.Transactions.{Answer, Goes, Commit, Said, CommitDone, CommitConflict, Opens, is_unknown, is_late, conflicts, refuses, to_begin, to_write, to_step, transacts, ClashesFirst}
 use Rattle.si_model.specs.Transactions.{gives_up as gives_up_all}
 use Rattle.si_model.specs.declared.replies.Cell.{Cell}
-use Rattle.si_model.proofs.Acceptable.{set_ok, delete_ok, stop_ok}
-use Rattle.si_model.proofs.AtOnce.{Opened, opened, buffered, puts_at_once}
-use Rattle.si_model.proofs.FirstRefusals.{begin_full_first, set_row_first, set_family_first, set_long_first, set_full_first, delete_row_first, delete_family_first, delete_full_first, advance_empty_first}
+use Rattle.si_model.proofs.Acceptable.{stop_ok}
+use Rattle.si_model.proofs.AtOnce.{Opened, servers_opened, buffered, puts_at_once}
+use Rattle.si_model.proofs.FirstRefusals.{begin_full_first, advance_empty_first}
 use Rattle.si_model.proofs.Goes.{goes}
 use Rattle.si_model.proofs.ShownKept.{shows_beside}
-use Rattle.si_model.proofs.Steps.{reached_sound}
+use Rattle.si_model.proofs.Steps.{servers_sound}
+use Rattle.si_model.proofs.TakenWrites.{Taken, refuses_write, take_all}
 use Rattle.si_model.proofs.Tools.{get_same, get_other, get_removed, get_remains}
 use Rattle.txn_client.specs.Commits.{CommitsIn, EndsAt, IsCommitStamp, IsCopyRefusal}
 use Rattle.txn_client.specs.Reads.{IsFree}
-use Rattle.txn_client.specs.Shows.{phase_of, Shows, ShowsAt, ShowsClients, ShowsSession, writes_of}
+use Rattle.txn_client.specs.Shows.{phase_of, KnowsTop, Shows, ShowsAt, ShowsClients, ShowsSession}
 use Rattle.txn_client.specs.Takings.{AreFree, IsFirstTaken}
-use Rattle.si_model.specs.Takings.{IsRefusedWrite, IsWriteRefusal, TakesAll, TakesWrite}
+use Rattle.si_model.specs.Takings.{IsRefusedWrite, TakesAll}
 use Rattle.txn_client.specs.Transactions.{GoesAs, HasSession}
 use Rattle.txn_client.specs.Writes.{write_of}
 use Rattle.txn_client.specs.declared.session.Session.{Session}
@@ -41,67 +41,17 @@ use Rattle.txn_client.specs.declared.sessions.Clients.{Clients}
 use Rattle.txn_client.specs.declared.writes.Write.{Write}
 use Rattle.txn_client.proofs.Advance.{free_open, taken_clash}
 use Rattle.txn_client.proofs.ReadsShown.{opens_named, opens_new}
-use Rattle.txn_client.proofs.Table.{begun_at, late_phase, shown_none, shown_some, shows_changed}
+use Rattle.txn_client.proofs.Table.{begun_at, late_phase, low_by, same_low, shown_none, shown_some, shows_changed}
 
--- ---- the session takes its writes
+-- ---- the session has taken its writes
+
+same_top : {s : ℕ} {st next : State} {all : Writes} → Taken s st next all → next.top ≡ st.top
+same_top taken = ap (λ (m : State). m.top) taken.rest
+
+same_active : {s : ℕ} {st next : State} {all : Writes} → Taken s st next all → next.active ≡ st.active
+same_active taken = ap (λ (m : State). m.active) taken.rest
 
 module _ (cells : Cells) (s : ℕ) where
-  -- a state after writes, in which the session is still open
-  pub record Taken (st next : State) (all : Writes) : Type 0 where
-    pub opened : Opened cells s next
-    pub wrote : Wrote next s all
-    pub top : next.top ≡ st.top
-    pub active : next.active ≡ st.active
-    pub others : (u : ℕ) → u ≢ s → get next.begun u ≡ get st.begun u
-
-  taken_by : (st : State) (x : Cell) (v : Change) (after : Writes) → Opened cells s st → Step st (request_of s x v) (reply_of v) (record st { begun = insert st.begun s after })
-      → (next : State) × Step st (request_of s x v) (reply_of v) next × Taken st next after
-  taken_by st x v after o step = (
-    record st { begun = insert st.begun s after },
-    step,
-    record {
-      opened = buffered cells s (takes step all_taken) o;
-      wrote = get_same st.begun s after;
-      top = refl;
-      active = refl;
-      others = λ u ne. get_other st.begun s after u ne;
-    },
-  )
-
-  take_one : (st : State) (x : Cell) (v : Change) (before after : Writes) → Opened cells s st → Wrote st s before → TakesWrite before (x, v) after → (next : State) × Step st (request_of s x v) (reply_of v) next × Taken st next after
-  take_one st x (Some value) before after o w t = taken_by st x (Some value) after o (accepts (set_ok before o.active t.named.0 t.named.1 t.short w t.room) (sets o.active w t.sets))
-  take_one st x None before after o w t = taken_by st x None after o (accepts (delete_ok before o.active t.named.0 t.named.1 w t.room) (deletes o.active w t.sets))
-
-  pub take_all : (ws : Writes) (st : State) (before after : Writes) → Opened cells s st → Wrote st s before → TakesAll before ws after → (next : State) × Buffers s st ws next × Taken st next after
-  take_all [] st before after o w h = (st, all_taken, record { opened = o; wrote = subst (λ (l : Writes). Wrote st s l) (sym h) w; top = refl; active = refl; others = λ u ne. refl })
-  take_all (w ∷ ws) st before after o wrote (mid, first, rest) =
-      let one = take_one st w.0 w.1 before mid o wrote first in
-      let more = take_all ws one.0 mid after one.2.opened one.2.wrote rest in (
-        more.0,
-        takes one.1 more.1,
-        record {
-          opened = more.2.opened;
-          wrote = more.2.wrote;
-          top = more.2.top ∙ one.2.top;
-          active = more.2.active ∙ one.2.active;
-          others = λ u ne. more.2.others u ne ∙ one.2.others u ne;
-        },
-      )
-
-  refuses_write : (st : State) (x : Cell) (v : Change) (before : Writes) (e : Refusal) → Opened cells s st → Wrote st s before → IsWriteRefusal before (x, v) e → Refuses st (request_of s x v) e
-  refuses_write st x (Some value) before BadRow o w why = set_row_first o.active why
-  refuses_write st x (Some value) before BadColumn o w why = set_family_first o.active why.0 why.1
-  refuses_write st x (Some value) before BadValue o w (named, (given, is, long)) = set_long_first o.active named.0 named.1 (subst (λ (l : List ℕ). 65536 < length l) (sym (same_Some value given is)) long)
-  refuses_write st x (Some value) before TooManyWrites o w (named, short, none, full) = set_full_first o.active named.0 named.1 short before w none full
-  refuses_write st x (Some value) before NoMemory o w why = gives_up tt
-  refuses_write st x (Some value) before _ o w why = absurd why
-  refuses_write st x None before BadRow o w why = delete_row_first o.active why
-  refuses_write st x None before BadColumn o w why = delete_family_first o.active why.0 why.1
-  refuses_write st x None before BadValue o w (named, (given, is, long)) = absurd (none-some given is)
-  refuses_write st x None before TooManyWrites o w (named, short, none, full) = delete_full_first o.active named.0 named.1 before w none full
-  refuses_write st x None before NoMemory o w why = gives_up tt
-  refuses_write st x None before _ o w why = absurd why
-
   -- ---- which of its cells are free
 
   -- the write that the machine has at an index
@@ -112,7 +62,7 @@ module _ (cells : Cells) (s : ℕ) where
       go None e = absurd (none-some (y, v) (sym (slice_get-map write_of ws k ∙ ap (option_map write_of) e) ∙ puts))
       go (Some w) e = (w, e, ap (λ (p : Cell × Change). p.0) (same_Some (write_of w) (y, v) (sym (slice_get-map write_of ws k ∙ ap (option_map write_of) e) ∙ puts)))
 
-  module _ (st : State) (o : Opened cells s st) (ws : List Write) (wrote : Wrote st s (map write_of ws)) where
+  module _ (st : State) (o : Opened IsReachedByServers cells s st) (ws : List Write) (wrote : Wrote st s (map write_of ws)) where
     none_clash : (n : ℕ) → AreFree cells s ws n → (j : ℕ) (y : Cell) (v : Change) → j < n → Puts (map write_of ws) j y v → ¬ Clashes st y s
     none_clash n free j y v less puts =
         let w = at_index ws j y v puts in
@@ -151,12 +101,12 @@ module _ (cells : Cells) (clients : Clients) (last start s : ℕ) (before : List
   record Ready (st mid : State) : Type 0 where
     opens : Opens st start s mid
     wrote : Wrote mid s (map write_of before)
-    kept : (n : ℕ) → (start ≢ 0 → n ≡ clients.top) → (start ≡ 0 → n ≡ last + 1) → mid.top ≡ n
+    kept : (n : ℕ) → (start ≢ 0 → n ≡ clients.top) → (start ≡ 0 → n ≡ last + 1) → (n ≤ mid.top) × (KnowsTop clients st → n ≡ mid.top)
     under : (n : ℕ) → (start ≢ 0 → n ≡ last) → (start ≡ 0 → n ≡ last + 1) → mid.top ≤ n
     below : (n : ℕ) → IsCommitStamp last start n → mid.top < n
-    ends : (written next : State) (all : Writes) → Taken cells s mid written all → next.begun ≡ written.begun → next.active ≡ remove written.active s → (clients' : Clients) → EndsAt clients clients' start next.top → ShowsClients clients' next
+    ends : (written next : State) (all : Writes) → Taken s mid written all → next.begun ≡ written.begun → next.active ≡ remove written.active s → (clients' : Clients) (n : ℕ) → n ≤ next.top → EndsAt clients clients' start n → ShowsClients clients' next
 
-  module _ (st : State) (reached : IsReached st) (shown : Shows cells clients last st) where
+  module _ (st : State) (reached : IsReachedByServers st) (shown : Shows cells clients last st) where
     module _ (is0 : start ≡ 0) where
       next_start : s ≡ last + 1
       next_start = (has.is_new is0).0
@@ -167,17 +117,17 @@ module _ (cells : Cells) (clients : Clients) (last start s : ℕ) (before : List
           go : (p : Option machine.Phase) → get st.active s ≡ p → get st.active s ≡ None
           go None e = e
           go (Some p) e =
-              let b = (reached_sound reached).has_begun s p e in
-              let old = (reached_sound reached).start_low s b.0 b.1 in
+              let b = (servers_sound reached).has_begun s p e in
+              let old = (servers_sound reached).start_low s b.0 b.1 in
               let next = next_start in
               let top = shown.top in
               absurd (omega (arith, old, next, top))
 
-      ends_new : (written next : State) (all : Writes) → Taken cells s (begun_at st s) written all → next.begun ≡ written.begun → next.active ≡ remove written.active s → (clients' : Clients) → EndsAt clients clients' start next.top → ShowsClients clients' next
-      ends_new written next all taken begun active clients' ends = subst (λ (k : Clients). ShowsClients k next) (sym (ends.new_ends is0)) now
+      ends_new : (written next : State) (all : Writes) → Taken s (begun_at st s) written all → next.begun ≡ written.begun → next.active ≡ remove written.active s → (clients' : Clients) (n : ℕ) → n ≤ next.top → EndsAt clients clients' start n → ShowsClients clients' next
+      ends_new written next all taken begun active clients' n low ends = subst (λ (k : Clients). ShowsClients k next) (sym (ends.new_ends is0)) now
         where
           same : next.active ≡ st.active
-          same = active ∙ (ap (λ (m : FinMap nat_cmp machine.Phase). remove m s) taken.active ∙ gone_again st.active s Open unused)
+          same = active ∙ (ap (λ (m : FinMap nat_cmp machine.Phase). remove m s) (same_active taken) ∙ gone_again st.active s Open unused)
 
           at : (u : ℕ) (kept : Option Session) → ShowsAt kept u st → ShowsAt kept u next
           at u None h = ap (λ (m : FinMap nat_cmp machine.Phase). get m u) same ∙ h
@@ -190,9 +140,9 @@ module _ (cells : Cells) (clients : Clients) (last start s : ℕ) (before : List
               other : u ≢ s
               other e = none-some (phase_of session.phase session.commit) (sym unused ∙ subst (λ (u : ℕ). get st.active u ≡ Some (phase_of session.phase session.commit)) e h.phase)
 
-          now : ShowsClients (record clients { top = next.top }) next
+          now : ShowsClients (record clients { top = n }) next
           now = record {
-            top = refl;
+            top = low;
             sessions = λ u. at u (btree.get nat_cmp clients.sessions u) (shown.sessions.sessions u);
             count = ap (λ (m : FinMap nat_cmp machine.Phase). len m) same ∙ shown.sessions.count;
           }
@@ -201,7 +151,7 @@ module _ (cells : Cells) (clients : Clients) (last start s : ℕ) (before : List
       ready_new = record {
         opens = opens_new cells clients last start st reached shown s is0 (has_session st shown.sessions);
         wrote = subst (λ (ws : List Write). Wrote (begun_at st s) s (map write_of ws)) (sym (has.is_new is0).3) (get_same st.begun s []);
-        kept = λ n named new. next_start ∙ sym (new is0);
+        kept = λ n named new. let e = new is0 ∙ sym next_start in (same_low e, λ known. e);
         under = λ n named new. let next = next_start in let is = new is0 in omega (arith, next, is);
         below = λ n stamp. let next = next_start in let is = stamp.new is0 in omega (arith, next, is);
         ends = ends_new;
@@ -220,16 +170,16 @@ module _ (cells : Cells) (clients : Clients) (last start s : ℕ) (before : List
       starts : s ≡ start
       starts = starts_at ne st shown.sessions
 
-      ends_named : (written next : State) (all : Writes) → Taken cells s st written all → next.begun ≡ written.begun → next.active ≡ remove written.active s → (clients' : Clients) → EndsAt clients clients' start next.top → ShowsClients clients' next
-      ends_named written next all taken begun active clients' ends = record {
-        top = ends.top;
+      ends_named : (written next : State) (all : Writes) → Taken s st written all → next.begun ≡ written.begun → next.active ≡ remove written.active s → (clients' : Clients) (n : ℕ) → n ≤ next.top → EndsAt clients clients' start n → ShowsClients clients' next
+      ends_named written next all taken begun active clients' n low ends = record {
+        top = low_by ends.top low;
         sessions = shows_changed st next (btree.get nat_cmp clients.sessions) (btree.get nat_cmp clients'.sessions) start None (ends.updates ne).0 (λ u other. ap (λ (m : FinMap nat_cmp machine.Phase). get m u) same ∙ get_remains st.active start u other)
             (λ u other. ap (λ (m : FinMap nat_cmp Writes). get m u) begun ∙ taken.others u (λ e. other (e ∙ starts))) shown.sessions.sessions (ap (λ (m : FinMap nat_cmp machine.Phase). get m start) same ∙ get_removed st.active start);
         count = ap (λ (m : FinMap nat_cmp machine.Phase). len m) same ∙ (len-remove nat_cmp_total st.active start ∙ (ap (λ o. cond (is_some o) (len st.active - 1) (len st.active)) mine.phase ∙ fewer));
       }
         where
           same : next.active ≡ remove st.active start
-          same = active ∙ (ap (λ (m : FinMap nat_cmp machine.Phase). remove m s) taken.active ∙ ap (λ (n : ℕ). remove st.active n) starts)
+          same = active ∙ (ap (λ (m : FinMap nat_cmp machine.Phase). remove m s) (same_active taken) ∙ ap (λ (n : ℕ). remove st.active n) starts)
 
           fewer : len st.active - 1 ≡ btree.btree_map_len clients'.sessions
           fewer = let n = shown.sessions.count in let l = ends.len ne session was in omega (arith, n, l)
@@ -238,7 +188,7 @@ module _ (cells : Cells) (clients : Clients) (last start s : ℕ) (before : List
       ready_named = record {
         opens = opens_named cells clients last start st reached shown s ne (has_session st shown.sessions);
         wrote = subst (λ (p : ℕ × List Write). Wrote st p.0 (map write_of p.1)) (λ j. (sym starts j, sym (has.is_open ne).4 j)) mine.writes;
-        kept = λ n named new. sym shown.sessions.top ∙ sym (named ne);
+        kept = λ n named new. (low_by (named ne) shown.sessions.top, λ known. named ne ∙ known);
         under = λ n named new. let top = shown.top in let is = named ne in omega (arith, top, is);
         below = λ n stamp. let top = shown.top in let is = stamp.named ne in omega (arith, top, is);
         ends = ends_named;
@@ -257,64 +207,69 @@ module _ (cells cells' : Cells) (clients : Clients) (last last' start : ℕ) (as
   kept st same le shown = record { store = subst (λ (m : Cells). ShowsCells m st) (sym same) shown.store; sessions = shown.sessions; top = (let t = shown.top in omega (arith, t, le)) }
 
   pub storage_at : cells' ≡ cells → last ≤ last' → (e : Refusal) → IsStorageRefusal e → Answers (Said (Refused e)) clients
-  storage_at same le e why st reached shown = (st, transacts (gives_up_all why), kept st same le shown)
+  storage_at same le e why st reached shown = (st, transacts (gives_up_all why), kept st same le shown, λ known. known)
 
   module _ (s : ℕ) (before : List Write) (has : CommitsIn clients last start s before) where
-    module _ (st : State) (reached : IsReached st) (shown : Shows cells clients last st) where
+    module _ (st : State) (reached : IsReachedByServers st) (shown : Shows cells clients last st) where
       abbrev mid : State
       mid = (ready cells clients last start s before has st reached shown).0
 
       on : Ready cells clients last start s before has st mid
       on = (ready cells clients last start s before has st reached shown).1
 
-      o : Opened cells s mid
-      o = opened cells s st mid start reached shown.store on.opens
+      o : Opened IsReachedByServers cells s mid
+      o = servers_opened cells s st mid start reached shown.store on.opens
 
     pub write_refused_at : cells' ≡ cells → last ≤ last' → (e : Refusal) → IsRefusedWrite (map write_of before) asked e → Answers (Said (Refused e)) clients
     write_refused_at same le e r st reached shown =
-        let far = take_all cells s r.first (mid st reached shown) (map write_of before) r.mid (o st reached shown) (on st reached shown).wrote r.taken in
-        (st, transacts (refuses (to_write r.write.0 r.write.1 r.rest r.split (on st reached shown).opens far.1) (refuses_write cells s far.0 r.write.0 r.write.1 r.mid e far.2.opened far.2.wrote r.why)), kept st same le shown)
+        let far = take_all s r.first (mid st reached shown) (map write_of before) r.mid (o st reached shown).active (on st reached shown).wrote r.taken in
+        (st, transacts (refuses (to_write r.write.0 r.write.1 r.rest r.split (on st reached shown).opens far.1) (refuses_write s far.0 r.write.0 r.write.1 r.mid e (buffered cells s far.1 (o st reached shown)).active far.2.wrote r.why)), kept st same le shown, λ known. known)
 
     pub empty_at : cells' ≡ cells → last ≤ last' → TakesAll (map write_of before) asked [] → Answers (Said (Refused EmptyCommit)) clients
     empty_at same le is_taken st reached shown =
-        let far = take_all cells s asked (mid st reached shown) (map write_of before) [] (o st reached shown) (on st reached shown).wrote is_taken in
-        (st, transacts (refuses (to_step (on st reached shown).opens far.1) (advance_empty_first Open far.2.opened.active far.2.wrote)), kept st same le shown)
+        let far = take_all s asked (mid st reached shown) (map write_of before) [] (o st reached shown).active (on st reached shown).wrote is_taken in
+        (st, transacts (refuses (to_step (on st reached shown).opens far.1) (advance_empty_first Open (buffered cells s far.1 (o st reached shown)).active far.2.wrote)), kept st same le shown, λ known. known)
 
     module _ (ws : List Write) (is_taken : TakesAll (map write_of before) asked (map write_of ws)) where
       pub conflict_at : cells' ≡ cells → (clients' : Clients) (now place : ℕ) → EndsAt clients clients' start now → (start ≢ 0 → now ≡ clients.top) → (start ≡ 0 → now ≡ last + 1) → (start ≢ 0 → last' ≡ last) → (start ≡ 0 → last' ≡ last + 1)
-          → IsFirstTaken cells s ws place → Answers (CommitConflict place) clients'
+          → IsFirstTaken cells s ws place → Answers (CommitConflict s place) clients'
       conflict_at same clients' now place ended named new stays drawn first st reached shown =
-          let far = take_all cells s asked (mid st reached shown) (map write_of before) (map write_of ws) (o st reached shown) (on st reached shown).wrote is_taken in
+          let far = take_all s asked (mid st reached shown) (map write_of before) (map write_of ws) (o st reached shown).active (on st reached shown).wrote is_taken in
           let written = far.0 in
+          let still = buffered cells s far.1 (o st reached shown) in
           let next : State = record written { active = remove written.active s } in
-          let end : Step written (machine.Stop s) StopDone next = accepts (stop_ok Open far.2.opened.active) (stops far.2.opened.active) in
-          let top : written.top ≡ now = far.2.top ∙ (on st reached shown).kept now named new in (
+          let end : Step written (machine.Stop s) StopDone next = accepts (stop_ok Open still.active) (stops still.active) in
+          let kept = (on st reached shown).kept now named new in
+          let same_now = same_top far.2 in (
             next,
-            transacts (conflicts (on st reached shown).opens far.1 (clashes_first cells s written far.2.opened ws far.2.wrote place first) end),
+            transacts (conflicts (on st reached shown).opens far.1 (clashes_first cells s written still ws far.2.wrote place first) end),
             record {
-              store = subst (λ (m : Cells). ShowsCells m next) (sym same) (shows_beside cells written next (goes far.2.opened.reached end) far.2.opened.shown (λ y u m. m) (λ y u m. m) refl);
-              sessions = (on st reached shown).ends written next (map write_of ws) far.2 refl refl clients' (subst (λ (n : ℕ). EndsAt clients clients' start n) (sym top) ended);
-              top = let is = far.2.top in let low = (on st reached shown).under last' stays drawn in omega (arith, is, low);
+              store = subst (λ (m : Cells). ShowsCells m next) (sym same) (shows_beside cells written next (goes still.reached end) still.shown (λ y u m. m) (λ y u m. m) refl);
+              sessions = (on st reached shown).ends written next (map write_of ws) far.2 refl refl clients' now (subst (λ (n : ℕ). now ≤ n) (sym same_now) kept.0) ended;
+              top = let is = same_top far.2 in let low = (on st reached shown).under last' stays drawn in omega (arith, is, low);
             },
+            λ known. ended.top ∙ (kept.1 known ∙ sym same_now),
           )
 
       pub commit_at : (c : ℕ) (clients' : Clients) → IsCommitStamp last start c → c < 2 ^ 63 → last' ≡ c → 1 ≤ length ws → AreFree cells s ws (length ws) → cells' ≡ all_put_cells cells (map write_of ws) s c → EndsAt clients clients' start c → Answers (CommitDone s c) clients'
       commit_at c clients' stamp limit drawn some free made ended st reached shown =
           let all = map write_of ws in
-          let far = take_all cells s asked (mid st reached shown) (map write_of before) all (o st reached shown) (on st reached shown).wrote is_taken in
+          let far = take_all s asked (mid st reached shown) (map write_of before) all (o st reached shown).active (on st reached shown).wrote is_taken in
           let written = far.0 in
+          let still = buffered cells s far.1 (o st reached shown) in
           let next : State = committed_state written s c all in
-          let is = far.2.top in
+          let is = same_top far.2 in
           let low = (on st reached shown).below c stamp in
           let count = length-map ws write_of in
-          let done = puts_at_once cells st (mid st reached shown) written start s c asked all reached shown.store (on st reached shown).opens far.1 far.2.wrote (omega (arith, some, count)) (all_free cells s written far.2.opened ws far.2.wrote free) (omega (arith, is, low), limit) in (
+          let done = puts_at_once cells st (mid st reached shown) written start s c asked all reached shown.store (on st reached shown).opens far.1 far.2.wrote (omega (arith, some, count)) (all_free cells s written still ws far.2.wrote free) (omega (arith, is, low), limit) in (
             next,
             transacts done.0,
             record {
               store = subst (λ (m : Cells). ShowsCells m next) (sym made) done.1;
-              sessions = (on st reached shown).ends written next all far.2 refl refl clients' ended;
+              sessions = (on st reached shown).ends written next all far.2 refl refl clients' c (same_low refl) ended;
               top = omega (arith, drawn);
             },
+            λ known. ended.top,
           )
 
 -- ---- a session that isn't found, or can't be copied
@@ -332,7 +287,7 @@ module _ (cells : Cells) (clients : Clients) (last start : ℕ) (asked : Writes)
   session_refuses st shown _ why = absurd why
 
   pub session_refused_at : (e : Refusal) → IsCopyRefusal clients last start e → GoesAs cells clients last (Commit start asked) (Said (Refused e)) cells clients last
-  session_refused_at e why st reached shown = (st, session_refuses st shown.sessions e why, shown)
+  session_refused_at e why st reached shown = (st, session_refuses st shown.sessions e why, shown, λ known. known)
 
 -- ---- the same, by what the call has
 

@@ -1,9 +1,8 @@
 -- What a transaction does to the rows, and its stamps, by what the call has.
-use Rattle.std.proofs.Common.{◌≡◌, ◌≢◌, ◌∙◌, ℕ, suc, ◌+◌, ◌-◌, ◌<◌, ◌≤◌, ◌^◌, inl, inr, List, [], ◌∷◌, ◌++◌, length, map, refl, sym, subst, ap, arith}
+use Rattle.std.proofs.Common.{◌≡◌, ◌≢◌, ◌∙◌, ℕ, ◌+◌, inl, inr, List, [], ◌∷◌, ◌++◌, length, map, sym, subst, ap, arith}
 use Rattle.std.specs.List.{AllByRecursion}
 use Rattle.cell_key.specs.Cells.{Cells, after_edits}
 use Rattle.rows.specs.Calls.{AppliesAll, OnlyReads, View}
-use Rattle.rows.specs.Room.{OverfillsOne}
 use Rattle.rows.specs.RowEdits.{all_edits}
 use Rattle.rows.specs.declared.row_edits.RowEdits.{RowEdits}
 use Rattle.si_model.specs.Machine.{Writes}
@@ -41,18 +40,17 @@ module _ {R : Type 0} (seen : View R) (old mid new : R) (reads : OnlyReads seen 
     transaction_of : (c : ℕ) (changes : List RowEdits) → IsCommitStamp last start c → ArePuttings s c (map write_of ws) changes → IsTransaction clients last start asked s c ws changes
     transaction_of c changes stamp puts = record { writes = writes; stamp = stamp; puts = puts }
 
-    pub conflicts_by : (slice : List Write) (key place : ℕ) → slice ≡ ws → key ≡ s → (AreReadable seen old slice → IsFirstTaken (seen.cells old) key slice place) → MeetsConflict seen clients last start asked place old mid
-    conflicts_by slice key place is key_is taken = record {
-      s = s;
+    pub conflicts_by : (slice : List Write) (key place : ℕ) → slice ≡ ws → key ≡ s → (AreReadable seen old slice → IsFirstTaken (seen.cells old) key slice place) → MeetsConflict seen clients last start asked key place old mid
+    conflicts_by slice key place is key_is taken = subst (λ (n : ℕ). MeetsConflict seen clients last start asked n place old mid) (sym key_is) (record {
       all = ws;
       writes = writes;
       taken = subst (λ (p : ℕ × List Write). AreReadable seen old p.1 → IsFirstTaken (seen.cells old) p.0 p.1 place) (λ j. (key_is j, is j)) taken;
       reads = reads;
-    }
+    })
 
-    pub commits_by : (slice slice' : List Write) (c s' key : ℕ) → slice ≡ ws → slice' ≡ ws → s' ≡ s → key ≡ s → IsCommitStamp last start c → (AreReadable seen old slice → AreFree (seen.cells old) key slice (length slice)) → PutsWith seen (map write_of slice') s c mid new → Commits seen clients last start asked s' c old new
-    commits_by slice slice' c s' key is is' began key_is stamp free puts =
-        subst (λ (n : ℕ). Commits seen clients last start asked n c old new) (sym began) (
+    pub commits_by : (slice slice' : List Write) (c key : ℕ) → slice ≡ ws → slice' ≡ ws → key ≡ s → IsCommitStamp last start c → (AreReadable seen old slice → AreFree (seen.cells old) key slice (length slice)) → PutsWith seen (map write_of slice') s c mid new → Commits seen clients last start asked key c old new
+    commits_by slice slice' c key is is' key_is stamp free puts =
+        subst (λ (n : ℕ). Commits seen clients last start asked n c old new) (sym key_is) (
         let now = subst (λ (l : List Write). PutsWith seen (map write_of l) s c mid new) is' puts in
         record {
           all = ws;

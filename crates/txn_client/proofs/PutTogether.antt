@@ -1,7 +1,7 @@
 -- The edits of writes that are put with their records.
-use Rattle.std.proofs.Common.{◌≡◌, ◌∙◌, ℕ, ◌+◌, ◌<◌, [], ◌∷◌, ◌++◌, ◌+◌, zero, suc, List, map, length, Option, Some, None, refl, sym, subst, ap, arith}
+use Rattle.std.proofs.Common.{◌≡◌, ◌∙◌, ℕ, [], ◌∷◌, ◌++◌, zero, List, length, Option, Some, None, refl, sym, subst, ap, arith}
 use Rattle.std.specs.Prelude.{option_to_list}
-use Rattle.std.specs.List.{AllByRecursion, flat_map}
+use Rattle.std.specs.List.{AllByRecursion}
 use Rattle.std.proofs.lemmas.Grind.{flat_map-append}
 use Rattle.std.proofs.lemmas.List.{append_assoc, append-nil, length-append}
 use Rattle.cell_key.specs.Cells.{Cells, after_edits}
@@ -17,7 +17,6 @@ use Rattle.si_model.proofs.EditedCells.{put_so}
 use Rattle.txn_client.specs.Puts.{ArePuttings, IsPutting}
 use Rattle.txn_client.specs.Writes.{write_of}
 use Rattle.txn_client.specs.declared.writes.Write.{Write}
-use Rattle.txn_client.proofs.CellReads.{next_taken}
 
 putting_makes : (cells : Cells) (x : Cell) (s c : ℕ) (v : Change) (edits : List Edit) → IsPutting x s c v edits → after_edits cells edits ≡ put_cells cells x v s c
 putting_makes cells x s c (Some v) [] is = absurd is

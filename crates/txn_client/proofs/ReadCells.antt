@@ -1,5 +1,5 @@
 -- The result of a read of a cell, by the newest versions of its columns.
-use Rattle.std.proofs.Common.{ap, ◌≡◌, ℕ, ◌≤◌, List, Option, Some, None, inr, arith, refl, subst}
+use Rattle.std.proofs.Common.{ap, ◌≡◌, ℕ, ◌≤◌, List, Option, Some, None, inr, arith, subst}
 use Rattle.std.specs.Prelude.{option_map}
 use Rattle.std.specs.FinMap.{get}
 use Rattle.std.specs.declared.vec.Vec.{Vec}

@@ -1,8 +1,7 @@
 -- Reads of several cells in one session, where cells and sessions show the machine's state.
-use Rattle.std.proofs.Common.{◌≡◌, ◌≢◌, ◌∙◌, ℕ, ◌+◌, ◌<◌, ◌≤◌, ◌^◌, inl, inr, Bool, true, false, List, [], ◌∷◌, ◌++◌, length, map, Option, Some, None, refl, sym, subst, ap, arith}
+use Rattle.std.proofs.Common.{◌≡◌, ◌≢◌, ◌∙◌, ℕ, ◌+◌, ◌<◌, ◌≤◌, inl, inr, Bool, true, false, List, [], ◌∷◌, length, Option, Some, None, refl, sym, subst, ap, arith}
 use Rattle.std.specs.Prelude.{◌⊎◌, ◌==◌, nat_eq, IfErr, Result, Ok, Err}
 use Rattle.std.proofs.lemmas.Bool.Decides.{nat_tests}
-use Rattle.std.specs.BTreeMap as btree
 use Rattle.std.proofs.lemmas.Bool.{cases_eq}
 use Rattle.std.proofs.lemmas.List.{length-map}
 use Rattle.std.proofs.lemmas.Option.{none-some}
@@ -10,27 +9,27 @@ use Rattle.cell_key.specs.Cells.{Cells}
 use Rattle.cell_key.specs.declared.refusals.Refusal.{Refusal}
 use Rattle.cell_key.specs.declared.refusals.Refusal.TheVariants.{UnknownSession, WrongPhase, BadRow, BadColumn, TooManySessions, BadCount, Exhausted, Device, NoMemory, Damaged}
 use Rattle.si_model.specs.Machine as machine
-use Rattle.si_model.specs.Machine.{State, Item, Get, IsReached, InPhase, Refuses, Refused, Step, accepts, refuses, tells}
+use Rattle.si_model.specs.Machine.{State, Item, Get, InPhase, Refuses, Refused, Step, accepts, refuses, tells}
 use Rattle.si_model.specs.Refusing.{Applies, stop_unknown}
 use Rattle.si_model.specs.Refusing.Refuses.{applies_first, gives_up}
 use Rattle.si_model.specs.Answers.{cells_named}
 use Rattle.si_model.specs.Replies.{found_reply, result_reply}
+use Rattle.si_model.specs.Servers.{IsReachedByServers}
 use Rattle.si_model.specs.ShowsCells.{ShowsCells}
-use Rattle.si_model.specs.Transactions.{Operation, Read, Answer, Said, ReadDone, Opens, is_open, begins, ReadsAll, all_read, finds, IsReadCount, StaysOrEnds, ReadsTogether, reads, refuses_begin, refuses_read, names_unknown, names_late, miscounts, told_length, Goes, reads_together}
+use Rattle.si_model.specs.Transactions.{Read, Answer, Said, ReadDone, Opens, is_open, begins, ReadsAll, all_read, finds, IsReadCount, StaysOrEnds, ReadsTogether, reads, refuses_begin, refuses_read, names_unknown, names_late, miscounts, told_length, Goes, reads_together}
 use Rattle.si_model.specs.declared.replies.Cell.{Cell}
 use Rattle.si_model.specs.declared.replies.Found.{Found}
 use Rattle.si_model.specs.declared.replies.Found.TheVariants.{Value, Nothing, Pending}
 use Rattle.si_model.specs.declared.transactions.CellName.{CellName}
 use Rattle.si_model.proofs.Acceptable.{begin_ok}
-use Rattle.si_model.proofs.AtOnce.{Opened, opened}
+use Rattle.si_model.proofs.AtOnce.{Opened, servers_opened}
 use Rattle.si_model.proofs.FirstRefusals.{begin_full_first, get_row_first, get_family_first}
-use Rattle.si_model.proofs.Steps.{reached_step}
-use Rattle.txn_client.specs.CellReads.{AreRead, IsReadingRefusal, IsReadSo, IsRefusedAmong}
+use Rattle.si_model.proofs.ByServers.{servers_step}
+use Rattle.txn_client.specs.CellReads.{AreRead, IsReadingRefusal, IsRefusedAmong}
 use Rattle.txn_client.specs.Reads.{IsFound}
 use Rattle.si_model.specs.Takings.{IsNamed}
-use Rattle.txn_client.specs.Shows.{phase_of, IsCrowded, IsOpenSession, Shows, ShowsAt, ShowsClients, Steps}
+use Rattle.txn_client.specs.Shows.{IsCrowded, KnowsTop, Shows, ShowsClients, Steps}
 use Rattle.txn_client.specs.Transactions.{GoesAs, HasSession, IsSessionRefusal}
-use Rattle.txn_client.specs.declared.session.Session.{Session}
 use Rattle.txn_client.specs.declared.sessions.Clients.{Clients}
 use Rattle.txn_client.proofs.Exact.{not_crowded}
 use Rattle.txn_client.proofs.ShownReads.{after_read, waits_at, reads_nothing, reads_deletion, reads_value}
@@ -41,7 +40,7 @@ use Rattle.txn_client.proofs.Table.{begun_at, late_phase, open_phase, shown_none
 module _ (cells : Cells) (s : ℕ) where
   -- a state after reads, in which the session is still open
   pub record After (st next : State) : Type 0 where
-    pub opened : Opened cells s next
+    pub opened : Opened IsReachedByServers cells s next
     pub top : next.top ≡ st.top
     pub begun : next.begun ≡ st.begun
     pub active : next.active ≡ st.active
@@ -49,7 +48,7 @@ module _ (cells : Cells) (s : ℕ) where
   after_all : {a b c : State} → After a b → After b c → After a c
   after_all f g = record { opened = g.opened; top = g.top ∙ f.top; begun = g.begun ∙ f.begun; active = g.active ∙ f.active }
 
-  read_one : (st : State) (x : Cell) (found : Found) → Opened cells s st → IsNamed x → IsFound cells x s found → (next : State) × Step st (Get s x) (found_reply found) next × After st next
+  read_one : (st : State) (x : Cell) (found : Found) → Opened IsReachedByServers cells s st → IsNamed x → IsFound cells x s found → (next : State) × Step st (Get s x) (found_reply found) next × After st next
   read_one st x (Pending u) o named is = (st, waits_at cells st o.reached o.shown x s u named.0 named.1 o.active is.0 is.1, record { opened = o; top = refl; begun = refl; active = refl })
   read_one st x Nothing o named is = elim is.1 [
     | inl none ↦ answered (reads_nothing cells st o.reached o.shown x s named.0 named.1 o.active is.0 none)
@@ -60,12 +59,12 @@ module _ (cells : Cells) (s : ℕ) where
       next = after_read cells st o.reached o.shown s x None
 
       answered : Step st (Get s x) (machine.Answered None) next × ShowsCells cells next → (next : State) × Step st (Get s x) (machine.Answered None) next × After st next
-      answered k = (next, k.0, record { opened = record { reached = reached_step o.reached k.0; shown = k.1; active = o.active }; top = refl; begun = refl; active = refl })
+      answered k = (next, k.0, record { opened = record { reached = servers_step o.reached k.0; shown = k.1; active = o.active }; top = refl; begun = refl; active = refl })
   read_one st x (Value v) o named is =
       let k = reads_value cells st o.reached o.shown x s v.items named.0 named.1 o.active is in
-      (after_read cells st o.reached o.shown s x (Some v.items), k.0, record { opened = record { reached = reached_step o.reached k.0; shown = k.1; active = o.active }; top = refl; begun = refl; active = refl })
+      (after_read cells st o.reached o.shown s x (Some v.items), k.0, record { opened = record { reached = servers_step o.reached k.0; shown = k.1; active = o.active }; top = refl; begun = refl; active = refl })
 
-  pub read_all : (xs : List Cell) (said : List (Option Item)) (used : ℕ) (st : State) → Opened cells s st → AreRead cells s used xs said → (next : State) × ReadsAll s used st xs said next × After st next
+  pub read_all : (xs : List Cell) (said : List (Option Item)) (used : ℕ) (st : State) → Opened IsReachedByServers cells s st → AreRead cells s used xs said → (next : State) × ReadsAll s used st xs said next × After st next
   read_all [] [] used st o h = (st, all_read, record { opened = o; top = refl; begun = refl; active = refl })
   read_all [] (r ∷ rs) used st o h = absurd h
   read_all (x ∷ xs) [] used st o h = absurd h
@@ -74,7 +73,7 @@ module _ (cells : Cells) (s : ℕ) where
       let more = read_all xs rs (used + told_length r) one.0 one.2.opened h.2 in
       (more.0, finds (found_reply h.1.found) one.1 h.1.told more.1, after_all one.2 more.2)
 
-  refuses_get : (st : State) (x : Cell) (e : Refusal) → Opened cells s st → IsReadingRefusal x e → Refuses st (Get s x) e
+  refuses_get : (st : State) (x : Cell) (e : Refusal) → Opened IsReachedByServers cells s st → IsReadingRefusal x e → Refuses st (Get s x) e
   refuses_get st x BadRow o why = get_row_first o.active why
   refuses_get st x BadColumn o why = get_family_first o.active why.0 why.1
   refuses_get st x Device o why = gives_up tt
@@ -84,7 +83,7 @@ module _ (cells : Cells) (s : ℕ) where
 
 -- ---- its session
 
-module _ (cells : Cells) (clients : Clients) (last start : ℕ) (st : State) (reached : IsReached st) (shown : Shows cells clients last st) where
+module _ (cells : Cells) (clients : Clients) (last start : ℕ) (st : State) (reached : IsReachedByServers st) (shown : Shows cells clients last st) where
   pub opens_named : (s : ℕ) → start ≢ 0 → HasSession clients last start s → Opens st start s st
   opens_named s ne has = subst (λ (n : ℕ). Opens st start n st) (sym (has.is_open ne).0) (is_open (open_phase clients start st shown.sessions (has.is_open ne).1))
 
@@ -130,9 +129,9 @@ not_stopped st next s h (refuses (applies_first first)) = by first.applies
     by : Applies st (machine.Stop s) UnknownSession → ⊥
     by (stop_unknown none) = none-some _ (sym none ∙ h)
 
-ends : (cells : Cells) (s : ℕ) (clients : Clients) (last : ℕ) (b : Bool) (later : Clients) (st : State) → Opened cells s st → Shows cells clients last st → Ends cells s clients last b later
-    → (next : State) × StaysOrEnds b st s next × Shows cells later last next
-ends cells s clients last true later st o shown is = (st, refl, subst (λ (k : Clients). Shows cells k last st) (sym is) shown)
+ends : (cells : Cells) (s : ℕ) (clients : Clients) (last : ℕ) (b : Bool) (later : Clients) (st : State) → Opened IsReachedByServers cells s st → Shows cells clients last st → Ends cells s clients last b later
+    → (next : State) × StaysOrEnds b st s next × Shows cells later last next × (KnowsTop clients st → KnowsTop later next)
+ends cells s clients last true later st o shown is = (st, refl, subst (λ (k : Clients). Shows cells k last st) (sym is) shown, λ known. ap (λ (k : Clients). k.top) is ∙ known)
 ends cells s clients last false later st o shown (Ok u, why, steps) = steps st o.reached shown
 ends cells s clients last false later st o shown (Err e, why, steps) =
     let r = steps st o.reached shown in
@@ -177,7 +176,7 @@ module _ (cells cells' : Cells) (clients : Clients) (last start : ℕ) (names : 
   counted few = subst IsReadCount (sym (length-map names _)) few
 
   pub miscounts_at : ¬ IsReadCount (length names) → Answers (Said (Refused BadCount)) clients last
-  miscounts_at many st reached shown = (st, reads_together (miscounts (λ few. many (subst IsReadCount (length-map names _) few))), at_cells shown)
+  miscounts_at many st reached shown = (st, reads_together (miscounts (λ few. many (subst IsReadCount (length-map names _) few))), at_cells shown, λ known. known)
 
   module _ (few : IsReadCount (length names)) where
     session_refuses : (st : State) → ShowsClients clients st → (e : Refusal) → IsSessionRefusal clients last start e → ReadsTogether st start (cells_named names) stays_open (Said (Refused e)) st
@@ -188,13 +187,13 @@ module _ (cells cells' : Cells) (clients : Clients) (last start : ℕ) (names : 
     session_refuses st shown _ why = absurd why
 
     pub session_refused_at : (e : Refusal) → IsSessionRefusal clients last start e → Answers (Said (Refused e)) clients last
-    session_refused_at e why st reached shown = (st, reads_together (session_refuses st shown.sessions e why), at_cells shown)
+    session_refused_at e why st reached shown = (st, reads_together (session_refuses st shown.sessions e why), at_cells shown, λ known. known)
 
     pub read_refused_at : (s : ℕ) (e : Refusal) → HasSession clients last start s → IsRefusedAmong cells s (cells_named names) e → Answers (Said (Refused e)) clients last
     read_refused_at s e has among st reached shown =
         let mid = opens cells clients last start st reached shown s has in
-        let far = read_all cells s among.before among.said 0 mid.0 (opened cells s st mid.0 start reached shown.store mid.1) among.read in
-        (st, reads_together (refuses_read among.after (counted few) among.split mid.1 far.1 (refuses_get cells s far.0 among.cell e far.2.opened among.why)), at_cells shown)
+        let far = read_all cells s among.before among.said 0 mid.0 (servers_opened cells s st mid.0 start reached shown.store mid.1) among.read in
+        (st, reads_together (refuses_read among.after (counted few) among.split mid.1 far.1 (refuses_get cells s far.0 among.cell e far.2.opened among.why)), at_cells shown, λ known. known)
 
     begin_refuses : (st next : State) (e : Refusal) → Step st machine.Begin (Refused e) next → (next ≡ st) × Refuses st machine.Begin e
     begin_refuses st next e (refuses why) = (refl, why)
@@ -204,21 +203,22 @@ module _ (cells cells' : Cells) (clients : Clients) (last start : ℕ) (names : 
     begin_refused_at clients' last' e is0 steps st reached shown =
         let r = steps st reached shown in
         let why = begin_refuses st r.0 e r.1 in
-        (st, reads_together (refuses_begin (counted few) is0 why.1), at_cells (subst (λ (next : State). Shows cells clients' last' next) why.0 r.2))
+        (st, reads_together (refuses_begin (counted few) is0 why.1), at_cells (subst (λ (next : State). Shows cells clients' last' next) why.0 r.2), λ known. r.3 known ∙ ap (λ (m : State). m.top) why.0)
 
     -- the session has opened, and reads
     module _ (s : ℕ) (said : List (Option Item)) (read : AreRead cells s 0 (cells_named names) said) (clients' : Clients) (last' : ℕ) (later : Clients) (end : Ends cells s clients' last' stays_open later) where
-      pub reads_from : (st mid : State) → IsReached st → ShowsCells cells st → Opens st start s mid → Shows cells clients' last' mid
-          → (next : State) × Goes st (Read start (cells_named names) stays_open) (ReadDone s said) next × Shows cells' later last' next
+      pub reads_from : (st mid : State) → IsReachedByServers st → ShowsCells cells st → Opens st start s mid → Shows cells clients' last' mid
+          → (next : State) × Goes st (Read start (cells_named names) stays_open) (ReadDone s said) next × Shows cells' later last' next × (KnowsTop clients' mid → KnowsTop later next)
       reads_from st mid reached store open_at shown =
-          let far = read_all cells s (cells_named names) said 0 mid (opened cells s st mid start reached store open_at) read in
+          let far = read_all cells s (cells_named names) said 0 mid (servers_opened cells s st mid start reached store open_at) read in
           let is = ends cells s clients' last' stays_open later far.0 far.2.opened (record { store = far.2.opened.shown; sessions = shows_along clients' mid far.0 shown.sessions far.2.top far.2.begun far.2.active; top = (let t = shown.top in let e = far.2.top in omega (arith, t, e)) }) end in
-          (is.0, reads_together (reads (counted few) open_at far.1 is.1), at_cells is.2)
+          (is.0, reads_together (reads (counted few) open_at far.1 is.1), at_cells is.2, λ known. is.3 (known ∙ sym far.2.top))
 
     pub reads_named_at : (s : ℕ) (said : List (Option Item)) → AreRead cells s 0 (cells_named names) said → start ≢ 0 → HasSession clients last start s → (clients' : Clients) (last' : ℕ) → clients' ≡ clients → last' ≡ last → (later : Clients)
         → Ends cells s clients' last' stays_open later → Answers (ReadDone s said) later last'
     reads_named_at s said read ne has clients' last' kept at later end st reached shown =
-        reads_from s said read clients' last' later end st st reached shown.store (opens_named cells clients last start st reached shown s ne has) (subst (λ (p : Clients × ℕ). Shows cells p.0 p.1 st) (λ j. (sym kept j, sym at j)) shown)
+        let g = reads_from s said read clients' last' later end st st reached shown.store (opens_named cells clients last start st reached shown s ne has) (subst (λ (p : Clients × ℕ). Shows cells p.0 p.1 st) (λ j. (sym kept j, sym at j)) shown) in
+        (g.0, g.1, g.2, λ known. g.3 (ap (λ (k : Clients). k.top) kept ∙ known))
 
     pub reads_new_at : (s t : ℕ) (said : List (Option Item)) → AreRead cells s 0 (cells_named names) said → start ≡ 0 → t ≡ last + 1 → HasSession clients last start s → (clients' : Clients) (last' : ℕ) → Steps cells clients last machine.Begin (machine.Begun t) cells clients' last' → (later : Clients)
         → Ends cells s clients' last' stays_open later → Answers (ReadDone s said) later last'
@@ -226,4 +226,5 @@ module _ (cells cells' : Cells) (clients : Clients) (last start : ℕ) (names : 
         let r = steps st reached shown in
         let same_start : t ≡ s = drawn ∙ sym (has.is_new is0).0 in
         let open_at = subst (λ (n : ℕ). Opens st n s r.0) (sym is0) (begins (subst (λ (n : ℕ). Step st machine.Begin (machine.Begun n) r.0) same_start r.1)) in
-        reads_from s said read clients' last' later end st r.0 reached shown.store open_at r.2
+        let g = reads_from s said read clients' last' later end st r.0 reached shown.store open_at r.2 in
+        (g.0, g.1, g.2, λ known. g.3 (r.3 known))

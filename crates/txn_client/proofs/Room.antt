@@ -8,7 +8,8 @@ use Rattle.rows.specs.Calls.{AppliesSuch, KeepsBelow, View}
 use Rattle.rows.specs.Room.{HasNoRoom, TakesRoomOf}
 use Rattle.rows.proofs.Calls.{applies_keep, reads_keep, reads_none, such_so}
 use Rattle.si_model.specs.Machine as machine
-use Rattle.si_model.specs.Machine.{State, Change, InPhase, IsReached}
+use Rattle.si_model.specs.Machine.{State, Change, InPhase}
+use Rattle.si_model.specs.Servers.{IsReachedByServers}
 use Rattle.si_model.specs.ShowsCells.{kind_of_change, ShowsCells, Touches, TouchesOneRow, held_cells}
 use Rattle.si_model.specs.declared.replies.Cell.{Cell}
 use Rattle.si_model.specs.declared.replies.Progress.{Progress}
@@ -16,7 +17,7 @@ use Rattle.si_model.specs.declared.replies.Progress.TheVariants as progress
 use Rattle.si_model.proofs.EditedCells.{make_cells, put_so}
 use Rattle.si_model.proofs.Kept.{held_phase}
 use Rattle.si_model.proofs.ShownTouched.{touches_held, touches_recorded}
-use Rattle.txn_client.specs.Room.{ChangesIn, ChangesNext, Does, EditsIn, EditsOf, EditsOfStep, HoldsAt, HoldsNext, IsHolding, IsStamped, Makes, RecordsAt, RecordsNext, TakesRoom}
+use Rattle.txn_client.specs.Room.{ChangesIn, ChangesNext, Does, EditsIn, EditsOf, EditsOfStep, HoldsAt, HoldsNext, IfConflict, IsHolding, IsStamped, Makes, RecordsAt, RecordsNext, TakesRoom}
 use Rattle.txn_client.specs.Shows.{phase_of, writes_of, HasHeldSo, ShowsClients, ShowsSession, IsAboutToDraw, TouchesBy}
 use Rattle.txn_client.specs.declared.sessions.Clients.{Clients}
 use Rattle.txn_client.specs.declared.session.Phase.{Phase}
@@ -114,6 +115,24 @@ stamped_does seen rows P (progress.Committed c) is = absurd is
 stamped_does seen rows P progress.Lost is = absurd is
 stamped_does seen rows P (progress.Finished k n) is = absurd is
 
+-- a conflict with one property has another
+pub met_so : {P Q : ℕ → Type 0} (p : Progress) → ((place : ℕ) → P place → Q place) → IfConflict P p → IfConflict Q p
+met_so (progress.Conflict k) so met = so k met
+met_so (progress.Held k n) so met = tt
+met_so (progress.Committed c) so met = tt
+met_so (progress.Finished k n) so met = tt
+met_so (progress.Stamped c) so met = tt
+met_so progress.Lost so met = tt
+
+-- a step that draws a stamp meets none
+pub stamped_met : (P : ℕ → Type 0) (p : Progress) → IsStamped p → IfConflict P p
+stamped_met P (progress.Conflict k) is = absurd is
+stamped_met P (progress.Held k n) is = tt
+stamped_met P (progress.Committed c) is = tt
+stamped_met P (progress.Finished k n) is = tt
+stamped_met P (progress.Stamped c) is = tt
+stamped_met P progress.Lost is = tt
+
 module _ (Holds : Type 0) (cells : Cells) (session : Session) where
   -- the edits of a known phase
   pub edits_in : (phase : Phase) → session.phase ≡ phase → (row : List ℕ) (edits : List Edit) → EditsIn phase Holds cells session row edits → EditsOf Holds cells session row edits
@@ -142,7 +161,7 @@ module _ (Holds : Type 0) (cells : Cells) (session : Session) where
 
   -- ---- if a state is shown
 
-  module _ (held : Holds) (st : State) (reached : IsReached st) (shown : ShowsCells cells st) (mine : ShowsSession session session.start st) where
+  module _ (held : Holds) (st : State) (reached : IsReachedByServers st) (shown : ShowsCells cells st) (mine : ShowsSession session session.start st) where
     -- a free cell may be held
     holds_next : (k : ℕ) → HasHeldSo session.phase k → (row : List ℕ) (edits : List Edit) → HoldsAt Holds cells session k row edits → HoldsNext st (writes_of session) k session.start row edits
     holds_next k so row edits (w, first, e, e0, free, at) =
@@ -162,7 +181,7 @@ module _ (Holds : Type 0) (cells : Cells) (session : Session) where
     changes_in (Finishing k) is = records_next k
 
 -- the stored session's edits are the edits of its next step in a shown state
-pub changes_shown : (Holds : Type 0) (cells : Cells) (clients : Clients) (t : ℕ) → Holds → (st : State) → IsReached st → ShowsCells cells st → ShowsClients clients st → (row : List ℕ) (edits : List Edit) → EditsOfStep Holds cells clients t row edits → ChangesNext st t row edits
+pub changes_shown : (Holds : Type 0) (cells : Cells) (clients : Clients) (t : ℕ) → Holds → (st : State) → IsReachedByServers st → ShowsCells cells st → ShowsClients clients st → (row : List ℕ) (edits : List Edit) → EditsOfStep Holds cells clients t row edits → ChangesNext st t row edits
 changes_shown Holds cells clients t held st reached shown kept row edits (session, was, is) =
     let mine = shown_some clients t st session kept was in
     let phase = phase_of session.phase session.commit in (

@@ -11,9 +11,10 @@ use Rattle.cell_key.specs.declared.refusals.Refusal.{Refusal}
 use Rattle.cell_key.specs.declared.refusals.Refusal.TheVariants.{UnknownSession, WrongPhase, BadRow, BadColumn, BadCount, NoMemory, Damaged}
 use Rattle.rows.specs.Refusals.{IsReadRefusal}
 use Rattle.si_model.specs.Machine as machine
-use Rattle.si_model.specs.Machine.{Range, State, Step, IsReached, InPhase, Refused, refuses}
+use Rattle.si_model.specs.Machine.{Range, State, Step, InPhase, Refused, refuses}
 use Rattle.si_model.specs.Replies.{item_of, reach_of, result_reply, scan_reply}
 use Rattle.si_model.specs.Scans.{HasFamilies, HasRows}
+use Rattle.si_model.specs.Servers.{IsReachedByServers}
 use Rattle.si_model.specs.ShowsCells.{ShowsCells}
 use Rattle.si_model.specs.declared.scans.ScanReply.{ScanReply}
 use Rattle.si_model.proofs.FirstRefusals.{scan_unknown_first, scan_late_first, scan_row_first, scan_family_first, scan_none_first, scan_many_first}
@@ -61,7 +62,7 @@ scan_unknown clients t st shown range n _ gone u = absurd (is_open clients t st 
 pub scans_at : (cells : Cells) (clients : Clients) (last t : ℕ) (range : Range) (keys_only : Bool) (n : ℕ) (r : Result ScanReply Refusal) → IsOpenSession clients t → HasRows range → HasFamilies range → IsScanCount n
     → IfOk r (λ reply. IsScanFound cells t range keys_only n (map item_of reply.items.items) (reach_of reply.reach)) → IfErr r IsReadRefusal
     → Steps cells clients last (machine.ScanFrom t range keys_only n) (result_reply scan_reply r) cells clients last
-scans_at cells clients last t range keys_only n (Err e) kept rows families count ok refused st reached shown = (st, refused_storage (read_storage e refused), shown)
+scans_at cells clients last t range keys_only n (Err e) kept rows families count ok refused st reached shown = (st, refused_storage (read_storage e refused), shown, λ known. known)
 scans_at cells clients last t range keys_only n (Ok reply) kept rows families count ok refused st reached shown =
     let s = scans cells st reached shown.store t range keys_only n (map item_of reply.items.items) (reach_of reply.reach) (open_phase clients t st shown.sessions kept) rows families count ok in
     let next = after_scan cells st reached shown.store t range (map item_of reply.items.items) (reach_of reply.reach) in (
@@ -72,10 +73,11 @@ scans_at cells clients last t range keys_only n (Ok reply) kept rows families co
         sessions = record { top = shown.sessions.top; sessions = λ u. shows_other st next (btree.get nat_cmp clients.sessions u) u refl refl (shown.sessions.sessions u); count = shown.sessions.count };
         top = shown.top;
       },
+      λ known. known,
     )
 
 -- shown cells aren't damaged
-pub scan_undamaged_at : (cells : Cells) (range : Range) (t : ℕ) (r : Result ScanReply Refusal) → IfErr r (λ e. e ≡ Damaged → IsScanDamaged cells range t) → (st : State) → IsReached st → ShowsCells cells st → ¬ (IsErrOf r Damaged)
+pub scan_undamaged_at : (cells : Cells) (range : Range) (t : ℕ) (r : Result ScanReply Refusal) → IfErr r (λ e. e ≡ Damaged → IsScanDamaged cells range t) → (st : State) → IsReachedByServers st → ShowsCells cells st → ¬ (IsErrOf r Damaged)
 scan_undamaged_at cells range t (Ok reply) h st reached shown is = cc
 scan_undamaged_at cells range t (Err e) h st reached shown is = let found : IsScanDamaged cells range t = h cc in undamaged cells st reached shown found.0 t found.2
 

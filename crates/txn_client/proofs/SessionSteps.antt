@@ -11,7 +11,7 @@ use Rattle.std.proofs.lemmas.List.{length-map}
 use Rattle.cell_key.specs.Cells.{Cells}
 use Rattle.cell_key.specs.declared.keys.Qualifier.TheVariants.{Lock}
 use Rattle.si_model.specs.Machine as machine
-use Rattle.si_model.specs.Machine.{State, Writes, IsReached, Step, Wrote, Puts, InPhase, HasHeld}
+use Rattle.si_model.specs.Machine.{State, Writes, Step, Wrote, Puts, InPhase, HasHeld}
 use Rattle.si_model.specs.declared.replies.Cell.{Cell}
 use Rattle.si_model.specs.ShowsCells.{at, kind_of_change, IsThere, ShowsCells, held_cells, recorded_cells}
 use Rattle.txn_client.specs.Reads.{IsTaken, IsFree}

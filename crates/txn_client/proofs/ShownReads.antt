@@ -9,12 +9,13 @@ use Rattle.cell_key.proofs.RecordTexts.{names_of, one_write}
 use Rattle.cell_key.specs.declared.columns.WriteKind.TheVariants as write
 use Rattle.si_model.specs.Sets.{◌∈◌}
 use Rattle.si_model.specs.Machine as step
-use Rattle.si_model.specs.Machine.{State, Value, Change, Writes, Range, Item, Valued, Locked, Unsent, Reach, ToEnd, UpTo, Open, Commit, IsReached, Step, accepts, tells, Get, ScanFrom, Answered, Pending, Scanned, InPhase, Gives, Names, Marked, IsSnapshot}
+use Rattle.si_model.specs.Machine.{State, Value, Change, Writes, Range, Item, Valued, Locked, Unsent, Reach, ToEnd, UpTo, Open, Commit, Step, accepts, tells, Get, ScanFrom, Answered, Pending, Scanned, InPhase, Gives, Names, Marked, IsSnapshot}
+use Rattle.si_model.specs.Servers.{IsReachedByServers}
 use Rattle.si_model.specs.declared.replies.Cell.{Cell}
 use Rattle.si_model.proofs.Tools.{same_entry}
-use Rattle.si_model.proofs.Steps.{reached_sound}
-use Rattle.si_model.proofs.Floors.{reached_floors}
-use Rattle.si_model.proofs.Bounds.{reached_bounds}
+use Rattle.si_model.proofs.Steps.{servers_sound}
+use Rattle.si_model.proofs.Floors.{servers_floors}
+use Rattle.si_model.proofs.Bounds.{servers_bounds}
 use Rattle.si_model.proofs.Goes.{goes}
 use Rattle.si_model.proofs.Acceptable.{get_ok, scan_ok}
 use Rattle.si_model.specs.ShowsCells.{at, kind_of_change, IsForgotten, IsThere, NamesCommit, ShowsCells}
@@ -33,11 +34,11 @@ not_above m n h = omega arith
 not_below : (m n : ℕ) → ¬ (m ≤ n) → n < m
 not_below m n h = omega arith
 
-module _ (cells : Cells) (st : State) (reached : IsReached st) (shown : ShowsCells cells st) where
+module _ (cells : Cells) (st : State) (reached : IsReachedByServers st) (shown : ShowsCells cells st) where
   start_low : (a : Commit) → a ∈ st.commits → a.start < 256 ^ 8
   start_low a i =
-      let low = (reached_sound reached).start_low a.start a.writes ((reached_sound reached).fair a i).wrote in
-      let top = (reached_bounds reached).top in
+      let low = (servers_sound reached).start_low a.start a.writes ((servers_sound reached).fair a i).wrote in
+      let top = (servers_bounds reached).top in
       omega arith
 
   -- below a session's start and without locks, each commit of a cell has its record or a later one, or is forgotten
@@ -53,7 +54,7 @@ module _ (cells : Cells) (st : State) (reached : IsReached st) (shown : ShowsCel
   ]
     where
       unmarked : ¬ Marked st x a.start
-      unmarked m = let before = ((reached_sound reached).fair a i).later in none-some _ (sym (clear a.start (omega arith) (omega arith)) ∙ (shown.marks x a.start m).lock)
+      unmarked m = let before = ((servers_sound reached).fair a i).later in none-some _ (sym (clear a.start (omega arith) (omega arith)) ∙ (shown.marks x a.start m).lock)
 
   -- no commit is between the last record and the start
   greatest : (x : Cell) (s c : ℕ) (text : List ℕ) → IsClear cells x Lock 0 s → st.floor ≤ s → IsLast cells x s c text → (b : Commit) → b ∈ st.commits → Names b.writes x → b.stamp ≤ s → b.stamp ≤ c
@@ -93,7 +94,7 @@ module _ (cells : Cells) (st : State) (reached : IsReached st) (shown : ShowsCel
       snapshot : {answer : Option Value} → IsSnapshot st.commits s x answer → IsSnapshot st.commits s x None
       snapshot (inr (e, never)) = inr (refl, never)
       snapshot {answer} (inl (a, i, gives, low, most)) =
-          let r = latest x s clear ((reached_floors reached).above s Open h) (s + 1) a i (answer, gives) low (omega arith) in
+          let r = latest x s clear ((servers_floors reached).above s Open h) (s + 1) a i (answer, gives) low (omega arith) in
           let up = r.2 in
           elim r.4 [
             | inl there ↦ absurd (none-some _ (sym (none r.0.stamp (omega arith) r.3) ∙ there.1))
@@ -116,7 +117,7 @@ module _ (cells : Cells) (st : State) (reached : IsReached st) (shown : ShowsCel
         k.is_in,
         gives,
         omega arith,
-        λ b i names le. let late = greatest x s c text clear ((reached_floors reached).above s Open h) last b i names le in omega arith,
+        λ b i names le. let late = greatest x s c text clear ((servers_floors reached).above s Open h) last b i names le in omega arith,
       )
 
   shows_value : (x : Cell) (s : ℕ) (v : Value) → InPhase st s Open → ReadsValue cells x s v → IsSnapshot st.commits s x (Some v)
@@ -131,7 +132,7 @@ module _ (cells : Cells) (st : State) (reached : IsReached st) (shown : ShowsCel
       gives : Gives k.commit.writes x (Some v)
       gives =
           let g = shown.given x k.commit.start v data_at in
-          subst (λ (ws : Writes). Gives ws x (Some v)) (same_entry st.begun k.commit.start g.ws k.commit.writes g.wrote ((reached_sound reached).fair k.commit k.is_in).wrote) g.gives
+          subst (λ (ws : Writes). Gives ws x (Some v)) (same_entry st.begun k.commit.start g.ws k.commit.writes g.wrote ((servers_sound reached).fair k.commit k.is_in).wrote) g.gives
 
   pub reads_value : (x : Cell) (s : ℕ) (v : Value) → IsRow x.row → IsFamily x.family → InPhase st s Open → ReadsValue cells x s v
       → Step st (Get s x) (Answered (Some v)) (after_read s x (Some v)) × ShowsCells cells (after_read s x (Some v))

@@ -19,22 +19,25 @@ use Rattle.cell_key.specs.declared.refusals.Refusal.TheVariants.{UnknownSession,
 use Rattle.rows.specs.Refusals.{IsReadRefusal}
 use Rattle.si_model.specs.Laws.{FitsPhase}
 use Rattle.si_model.specs.Machine as machine
-use Rattle.si_model.specs.Machine.{State, Change, Reply, Request, Step, accepts, refuses, IsReached, IsStorageRefusal, InPhase, Wrote, Names, Sets, Refused}
+use Rattle.si_model.specs.Machine.{State, Change, Reply, Request, Step, accepts, refuses, IsStorageRefusal, InPhase, Wrote, Names, Sets, Refused}
 use Rattle.si_model.specs.Replies.{found_reply, progress_reply, result_reply}
+use Rattle.si_model.specs.Servers.{IsBelowAll, IsReachedByServers}
 use Rattle.si_model.specs.ShowsCells.{ShowsCells, TouchesOneRow}
 use Rattle.si_model.specs.declared.replies.Cell.{Cell}
 use Rattle.si_model.specs.declared.replies.Found.{Found}
 use Rattle.si_model.specs.declared.replies.Found.TheVariants.{Value, Nothing, Pending}
 use Rattle.si_model.proofs.Acceptable.{begin_ok, set_ok, delete_ok, stop_ok}
-use Rattle.si_model.proofs.Bounds.{reached_bounds}
+use Rattle.si_model.proofs.Bounds.{servers_bounds}
 use Rattle.si_model.proofs.FirstRefusals.{begin_full_first, get_unknown_first, get_late_first, get_row_first, get_family_first, set_unknown_first, set_late_first, set_row_first, set_family_first, set_long_first, set_full_first, delete_unknown_first, delete_late_first, delete_row_first, delete_family_first, delete_full_first, advance_unknown_first, advance_empty_first, stop_unknown_first}
 use Rattle.si_model.proofs.Goes.{goes}
 use Rattle.si_model.proofs.ShownKept.{shows_beside}
-use Rattle.si_model.proofs.Steps.{reached_sound}
+use Rattle.si_model.proofs.Steps.{servers_sound}
 use Rattle.si_model.proofs.Tools.{eq_test, ne_test, get_same, get_other, get_removed, get_remains, same_entry}
+use Rattle.si_model.specs.declared.replies.Progress.{Progress}
+use Rattle.si_model.specs.declared.replies.Progress.TheVariants as progress
 use Rattle.txn_client.specs.Reads.{IsFound, IsDamaged}
 use Rattle.txn_client.specs.Refusals.{IsAdvanceRefusal}
-use Rattle.txn_client.specs.Shows.{phase_of, writes_of, top_after, Follows, Advances, HasNoNext, TouchesBy, TouchesFor, IsAboutToDraw, IsOpenSession, IsCellRefusal, open_session, ShowsSession, ShowsAt, ShowsClients, Shows, Steps}
+use Rattle.txn_client.specs.Shows.{phase_of, writes_of, top_after, Follows, Advances, HasNoNext, TouchesBy, TouchesFor, IsAboutToDraw, IsOpenSession, IsCellRefusal, KnowsTop, open_session, ShowsSession, ShowsAt, ShowsClients, Shows, Steps}
 use Rattle.txn_client.specs.Writes.{write_of}
 use Rattle.txn_client.specs.declared.sessions.Clients.{Clients}
 use Rattle.txn_client.specs.declared.session.Outcome.{Outcome}
@@ -43,6 +46,25 @@ use Rattle.txn_client.specs.declared.session.Phase.TheVariants.{Open, Holding, S
 use Rattle.txn_client.specs.declared.session.Session.{Session}
 use Rattle.txn_client.proofs.ShownReads.{after_read, waits_at, reads_nothing, reads_deletion, reads_value, undamaged}
 use Rattle.txn_client.proofs.Refused.{refused_storage, read_storage, advance_storage}
+
+-- ---- tops
+
+pub same_low : {a b : ℕ} → a ≡ b → a ≤ b
+same_low e = omega arith
+
+pub low_by : {a b c : ℕ} → a ≡ b → b ≤ c → a ≤ c
+low_by e h = omega arith
+
+-- a stamp that is drawn is the top, and no other step changes it
+after_low : (p : Progress) (a b : ℕ) → a ≤ b → top_after a p ≤ top_after b p
+after_low (progress.Stamped c) a b h = same_low refl
+after_low (progress.Held k n) a b h = h
+after_low (progress.Conflict k) a b h = h
+after_low (progress.Committed c) a b h = h
+after_low progress.Lost a b h = h
+after_low (progress.Finished k n) a b h = h
+
+-- ---- entries
 
 -- the entries of a map after one key has changed
 upd_at : (old new : ℕ → Option Session) (k : ℕ) (w : Option Session) → ((q : ℕ) → new q ≡ cond (is_eq (nat_cmp k q)) w (old q)) → new k ≡ w
@@ -85,18 +107,18 @@ abbrev pub begun_at : State → ℕ → State
 begun_at st start = record st { top = start; begun = finmap.insert st.begun start []; active = finmap.insert st.active start machine.Open }
 
 -- a start that follows the oracle's last stamp names no session
-fresh_start : (cells : Cells) (clients : Clients) (last start : ℕ) (st : State) → IsReached st → Shows cells clients last st → start ≡ last + 1 → finmap.get st.active start ≡ None
+fresh_start : (cells : Cells) (clients : Clients) (last start : ℕ) (st : State) → IsReachedByServers st → Shows cells clients last st → start ≡ last + 1 → finmap.get st.active start ≡ None
 fresh_start cells clients last start st reached shown e = by (finmap.get st.active start) refl
   where
     by : (o : Option machine.Phase) → finmap.get st.active start ≡ o → finmap.get st.active start ≡ None
     by None e = e
     by (Some p) f =
-        let w = (reached_sound reached).has_begun start p f in
-        let low = (reached_sound reached).start_low start w.0 w.1 in
+        let w = (servers_sound reached).has_begun start p f in
+        let low = (servers_sound reached).start_low start w.0 w.1 in
         let t = shown.top in
         absurd (omega arith)
 
-unused_start : (cells : Cells) (clients : Clients) (last start : ℕ) (st : State) → IsReached st → Shows cells clients last st → start ≡ last + 1 → btree.get nat_cmp clients.sessions start ≡ None
+unused_start : (cells : Cells) (clients : Clients) (last start : ℕ) (st : State) → IsReachedByServers st → Shows cells clients last st → start ≡ last + 1 → btree.get nat_cmp clients.sessions start ≡ None
 unused_start cells clients last start st reached shown e = by (btree.get nat_cmp clients.sessions start) refl
   where
     by : (o : Option Session) → btree.get nat_cmp clients.sessions start ≡ o → btree.get nat_cmp clients.sessions start ≡ None
@@ -108,7 +130,7 @@ module _ (cells : Cells) (old new : Clients) (last last' start : ℕ) where
       → ((q : ℕ) → btree.get nat_cmp new.sessions q ≡ cond (is_eq (nat_cmp start q)) (Some (open_session start)) (btree.get nat_cmp old.sessions q))
       → btree.btree_map_len new.sessions ≡ btree.btree_map_len old.sessions + (if is_some (btree.get nat_cmp old.sessions start) then 0 else 1)
       → Steps cells old last machine.Begin (machine.Begun start) cells new last'
-  begins_at room e limit e' top at len st reached shown = (begun_at st start, s, record { store = store; sessions = sessions; top = omega arith })
+  begins_at room e limit e' top at len st reached shown = (begun_at st start, s, record { store = store; sessions = sessions; top = omega arith }, λ known. top)
     where
       s : Step st machine.Begin (machine.Begun start) (begun_at st start)
       s = accepts (begin_ok (let n = shown.sessions.count in omega arith)) (machine.begins (let t = shown.top in omega arith, omega arith))
@@ -124,7 +146,7 @@ module _ (cells : Cells) (old new : Clients) (last last' start : ℕ) where
 
       sessions : ShowsClients new (begun_at st start)
       sessions = record {
-        top = top;
+        top = same_low top;
         sessions = shows_changed st (begun_at st start) (btree.get nat_cmp old.sessions) (btree.get nat_cmp new.sessions) start (Some (open_session start)) at
             (λ t ne. get_other st.active start machine.Open t ne) (λ t ne. get_other st.begun start [] t ne) shown.sessions.sessions
             (record { start = refl; phase = get_same st.active start machine.Open; writes = get_same st.begun start [] });
@@ -137,7 +159,7 @@ pub shows_same : (cells : Cells) (old new : Clients) (last last' : ℕ) (st : St
 shows_same cells old new last last' st shown top same le = record {
   store = shown.store;
   sessions = record {
-    top = top ∙ shown.sessions.top;
+    top = low_by top shown.sessions.top;
     sessions = λ t. subst (λ es. ShowsAt (lookup (btree.is_at (nat_cmp t)) es) t st) (sym same) (shown.sessions.sessions t);
     count = shown.sessions.count ∙ ap (λ es. length es) (sym same);
   };
@@ -154,13 +176,14 @@ stops_at cells old new last t session top was at len st reached shown = (
   record {
     store = shows_beside cells st (record st { active = finmap.remove st.active t }) (goes reached s) shown.store (λ y u m. m) (λ y u m. m) refl;
     sessions = record {
-      top = top ∙ shown.sessions.top;
+      top = low_by top shown.sessions.top;
       sessions = shows_changed st (record st { active = finmap.remove st.active t }) (btree.get nat_cmp old.sessions) (btree.get nat_cmp new.sessions) t None at
           (λ u ne. get_remains st.active t u ne) (λ u ne. refl) shown.sessions.sessions (get_removed st.active t);
       count = finmap.len-remove nat_cmp_total st.active t ∙ (ap (λ o. cond (is_some o) (finmap.len st.active - 1) (finmap.len st.active)) phase ∙ (let n = shown.sessions.count in omega arith));
     };
     top = shown.top;
   },
+  λ known. top ∙ known,
 )
   where
     phase : InPhase st t (phase_of session.phase session.commit)
@@ -191,10 +214,10 @@ module _ (cells cells' : Cells) (old new : Clients) (last last' : ℕ) (session 
   Updated t = (q : ℕ) → btree.get nat_cmp new.sessions q ≡ cond (is_eq (nat_cmp t q)) (cond outcome.ended None (Some session')) (btree.get nat_cmp old.sessions q)
 
   abbrev Goal : State → ℕ → Type 0
-  Goal st t = (next : State) × Step st (machine.Advance t) (progress_reply outcome.progress) next × Shows cells' new last' next
+  Goal st t = (next : State) × Step st (machine.Advance t) (progress_reply outcome.progress) next × Shows cells' new last' next × (KnowsTop old st → KnowsTop new next)
 
-  takes_own : (st : State) → IsReached st → Shows cells old last st → ShowsSession session session.start st → Updated session.start → Goal st session.start
-  takes_own st reached shown mine at = (r.0, r.1, record { store = r.2; sessions = sessions; top = r.4 })
+  takes_own : (st : State) → IsReachedByServers st → Shows cells old last st → ShowsSession session session.start st → Updated session.start → Goal st session.start
+  takes_own st reached shown mine at = (r.0, r.1, record { store = r.2; sessions = sessions; top = r.4 }, λ known. top ∙ (ap (λ (n : ℕ). top_after n outcome.progress) known ∙ sym r.3.top))
     where
       r : (next : State) × Step st (machine.Advance session.start) (progress_reply outcome.progress) next × ShowsCells cells' next × Follows st next session' outcome × (next.top ≤ last')
       r = takes st reached shown.store mine shown.top
@@ -207,7 +230,7 @@ module _ (cells cells' : Cells) (old new : Clients) (last last' : ℕ) (session 
 
       sessions : ShowsClients new r.0
       sessions = record {
-        top = top ∙ (ap (λ (n : ℕ). top_after n outcome.progress) shown.sessions.top ∙ sym r.3.top);
+        top = low_by top (subst (λ (n : ℕ). top_after old.top outcome.progress ≤ n) (sym r.3.top) (after_low outcome.progress old.top st.top shown.sessions.top));
         sessions = shows_changed st r.0 (btree.get nat_cmp old.sessions) (btree.get nat_cmp new.sessions) session.start (cond outcome.ended None (Some session')) at
             (λ t ne. ap (λ m. finmap.get m t) active ∙ kept_active outcome.ended st.active session.start (phase_of session'.phase session'.commit) t ne)
             (λ t ne. ap (λ m. finmap.get m t) r.3.begun) shown.sessions.sessions (own outcome.ended st r.0 session' session.start active start wrote);
@@ -229,14 +252,14 @@ no_items [] h = refl
 no_items (x ∷ xs) h = absurd (omega arith)
 
 -- a step without a next write is a step of an Open session without writes
-empty_step : (st : State) (t : ℕ) (session : Session) → IsReached st → ShowsSession session t st → HasNoNext session.phase (length session.writes) → Step st (machine.Advance t) (Refused EmptyCommit) st
+empty_step : (st : State) (t : ℕ) (session : Session) → IsReachedByServers st → ShowsSession session t st → HasNoNext session.phase (length session.writes) → Step st (machine.Advance t) (Refused EmptyCommit) st
 empty_step st t session reached mine = by session.phase refl
   where
     counts : length (writes_of session) ≡ length session.writes
     counts = length-map session.writes write_of
 
     fits : (p : Phase) → session.phase ≡ p → FitsPhase (phase_of p session.commit) (length session.writes)
-    fits p e = subst (λ (n : ℕ). FitsPhase (phase_of p session.commit) n) counts ((reached_bounds reached).fits t (phase_of p session.commit) (mine.phase ∙ ap (λ (p : Phase). Some (phase_of p session.commit)) e) (writes_of session) mine.writes)
+    fits p e = subst (λ (n : ℕ). FitsPhase (phase_of p session.commit) n) counts ((servers_bounds reached).fits t (phase_of p session.commit) (mine.phase ∙ ap (λ (p : Phase). Some (phase_of p session.commit)) e) (writes_of session) mine.writes)
 
     by : (p : Phase) → session.phase ≡ p → HasNoNext p (length session.writes) → Step st (machine.Advance t) (Refused EmptyCommit) st
     by Open e none = refuses (advance_empty_first machine.Open (mine.phase ∙ ap (λ (p : Phase). Some (phase_of p session.commit)) e) (mine.writes ∙ ap (λ xs. Some (map write_of xs)) (no_items session.writes none)))
@@ -258,13 +281,14 @@ steps_refused Holds cells old new last last' t session session' e was same top a
   record {
     store = shown.store;
     sessions = record {
-      top = top ∙ shown.sessions.top;
+      top = low_by top shown.sessions.top;
       sessions = shows_changed st st (btree.get nat_cmp old.sessions) (btree.get nat_cmp new.sessions) t (Some session') at (λ u ne. refl) (λ u ne. refl) shown.sessions.sessions
           (subst (λ (o : Option Session). ShowsAt o t st) (was ∙ ap (λ (s : Session). Some s) (sym same)) (shown.sessions.sessions t));
       count = shown.sessions.count ∙ sym len;
     };
     top = (let h = shown.top in omega arith);
   },
+  λ known. top ∙ known,
 )
 
 pub reads_at : (cells : Cells) (clients : Clients) (last t : ℕ) (session : Session) (x : Cell) (r : Result Found Refusal) → btree.get nat_cmp clients.sessions t ≡ Some session → session.phase ≡ Open → IsRow x.row → IsFamily x.family
@@ -275,7 +299,7 @@ reads_at cells clients last t session x r was is_open row family ok refused st r
     phase = (subst (λ (o : Option Session). ShowsAt o t st) was (shown.sessions.sessions t)).phase ∙ ap (λ (p : Phase). Some (phase_of p session.commit)) is_open
 
     after : (v : Option (List ℕ)) → Step st (machine.Get t x) (machine.Answered v) (after_read cells st reached shown.store t x v) × ShowsCells cells (after_read cells st reached shown.store t x v)
-        → (next : State) × Step st (machine.Get t x) (machine.Answered v) next × Shows cells clients last next
+        → (next : State) × Step st (machine.Get t x) (machine.Answered v) next × Shows cells clients last next × (KnowsTop clients st → KnowsTop clients next)
     after v s = (
       after_read cells st reached shown.store t x v,
       s.0,
@@ -284,20 +308,21 @@ reads_at cells clients last t session x r was is_open row family ok refused st r
         sessions = record { top = shown.sessions.top; sessions = λ u. shows_other st (after_read cells st reached shown.store t x v) (btree.get nat_cmp clients.sessions u) u refl refl (shown.sessions.sessions u); count = shown.sessions.count };
         top = shown.top;
       },
+      λ known. known,
     )
 
-    by : (r : Result Found Refusal) → IfOk r (IsFound cells x t) → IfErr r IsReadRefusal → (next : State) × Step st (machine.Get t x) (result_reply found_reply r) next × Shows cells clients last next
-    by (Ok (Pending u)) found e = (st, waits_at cells st reached shown.store x t u row family phase found.0 found.1, shown)
+    by : (r : Result Found Refusal) → IfOk r (IsFound cells x t) → IfErr r IsReadRefusal → (next : State) × Step st (machine.Get t x) (result_reply found_reply r) next × Shows cells clients last next × (KnowsTop clients st → KnowsTop clients next)
+    by (Ok (Pending u)) found e = (st, waits_at cells st reached shown.store x t u row family phase found.0 found.1, shown, λ known. known)
     by (Ok Nothing) found e = after None (elim found.1 [
       | inl none ↦ reads_nothing cells st reached shown.store x t row family phase found.0 none
       | inr deleted ↦ reads_deletion cells st reached shown.store x t row family phase found.0 deleted
     ])
     by (Ok (Value v)) found e = after (Some v.items) (reads_value cells st reached shown.store x t v.items row family phase found)
-    by (Err f) found e = (st, refused_storage (read_storage f e), shown)
+    by (Err f) found e = (st, refused_storage (read_storage f e), shown, λ known. known)
 
 -- a request that is refused changes nothing
-pub stays : (cells : Cells) (clients : Clients) (last : ℕ) (q : Request) (e : Refusal) → ((st : State) → IsReached st → Shows cells clients last st → Step st q (Refused e) st) → Steps cells clients last q (Refused e) cells clients last
-stays cells clients last q e s st reached shown = (st, s st reached shown, shown)
+pub stays : (cells : Cells) (clients : Clients) (last : ℕ) (q : Request) (e : Refusal) → ((st : State) → IsReachedByServers st → Shows cells clients last st → Step st q (Refused e) st) → Steps cells clients last q (Refused e) cells clients last
+stays cells clients last q e s st reached shown = (st, s st reached shown, shown, λ known. known)
 
 pub shown_none : (clients : Clients) (t : ℕ) (st : State) → ShowsClients clients st → btree.get nat_cmp clients.sessions t ≡ None → finmap.get st.active t ≡ None
 shown_none clients t st shown none = subst (λ (o : Option Session). ShowsAt o t st) none (shown.sessions t)
@@ -360,14 +385,14 @@ set_value_at cells clients last t x v e open_at row family which long = stays ce
 
 pub advance_unknown_at : (cells : Cells) (old new : Clients) (last t : ℕ) → new.top ≡ old.top → btree.get nat_cmp old.sessions t ≡ None → new.sessions.entries ≡ old.sessions.entries
     → Steps cells old last (machine.Advance t) (Refused UnknownSession) cells new last
-advance_unknown_at cells old new last t top none same st reached shown = (st, refuses (advance_unknown_first (shown_none old t st shown.sessions none)), shows_same cells old new last last st shown top same (omega arith))
+advance_unknown_at cells old new last t top none same st reached shown = (st, refuses (advance_unknown_first (shown_none old t st shown.sessions none)), shows_same cells old new last last st shown top same (omega arith), λ known. top ∙ known)
 
 pub with_none : (m n : ℕ) → m ≡ n → m + 0 ≡ n
 with_none m n e = omega arith
 
 pub stop_unknown_at : (cells : Cells) (old new : Clients) (last t : ℕ) → new.top ≡ old.top → btree.get nat_cmp old.sessions t ≡ None → new.sessions.entries ≡ old.sessions.entries
     → Steps cells old last (machine.Stop t) (Refused UnknownSession) cells new last
-stop_unknown_at cells old new last t top none same st reached shown = (st, refuses (stop_unknown_first (shown_none old t st shown.sessions none)), shows_same cells old new last last st shown top same (omega arith))
+stop_unknown_at cells old new last t top none same st reached shown = (st, refuses (stop_unknown_first (shown_none old t st shown.sessions none)), shows_same cells old new last last st shown top same (omega arith), λ known. top ∙ known)
 
 -- a Begin is refused: there are too many sessions, or the store refuses
 pub begin_full_at : (cells : Cells) (clients : Clients) (last : ℕ) → 1024 ≤ btree.btree_map_len clients.sessions → Steps cells clients last machine.Begin (Refused TooManySessions) cells clients last
@@ -375,7 +400,7 @@ begin_full_at cells clients last full = stays cells clients last machine.Begin T
 
 pub begin_storage_at : (cells : Cells) (old new : Clients) (last last' : ℕ) (e : Refusal) → IsStorageRefusal e → new.top ≡ old.top → new.sessions.entries ≡ old.sessions.entries → last ≤ last'
     → Steps cells old last machine.Begin (Refused e) cells new last'
-begin_storage_at cells old new last last' e u top same le st reached shown = (st, refused_storage u, shows_same cells old new last last' st shown top same le)
+begin_storage_at cells old new last last' e u top same le st reached shown = (st, refused_storage u, shows_same cells old new last last' st shown top same le, λ known. top ∙ known)
 
 -- a Begin is refused where its start isn't drawn: what stood at its start stands there again
 module _ (old made new : Clients) (key : ℕ) (replaced : Option Session) (was : replaced ≡ btree.get nat_cmp old.sessions key)
@@ -405,12 +430,13 @@ begin_undone_at cells old made new last last' key e replaced u le top was each m
   record {
     store = shown.store;
     sessions = record {
-      top = top ∙ shown.sessions.top;
+      top = low_by top shown.sessions.top;
       sessions = λ t. subst (λ (o : Option Session). ShowsAt o t st) (sym (each t)) (shown.sessions.sessions t);
       count = shown.sessions.count ∙ undone_count _ _ _ _ replaced was more less;
     };
     top = (let t = shown.top in omega arith);
   },
+  λ known. top ∙ known,
 )
 
 -- the stored session at an open session's start is open
@@ -418,7 +444,7 @@ pub open_same : (clients : Clients) (t : ℕ) (session : Session) → btree.get 
 open_same clients t session was (open_session', at, is_open) = ap (λ (s : Session). s.phase) (same_Some session open_session' (sym was ∙ at)) ∙ is_open
 
 -- without sessions
-pub shows_new : (clients : Clients) (st : State) → clients.top ≡ st.top → st.active ≡ finmap.empty → clients.sessions.entries ≡ [] → ShowsClients clients st
+pub shows_new : (clients : Clients) (st : State) → clients.top ≤ st.top → st.active ≡ finmap.empty → clients.sessions.entries ≡ [] → ShowsClients clients st
 shows_new clients st top none empty = record {
   top = top;
   sessions = λ t. subst (λ es. ShowsAt (lookup (btree.is_at (nat_cmp t)) es) t st) (sym empty) (ap (λ m. finmap.get m t) none ∙ finmap.get-empty nat_cmp t);
@@ -435,10 +461,29 @@ pub floor_least : (clients : Clients) (st : State) → ShowsClients clients st �
 floor_least clients st shown t session was least =
     machine.least (shown_some clients t st session shown was).phase (λ u q h. let k = kept_phase clients st shown u q h (btree.get nat_cmp clients.sessions u) refl in least u k.0 k.1)
 
-pub floor_none : (clients : Clients) (st : State) (n : ℕ) → IsReached st → ShowsClients clients st → ((t : ℕ) → btree.get nat_cmp clients.sessions t ≡ None) → n ≡ clients.top + 1 → machine.IsFloor st n
-floor_none clients st n reached shown none e =
-    let top = shown.top in
-    subst (λ (m : ℕ). machine.IsFloor st m) (let same : st.top + 1 ≡ n = omega arith in same) (machine.none_active (λ u q h. let k = kept_phase clients st shown u q h (btree.get nat_cmp clients.sessions u) refl in none-some k.0 (sym (none u) ∙ k.1)))
+pub floor_none : (clients : Clients) (st : State) (n : ℕ) → ShowsClients clients st → KnowsTop clients st → ((t : ℕ) → btree.get nat_cmp clients.sessions t ≡ None) → n ≡ clients.top + 1 → machine.IsFloor st n
+floor_none clients st n shown known none e =
+    subst (λ (m : ℕ). machine.IsFloor st m) (let same : st.top + 1 ≡ n = omega (arith, known, e) in same) (machine.none_active (λ u q h. let k = kept_phase clients st shown u q h (btree.get nat_cmp clients.sessions u) refl in none-some k.0 (sym (none u) ∙ k.1)))
+
+-- neither is above a session of the server that is active now or later
+pub below_least : (clients : Clients) (st : State) → IsReachedByServers st → ShowsClients clients st → (t : ℕ) (session : Session) → btree.get nat_cmp clients.sessions t ≡ Some session
+    → ((u : ℕ) (other : Session) → btree.get nat_cmp clients.sessions u ≡ Some other → t ≤ u) → IsBelowAll st t
+below_least clients st reached shown t session was least = (
+  low,
+  λ u q h. let k = kept_phase clients st shown u q h (btree.get nat_cmp clients.sessions u) refl in least u k.0 k.1,
+)
+  where
+    low : t ≤ st.top + 1
+    low =
+        let mine = shown_some clients t st session shown was in
+        let under = (servers_sound reached).start_low t (writes_of session) mine.writes in
+        omega arith
+
+pub below_none : (clients : Clients) (st : State) (n : ℕ) → ShowsClients clients st → ((t : ℕ) → btree.get nat_cmp clients.sessions t ≡ None) → n ≡ clients.top + 1 → IsBelowAll st n
+below_none clients st n shown none e = (
+  (let top = shown.top in omega (arith, e)),
+  λ u q h. let k = kept_phase clients st shown u q h (btree.get nat_cmp clients.sessions u) refl in absurd (none-some k.0 (sym (none u) ∙ k.1)),
+)
 
 some_none : {X : Type 0} (xs : List X) → (0 < length xs → false ≡ true) → xs ≡ []
 some_none [] h = refl
@@ -451,18 +496,18 @@ pub none_kept : (clients : Clients) → (0 < btree.btree_map_len clients.session
 none_kept clients h t = ap (lookup (btree.is_at (nat_cmp t))) (some_none clients.sessions.entries h)
 
 -- the top plus one fits a number of eight bytes
-pub within_words : (clients : Clients) (st : State) → IsReached st → ShowsClients clients st → min (clients.top + 1) (2 ^ 64 - 1) ≡ clients.top + 1
-within_words clients st reached shown = let low = (reached_bounds reached).top in let same = shown.top in omega arith
+pub within_words : (clients : Clients) (st : State) → IsReachedByServers st → ShowsClients clients st → min (clients.top + 1) (2 ^ 64 - 1) ≡ clients.top + 1
+within_words clients st reached shown = let low = (servers_bounds reached).top in let same = shown.top in omega arith
 
 -- with the same sessions
 pub shows_along : (clients : Clients) (st next : State) → ShowsClients clients st → next.top ≡ st.top → next.begun ≡ st.begun → next.active ≡ st.active → ShowsClients clients next
 shows_along clients st next shown top begun active = record {
-  top = shown.top ∙ sym top;
+  top = (let low = shown.top in omega (arith, top));
   sessions = λ t. shows_other st next (btree.get nat_cmp clients.sessions t) t (ap (λ m. finmap.get m t) active) (ap (λ m. finmap.get m t) begun) (shown.sessions t);
   count = ap (λ m. finmap.len m) active ∙ shown.count;
 }
 
-pub undamaged_at : (cells : Cells) (x : Cell) (t : ℕ) (r : Result Found Refusal) → IfErr r (λ e. e ≡ Damaged → IsDamaged cells x t) → (st : State) → IsReached st → ShowsCells cells st → ¬ (IsErrOf r Damaged)
+pub undamaged_at : (cells : Cells) (x : Cell) (t : ℕ) (r : Result Found Refusal) → IfErr r (λ e. e ≡ Damaged → IsDamaged cells x t) → (st : State) → IsReachedByServers st → ShowsCells cells st → ¬ (IsErrOf r Damaged)
 undamaged_at cells x t (Ok f) h st reached shown e = cc
 undamaged_at cells x t (Err e) h st reached shown f = undamaged cells st reached shown x t (h cc)
 
@@ -530,13 +575,14 @@ module _ (cells : Cells) (old new : Clients) (last t : ℕ) (session session' : 
     record {
       store = shows_beside cells st (given_at st t session') (goes reached (steps st shown)) shown.store (λ y u m. m) (λ y u m. m) refl;
       sessions = record {
-        top = top ∙ shown.sessions.top;
+        top = low_by top shown.sessions.top;
         sessions = shows_changed st (given_at st t session') (btree.get nat_cmp old.sessions) (btree.get nat_cmp new.sessions) t (Some session') at (λ u ne. refl) (λ u ne. get_other st.begun t (writes_of session') u ne) shown.sessions.sessions
             (record { start = start ∙ mine.start; phase = mine.phase ∙ (λ i. Some (phase_of (sym phase i) (sym commit i))); writes = get_same st.begun t (writes_of session') });
         count = shown.sessions.count ∙ sym len;
       };
       top = shown.top;
     },
+    λ known. top ∙ known,
   )
     where
       mine : ShowsSession session t st
@@ -550,13 +596,14 @@ module _ (cells : Cells) (old new : Clients) (last t : ℕ) (session session' : 
     record {
       store = shown.store;
       sessions = record {
-        top = top ∙ shown.sessions.top;
+        top = low_by top shown.sessions.top;
         sessions = shows_changed st st (btree.get nat_cmp old.sessions) (btree.get nat_cmp new.sessions) t (Some session') at (λ u ne. refl) (λ u ne. refl) shown.sessions.sessions
             (record { start = start ∙ mine.start; phase = mine.phase ∙ (λ i. Some (phase_of (sym phase i) (sym commit i))); writes = mine.writes ∙ ap (λ ws. Some (map write_of ws)) (sym same) });
         count = shown.sessions.count ∙ sym len;
       };
       top = shown.top;
     },
+    λ known. top ∙ known,
   )
     where
       mine : ShowsSession session t st

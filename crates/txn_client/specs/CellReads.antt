@@ -1,30 +1,22 @@
 -- Reads of several cells in one session, in terms of the cell map.
-use Rattle.std.specs.Prelude.{◌≡◌, ⊤, ℕ, ◌+◌, ◌*◌, ◌≤◌, ◌⊎◌, List, [], ◌∷◌, ◌++◌, length, map, option_map, Option}
+use Rattle.std.specs.Prelude.{◌≡◌, ⊤, ℕ, ◌+◌, ◌*◌, ◌≤◌, ◌⊎◌, List, [], ◌∷◌, ◌++◌, Option}
 use Rattle.cell_key.specs.Cells.{Cells}
 use Rattle.cell_key.specs.Names.{IsRow, IsFamily}
 use Rattle.cell_key.specs.declared.refusals.Refusal.{Refusal}
 use Rattle.cell_key.specs.declared.refusals.Refusal.TheVariants.{BadRow, BadColumn, Device, NoMemory, Damaged}
+use Rattle.si_model.specs.Answers.{told_items}
 use Rattle.si_model.specs.Machine.{Item}
-use Rattle.si_model.specs.Replies.{found_item, found_reply}
-use Rattle.si_model.specs.Transactions.{IsTold, most_told, told_length, told_lengths}
+use Rattle.si_model.specs.Replies.{found_reply}
+use Rattle.si_model.specs.Transactions.{IsTold, most_told, told_length}
 use Rattle.si_model.specs.declared.replies.Cell.{Cell}
 use Rattle.si_model.specs.declared.replies.Found.{Found}
-use Rattle.si_model.specs.declared.scans.ScanFound.{ScanFound}
 use Rattle.txn_client.specs.Reads.{IsFound}
 use Rattle.si_model.specs.Takings.{IsNamed}
 use Rattle.txn_client.specs.declared.cell_reads.Told.{Told}
 
-abbrev pub said_in : List (Option ScanFound) → List (Option Item)
-said_in found = map (λ said. option_map found_item said) found
-
 -- what is said of n cells has so few bytes: values end at the limit, and behind it each cell has at most nine
 abbrev pub IsShortOf : ℕ → ℕ → Type 0
 IsShortOf n bytes = (bytes ≤ 9 * n) ⊎ (bytes + 9 ≤ most_told + 9 * n)
-
--- what is said of at most 256 cells takes at most these bytes
-abbrev pub IsShortAnswer : List (Option ScanFound) → Type 0
-IsShortAnswer found =
-    (length found ≤ 256) × (told_lengths (said_in found) ≤ most_told + 255 * 9)
 
 -- a session that began at s reads x, and this is said of it after this many bytes
 pub record IsReadSo (cells : Cells) (s used : ℕ) (x : Cell) (said : Option Item) : Type 0 where
@@ -44,7 +36,7 @@ AreRead cells s used (x ∷ xs) [] = ⊥
 pub record ReadsNext (cells : Cells) (s : ℕ) (x : Cell) (old new : Told) : Type 0 where
   pub said : Option Item
   pub read : IsReadSo cells s old.bytes x said
-  pub found : said_in new.found.items ≡ said_in old.found.items ++ said ∷ []
+  pub found : told_items new.found.items ≡ told_items old.found.items ++ said ∷ []
   pub bytes : new.bytes ≡ old.bytes + told_length said
 
 -- why a read of x in an open session is refused

@@ -1,5 +1,5 @@
 -- Transactions in one call: their session, their writes, the edits that put them, and their stamps.
-use Rattle.std.specs.Prelude.{◌≡◌, ◌≢◌, ⊤, ℕ, ◌+◌, ◌-◌, ◌<◌, ◌^◌, List, [], length, map, Some, None}
+use Rattle.std.specs.Prelude.{◌≡◌, ◌≢◌, ℕ, ◌+◌, ◌-◌, ◌<◌, ◌^◌, List, [], length, map, Some, None}
 use Rattle.std.specs.Ordering.{nat_cmp}
 use Rattle.std.specs.BTreeMap as btree
 use Rattle.std.specs.BTreeMap.{Updates}
@@ -90,10 +90,10 @@ pub record Commits {R : Type 0} (seen : View R) (clients : Clients) (last start 
   pub made : seen.holds old
       → seen.cells new ≡ all_put_cells (seen.cells old) (map write_of all) s c
 
--- A transaction meets a conflict: the cell at this place is the first of its writes that isn't free. Nothing is changed.
+-- A transaction meets a conflict: its session began at s, and the cell at this place is the first of its writes that
+-- isn't free. Nothing is changed.
 pub record MeetsConflict {R : Type 0} (seen : View R) (clients : Clients) (last start : ℕ)
-    (asked : Writes) (place : ℕ) (old new : R) : Type 0 where
-  pub s : ℕ
+    (asked : Writes) (s place : ℕ) (old new : R) : Type 0 where
   pub all : List Write
   pub writes : HasWrites clients last start asked s all
   pub taken : AreReadable seen old all → IsFirstTaken (seen.cells old) s all place
@@ -104,8 +104,8 @@ abbrev pub CommitDoes : {R : Type 0}
     → View R → Clients → ℕ → ℕ → Writes → R → R → CommitReply → Type 0
 CommitDoes seen clients last start asked old new (Committed s c) =
     Commits seen clients last start asked s c old new
-CommitDoes seen clients last start asked old new (Conflict place) =
-    MeetsConflict seen clients last start asked place old new
+CommitDoes seen clients last start asked old new (Conflict s place) =
+    MeetsConflict seen clients last start asked s place old new
 
 -- the edits of the transaction would exceed a limit of the memory
 pub record HasNoRoomToCommit {R : Type 0} (seen : View R) (clients : Clients) (last start : ℕ)
@@ -117,17 +117,17 @@ pub record HasNoRoomToCommit {R : Type 0} (seen : View R) (clients : Clients) (l
   pub transaction : IsTransaction clients last start asked s c all changes
   pub over : OverfillsOne seen.overfills changes old
 
--- the stamps that it draws: those of its answer, or with a conflict the start of a new session
+-- the stamps that it draws: the start of a new session, and then its commit stamp, unless it met a conflict
 abbrev pub CommitDraws : ℕ → ℕ → ℕ → CommitReply → Type 0
 CommitDraws before now start (Committed s c) =
     (c ≡ now) × IsCommitStamp before start c × (start ≡ 0 → s ≡ before + 1)
-CommitDraws before now start (Conflict place) =
-    (start ≢ 0 → now ≡ before) × (start ≡ 0 → now ≡ before + 1)
+CommitDraws before now start (Conflict s place) =
+    (start ≢ 0 → now ≡ before) × (start ≡ 0 → (now ≡ before + 1) × (s ≡ before + 1))
 
--- a transaction that is committed began at s
+-- the session of a transaction that isn't refused began at t
 abbrev pub BeganAt : ℕ → CommitReply → Type 0
 BeganAt t (Committed s c) = s ≡ t
-BeganAt t (Conflict place) = ⊤
+BeganAt t (Conflict s place) = s ≡ t
 
 -- the session that is named has ended, and this is the top; without a name, no session changes
 pub record EndsAt (old new : Clients) (start now : ℕ) : Type 0 where

@@ -1,7 +1,6 @@
 -- Results of reads and conflict tests, in terms of the cell map.
-use Rattle.std.specs.Prelude.{◌≡◌, ⊤, ℕ, ◌≤◌, ◌^◌, ◌-◌, ◌⊎◌, List, length, Some, None, option_map}
+use Rattle.std.specs.Prelude.{◌≡◌, ⊤, ℕ, ◌≤◌, ◌^◌, ◌-◌, ◌⊎◌, List, length, Some, None}
 use Rattle.cell_key.specs.Cells.{Cells, IsNewest}
-use Rattle.cell_key.specs.Versions.{stamped}
 use Rattle.cell_key.specs.declared.keys.Qualifier.TheVariants.{Data, Lock, Write}
 use Rattle.cell_key.specs.Columns.{NamesWrite}
 use Rattle.cell_key.specs.declared.columns.WriteKind.{WriteKind}

@@ -1,5 +1,5 @@
 -- The edits of a session's step, and their effect on the cells and on the room in memory.
-use Rattle.std.specs.Prelude.{◌≡◌, ◌⊎◌, ℕ, List, [], ◌∷◌, Some, None, slice_get, ⊤}
+use Rattle.std.specs.Prelude.{◌≡◌, ◌⊎◌, ◌+◌, ℕ, List, [], ◌∷◌, Some, None, slice_get, ⊤}
 use Rattle.std.specs.Ordering.{nat_cmp}
 use Rattle.std.specs.BTreeMap as btree
 use Rattle.cell_key.specs.Cells.{Cells}
@@ -16,7 +16,7 @@ use Rattle.si_model.specs.ShowsCells.{key_of, kind_of_change}
 use Rattle.si_model.specs.declared.replies.Cell.{Cell}
 use Rattle.si_model.specs.declared.replies.Progress.{Progress}
 use Rattle.si_model.specs.declared.replies.Progress.TheVariants as progress
-use Rattle.txn_client.specs.Reads.{IsFree}
+use Rattle.txn_client.specs.Reads.{IsFree, IsTaken}
 use Rattle.txn_client.specs.Shows.{DrawsNext, InEachShown, top_after}
 use Rattle.txn_client.specs.declared.sessions.Clients.{Clients}
 use Rattle.txn_client.specs.declared.session.Phase.{Phase}
@@ -80,6 +80,31 @@ Does seen Such (progress.Finished k n) old new =
     AppliesSuch seen Such old new ⊎ OnlyReads seen old new
 Does seen Such p old new = OnlyReads seen old new
 
+-- ---- why it meets a conflict
+
+-- the cell k of a session, which has this place, counted from 1, isn't free if the rows are intact
+abbrev pub MeetsAt : Type 0 → Cells → Session → ℕ → ℕ → Type 0
+MeetsAt Holds cells session k place =
+    (write : Writing) × (slice_get session.writes k ≡ Some write) × (place ≡ k + 1)
+    × (Holds → IsTaken cells write.cell session.start)
+
+-- the next cell that a session in this phase holds, at this place, isn't free
+abbrev pub MeetsIn : Phase → Type 0 → Cells → Session → ℕ → Type 0
+MeetsIn Open Holds cells session place = MeetsAt Holds cells session 0 place
+MeetsIn (Holding k) Holds cells session place = MeetsAt Holds cells session k place
+MeetsIn phase Holds cells session place = ⊥
+
+-- the same of the session stored at t
+abbrev pub MeetsNext : Type 0 → Cells → Clients → ℕ → ℕ → Type 0
+MeetsNext Holds cells clients t place =
+    (session : Session) × (btree.get nat_cmp clients.sessions t ≡ Some session)
+    × MeetsIn session.phase Holds cells session place
+
+-- a property of the place of a conflict, if the step met one
+abbrev pub IfConflict : (ℕ → Type 0) → Progress → Type 0
+IfConflict P (progress.Conflict place) = P place
+IfConflict P p = ⊤
+
 -- ---- the same edits, from a state of the machine
 
 -- the row and the edits by which t holds its cell k, which nothing blocks
@@ -131,12 +156,13 @@ TakesRoom overfills Changes p old new = TakesNoRoom overfills old new
 
 -- ---- all effects of an accepted step
 
--- It makes the edits of the session's next step, or changes nothing. In each state that is shown, they are also the
--- machine's edits of that step, and it takes their room and no more. A stamp that it draws is the next one, and becomes
--- the last one.
+-- It makes the edits of the session's next step, or changes nothing. A cell that it names as in conflict isn't free. In
+-- each state that is shown, its edits are also the machine's of that step, and it takes their room and no more. A stamp
+-- that it draws is the next one, and becomes the last one.
 pub record StepMakes {R : Type 0} (seen : View R) (clients : Clients) (t : ℕ) (progress : Progress)
     (old new : R) (before now : ℕ) : Type 0 where
   pub does : Does seen (EditsOfStep (seen.holds old) (seen.cells old) clients t) progress old new
+  pub met : IfConflict (MeetsNext (seen.holds old) (seen.cells old) clients t) progress
   pub made : seen.holds old → InEachShown (seen.cells old) clients (λ st.
       Makes (ChangesNext st t) progress (seen.cells old) (seen.cells new))
   pub room : seen.holds old → InEachShown (seen.cells old) clients (λ st.

@@ -1,8 +1,6 @@
 -- The result of a scan, in terms of reads of each cell, and how far a scan goes.
 use Rattle.std.specs.Prelude.{◌≡◌, ◌⊎◌, ℕ, ◌+◌, ◌<◌, ◌≤◌, Bool, true, List, length, Option, Some, None, option_map}
-use Rattle.std.specs.List.{AllByRecursion}
 use Rattle.cell_key.specs.Cells.{Cells}
-use Rattle.cell_key.specs.Names.{IsRow, IsFamily}
 use Rattle.cell_key.specs.Places.{HasCell, IsNextCell}
 use Rattle.cell_key.specs.declared.keys.Qualifier.TheVariants.{Lock}
 use Rattle.rows.specs.Calls.{AreReadableFrom, View}
@@ -10,7 +8,6 @@ use Rattle.si_model.specs.Machine.{Range, Item, Valued, Locked, Unsent, Reach, T
 use Rattle.si_model.specs.Scans.{Covers, IsAfterCell, IsBetween, IsOfFamily, IsUpToRow, Rise, Says, item_length, items_length, most_items, place_at}
 use Rattle.si_model.specs.Sets.{◌∈◌}
 use Rattle.si_model.specs.ShowsCells.{IsThere}
-use Rattle.si_model.specs.Takings.{IsNamed}
 use Rattle.si_model.specs.declared.replies.Cell.{Cell}
 use Rattle.si_model.specs.declared.replies.Found.TheVariants.{Nothing}
 use Rattle.txn_client.specs.Reads.{IsDamaged, IsFound, ReadsValue}
@@ -89,11 +86,3 @@ IsScanReadable seen rows range = AreReadableFrom seen rows (option_map place_at 
 -- a cell of the range is damaged
 abbrev pub IsScanDamaged : Cells → Range → ℕ → Type 0
 IsScanDamaged cells range s = (x : Cell) × IsBetween range x × IsDamaged cells x s
-
--- ---- its limits
-
--- Its items take at most 61,440 bytes in a reply, and all names are within their limits.
-pub record IsInScanLimits (items : List (Cell × Item)) (reach : Reach) : Type 0 where
-  pub bytes : items_length items ≤ most_items
-  pub names : AllByRecursion (λ item. IsNamed item.0) items
-  pub last : (x : Cell) → reach ≡ UpTo x → IsNamed x

@@ -7,9 +7,10 @@ use Rattle.cell_key.specs.Cells.{Cells}
 use Rattle.cell_key.specs.declared.refusals.Refusal.{Refusal}
 use Rattle.cell_key.specs.declared.refusals.Refusal.TheVariants.{UnknownSession, WrongPhase, BadCount}
 use Rattle.si_model.specs.Machine as machine
-use Rattle.si_model.specs.Machine.{State, Request, Reply, Step, IsReached, InPhase, Wrote, Writes}
+use Rattle.si_model.specs.Machine.{State, Request, Reply, Step, InPhase, Wrote, Writes}
 use Rattle.si_model.specs.Reads.{IsNameRefusal}
 use Rattle.si_model.specs.Replies.{progress_reply}
+use Rattle.si_model.specs.Servers.{IsReachedByServers}
 use Rattle.si_model.specs.ShowsCells.{ShowsCells, TouchesOneRow}
 use Rattle.si_model.specs.declared.replies.Cell.{Cell}
 use Rattle.si_model.specs.declared.replies.Progress.{Progress}
@@ -49,11 +50,16 @@ ShowsAt (Some session) t st = ShowsSession session t st
 abbrev pub open_session : ℕ → Session
 open_session start = record { start = start; commit = start; phase = Open; writes = [] }
 
--- the stored sessions are the active ones, and the top is the greatest stamp answered
+-- The stored sessions are the active ones, and the top is at most the greatest stamp answered: other servers may draw
+-- stamps, too.
 pub record ShowsClients (clients : Clients) (st : State) : Type 0 where
-  pub top : clients.top ≡ st.top
+  pub top : clients.top ≤ st.top
   pub sessions : (t : ℕ) → ShowsAt (btree.get nat_cmp clients.sessions t) t st
   pub count : finmap.len st.active ≡ btree.btree_map_len clients.sessions
+
+-- the top is the greatest stamp answered: no other server has drawn one since
+abbrev pub KnowsTop : Clients → State → Type 0
+KnowsTop clients st = clients.top ≡ st.top
 
 -- Cells and sessions show the state, and the oracle's last stamp is not below its top.
 pub record Shows (cells : Cells) (clients : Clients) (last : ℕ) (st : State) : Type 0 where
@@ -62,16 +68,17 @@ pub record Shows (cells : Cells) (clients : Clients) (last : ℕ) (st : State) :
   pub top : st.top ≤ last
 
 -- From each reached state that is shown before, the machine may give this reply, and goes to a state that is shown
--- after.
+-- after. If the top was the greatest stamp answered, it is that after it.
 abbrev pub Steps : Cells → Clients → ℕ → Request → Reply → Cells → Clients → ℕ → Type 0
 Steps cells clients last request reply cells' clients' last' =
-    (st : State) → IsReached st → Shows cells clients last st
+    (st : State) → IsReachedByServers st → Shows cells clients last st
     → (next : State) × Step st request reply next × Shows cells' clients' last' next
+    × (KnowsTop clients st → KnowsTop clients' next)
 
 -- it holds in each reached state that cells and sessions show
 abbrev pub InEachShown : Cells → Clients → (State → Type 0) → Type 0
 InEachShown cells clients IsSo =
-    (st : State) → IsReached st → ShowsCells cells st → ShowsClients clients st → IsSo st
+    (st : State) → IsReachedByServers st → ShowsCells cells st → ShowsClients clients st → IsSo st
 
 -- c is the commit stamp that t has drawn
 abbrev pub HasDrawn : State → ℕ → ℕ → Type 0
@@ -150,8 +157,8 @@ pub record Follows (st next : State) (session : Session) (outcome : Outcome) : T
 
 abbrev pub Advances : Cells → Session → ℕ → Outcome → Cells → Session → ℕ → Type 0
 Advances cells session last outcome cells' session' last' =
-    (st : State) → IsReached st → ShowsCells cells st → ShowsSession session session.start st
-    → st.top ≤ last
+    (st : State) → IsReachedByServers st → ShowsCells cells st
+    → ShowsSession session session.start st → st.top ≤ last
     → (next : State)
     × Step st (machine.Advance session.start) (progress_reply outcome.progress) next
     × ShowsCells cells' next × Follows st next session' outcome × (next.top ≤ last')

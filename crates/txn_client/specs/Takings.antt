@@ -1,12 +1,7 @@
 -- The writes that a session takes together, and which of them may be put.
-use Rattle.std.specs.Prelude.{◌≡◌, ⊤, ℕ, ◌+◌, ◌<◌, ◌≤◌, ◌⊎◌, List, [], ◌∷◌, ◌++◌, length, IfSome, Option, Some, None, slice_get}
+use Rattle.std.specs.Prelude.{◌≡◌, ℕ, ◌+◌, ◌<◌, List, Some, slice_get}
 use Rattle.cell_key.specs.Cells.{Cells}
-use Rattle.cell_key.specs.Names.{IsRow, IsFamily}
-use Rattle.cell_key.specs.declared.refusals.Refusal.{Refusal}
-use Rattle.cell_key.specs.declared.refusals.Refusal.TheVariants.{BadRow, BadColumn, BadValue, TooManyWrites, NoMemory}
 use Rattle.rows.specs.Calls.{View}
-use Rattle.si_model.specs.Machine.{Change, Writes, Names, Sets, most_value, most_writes}
-use Rattle.si_model.specs.declared.replies.Cell.{Cell}
 use Rattle.txn_client.specs.Reads.{IsFree, IsTaken}
 use Rattle.txn_client.specs.declared.writes.Write.{Write}
 

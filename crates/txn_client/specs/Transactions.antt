@@ -5,17 +5,19 @@ use Rattle.std.specs.BTreeMap as btree
 use Rattle.cell_key.specs.Cells.{Cells}
 use Rattle.cell_key.specs.declared.refusals.Refusal.{Refusal}
 use Rattle.cell_key.specs.declared.refusals.Refusal.TheVariants.{UnknownSession, WrongPhase, BadRow, BadColumn, BadValue, TooManyWrites, TooManySessions, EmptyCommit, BadCount, MemtableFull, Exhausted, Device, NoMemory, Damaged}
-use Rattle.si_model.specs.Machine.{State, IsReached}
+use Rattle.si_model.specs.Machine.{State}
+use Rattle.si_model.specs.Servers.{IsReachedByServers}
 use Rattle.si_model.specs.Transactions.{Answer, Operation, Goes}
-use Rattle.txn_client.specs.Shows.{IsLate, IsOpenSession, Shows}
+use Rattle.txn_client.specs.Shows.{IsLate, IsOpenSession, KnowsTop, Shows}
 use Rattle.txn_client.specs.declared.sessions.Clients.{Clients}
 
 -- From each reached state that is shown before, the request may be answered so, and leads to a state that is shown
--- after.
+-- after. If the top was the greatest stamp answered, it is that after it.
 abbrev pub GoesAs : Cells → Clients → ℕ → Operation → Answer → Cells → Clients → ℕ → Type 0
 GoesAs cells clients last operation answer cells' clients' last' =
-    (st : State) → IsReached st → Shows cells clients last st
+    (st : State) → IsReachedByServers st → Shows cells clients last st
     → (next : State) × Goes st operation answer next × Shows cells' clients' last' next
+    × (KnowsTop clients st → KnowsTop clients' next)
 
 -- the session of a request: the one that is named, which is open, or one that may begin with the next stamp
 pub record HasSession (clients : Clients) (last start s : ℕ) : Type 0 where

@@ -15,7 +15,8 @@ ghost use Rattle.rows.specs.Batches.{AreNextVersions, IsFull};
 ghost use Rattle.txn_client.specs.Gathering.{Gathers, HasCome, IsInLimits, IsNextIn, items_in, last_of};
 ghost use Rattle.txn_client.specs.Ranges.{range_named};
 ghost use Rattle.txn_client.specs.Reads.{AreNewest, IsFound, ReadsValue};
-ghost use Rattle.txn_client.specs.Scans.{DoesNotFit, IsInScanLimits, IsReadAs, IsScanDamaged, IsScanFound, IsScanReadable};
+ghost use Rattle.si_model.specs.AnswerLimits.{IsInScanLimits};
+ghost use Rattle.txn_client.specs.Scans.{DoesNotFit, IsReadAs, IsScanDamaged, IsScanFound, IsScanReadable};
 ghost use Rattle.si_model.specs.Takings.{IsNamed};
 
 use crate::newest_read::{Newest, read_newest};

@@ -12,19 +12,21 @@ ghost use Rattle.oracle.specs.Marks.{MayHold};
 ghost use Rattle.oracle.specs.Ranges.{next_range_end};
 ghost use Rattle.cell_key.specs.Faults.{HasReason};
 ghost use Rattle.si_model.specs.Machine as machine;
-ghost use Rattle.si_model.specs.Machine.{IsReached, State};
+ghost use Rattle.si_model.specs.Machine.{State};
 ghost use Rattle.si_model.specs.Replies.{found_reply, item_of, progress_reply, range_of, reach_of, result_reply, scan_reply};
 ghost use Rattle.si_model.specs.Scans.{HasFamilies, HasRows};
+ghost use Rattle.si_model.specs.Servers.{IsBelowAll, IsReachedByServers};
 ghost use Rattle.si_model.specs.ShowsCells.{ShowsCells};
 ghost use Rattle.si_model.specs.Reads.{cell_of};
 ghost use Rattle.txn_client.specs.Reads.{IsDamaged, IsFound, IsShort};
 ghost use Rattle.txn_client.specs.Ranges.{range_named};
-ghost use Rattle.txn_client.specs.Scans.{IsInScanLimits, IsScanCount, IsScanDamaged, IsScanFound, IsScanReadable};
+ghost use Rattle.si_model.specs.AnswerLimits.{IsInScanLimits};
+ghost use Rattle.txn_client.specs.Scans.{IsScanCount, IsScanDamaged, IsScanFound, IsScanReadable};
 ghost use Rattle.txn_client.specs.Refusals.{HasNoStamp, HasOneReason, IsBeginRefusal, IsDeleteRefusal, IsGetRefusal, IsNextReadable, IsScanRefusal, IsSetRefusal, IsStepRefusal, StepCauses, StepLeaves};
 ghost use Rattle.rows.specs.Calls.{KeepsBelow, OnlyReads};
 ghost use Rattle.rows.specs.Room.{HasNoRoom};
 ghost use Rattle.txn_client.specs.Room.{ChangesNext, EditsOfStep, StepMakes};
-ghost use Rattle.txn_client.specs.Shows.{InEachShown, IsAboutToDraw, IsCellRefusal, IsCrowded, IsInactive, IsOpenSession, IsScanCause, SameClients, Shows, ShowsClients, Steps, TouchesFor, open_session, top_after};
+ghost use Rattle.txn_client.specs.Shows.{InEachShown, IsAboutToDraw, IsCellRefusal, IsCrowded, IsInactive, IsOpenSession, IsScanCause, KnowsTop, SameClients, Shows, ShowsClients, Steps, TouchesFor, open_session, top_after};
 
 use crate::cells;
 use crate::range::Range;
@@ -68,10 +70,12 @@ fn top_after_step(top: Stamp, progress: Progress) -> Stamp
 }
 
 impl Clients {
-    /// No sessions. The top is the greatest stamp answered, or 0.
+    /// No sessions. The top is the greatest stamp answered, or 0. If other servers draw stamps, it may be any lower
+    /// one.
     pub fn new(alloc: Global, top: Stamp) -> Clients
         requires { top < 2 ^ 63 }
-        ensures shown { (st : State) → st.top ≡ top → st.active ≡ empty → ShowsClients result st }
+        ensures top { result.top ≡ top }
+        ensures shown { (st : State) → top ≤ st.top → st.active ≡ empty → ShowsClients result st }
     {
         Clients {
             alloc,
@@ -80,19 +84,23 @@ impl Clients {
         }
     }
 
-    /// The greatest stamp answered, or 0 before the first.
+    /// The greatest stamp answered, or 0 before the first. If other servers draw stamps, this server may not know a
+    /// greater one.
     pub fn top(&self) -> Stamp
         ensures top { result ≡ self.now.top }
-        ensures shown { (st : State) → ShowsClients self.now st → result ≡ st.top }
+        ensures shown { (st : State) → ShowsClients self.now st → result ≤ st.top }
+        ensures known { (st : State) → KnowsTop self.now st → result ≡ st.top }
     {
         self.top
     }
 
     /// The smallest start of an active session, or the top plus one. No session has a lower start, and none will get
-    /// one.
+    /// one. If other servers draw stamps, this holds of this server's sessions.
     pub fn floor(&self) -> Stamp
-        ensures { (st : State) → IsReached st → ShowsClients self.now st
-            → machine.IsFloor st result }
+        ensures below { (st : State) → IsReachedByServers st → ShowsClients self.now st
+            → IsBelowAll st result }
+        ensures floor { (st : State) → IsReachedByServers st → ShowsClients self.now st
+            → KnowsTop self.now st → machine.IsFloor st result }
     {
         match self.sessions.first_key_value() {
             Some((start, _)) => *start,
@@ -250,7 +258,7 @@ impl Clients {
             (IsFound (R.seen.cells rows.old) (cell_of row.now family.now) start) }
         ensures reads { OnlyReads R.seen rows.old rows.new }
         // Cells that show a reached state never give Damaged.
-        ensures undamaged { R.seen.readable rows.old row.now → (st : State) → IsReached st
+        ensures undamaged { R.seen.readable rows.old row.now → (st : State) → IsReachedByServers st
             → ShowsCells (R.seen.cells rows.old) st → ¬ (IsErrOf result Refusal.Damaged) }
         ensures damaged { R.seen.readable rows.old row.now → IfErr result (λ refusal.
             refusal ≡ Refusal.Damaged
@@ -334,7 +342,7 @@ impl Clients {
         ensures reads { OnlyReads R.seen rows.old rows.new }
         // Cells that show a reached state never give Damaged.
         ensures undamaged { IsScanReadable R.seen rows.old (range_of range.entry)
-            → (st : State) → IsReached st → ShowsCells (R.seen.cells rows.old) st
+            → (st : State) → IsReachedByServers st → ShowsCells (R.seen.cells rows.old) st
             → ¬ (IsErrOf result Refusal.Damaged) }
         ensures damaged { IsScanReadable R.seen rows.old (range_of range.entry)
             → IfErr result (λ refusal. refusal ≡ Refusal.Damaged

@@ -8,7 +8,7 @@ ghost use Rattle.oracle.specs.Ranges.{IsDrawRefusal, next_range_end};
 ghost use Rattle.rows.specs.Calls.{OnlyReads};
 ghost use Rattle.rows.specs.Room.{HasNoRoom};
 ghost use Rattle.txn_client.specs.Shows.{Advances, DrawsNext, HasHeldSo, HasNoNext, top_after};
-ghost use Rattle.txn_client.specs.Room.{Does, EditsOf, HoldsAt, IsStamped, RecordsAt};
+ghost use Rattle.txn_client.specs.Room.{Does, EditsOf, HoldsAt, IfConflict, IsStamped, MeetsAt, MeetsIn, RecordsAt};
 ghost use Rattle.txn_client.specs.Refusals.{HasNoStamp, HasOneReason, IsAdvanceRefusal, IsCellStepRefusal, IsReadableAt, StepLeaves, next_cell};
 ghost use Rattle.txn_client.specs.declared.session.Phase.TheVariants as phase;
 
@@ -41,6 +41,8 @@ impl Session {
         ensures does { IfOk result (λ outcome. Does R.seen (HoldsAt
             (R.seen.holds rows.old) (R.seen.cells rows.old) self.old k)
             outcome.progress rows.old rows.new) }
+        ensures met { IfOk result (λ outcome. IfConflict (MeetsAt
+            (R.seen.holds rows.old) (R.seen.cells rows.old) self.old k) outcome.progress) }
         ensures same { OnErr result (OnlyReads R.seen rows.old rows.new) }
         ensures refusal { IfErr result (IsCellStepRefusal
             (IsReadableAt R.seen rows.old self.old k) (length self.old.writes ≤ k)) }
@@ -115,6 +117,7 @@ impl Session {
         ensures does { IfOk result (λ outcome. Does R.seen (RecordsAt
             (R.seen.holds rows.old) (R.seen.cells rows.old) self.old 0)
             outcome.progress rows.old rows.new) }
+        ensures met { IfOk result (λ outcome. IfConflict (λ _. ⊥) outcome.progress) }
         ensures same { OnErr result (OnlyReads R.seen rows.old rows.new) }
         ensures refusal { IfErr result (IsCellStepRefusal
             (IsReadableAt R.seen rows.old self.old 0) (length self.old.writes ≤ 0)) }
@@ -160,6 +163,7 @@ impl Session {
         ensures does { IfOk result (λ outcome. Does R.seen (RecordsAt
             (R.seen.holds rows.old) (R.seen.cells rows.old) self.old k)
             outcome.progress rows.old rows.new) }
+        ensures met { IfOk result (λ outcome. IfConflict (λ _. ⊥) outcome.progress) }
         ensures same { OnErr result (OnlyReads R.seen rows.old rows.new) }
         ensures refusal { IfErr result (IsCellStepRefusal
             (IsReadableAt R.seen rows.old self.old k) (length self.old.writes ≤ k)) }
@@ -200,6 +204,8 @@ impl Session {
         ensures does { IfOk result (λ outcome. Does R.seen (EditsOf
             (R.seen.holds rows.old) (R.seen.cells rows.old) self.old)
             outcome.progress rows.old rows.new) }
+        ensures met { IfOk result (λ outcome. IfConflict (MeetsIn self.old.phase
+            (R.seen.holds rows.old) (R.seen.cells rows.old) self.old) outcome.progress) }
         ensures refusal { IfErr result (IsAdvanceRefusal
             (IsReadableAt R.seen rows.old self.old (next_cell self.old.phase))
             (HasNoNext self.old.phase (length self.old.writes))) }

@@ -5,11 +5,13 @@ ghost use Rattle.cell_key.specs.Faults.{HasReason};
 ghost use Rattle.oracle.specs.Marks.{MayHold};
 ghost use Rattle.oracle.specs.Ranges.{IsDrawRefusal, next_range_end};
 ghost use Rattle.rows.specs.Calls.{AreReadableFrom, KeepsBelow, OnlyReads};
-ghost use Rattle.si_model.specs.Answers.{cells_named, commit_answer, read_answer, result_answer, writes_named};
-ghost use Rattle.si_model.specs.Machine.{IsReached, State};
+ghost use Rattle.si_model.specs.AnswerLimits.{IsInReadLimits};
+ghost use Rattle.si_model.specs.Answers.{cells_named, commit_answer, read_answer, result_answer, writes_named, told_items};
+ghost use Rattle.si_model.specs.Machine.{State};
+ghost use Rattle.si_model.specs.Servers.{IsReachedByServers};
 ghost use Rattle.si_model.specs.ShowsCells.{ShowsCells};
 ghost use Rattle.si_model.specs.Transactions.{Commit, IsReadCount, Read};
-ghost use Rattle.txn_client.specs.CellReads.{AreRead, IsShortAnswer, said_in};
+ghost use Rattle.txn_client.specs.CellReads.{AreRead};
 ghost use Rattle.txn_client.specs.Commits.{BeganAt, CommitDoes, CommitDraws, CommitsIn, EndsAt, HasNoRoomToCommit, IsCopyRefusal, LacksStamps};
 ghost use Rattle.txn_client.specs.Refusals.{HasOneReason, StepLeaves};
 ghost use Rattle.txn_client.specs.Shows.{IsCrowded, IsInactive, SameClients, ShowsClients};
@@ -27,19 +29,16 @@ use si_model::{CellName, CellWrite, CommitReply, ReadReply};
 /// The most cells of a read.
 const MOST_READ: usize = 256;
 
-/// At most the bytes of an edit in a log besides its row, its family and its value: its kind, the lengths of key and
-/// value, and the ends, the column of five letters and the stamp of the key.
-const EDIT_BYTES: usize = 28;
+/// The bytes of a put in a log besides its row, its family and its value: the byte of its column, the lengths of these
+/// three, and the stamp.
+const EDIT_BYTES: usize = 16;
 
 /// The bytes of the value of a write record.
 const RECORD_BYTES: usize = 9;
 
-/// At most the bytes that a write's data and record take in a log. A zero in a row takes two bytes.
+/// At most the bytes that a write's data and record take in a log.
 fn write_bytes(row: usize, family: usize, value: usize) -> usize {
-    let edit = row
-        .saturating_mul(2)
-        .saturating_add(family)
-        .saturating_add(EDIT_BYTES);
+    let edit = row.saturating_add(family).saturating_add(EDIT_BYTES);
     edit.saturating_mul(2)
         .saturating_add(value)
         .saturating_add(RECORD_BYTES)
@@ -168,8 +167,8 @@ impl Clients {
         // The answer is right for the cells, whatever they contain.
         ensures found { AreReadableFrom R.seen rows.old None → IfOk result (λ reply. AreRead
             (R.seen.cells rows.old) reply.start 0 (cells_named names.now)
-            (said_in reply.found.items)) }
-        ensures short { IfOk result (λ reply. IsShortAnswer reply.found.items) }
+            (told_items reply.found.items)) }
+        ensures short { IfOk result (λ reply. IsInReadLimits (told_items reply.found.items)) }
         ensures session { IfOk result (λ reply.
             HasSession self.old oracle.old.last start reply.start) }
         ensures drawn { start ≡ 0 → IfOk result (λ reply. oracle.new.last ≡ reply.start) }
@@ -177,7 +176,8 @@ impl Clients {
         ensures aside { start ≢ 0 → oracle.new ≡ oracle.old }
         ensures reads { OnlyReads R.seen rows.old rows.new }
         // Cells that show a reached state never give Damaged.
-        ensures undamaged { AreReadableFrom R.seen rows.old None → (st : State) → IsReached st
+        ensures undamaged { AreReadableFrom R.seen rows.old None
+            → (st : State) → IsReachedByServers st
             → ShowsCells (R.seen.cells rows.old) st → ¬ (IsErrOf result Refusal.Damaged) }
         ensures refused { OnErr result (StepLeaves R.seen M.mark
             rows.old rows.new oracle.old oracle.new) }
@@ -264,8 +264,8 @@ impl Clients {
 
     /// Commits writes in one session, with nothing between: that of the start, whose own writes come first, or a new
     /// one if the start is 0. Data and record of each write are put at once, in any rows, and no lock. Returns the start
-    /// of the session and its commit stamp, or the place of the first cell that is locked or was written at the start or
-    /// later; nothing is put or held then. Either way the session has ended.
+    /// of the session, and its commit stamp, or the place of the first cell that is locked or was written at the start
+    /// or later; nothing is put or held then. Either way the session has ended.
     ///
     /// # Errors
     ///
@@ -319,18 +319,19 @@ impl Clients {
     {
         let found = self.committing(oracle.last(), start)?;
         let began = found.start;
+        let session = began.stamp();
         let writes = takings::take_all(self.alloc, found.writes, asked)?;
         if writes.len() == 0 {
             return Err(Refusal::EmptyCommit);
         }
-        if let Some(place) = takings::first_taken(rows, writes.as_slice(), began.stamp())? {
+        if let Some(place) = takings::first_taken(rows, writes.as_slice(), session)? {
             let top = top_after_conflict(oracle, start, self.top)?;
             self.end(start, top);
-            return Ok(CommitReply::Conflict(place));
+            return Ok(CommitReply::Conflict(session, place));
         }
         let count = stamps_drawn(start);
         let commit = puts::put_at_once(self.alloc, rows, oracle, began, count, writes.into_vec())?;
         self.end(start, commit);
-        Ok(CommitReply::Committed(began.stamp(), commit))
+        Ok(CommitReply::Committed(session, commit))
     }
 }

@@ -22,7 +22,7 @@ use Rattle.rows.specs.Refusals.{IsApplyRefusal, IsRefusalOfRead}
 use Rattle.si_model.specs.Collection.{IsNamed, IsTidy}
 use Rattle.si_model.specs.ShowsCells.{IsThere, NamesAt, NamesCommit, at, key_of}
 use Rattle.si_model.specs.declared.replies.Cell.{Cell}
-use Rattle.si_model.proofs.Bounds.{reached_bounds}
+use Rattle.si_model.proofs.Bounds.{servers_bounds}
 use Rattle.version_collector.specs.Erasing.{Erases, ErasesOrIsTidy, data_erasures, deletion_erasures, record_erasures}
 use Rattle.version_collector.specs.Refusals.{IsVisitRefusal}
 use Rattle.version_collector.specs.Versions.{AreFound, AreNamedFrom, AreNear, AreShown, AreUnnamed, HasOneRecord, IsLastDeletion}
@@ -143,7 +143,7 @@ tidy_below cells x floor top low none not_deleted = record {
 shown_low : (cells : Cells) → AreShown cells → (x : Cell) (c : ℕ) (b : List ℕ) → at cells x Write c ≡ Some b → c < 2 ^ 63
 shown_low cells (st, reached, shown) x c b stands =
     let k : NamesCommit cells st x c b = shown.records x c b stands in
-    let last = (reached_bounds reached).commit_to k.commit k.is_in in
+    let last = (servers_bounds reached).commit_to k.commit k.is_in in
     let same = k.stamp in
     omega arith
 

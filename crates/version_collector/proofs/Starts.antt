@@ -24,9 +24,9 @@ use Rattle.si_model.specs.Collection.{IsNamed, IsOld}
 use Rattle.si_model.specs.Sets.{◌∈◌}
 use Rattle.si_model.specs.ShowsCells.{IsThere, NamesAt, NamesCommit, at, key_of, kind_of_change}
 use Rattle.si_model.specs.declared.replies.Cell.{Cell}
-use Rattle.si_model.proofs.Bounds.{reached_bounds}
+use Rattle.si_model.proofs.Bounds.{servers_bounds}
 use Rattle.si_model.proofs.CleanerFates.{names_nearest}
-use Rattle.si_model.proofs.Steps.{reached_sound}
+use Rattle.si_model.proofs.Steps.{servers_sound}
 use Rattle.rows.specs.Reads.{AreNewestFirst}
 use Rattle.version_collector.specs.Versions.{AreFound, AreGreatest, AreNamedFrom, AreNear, AreShown, AreUnnamed, HasNoOldFrom, HasOneRecord, IsAmong, IsLastDeletion, IsLastRecord, IsLatestBelow, IsLoneDeletion, IsNamedBy, IsUnnamed, NamesLast, NamesNext, NamesNone}
 use Rattle.version_collector.specs.declared.versions.NearStarts.{NearStarts}
@@ -46,10 +46,10 @@ record IsRecord (c : ℕ) (b : List ℕ) : Type 0 where
 shown_record : (cells : Cells) → AreShown cells → (x : Cell) (c : ℕ) (b : List ℕ) → at cells x Write c ≡ Some b → IsRecord c b
 shown_record cells (st, reached, shown) x c b there =
     let k : NamesCommit cells st x c b = shown.records x c b there in
-    let wrote = ((reached_sound reached).fair k.commit k.is_in).wrote in
-    let from = (reached_bounds reached).start_from k.commit.start k.commit.writes wrote in
-    let to = (reached_bounds reached).start_to k.commit.start k.commit.writes wrote in
-    let last = (reached_bounds reached).commit_to k.commit k.is_in in
+    let wrote = ((servers_sound reached).fair k.commit k.is_in).wrote in
+    let from = (servers_bounds reached).start_from k.commit.start k.commit.writes wrote in
+    let to = (servers_bounds reached).start_to k.commit.start k.commit.writes wrote in
+    let last = (servers_bounds reached).commit_to k.commit k.is_in in
     let same = k.stamp in
     record { start = k.commit.start; kind = kind_of_change k.change; from = from; to = to; text = k.is_text; stamp = omega arith }
 

@@ -12,13 +12,14 @@ use Rattle.cell_key.specs.declared.keys.Qualifier.{Qualifier}
 use Rattle.cell_key.specs.declared.keys.Qualifier.TheVariants.{Data, Lock, Write}
 use Rattle.cell_key.proofs.RecordTexts.{same_start}
 use Rattle.si_model.specs.Collection.{ChangesCells, Collects, IsNamed, IsOld, IsUnmarkedBelow, erases_lock, erases_versions, locks_cell, records_commit, unchanged}
-use Rattle.si_model.specs.Machine.{Change, CommittedAt, InPhase, IsReached, Marked, Stamped, State}
+use Rattle.si_model.specs.Machine.{Change, CommittedAt, InPhase, Marked, Stamped, State}
 use Rattle.si_model.specs.Sets.{◌∈◌, here, there}
+use Rattle.si_model.specs.Servers.{IsReachedByServers}
 use Rattle.si_model.specs.ShowsCells.{IsThere, ShowsCells, at, changed_cells, erased_cells, held_cells, key_of, kind_of_change, recorded_cells}
 use Rattle.si_model.specs.declared.replies.Cell.{Cell}
-use Rattle.si_model.proofs.Floors.{reached_floors}
+use Rattle.si_model.proofs.Floors.{servers_floors}
 use Rattle.si_model.proofs.ShownAt.{cases_key, changed_off, erased_at, erased_off, key_stamp, no_data_lock, no_data_write, no_write_data, no_write_lock, put_off}
-use Rattle.si_model.proofs.Steps.{reached_sound}
+use Rattle.si_model.proofs.Steps.{servers_sound}
 use Rattle.version_collector.specs.Erasing.{data_erasures, record_erasures}
 use Rattle.version_collector.specs.Versions.{AreFound, AreNamedFrom, AreOld, AreShown, AreUnnamed, HasNoOldFrom, IsLatestBelow, IsTidyFrom, last_of}
 use Rattle.version_collector.specs.Visits.{IsProgress}
@@ -289,31 +290,31 @@ unlocked_only cells floor y t = record {
     off x q a ne = erased_off cells (key_of y Lock t) (key_of x q a) ne
 
 -- the record that replaces a mark is new, and younger than the start
-module _ (cells : Cells) (st : State) (reached : IsReached st) (shown : ShowsCells cells st) (x : Cell) (t : ℕ) (m : Marked st x t) where
+module _ (cells : Cells) (st : State) (reached : IsReachedByServers st) (shown : ShowsCells cells st) (x : Cell) (t : ℕ) (m : Marked st x t) where
   absent : (o : Option (List ℕ)) → ((b : List ℕ) → o ≡ Some b → ⊥) → o ≡ None
   absent None never = refl
   absent (Some b) never = absurd (never b refl)
 
   fresh_committed : (c : ℕ) → CommittedAt st t c → (t < c) × (at cells x Write c ≡ None)
   fresh_committed c (ws, i) = (
-    ((reached_sound reached).fair (record { start = t; stamp = c; writes = ws }) i).later,
+    ((servers_sound reached).fair (record { start = t; stamp = c; writes = ws }) i).later,
     absent (at cells x Write c) (λ b h.
         let k = shown.records x c b h in
-        let same : k.commit.start ≡ t = (reached_sound reached).stamps_differ k.commit (record { start = t; stamp = c; writes = ws }) k.is_in i k.stamp in
+        let same : k.commit.start ≡ t = (servers_sound reached).stamps_differ k.commit (record { start = t; stamp = c; writes = ws }) k.is_in i k.stamp in
         k.unmarked (subst (λ (u : ℕ). Marked st x u) (sym same) m)),
   )
 
   fresh_stamped : (c : ℕ) → InPhase st t (Stamped c) → (t < c) × (at cells x Write c ≡ None)
   fresh_stamped c h =
-      let own = (reached_sound reached).drawn t (Stamped c) h c refl in
+      let own = (servers_sound reached).drawn t (Stamped c) h c refl in
       (own.later, absent (at cells x Write c) (λ b g. let k = shown.records x c b g in own.no_commit k.commit k.is_in k.stamp))
 
-changed_only : (cells : Cells) (st : State) → IsReached st → ShowsCells cells st → (floor : ℕ) → floor ≤ st.floor → IsUnmarkedBelow st floor → (cells' : Cells) → ChangesCells cells st cells' → OnlyErased cells cells' floor
+changed_only : (cells : Cells) (st : State) → IsReachedByServers st → ShowsCells cells st → (floor : ℕ) → floor ≤ st.floor → IsUnmarkedBelow st floor → (cells' : Cells) → ChangesCells cells st cells' → OnlyErased cells cells' floor
 changed_only cells st reached shown floor low clear cells' changes = by_change cells' changes
   where
     by_change : (cells' : Cells) → ChangesCells cells st cells' → OnlyErased cells cells' floor
     by_change _ unchanged = record { records = λ x c low is. is; values = λ x t low is. is; named = λ x t low is n. n }
-    by_change _ (locks_cell x t p v first h) = held_only cells floor x t v first (let up = (reached_floors reached).above t p h in omega (arith, up, low))
+    by_change _ (locks_cell x t p v first h) = held_only cells floor x t v first (let up = (servers_floors reached).above t p h in omega (arith, up, low))
     by_change _ (records_commit x t c kind m by) =
         let fresh : (t < c) × (at cells x Write c ≡ None) = elim by [
           | inl committed ↦ fresh_committed cells st reached shown x t m c committed
@@ -324,7 +325,7 @@ changed_only cells st reached shown floor low clear cells' changes = by_change c
     by_change _ (erases_versions more collects) = collected_only cells more st floor collects
 
 -- no step of others undoes the progress within a cell
-pub progress_changed : (cells : Cells) (st : State) → IsReached st → ShowsCells cells st → (floor : ℕ) → floor ≤ st.floor → (within : Option CellProgress) (pass : Pass) → (pass ≡ Second → IsUnmarkedBelow st floor)
+pub progress_changed : (cells : Cells) (st : State) → IsReachedByServers st → ShowsCells cells st → (floor : ℕ) → floor ≤ st.floor → (within : Option CellProgress) (pass : Pass) → (pass ≡ Second → IsUnmarkedBelow st floor)
     → (cells' : Cells) → ChangesCells cells st cells' → IsProgress cells floor within pass → IsProgress cells' floor within pass
 progress_changed cells st reached shown floor low None pass clear cells' changes is = tt
 progress_changed cells st reached shown floor low (Some progress) First clear cells' changes is = is

@@ -11,8 +11,9 @@ use Rattle.cell_key.specs.declared.keys.Qualifier.TheVariants.{Data, Lock, Write
 use Rattle.cell_key.specs.declared.refusals.Refusal.{Refusal}
 use Rattle.si_model.specs.Collection as model
 use Rattle.si_model.specs.Collection.{Collects, FirstPass, GoesFurther, HasCome, IsTidy, IsUnmarkedBelow, SecondPass, collected_cells, dropped_cells, forgotten_cells, left_of, place_at}
-use Rattle.si_model.specs.Machine.{State, Commit, IsReached}
+use Rattle.si_model.specs.Machine.{State, Commit}
 use Rattle.si_model.specs.Sets.{◌∈◌, here, there}
+use Rattle.si_model.specs.Servers.{IsReachedByServers}
 use Rattle.si_model.specs.ShowsCells.{at, key_of, IsThere, MayLack, NamesAt, ShowsCells}
 use Rattle.si_model.specs.declared.replies.Cell.{Cell}
 use Rattle.si_model.specs.declared.replies.CollectReply.{CollectReply}
@@ -193,7 +194,7 @@ record LeavesAt (cells cells' : Cells) (st : State) (floor : ℕ) (pass : model.
   come : HasCome cells' st floor pass' after'
   told : ToldAt reply cells cells' st floor pass after pass' after'
 
-module _ (cells : Cells) (st : State) (reached : IsReached st) (shown : ShowsCells cells st) (floor : ℕ) (low : floor ≤ st.floor) where
+module _ (cells : Cells) (st : State) (reached : IsReachedByServers st) (shown : ShowsCells cells st) (floor : ℕ) (low : floor ≤ st.floor) where
   further : (after : Option Place) → GoesFurther cells st floor after
   further = comes_further cells st shown floor
 
@@ -245,7 +246,7 @@ module _ (cells : Cells) (st : State) (reached : IsReached st) (shown : ShowsCel
       ((further after).tidied x next tidy come) ((left_falls cells).moved SecondPass after (place_at x) next.0 next.1)
   visit_leaves _ _ _ _ _ _ come (ends {after} next) = leaves_cells SecondPass after Collected SecondPass after come (come.0, (further after).ended next come)
 
-module _ (st : State) (reached : IsReached st) where
+module _ (st : State) (reached : IsReachedByServers st) where
   told_by : (reply : CollectReply) (cells : Cells) (c : Collector) (cells' : Cells) (c' : Collector)
       → ToldAt reply cells cells' st c.floor (pass_of c.pass) (position_of c.after) (pass_of c'.pass) (position_of c'.after) → IsTold 1 reply cells c cells' c' st
   told_by More cells c cells' c' told = told

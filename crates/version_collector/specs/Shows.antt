@@ -1,5 +1,5 @@
 -- When the collectors show a state of the snapshot machine.
-use Rattle.std.specs.Prelude.{◌≡◌, ◌≢◌, ⊤, ℕ, ◌+◌, ◌≤◌, max, Bool, true, false, Option, Some, None, Result, Ok}
+use Rattle.std.specs.Prelude.{◌≡◌, ◌≢◌, ⊤, ℕ, ◌+◌, ◌<◌, ◌≤◌, max, Bool, true, false, Option, Some, None, Result, Ok, Err}
 use Rattle.std.specs.Ordering.{nat_cmp}
 use Rattle.std.specs.BTreeMap as btree
 use Rattle.std.specs.FinMap as finmap
@@ -9,7 +9,8 @@ use Rattle.cell_key.specs.declared.refusals.Refusal.TheVariants.{UnknownCollecto
 use Rattle.rows.specs.Calls.{AreReadableFrom, OnlyReads, View}
 use Rattle.si_model.specs.Collection.{ChangesCells}
 use Rattle.si_model.specs.Kinds.{OfCollectors, kind_of}
-use Rattle.si_model.specs.Machine.{State, Request, Reply, CollectBegin, Step, IsReached, end_of_stamps, most_visits}
+use Rattle.si_model.specs.Machine.{State, Request, Reply, CollectBegin, Step, IsAcceptable, Refuses, end_of_stamps, most_visits}
+use Rattle.si_model.specs.Servers.{IsReachedByServers}
 use Rattle.si_model.specs.ShowsCells.{ShowsCells}
 use Rattle.si_model.specs.declared.replies.CollectReply.{CollectReply}
 use Rattle.si_model.specs.declared.replies.CollectReply.TheVariants.{Collected}
@@ -28,33 +29,59 @@ abbrev pub ShowsAt : Cells → Option Collector → ℕ → State → Type 0
 ShowsAt cells None i st = finmap.get st.collectors i ≡ None
 ShowsAt cells (Some c) i st = ShowsCollector cells c i st
 
--- the stored collectors are the open ones, and the next number and the greatest floor are the machine's
+-- The stored collectors are the open ones, and the next number is the machine's. The greatest floor is at most the
+-- machine's: other servers may begin collectors, too.
 pub record ShowsCollectors (cells : Cells) (collectors : Collectors) (st : State) : Type 0 where
   pub next : collectors.next ≡ st.next_collector
-  pub floor : collectors.greatest_floor ≡ st.floor
+  pub floor : collectors.greatest_floor ≤ st.floor
   pub each : (i : ℕ) → ShowsAt cells (btree.get nat_cmp collectors.collectors i) i st
   pub count : finmap.len st.collectors ≡ btree.btree_map_len collectors.collectors
 
+-- the greatest floor is the machine's: no other server has begun a collector with a greater one
+abbrev pub KnowsFloor : Collectors → State → Type 0
+KnowsFloor collectors st = collectors.greatest_floor ≡ st.floor
+
 -- From each reached state that is shown before, the machine may give this reply, and goes to a state that is shown
--- after.
+-- after. If the greatest floor was the machine's, it is that after it.
 abbrev pub Steps : Cells → Collectors → Request → Reply → Cells → Collectors → Type 0
 Steps cells collectors request reply cells' collectors' =
-    (st : State) → IsReached st → ShowsCells cells st → ShowsCollectors cells collectors st
+    (st : State) → IsReachedByServers st → ShowsCells cells st → ShowsCollectors cells collectors st
     → (next : State) × Step st request reply next × ShowsCells cells' next
     × ShowsCollectors cells' collectors' next
+    × (KnowsFloor collectors st → KnowsFloor collectors' next)
 
 -- it holds in each reached state that cells and collectors show
 abbrev pub InEachShown : Cells → Collectors → (State → Type 0) → Type 0
 InEachShown cells collectors IsSo =
-    (st : State) → IsReached st → ShowsCells cells st → ShowsCollectors cells collectors st
+    (st : State) → IsReachedByServers st → ShowsCells cells st → ShowsCollectors cells collectors st
     → IsSo st
 
 -- From this state, shown before, the machine may give this reply to a CollectBegin, and goes to a state that is shown
--- after.
-abbrev pub Begins : Cells → Collectors → Reply → State → Type 0
-Begins cells collectors' reply st =
+-- after. If the greatest floor was the machine's, it is that after it.
+abbrev pub Begins : Cells → Collectors → Collectors → Reply → State → Type 0
+Begins cells collectors collectors' reply st =
     (next : State) × Step st CollectBegin reply next × ShowsCells cells next
     × ShowsCollectors cells collectors' next
+    × (KnowsFloor collectors st → KnowsFloor collectors' next)
+
+-- the state after a collector with this floor has begun
+abbrev pub with_collector : State → ℕ → State
+with_collector st floor =
+    record st {
+      collectors = finmap.insert st.collectors st.next_collector floor;
+      next_collector = st.next_collector + 1;
+      floor = max st.floor floor;
+    }
+
+-- Whatever the floor, a collector has begun with it and with the machine's next number, and the state with it is shown.
+-- If the request is refused, it is refused by the machine, and the state is shown as before.
+abbrev pub BeginsWith : Cells → Collectors → ℕ → Result ℕ Refusal → State → Type 0
+BeginsWith cells collectors' floor (Ok number) st =
+    IsAcceptable st CollectBegin × (number ≡ st.next_collector) × (number < end_of_stamps)
+    × ShowsCells cells (with_collector st floor)
+    × ShowsCollectors cells collectors' (with_collector st floor)
+BeginsWith cells collectors' floor (Err refusal) st =
+    Refuses st CollectBegin refusal × ShowsCollectors cells collectors' st
 
 -- the collector stored at this number
 abbrev pub kept_at : Collectors → ℕ → Option Collector
@@ -146,7 +173,7 @@ IsUsedUp st = end_of_stamps ≤ st.next_collector
 abbrev pub AreShownOn : Type 0
 AreShownOn =
     (cells cells' : Cells) (collectors : Collectors) (st next : State) (q : Request) (r : Reply)
-    → IsReached st → ShowsCells cells st → Step st q r next → kind_of q ≢ OfCollectors
+    → IsReachedByServers st → ShowsCells cells st → Step st q r next → kind_of q ≢ OfCollectors
     → ChangesCells cells st cells'
     → ShowsCollectors cells collectors st → ShowsCollectors cells' collectors next
 

@@ -7,8 +7,9 @@ use Rattle.cell_key.specs.Columns.{NamesStart, record_text}
 use Rattle.cell_key.specs.declared.columns.WriteKind.TheVariants as write
 use Rattle.rows.specs.Oldest.{IsOldest}
 use Rattle.si_model.specs.Collection.{IsNamed, IsOld, IsOldestDeletion}
-use Rattle.si_model.specs.Machine.{State, IsReached}
+use Rattle.si_model.specs.Machine.{State}
 use Rattle.si_model.specs.Sets.{◌∈◌}
+use Rattle.si_model.specs.Servers.{IsReachedByServers}
 use Rattle.si_model.specs.ShowsCells.{IsThere, ShowsCells, at, key_of}
 use Rattle.si_model.specs.declared.replies.Cell.{Cell}
 use Rattle.version_collector.specs.declared.versions.NearStarts.{NearStarts}
@@ -16,7 +17,7 @@ use Rattle.version_collector.specs.declared.versions.TidyFrom.{TidyFrom}
 
 -- the cells show a reached state
 abbrev pub AreShown : Cells → Type 0
-AreShown cells = (st : State) × IsReached st × ShowsCells cells st
+AreShown cells = (st : State) × IsReachedByServers st × ShowsCells cells st
 
 -- the n greatest numbers with a property, in descending order; all of them, if there are fewer
 pub record AreGreatest (n : ℕ) (IsSo : ℕ → Type 0) (found : List ℕ) : Type 0 where

@@ -8,8 +8,9 @@ use Rattle.cell_key.specs.declared.keys.Qualifier.TheVariants as column
 use Rattle.cell_key.specs.declared.refusals.Refusal.{Refusal}
 use Rattle.si_model.specs.Collection as model
 use Rattle.si_model.specs.Collection.{Collects, HasCome, IsTidy, IsUnmarkedBelow, FirstPass, SecondPass, collected_cells, dropped_cells, forgotten_cells, left_of, place_at}
-use Rattle.si_model.specs.Machine.{State, IsReached}
+use Rattle.si_model.specs.Machine.{State}
 use Rattle.si_model.specs.Sets.{◌∈◌}
+use Rattle.si_model.specs.Servers.{IsReachedByServers}
 use Rattle.si_model.specs.ShowsCells.{at, IsThere, ShowsCells}
 use Rattle.si_model.specs.declared.replies.Cell.{Cell}
 use Rattle.si_model.specs.declared.replies.CollectReply.{CollectReply}
@@ -130,7 +131,7 @@ Comes cells st c =
 -- it holds if a reached state is shown in which this is the collector's progress
 abbrev pub WhereCome : State → Cells → Collector → Type 0 → Type 0
 WhereCome st cells c IsSo =
-    IsReached st → ShowsCells cells st → c.floor ≤ st.floor → Comes cells st c → IsSo
+    IsReachedByServers st → ShowsCells cells st → c.floor ≤ st.floor → Comes cells st c → IsSo
 
 abbrev pub left_by : Cells → Collector → ℕ
 left_by cells c = left_of cells (pass_of c.pass) (position_of c.after)

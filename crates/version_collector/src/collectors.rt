@@ -1,18 +1,19 @@
 //! The open collectors.
 
-ghost use Rattle.std.specs.Prelude.{◌≡◌, ◌⊎◌, IfErr, IfOk, IsErrOf, OnErr, is_some};
+ghost use Rattle.std.specs.Prelude.{◌≡◌, ◌≤◌, ◌⊎◌, IfErr, IfOk, IsErrOf, OnErr, is_some};
 ghost use Rattle.std.specs.FinMap.{empty, get};
 ghost use Rattle.cell_key.specs.Cells.{Cells};
 ghost use Rattle.cell_key.specs.Faults.{HasReason};
 ghost use Rattle.rows.specs.Calls.{KeepsBelow};
 ghost use Rattle.rows.specs.Room.{HasNoRoom};
 ghost use Rattle.si_model.specs.Machine as machine;
-ghost use Rattle.si_model.specs.Machine.{IsFloor, IsReached, State};
+ghost use Rattle.si_model.specs.Machine.{IsFloor, State};
 ghost use Rattle.si_model.specs.Replies.{collect_reply, result_reply};
+ghost use Rattle.si_model.specs.Servers.{IsReachedByServers};
 ghost use Rattle.si_model.specs.ShowsCells.{ShowsCells};
 ghost use Rattle.version_collector.specs.Refusals.{IsBeginRefusal, IsStepRefusal};
 ghost use Rattle.version_collector.specs.Room.{AreOfVisitsIn, TakesRoomOfVisits};
-ghost use Rattle.version_collector.specs.Shows.{Begins, ChangesOne, InEachShown, IsCount, IsEarlyRefusal, IsStepReadable, IsUnopened, IsUsedUp, Opens, SameCollectors, ShowsCollectors, StepLeaves, Steps, TellsAt, VisitsAt, is_last};
+ghost use Rattle.version_collector.specs.Shows.{Begins, BeginsWith, ChangesOne, InEachShown, IsCount, IsEarlyRefusal, IsStepReadable, IsUnopened, IsUsedUp, KnowsFloor, Opens, SameCollectors, ShowsCollectors, StepLeaves, Steps, TellsAt, VisitsAt, is_last};
 ghost use Rattle.version_collector.specs.Visits.{Thins};
 ghost use Rattle.si_model.specs.Collection.{Collects};
 
@@ -55,9 +56,10 @@ fn closes(reply: &CollectReply) -> bool
 
 impl Collectors {
     /// No collectors. The first one gets the number 1. `floor` is the greatest floor that a collector began with, or 0.
+    /// If other servers begin collectors, it may be any lower one.
     pub fn new(alloc: Global, floor: Stamp) -> Collectors
         ensures shown { (cells : Cells) (st : State)
-            → st.next_collector ≡ 1 → st.collectors ≡ empty → st.floor ≡ floor
+            → st.next_collector ≡ 1 → st.collectors ≡ empty → floor ≤ st.floor
             → ShowsCollectors cells result st }
         ensures floor { result.greatest_floor ≡ floor }
     {
@@ -81,7 +83,8 @@ impl Collectors {
     pub fn greatest_floor(&self) -> Stamp
         ensures floor { result ≡ self.now.greatest_floor }
         ensures shown { (cells : Cells) (st : State) → ShowsCollectors cells self.now st
-            → result ≡ st.floor }
+            → result ≤ st.floor }
+        ensures known { (st : State) → KnowsFloor self.now st → result ≡ st.floor }
     {
         self.greatest_floor
     }
@@ -95,10 +98,14 @@ impl Collectors {
     /// collector is allocated before its number is drawn.
     pub fn begin(&mut self, floor: Stamp) -> Result<u64, Refusal>
         ensures step { (cells : Cells) (st : State)
-            → IsReached st → ShowsCells cells st → ShowsCollectors cells self.old st
+            → IsReachedByServers st → ShowsCells cells st → ShowsCollectors cells self.old st
             → IsFloor st floor
-            → Begins cells self.new
+            → Begins cells self.old self.new
             (result_reply (λ number. machine.Collecting number floor) result) st }
+        // The same whatever the floor: it must not be above a session of any server.
+        ensures begins { (cells : Cells) (st : State)
+            → IsReachedByServers st → ShowsCells cells st → ShowsCollectors cells self.old st
+            → BeginsWith cells self.new floor result st }
         // One collector opens, and all others are unchanged, whatever the cells hold.
         ensures opens { IfOk result (λ number. Opens floor number self.old self.new) }
         ensures refusal { IfErr result IsBeginRefusal }

@@ -6,7 +6,7 @@ ghost use Rattle.request_codec.specs.Operations.{operation_of};
 ghost use Rattle.si_model.specs.Machine.{Begin};
 ghost use Rattle.si_model.specs.Answers.{cells_named, writes_named};
 ghost use Rattle.si_model.specs.Transactions.{Commit, Read};
-ghost use Rattle.audit.specs.AuditOperations.{MayOpen, OpensLeast};
+ghost use Rattle.audit.specs.AuditOperations.{MayOpen};
 ghost use Rattle.audit.specs.AuditRefusals.{RefusesFirst, RefusesUnlessOpen};
 ghost use Rattle.audit.specs.Audits.{JudgesOpening, JudgesOperation};
 
@@ -19,9 +19,6 @@ use si_model::{CellName, CellWrite, CommitReply};
 impl Audit {
     /// Whether the machine may give this answer to the request, which may stand for several, from a state that its runs
     /// have reached. If so, the audit takes the steps; otherwise it is unchanged.
-    ///
-    /// The answer `Conflict` of a new session doesn't tell its start. The audit then goes on from the least that may be
-    /// drawn.
     ///
     /// # Errors
     ///
@@ -67,7 +64,9 @@ impl Audit {
                 CommitReply::Committed(session, stamp) => {
                     self.commit_together(start, asked, *session, *stamp)
                 }
-                CommitReply::Conflict(place) => self.conflict_together(start, asked, *place),
+                CommitReply::Conflict(session, place) => {
+                    self.conflict_together(start, asked, *session, *place)
+                }
             },
             Answer::Read(_) => Ok(false),
         }
@@ -132,9 +131,9 @@ impl Audit {
         self.open_refusal(start)
     }
 
-    /// The least session that a request may open: the one that it names, or a new one if its start is 0.
+    /// A session that a request may open: the one that it names, or a new one if its start is 0.
     pub(crate) fn session(&self, start: Stamp) -> Option<Stamp>
-        ensures some { IfSome result (λ session. OpensLeast self.now start session) }
+        ensures some { IfSome result (MayOpen self.now start) }
         ensures none { IfNone result ((session : ℕ) → ¬ MayOpen self.now start session) }
     {
         let session = match start {

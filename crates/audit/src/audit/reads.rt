@@ -1,8 +1,7 @@
 //! The audit of Reads.
 
 ghost use Rattle.std.specs.Prelude.{◌≡◌, ◌↔◌, ◌+◌, ◌*◌, ◌<◌, ◌≤◌, Bool, Ok, Some, map, length, IfErr, IfOk, IsTrue, option_map};
-ghost use Rattle.request_codec.specs.Answers.{told_item, told_items};
-ghost use Rattle.si_model.specs.Answers.{cell_named, cells_named, read_answer};
+ghost use Rattle.si_model.specs.Answers.{cell_named, cells_named, read_answer, told_item, told_items};
 ghost use Rattle.si_model.specs.Machine.{IsSnapshot, Refused, Value, Valued};
 ghost use Rattle.si_model.specs.Reads.{cell_of};
 ghost use Rattle.si_model.specs.Scans.{IsFreeAt};
@@ -15,7 +14,7 @@ ghost use Rattle.si_model.specs.Takings.{IsNamed};
 use crate::audit::refusals::{is_same, is_storage};
 use crate::audit::{Audit, names, scans, snapshots};
 use cell_key::{Refusal, Stamp};
-use si_model::{Cell, CellName, ReadReply, ScanFound};
+use si_model::{Cell, CellName, ReadReply, ScanFound, told_bytes};
 
 /// The most cells of a Read.
 const MOST_READ: usize = 256;
@@ -31,18 +30,6 @@ fn is_read_count(count: usize) -> bool
     ensures { IsTrue result ↔ IsReadCount count }
 {
     count >= 1 && count <= MOST_READ
-}
-
-/// The bytes of what a Read says of a cell.
-fn told_bytes(said: &Option<ScanFound>) -> usize
-    requires { told_length (told_item said.now) < 2_000_000 }
-    ensures { result ≡ told_length (told_item said.now) }
-{
-    match said {
-        None | Some(ScanFound::Unsent) => 1,
-        Some(ScanFound::Value(value)) => VALUE_BYTES + value.len(),
-        Some(ScanFound::Pending(_)) => 9,
-    }
 }
 
 /// The least length of a value that isn't sent behind this many bytes.

@@ -66,19 +66,21 @@ impl Audit {
         Ok(true)
     }
 
-    /// Whether a Commit may find a conflict at the cell at this place, counted from 1.
+    /// Whether a Commit may be answered so: it began at this session's start, and found a conflict at the cell at this
+    /// place, counted from 1.
     pub(crate) fn conflict_together(
         &mut self,
         start: Stamp,
         asked: &[CellWrite<'_>],
+        session: Stamp,
         place: u16,
     ) -> Result<bool, Refusal>
         ensures { JudgesOperation self.old self.new
-            (Commit start (writes_named asked.now)) (CommitConflict place) result }
+            (Commit start (writes_named asked.now)) (CommitConflict session place) result }
     {
-        let Some(session) = self.session(start) else {
+        if !self.may_open(start, session) {
             return Ok(false);
-        };
+        }
         let all = match self.taken(start, asked) {
             Ok(all) => all,
             Err(refusal) => return unnamed(refusal),

@@ -42,18 +42,24 @@ const HOLDING: [Exchange; 3] = [
 
 /// A new session finds that one held.
 const CLASHING: [Exchange; 1] = [
-    // Commit 0 b=4 a=4: Conflict 2, of a session whose start isn't told
+    // Commit 0 b=4 a=4: Conflict 9 2
     (
         b"2\0\0\0\0\0\0\0\0\0\0\0\x02\0\0\0\x01b\0\0\0\x01c\x01\0\0\0\x014\0\0\0\x01a\0\0\0\x01c\x01\0\0\0\x014",
-        b"\xB2\x02\0\x02",
+        b"\xB2\x02\0\0\0\0\0\0\0\x09\0\x02",
     ),
+];
+
+/// The session that holds it is stopped.
+const STOPPED: [Exchange; 1] = [
+    // Stop 3: done
+    (b"\x05\0\0\0\0\0\0\0\x03", b"\x85"),
 ];
 
 /// The parts of a run, and a last exchange.
 type Recording = (&'static [&'static [Exchange]], Exchange);
 
 /// Runs whose last answer is right.
-const RIGHT: [Recording; 12] = [
+const RIGHT: [Recording; 13] = [
     // A Read of two cells, which ends
     (
         &[&PAIR],
@@ -75,7 +81,7 @@ const RIGHT: [Recording; 12] = [
         &[&PAIR, &LATER],
         (
             b"2\0\0\0\0\0\0\0\x03\0\0\0\x02\0\0\0\x01n\0\0\0\x01c\x01\0\0\0\x017\0\0\0\x01b\0\0\0\x01c\x01\0\0\0\x013",
-            b"\xB2\x02\0\x02",
+            b"\xB2\x02\0\0\0\0\0\0\0\x03\0\x02",
         ),
     ),
     // A deletion, at any later stamp
@@ -107,8 +113,13 @@ const RIGHT: [Recording; 12] = [
         &[&PAIR, &HOLDING, &CLASHING],
         (
             b"2\0\0\0\0\0\0\0\0\0\0\0\x01\0\0\0\x01b\0\0\0\x01c\x01\0\0\0\x014",
-            b"\xB2\x01\0\0\0\0\0\0\0\x05\0\0\0\0\0\0\0\x06",
+            b"\xB2\x01\0\0\0\0\0\0\0\x0A\0\0\0\0\0\0\0\x0B",
         ),
+    ),
+    // A floor, one above the start that the conflict told
+    (
+        &[&PAIR, &HOLDING, &STOPPED, &CLASHING],
+        (b"\x08", b"\x88\0\0\0\0\0\0\0\x01\0\0\0\0\0\0\0\x0A"),
     ),
     // A session that isn't active
     (&[&PAIR], (b"2\0\0\0\0\0\0\0\x09\0\0\0\0", b"\xFF\x01")),
@@ -135,13 +146,13 @@ const RIGHT: [Recording; 12] = [
 ];
 
 /// Runs whose last answer is wrong.
-const WRONG: [Recording; 17] = [
+const WRONG: [Recording; 20] = [
     // A conflict without a cause
     (
         &[&PAIR],
         (
             b"2\0\0\0\0\0\0\0\0\0\0\0\x01\0\0\0\x01a\0\0\0\x01c\x01\0\0\0\x012",
-            b"\xB2\x02\0\x01",
+            b"\xB2\x02\0\0\0\0\0\0\0\x03\0\x01",
         ),
     ),
     // A conflict behind the first cell that clashes
@@ -149,7 +160,23 @@ const WRONG: [Recording; 17] = [
         &[&PAIR, &LATER],
         (
             b"2\0\0\0\0\0\0\0\x03\0\0\0\x02\0\0\0\x01a\0\0\0\x01c\x01\0\0\0\x013\0\0\0\x01b\0\0\0\x01c\x01\0\0\0\x013",
-            b"\xB2\x02\0\x02",
+            b"\xB2\x02\0\0\0\0\0\0\0\x03\0\x02",
+        ),
+    ),
+    // A conflict of another session than the one named
+    (
+        &[&PAIR, &LATER],
+        (
+            b"2\0\0\0\0\0\0\0\x03\0\0\0\x01\0\0\0\x01b\0\0\0\x01c\x01\0\0\0\x013",
+            b"\xB2\x02\0\0\0\0\0\0\0\x04\0\x01",
+        ),
+    ),
+    // A conflict of a new session at a start that was answered
+    (
+        &[&PAIR, &HOLDING],
+        (
+            b"2\0\0\0\0\0\0\0\0\0\0\0\x01\0\0\0\x01a\0\0\0\x01c\x01\0\0\0\x014",
+            b"\xB2\x02\0\0\0\0\0\0\0\x03\0\x01",
         ),
     ),
     // A Commit over a write since the session began
@@ -264,10 +291,15 @@ const WRONG: [Recording; 17] = [
             b"\x83",
         ),
     ),
-    // The least start of the session that had a conflict
+    // The start that a conflict told
     (
         &[&PAIR, &HOLDING, &CLASHING],
-        (b"\x01", b"\x81\0\0\0\0\0\0\0\x04"),
+        (b"\x01", b"\x81\0\0\0\0\0\0\0\x09"),
+    ),
+    // A floor at it
+    (
+        &[&PAIR, &HOLDING, &STOPPED, &CLASHING],
+        (b"\x08", b"\x88\0\0\0\0\0\0\0\x01\0\0\0\0\0\0\0\x09"),
     ),
 ];
 

@@ -26,16 +26,25 @@ const NEW_LOG: &[u8] = b"TABLOG02\x01\x02\x03\x04\x05\x06\x07\x08\
 /// a value and a lock; and a commit record and the lock's erasure.
 const THREE_RECORDS: &[u8] = b"TABLOG02\x01\x02\x03\x04\x05\x06\x07\x08\
     \0\0\0\x11\x41\xC1\x6C\xCA\0\0\0\0\0\0\0\x01\x02\0\0\0\0\0\0\0\0\
-    \0\0\0\x11\x01\xFC\xC6\xC6\0\0\0\0\0\0\0\x02\0\0\0\0\0\0\0\x03\xE8\
-    \0\0\0\x53\x99\xF8\xA2\xF7\0\0\0\0\0\0\0\x03\0\0\0\0\0\0\0\x03\xE8\
-    \0\0\0\x14r\0\0c\0\0data\0\0\xFF\xFF\xFF\xFF\xFF\xFF\xFF\xFE\x01\0\0\0\x01v\
-    \0\0\0\x14r\0\0c\0\0lock\0\0\xFF\xFF\xFF\xFF\xFF\xFF\xFF\xFE\x01\0\0\0\x07r\0\0c\0\0S\
-    \0\0\0\x51\xFA\xAE\xB6\x39\0\0\0\0\0\0\0\x04\0\0\0\0\0\0\0\x03\xE8\
-    \0\0\0\x15r\0\0c\0\0write\0\0\xFF\xFF\xFF\xFF\xFF\xFF\xFF\xFD\x01\0\0\0\x09\0\0\0\0\0\0\0\x01S\
-    \0\0\0\x14r\0\0c\0\0lock\0\0\xFF\xFF\xFF\xFF\xFF\xFF\xFF\xFE\0";
+    \0\0\0\x11\x38\x71\xFA\x03\0\0\0\0\0\0\0\x02\x03\0\0\0\0\0\0\x03\xE8\
+    \0\0\0\x3D\x6C\x2A\x88\xAB\0\0\0\0\0\0\0\x03\x03\0\0\0\0\0\0\x03\xE8\
+    \x00\0\x01r\x01c\0\0\0\0\0\0\0\x01\0\0\0\x01v\
+    \x01\0\x01r\x01c\0\0\0\0\0\0\0\x01\0\0\0\x07r\0\0c\0\0S\
+    \0\0\0\x3A\x00\x8C\xBC\xF7\0\0\0\0\0\0\0\x04\x03\0\0\0\0\0\0\x03\xE8\
+    \x02\0\x01r\x01c\0\0\0\0\0\0\0\x02\0\0\0\x09\0\0\0\0\0\0\0\x01S\
+    \x11\0\x01r\x01c\0\0\0\0\0\0\0\x01";
 
 /// The same edits and the same mark in one record.
 const ONE_RECORD: &[u8] = b"TABLOG02\x01\x02\x03\x04\x05\x06\x07\x08\
+    \0\0\0\x11\x41\xC1\x6C\xCA\0\0\0\0\0\0\0\x01\x02\0\0\0\0\0\0\0\0\
+    \0\0\0\x66\x5B\x06\x53\x51\0\0\0\0\0\0\0\x02\x03\0\0\0\0\0\0\x03\xE8\
+    \x00\0\x01r\x01c\0\0\0\0\0\0\0\x01\0\0\0\x01v\
+    \x01\0\x01r\x01c\0\0\0\0\0\0\0\x01\0\0\0\x07r\0\0c\0\0S\
+    \x02\0\x01r\x01c\0\0\0\0\0\0\0\x02\0\0\0\x09\0\0\0\0\0\0\0\x01S\
+    \x11\0\x01r\x01c\0\0\0\0\0\0\0\x01";
+
+/// The same record as an earlier program wrote it, of entries.
+const ONE_RECORD_OF_ENTRIES: &[u8] = b"TABLOG02\x01\x02\x03\x04\x05\x06\x07\x08\
     \0\0\0\x11\x41\xC1\x6C\xCA\0\0\0\0\0\0\0\x01\x02\0\0\0\0\0\0\0\0\
     \0\0\0\x93\x1B\x90\xF8\x9D\0\0\0\0\0\0\0\x02\0\0\0\0\0\0\0\x03\xE8\
     \0\0\0\x14r\0\0c\0\0data\0\0\xFF\xFF\xFF\xFF\xFF\xFF\xFF\xFE\x01\0\0\0\x01v\
@@ -46,11 +55,11 @@ const ONE_RECORD: &[u8] = b"TABLOG02\x01\x02\x03\x04\x05\x06\x07\x08\
 /// The same edits in one record whose mark is that of the third range of stamps.
 const THREE_RANGES: &[u8] = b"TABLOG02\x01\x02\x03\x04\x05\x06\x07\x08\
     \0\0\0\x11\x41\xC1\x6C\xCA\0\0\0\0\0\0\0\x01\x02\0\0\0\0\0\0\0\0\
-    \0\0\0\x93\xD0\xC9\x37\x3D\0\0\0\0\0\0\0\x02\0\0\0\0\0\0\0\x0B\xB8\
-    \0\0\0\x14r\0\0c\0\0data\0\0\xFF\xFF\xFF\xFF\xFF\xFF\xFF\xFE\x01\0\0\0\x01v\
-    \0\0\0\x14r\0\0c\0\0lock\0\0\xFF\xFF\xFF\xFF\xFF\xFF\xFF\xFE\x01\0\0\0\x07r\0\0c\0\0S\
-    \0\0\0\x15r\0\0c\0\0write\0\0\xFF\xFF\xFF\xFF\xFF\xFF\xFF\xFD\x01\0\0\0\x09\0\0\0\0\0\0\0\x01S\
-    \0\0\0\x14r\0\0c\0\0lock\0\0\xFF\xFF\xFF\xFF\xFF\xFF\xFF\xFE\0";
+    \0\0\0\x66\x5D\x8B\x98\x2A\0\0\0\0\0\0\0\x02\x03\0\0\0\0\0\0\x0B\xB8\
+    \x00\0\x01r\x01c\0\0\0\0\0\0\0\x01\0\0\0\x01v\
+    \x01\0\x01r\x01c\0\0\0\0\0\0\0\x01\0\0\0\x07r\0\0c\0\0S\
+    \x02\0\x01r\x01c\0\0\0\0\0\0\0\x02\0\0\0\x09\0\0\0\0\0\0\0\x01S\
+    \x11\0\x01r\x01c\0\0\0\0\0\0\0\x01";
 
 /// The log after those three records and a Checkpoint: the root has the greatest stamp 3.
 const ROOT_AFTER_THREE: &[u8] = b"TABLOG02\x01\x02\x03\x04\x05\x06\x07\x08\
@@ -164,6 +173,16 @@ fn devices_are_handed_on(rt: HostRuntime) -> Result<(), Fail> {
     let (files, marks, log) = server.into_devices();
     let mut server = opened(alloc, files, marks, log)?;
     assert!(rt; is_met(alloc, &mut server, &HANDED_ON)?);
+    Ok(())
+}
+
+#[test]
+fn a_log_of_entries(rt: HostRuntime) -> Result<(), Fail> {
+    let devices = Devices::new(rt.alloc())?;
+    devices.replies(ON_REQUEST, b"")?;
+    devices.set_log(ONE_RECORD_OF_ENTRIES)?;
+    let (requests, replies) = streams_of(rt.alloc(), &HANDED_ON)?;
+    assert!(rt; devices.replies(ON_REQUEST, &requests)? == replies);
     Ok(())
 }
 
@@ -327,7 +346,7 @@ fn a_byte_of_a_log_is_garbled(rt: HostRuntime) -> Result<(), Fail> {
 }
 
 /// Logs with a record that isn't edits.
-const NO_EDITS: [&[u8]; 6] = [
+const NO_EDITS: [&[u8]; 9] = [
     // x
     b"TABLOG02\x01\x02\x03\x04\x05\x06\x07\x08\
         \0\0\0\x11\x41\xC1\x6C\xCA\0\0\0\0\0\0\0\x01\x02\0\0\0\0\0\0\0\0\
@@ -355,10 +374,25 @@ const NO_EDITS: [&[u8]; 6] = [
         \0\0\0\x11\x41\xC1\x6C\xCA\0\0\0\0\0\0\0\x01\x02\0\0\0\0\0\0\0\0\
         \0\0\0\x18\x11\x86\x27\xDC\0\0\0\0\0\0\0\x02\0\0\0\0\0\0\0\0\x01\
         \0\0\0\x02r\0\0",
+    // the fields of a put that is cut short
+    b"TABLOG02\x01\x02\x03\x04\x05\x06\x07\x08\
+        \0\0\0\x11\x41\xC1\x6C\xCA\0\0\0\0\0\0\0\x01\x02\0\0\0\0\0\0\0\0\
+        \0\0\0\x23\xFE\x1F\xAE\xEA\0\0\0\0\0\0\0\x02\x03\0\0\0\0\0\0\0\x01\
+        \x00\0\x01r\x01c\0\0\0\0\0\0\0\x01\0\0\0\x01",
+    // fields of no column
+    b"TABLOG02\x01\x02\x03\x04\x05\x06\x07\x08\
+        \0\0\0\x11\x41\xC1\x6C\xCA\0\0\0\0\0\0\0\x01\x02\0\0\0\0\0\0\0\0\
+        \0\0\0\x24\xBC\x21\xC0\x3A\0\0\0\0\0\0\0\x02\x03\0\0\0\0\0\0\0\x01\
+        \x03\0\x01r\x01c\0\0\0\0\0\0\0\x01\0\0\0\x01v",
+    // fields of a malformed key
+    b"TABLOG02\x01\x02\x03\x04\x05\x06\x07\x08\
+        \0\0\0\x11\x41\xC1\x6C\xCA\0\0\0\0\0\0\0\x01\x02\0\0\0\0\0\0\0\0\
+        \0\0\0\x24\x96\x2A\x72\x4E\0\0\0\0\0\0\0\x02\x03\0\0\0\0\0\0\0\x01\
+        \x00\0\x01r\x01:\0\0\0\0\0\0\0\x01\0\0\0\x01v",
     // an unknown kind of record
     b"TABLOG02\x01\x02\x03\x04\x05\x06\x07\x08\
         \0\0\0\x11\x41\xC1\x6C\xCA\0\0\0\0\0\0\0\x01\x02\0\0\0\0\0\0\0\0\
-        \0\0\0\x11\xCA\x8A\xF3\x1C\0\0\0\0\0\0\0\x02\x03\0\0\0\0\0\0\0\x01",
+        \0\0\0\x11\xAE\xEB\x9E\xD5\0\0\0\0\0\0\0\x02\x04\0\0\0\0\0\0\0\x01",
 ];
 
 /// Whether an open of a store, new or opened before, is refused as damaged with this log, and succeeds with a log

@@ -7,7 +7,7 @@ use commit_log::{FileLog, LogFault, LogFile, MemFile, new_log};
 use durable::{DurableServer, ROOT_NAME};
 use file_store::{Files, MemFiles};
 use oracle::{MarkStore, MemMark};
-use server_loop::{Config, FlushLimits, ServeFault, Server};
+use server_loop::{Config, FlushLimits, MergePolicy, ServeFault, Server};
 use std::alloc::{AllocError, Global};
 use std::cell::Cell;
 use testing::FILE_LIMIT;
@@ -150,7 +150,7 @@ impl Devices {
             Err((refusal, _, _, _)) => return Err(refusal),
         };
         if let Some(most) = upkeep.merge {
-            server.merge_at(most);
+            server.merge_by(MergePolicy::AtCount(most));
         }
         if let Some(bytes) = upkeep.checkpoint {
             server.checkpoint_at(bytes);

@@ -76,7 +76,8 @@ impl Life {
     }
 }
 
-/// A device whose calls are counted. It is kept in a cell and taken for each call, so that it outlives the server.
+/// A device whose calls are counted. It is kept in a cell and taken for each call, so that it outlives the server. Of a
+/// file that is written in pieces only the end is counted, which alone changes the files.
 #[derive(Drop)]
 pub struct Stopping<'a, D> {
     cell: &'a Cell<Option<D>>,
@@ -182,13 +183,45 @@ impl<F: Files + Drop> Files for Stopping<'_, F> {
 
     ghost replaces = { ⊤ };
 
-    fn put(&mut self, name: u64, bytes: &[u8]) -> Result<(), FileFault> {
+    type Writing = F::Writing;
+
+    ghost writes_to = { λ writing. F.writes_to writing };
+
+    ghost has = { λ _ _. ⊤ };
+
+    fn begin(&mut self, name: u64) -> Result<F::Writing, FileFault> {
+        let Some(mut files) = self.cell.take() else {
+            return self.file_answer(Err(FileFault::Device), false);
+        };
+        let begun = files.begin(name);
+        self.cell.set(Some(files));
+        self.file_answer(begun, false)
+    }
+
+    fn push(&mut self, writing: &mut F::Writing, bytes: &[u8]) -> Result<(), FileFault> {
+        let Some(mut files) = self.cell.take() else {
+            return self.file_answer(Err(FileFault::Device), false);
+        };
+        let called = files.push(writing, bytes);
+        self.cell.set(Some(files));
+        self.file_answer(called, false)
+    }
+
+    fn finish(&mut self, writing: F::Writing) -> Result<(), FileFault> {
         let Some((mut files, is_last)) = self.to_write() else {
             return self.file_answer(Err(FileFault::Device), false);
         };
-        let called = files.put(name, bytes);
+        let called = files.finish(writing);
         self.cell.set(Some(files));
         self.file_answer(called, is_last)
+    }
+
+    fn give_up(&mut self, writing: F::Writing) {
+        let Some(mut files) = self.cell.take() else {
+            return;
+        };
+        files.give_up(writing);
+        self.cell.set(Some(files));
     }
 
     fn size(&mut self, name: u64) -> Result<Option<u64>, FileFault> {

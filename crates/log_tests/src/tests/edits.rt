@@ -1,23 +1,31 @@
 //! The edits and the roots in the records of logs.
 
-ghost use Rattle.std.specs.Prelude.{IfOk};
+ghost use Rattle.std.specs.Prelude.{◌≡◌, length, IfOk};
 ghost use Rattle.std.specs.List.{AllByRecursion};
 ghost use Rattle.cell_key.specs.Cells.{IsEditOf};
 
 use super::RECORDS;
 use cell_key::{CellKey, Edit, Family, MOST_STAMP, Qualifier, Refusal, Row};
-use commit_log::{edited_key, edits_in, greatest_stamp, names_root, push_edits, root_sum_bytes};
+use commit_log::{
+    edited_key, edits_in, entries_len, greatest_stamp, names_root, push_edits, root_sum_bytes,
+};
 use std::alloc::{AllocError, Global};
 use std::test::Fail;
 
-/// The bytes of a put and an erasure.
-const EDITS: [u8; 59] = *b"\
+/// The fields of a put and an erasure.
+const FIELDS: [u8; 35] = *b"\
+\x00\x00\x02a\0\x01f\0\0\0\0\0\0\0\x01\x00\x00\x00\x01v\
+\x11\x00\x02a\0\x01f\x7F\xFF\xFF\xFF\xFF\xFF\xFF\xFF";
+
+/// The same as entries.
+const ENTRIES: [u8; 59] = *b"\
 \x00\x00\x00\x16a\0\xFF\0\0f\0\0data\0\0\xFF\xFF\xFF\xFF\xFF\xFF\xFF\xFE\x01\x00\x00\x00\x01v\
 \x00\x00\x00\x16a\0\xFF\0\0f\0\0lock\0\0\x80\0\0\0\0\0\0\0\x00";
 
-/// The edits of `EDITS`, and their row.
+/// These edits, and their row.
 fn two_edits(alloc: Global) -> Result<(Row, Vec<Edit>), Refusal>
-    ensures { IfOk result (λ made. AllByRecursion (IsEditOf made.0) made.1.items) }
+    ensures edits { IfOk result (λ made. AllByRecursion (IsEditOf made.0) made.1.items) }
+    ensures two { IfOk result (λ made. length made.1.items ≡ 2) }
 {
     let row = Row::new(alloc, b"a\0")?;
     let family = Family::new(alloc, b"f")?;
@@ -34,13 +42,14 @@ fn a_record_of_a_put_and_an_erasure(rt: HostRuntime) -> Result<(), Fail> {
     let mut bytes = Vec::new(rt.alloc());
     let (row, edits) = two_edits(rt.alloc())?;
     push_edits(&mut bytes, &row, &edits)?;
-    assert!(rt; bytes.as_slice() == EDITS.as_slice());
+    assert!(rt; bytes.as_slice() == FIELDS.as_slice());
+    assert!(rt; entries_len(&row, &edits) == ENTRIES.len());
     Ok(())
 }
 
-/// Appends a record of edits with these bytes.
-fn push_record(records: &mut Vec<Vec<u8>>, edits: &[u8]) -> Result<(), AllocError> {
-    let mut record = Vec::from_slice(*records.allocator(), b"\x00\0\0\0\0\0\0\0\x01")?;
+/// Appends a record of a kind with these bytes.
+fn push_record(records: &mut Vec<Vec<u8>>, kind: u8, edits: &[u8]) -> Result<(), AllocError> {
+    let mut record = Vec::from_slice(*records.allocator(), &[kind, 0, 0, 0, 0, 0, 0, 0, 1])?;
     record.extend_from_slice(edits)?;
     records.push(record)?;
     Ok(())
@@ -55,12 +64,12 @@ fn copies_of(alloc: Global, records: &[&[u8]]) -> Result<Vec<Vec<u8>>, AllocErro
     Ok(copies)
 }
 
-/// Records of a root, a put, another root and an erasure.
+/// Records of a root, a put as fields, another root and an erasure as an entry.
 fn four_records(alloc: Global) -> Result<Vec<Vec<u8>>, AllocError> {
     let mut records = copies_of(alloc, &RECORDS[..1])?;
-    push_record(&mut records, &EDITS[..32])?;
+    push_record(&mut records, 3, &FIELDS[..20])?;
     records.push(Vec::from_slice(alloc, RECORDS[2])?)?;
-    push_record(&mut records, &EDITS[32..])?;
+    push_record(&mut records, 0, &ENTRIES[32..])?;
     Ok(records)
 }
 
@@ -82,21 +91,53 @@ fn edits_of_records(rt: HostRuntime) -> Result<(), Fail> {
     Ok(())
 }
 
-/// Whether a record of these bytes of edits can be read.
-fn is_read(alloc: Global, edits: &[u8]) -> Result<bool, AllocError> {
+/// Whether a record of a kind and these bytes can be read.
+fn is_read(alloc: Global, kind: u8, edits: &[u8]) -> Result<bool, AllocError> {
     let mut records = Vec::new(alloc);
-    push_record(&mut records, edits)?;
+    push_record(&mut records, kind, edits)?;
     Ok(edits_in(alloc, &records).is_ok())
 }
 
 #[test]
 fn edits_of_torn_records(rt: HostRuntime) -> Result<(), Fail> {
-    for len in 0..EDITS.len() {
-        let is_whole = len == 0 || len == 32;
-        assert!(rt; is_read(rt.alloc(), &EDITS[..len])? == is_whole, "at {len}");
+    for (kind, edits, first) in [(3, FIELDS.as_slice(), 20), (0, ENTRIES.as_slice(), 32)] {
+        for len in 0..=edits.len() {
+            let is_whole = len == 0 || len == first || len == edits.len();
+            assert!(rt;
+                is_read(rt.alloc(), kind, &edits[..len])? == is_whole,
+                "{kind} at {len}"
+            );
+        }
     }
     let records = copies_of(rt.alloc(), &[b"\x01\0\0\0\0\0\0\0\x09\x01"])?;
     assert!(rt; matches!(edits_in(rt.alloc(), &records), Err(Refusal::Damaged)));
+    Ok(())
+}
+
+/// Whether the fields of the put can be read once the byte at an offset is this one.
+fn is_read_with(alloc: Global, at: usize, byte: u8) -> Result<bool, AllocError> {
+    let mut edits = FIELDS;
+    if let Some(changed) = edits.get_mut(at) {
+        *changed = byte;
+    }
+    is_read(alloc, 3, &edits[..20])
+}
+
+#[test]
+fn fields_outside_the_limits(rt: HostRuntime) -> Result<(), Fail> {
+    // The column, the lengths of row and family, a colon in the family, the stamp 0, one above the greatest
+    for (at, byte) in [
+        (0, 0x03),
+        (0, 0x20),
+        (2, 0),
+        (5, 0),
+        (6, b':'),
+        (14, 0),
+        (7, 0x80),
+    ] {
+        assert!(rt; !is_read_with(rt.alloc(), at, byte)?, "{byte} at {at}");
+    }
+    assert!(rt; is_read_with(rt.alloc(), 0, 0x02)?);
     Ok(())
 }
 

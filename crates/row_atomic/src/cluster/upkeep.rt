@@ -1,17 +1,18 @@
-//! Upkeep of tablets: minor compactions of full memtables, and merging compactions of tablets with many files.
+//! Upkeep of tablets: minor compactions of full memtables, and merging compactions as a policy says.
 
-ghost use Rattle.std.specs.Prelude.{◌≡◌, ◌≤◌, ◌<◌, Some, IsTrue, true, length};
+ghost use Rattle.std.specs.Prelude.{◌≡◌, ◌<◌, ℕ, Some, IsTrue, true, length};
 ghost use Rattle.std.specs.List.{slice_get};
 ghost use Rattle.metadata_table.specs.Table.{HasTablet};
 ghost use Rattle.row_atomic.specs.Changes.{Numbered};
 ghost use Rattle.row_atomic.specs.Clusters.{tablet_numbered};
 ghost use Rattle.row_atomic.specs.Memtables.{is_any_full, largest, longest};
-ghost use Rattle.row_atomic.specs.Flushes.{CompactsFull, KeepsShown, LeavesFew, MergesMany, has_files, has_full, numbers_of};
+ghost use Rattle.row_atomic.specs.Flushes.{CompactsFull, KeepsShown, MergesMany, MergesNewest, has_full, numbers_of};
+ghost use Rattle.tablet.specs.MergePolicies.{IsMergeCount};
 
 use crate::cluster::Cluster;
 use crate::fill::{Fill, FlushLimits};
 use file_store::Files;
-use tablet::Tablet;
+use tablet::{MergePolicy, Tablet};
 
 /// The most entries, and the most bytes, of any memtable of these tablets.
 fn fullest(tablets: &[Tablet]) -> Fill
@@ -91,40 +92,39 @@ impl<F: Files> Cluster<F> {
         }
     }
 
-    /// Whether a tablet has at least `most` files, where `most` is 2 or more, and no more than a `u32` can count.
-    fn has_files(&self, tablet: u32, most: u32) -> bool
+    /// How many of a tablet's newest files the policy has merged; 0 if there is nothing to merge.
+    fn merge_count(&self, tablet: u32, policy: MergePolicy) -> u32
         requires known { HasTablet tablet self.now.places }
-        ensures { result ≡ has_files most (tablet_numbered tablet self.now.tablets) }
+        ensures { Numbered (λ t. IsMergeCount policy t result) tablet self.now.tablets }
     {
         let index = self.position(tablet);
-        let count = self.tablets[index].file_count();
-        most >= 2 && most as usize <= count && count <= u32::MAX as usize
+        self.tablets[index].merge_count(policy) as u32
     }
 
-    /// How many of the newest files to merge in a tablet that has at least `most`.
-    fn merge_count(&self, tablet: u32, most: u32) -> u32
-        requires known { HasTablet tablet self.now.places }
-        requires many { has_files most (tablet_numbered tablet self.now.tablets) ≡ true }
-        ensures { Numbered (LeavesFew most result) tablet self.now.tablets }
+    /// Merges a tablet's newest files as the policy says, as `merge` does. A refusal is ignored: the tablet is then
+    /// unchanged.
+    fn merge_newest(&mut self, tablet: u32, policy: MergePolicy)
+        requires known { HasTablet tablet self.old.places }
+        ensures merges { (count : ℕ)
+            × Numbered (λ t. IsMergeCount policy t count) tablet self.old.tablets
+            × MergesNewest F.contents F.faults tablet count self.old self.new }
+        ensures keeps { KeepsShown F.contents F.faults self.old self.new }
     {
-        let index = self.position(tablet);
-        self.tablets[index].merge_count(most as usize) as u32
+        let count = self.merge_count(tablet, policy);
+        if count > 0 {
+            let _ = self.merge(tablet, count);
+        }
     }
 
-    /// Merges the newest files of each tablet that has at least `most` files, as `merge` does, so that fewer than
-    /// `most` are left, in the order of the tablets' ends. A merge goes on with each next older file that has no more
-    /// entries than all newer ones together, so that an entry is rewritten a logarithmic number of times. Refusals are
-    /// ignored: the tablet is then unchanged, and the next one is tried. With a `most` below 2 nothing is merged.
-    pub fn merge_many(&mut self, most: u32)
-        ensures merges { MergesMany F.contents F.faults most self.old self.new }
+    /// Merges the newest files of each tablet as the policy says, as `merge` does, in the order of the tablets' ends.
+    /// Refusals are ignored: the tablet is then unchanged, and the next one is tried.
+    pub fn merge_many(&mut self, policy: MergePolicy)
+        ensures merges { MergesMany F.contents F.faults policy self.old self.new }
         ensures keeps { KeepsShown F.contents F.faults self.old self.new }
     {
         for index in 0..self.table.len() {
             let tablet = self.number_at(index);
-            if self.has_files(tablet, most) {
-                let count = self.merge_count(tablet, most);
-                let _ = self.merge(tablet, count);
-            }
+            self.merge_newest(tablet, policy);
         }
     }
 }

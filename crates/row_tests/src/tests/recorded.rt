@@ -9,9 +9,8 @@ use std::test::Fail;
 use testing::edits::edits_of;
 
 /// The bytes of a put of `1` at the stamp 1 of `a`, `bal`, data, and of an erasure at 9.
-const WRITTEN: [u8; 59] =
-    *b"\0\0\0\x16a\0\0bal\0\0data\0\0\xff\xff\xff\xff\xff\xff\xff\xfe\x01\0\0\0\x011\
-       \0\0\0\x16a\0\0bal\0\0data\0\0\xff\xff\xff\xff\xff\xff\xff\xf6\0";
+const WRITTEN: [u8; 37] = *b"\x00\0\x01a\x03bal\0\0\0\0\0\0\0\x01\0\0\0\x011\
+       \x10\0\x01a\x03bal\0\0\0\0\0\0\0\x09";
 
 /// Puts one byte at a stamp of `a`, and erases the stamp 9.
 fn write(
@@ -42,10 +41,10 @@ fn edits_wait_until_they_are_settled(rt: HostRuntime) -> Result<(), Fail> {
     assert!(rt; rows.is_recording() && rows.waiting() == WRITTEN.as_slice());
     rows.settled();
     assert!(rt; rows.waiting().is_empty());
-    assert!(rt; rows.written_edits() == 2 && rows.written_bytes() == 59);
+    assert!(rt; rows.written_edits() == 2 && rows.written_bytes() == 37);
     write(rt.alloc(), &mut rows, 1, b'1')?;
     assert!(rt; rows.waiting() == WRITTEN.as_slice());
-    assert!(rt; rows.written_edits() == 4 && rows.written_bytes() == 118);
+    assert!(rt; rows.written_edits() == 4 && rows.written_bytes() == 74);
     rows.emptied();
     assert!(rt; rows.written_edits() == 0 && rows.waiting().is_empty());
     Ok(())
@@ -74,7 +73,7 @@ fn edits_of_several_rows_wait_together(rt: HostRuntime) -> Result<(), Fail> {
     let mut rows = Recorded::new(new_cluster(rt.alloc())?);
     rows.record();
     write_all(rt.alloc(), &mut rows)?;
-    assert!(rt; rows.written_edits() == 3 && rows.waiting().len() == 96);
+    assert!(rt; rows.written_edits() == 3 && rows.waiting().len() == 63);
     assert!(rt; newest(rt.alloc(), &mut rows, b'a')? == b'8');
     assert!(rt; newest(rt.alloc(), &mut rows, b'n')? == b'9');
     Ok(())

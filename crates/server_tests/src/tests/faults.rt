@@ -2,7 +2,7 @@
 //! the call, it is refused Device; repeated, it gets the same reply as without a fault. If an automatic compaction
 //! makes the call, nothing is refused. All other replies are the same as without a fault.
 
-ghost use Rattle.std.specs.Prelude.{None};
+ghost use Rattle.std.specs.Prelude.{None, ⊤};
 
 use crate::tests::script::{Came, Room, Run, Watch, played_over};
 use cell_key::Refusal;
@@ -36,10 +36,32 @@ impl<F: Files> Files for Watched<'_, F> {
 
     ghost replaces = { ⊥ };
 
-    fn put(&mut self, name: u64, bytes: &[u8]) -> Result<(), FileFault> {
-        let done = self.files.put(name, bytes);
+    type Writing = F::Writing;
+
+    ghost writes_to = { λ writing. F.writes_to writing };
+
+    ghost has = { λ _ _. ⊤ };
+
+    fn begin(&mut self, name: u64) -> Result<F::Writing, FileFault> {
+        let begun = self.files.begin(name);
+        self.watch.note(begun.is_err());
+        begun
+    }
+
+    fn push(&mut self, writing: &mut F::Writing, bytes: &[u8]) -> Result<(), FileFault> {
+        let done = self.files.push(writing, bytes);
         self.watch.note(done.is_err());
         done
+    }
+
+    fn finish(&mut self, writing: F::Writing) -> Result<(), FileFault> {
+        let done = self.files.finish(writing);
+        self.watch.note(done.is_err());
+        done
+    }
+
+    fn give_up(&mut self, writing: F::Writing) {
+        self.files.give_up(writing);
     }
 
     fn size(&mut self, name: u64) -> Result<Option<u64>, FileFault> {

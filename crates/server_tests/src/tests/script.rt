@@ -4,7 +4,7 @@
 use cell_key::Refusal;
 use file_store::{Files, MemFiles};
 use oracle::{MarkStore, MemMark};
-use server_loop::{Config, FlushLimits, ServeFault, Server};
+use server_loop::{Config, FlushLimits, MergePolicy, ServeFault, Server};
 use std::alloc::{AllocError, Global};
 use std::cell::Cell;
 use std::io;
@@ -301,7 +301,7 @@ fn made<F: Files + Drop, M: MarkStore + Drop>(
         Err(refused) => return Err(refused),
     };
     if let Some(most) = upkeep.merge {
-        server.merge_at(most);
+        server.merge_by(MergePolicy::AtCount(most));
     }
     Ok(server)
 }

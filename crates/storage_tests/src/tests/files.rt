@@ -1,8 +1,8 @@
 //! Files in memory.
 
-ghost use Rattle.std.specs.Prelude.{None};
+ghost use Rattle.std.specs.Prelude.{None, ⊤};
 
-use file_store::{FileFault, Files, MemFiles, read_whole};
+use file_store::{FileFault, Files, MemFiles, MemWriting, read_whole};
 use std::alloc::Global;
 use std::test::Fail;
 
@@ -30,8 +30,26 @@ impl Files for Recorder {
 
     ghost replaces = { ⊥ };
 
-    fn put(&mut self, name: u64, bytes: &[u8]) -> Result<(), FileFault> {
-        self.files.put(name, bytes)
+    type Writing = MemWriting;
+
+    ghost writes_to = { λ writing. writing.name };
+
+    ghost has = { λ _ _. ⊤ };
+
+    fn begin(&mut self, name: u64) -> Result<MemWriting, FileFault> {
+        self.files.begin(name)
+    }
+
+    fn push(&mut self, writing: &mut MemWriting, bytes: &[u8]) -> Result<(), FileFault> {
+        self.files.push(writing, bytes)
+    }
+
+    fn finish(&mut self, writing: MemWriting) -> Result<(), FileFault> {
+        self.files.finish(writing)
+    }
+
+    fn give_up(&mut self, writing: MemWriting) {
+        self.files.give_up(writing);
     }
 
     fn size(&mut self, name: u64) -> Result<Option<u64>, FileFault> {

@@ -8,7 +8,7 @@ use std::test::Fail;
 use std::{fs, io, process};
 
 /// A new folder with this name in the machine's temporary folder.
-fn new_folder(rt: &HostRuntime, name: &str) -> io::Result<String> {
+pub(super) fn new_folder(rt: &HostRuntime, name: &str) -> io::Result<String> {
     testing::folders::new_folder(rt, process::id(rt.process()), name)
 }
 
@@ -24,7 +24,7 @@ fn write(rt: &HostRuntime, folder: &str, name: &str, bytes: &[u8]) -> io::Result
 }
 
 /// Whether a folder has a file with this name.
-fn is_there(rt: &HostRuntime, folder: &str, name: &str) -> io::Result<bool> {
+pub(super) fn is_there(rt: &HostRuntime, folder: &str, name: &str) -> io::Result<bool> {
     let path = path_of(rt, folder, name)?;
     fs::exists(rt, path.as_str())
 }
@@ -67,7 +67,7 @@ fn folder_of_others(rt: &HostRuntime) -> io::Result<String> {
 }
 
 /// Whether a store has exactly these files.
-fn has_files(
+pub(super) fn has_files(
     rt: &HostRuntime,
     files: &mut DirFiles<HostRuntime>,
     wanted: &[u64],

@@ -234,9 +234,9 @@ fn damaged_files(rt: HostRuntime) -> Result<(), Fail> {
 impl Recorded {
     /// The length of the value of `a` at a stamp.
     fn value_len(&mut self, alloc: Global, stamp: Stamp) -> Result<Option<usize>, Refusal> {
-        let key = key_of_a(alloc, stamp)?;
-        match self.file.lookup(&key, &mut self.files)? {
-            Some(Some(value)) => Ok(Some(value.len())),
+        let key = LookupKey::new(alloc, key_of_a(alloc, stamp)?)?;
+        match self.file.newest(&key, stamp, &mut self.files)? {
+            Some((_, Some(value))) => Ok(Some(value.len())),
             _ => Ok(None),
         }
     }
@@ -388,10 +388,10 @@ const LOCKS: &[u8] = b"TABLET01\
     \0\0\0\x08\0\0\0\x5D\0\0\0\x16a\0\0bal\0\0lock\0\0\xFF\xFF\xFF\xFF\xFF\xFF\xFF\xFE\
     \0\0\0\x65\0\0\0\x01\0\0\0\x03\0\0\0\x9FTABLETZZ";
 
-/// A row, the stamp of its newest lock up to 9, and the reads for it. The file's first lock is known without a read. A
-/// row that has only an erasure of a lock here is read too; in a tablet the index of the files' locks prevents that.
+/// A row, the stamp of its newest lock up to 9, and the reads for it. A row that has only an erasure of a lock here is
+/// read too; in a tablet the index of the files' locks prevents that.
 const LOCK_TESTS: [(&[u8], Option<Stamp>, &[(u64, u64, usize)]); 4] = [
-    (b"a", Some(1), &[]),
+    (b"a", Some(1), &[(1, 8, 93)]),
     (b"b", None, &[(1, 8, 93)]),
     (b"bb", None, &[]),
     (b"c", Some(1), &[(1, 8, 93)]),
@@ -455,8 +455,11 @@ fn is_newest(
     let key = lock_key(alloc, row)?;
     recorded.file.drop_cache();
     recorded.files.reads.clear();
-    let newest = recorded.file.newest_stamp(&key, 0, &mut recorded.files)?;
-    Ok(newest == stamp && recorded.files.reads.as_slice() == reads)
+    let found = match recorded.file.newest(&key, 0, &mut recorded.files)? {
+        Some((found, Some(_))) => Some(found),
+        _ => None,
+    };
+    Ok(found == stamp && recorded.files.reads.as_slice() == reads)
 }
 
 #[test]
@@ -594,11 +597,16 @@ fn is_entry(
 impl Recorded {
     /// Whether a lookup at a stamp of `a` finds the same as a slow lookup in the bytes.
     fn agrees_on(&mut self, alloc: Global, stamp: Stamp, bytes: &[u8]) -> Result<bool, Refusal> {
-        let key = key_of_a(alloc, stamp)?;
-        match self.file.lookup(&key, &mut self.files)? {
-            Some(Some(value)) => is_entry(alloc, &key, Some(Some(value.as_slice())), bytes),
-            Some(None) => is_entry(alloc, &key, Some(None), bytes),
-            None => is_entry(alloc, &key, None, bytes),
+        let key = LookupKey::new(alloc, key_of_a(alloc, stamp)?)?;
+        match self.file.newest(&key, stamp, &mut self.files)? {
+            Some((_, Some(value))) => is_entry(
+                alloc,
+                key.key(),
+                Some(Some(value.as_slice())),
+                bytes,
+            ),
+            Some((_, None)) => is_entry(alloc, key.key(), Some(None), bytes),
+            None => is_entry(alloc, key.key(), None, bytes),
         }
     }
 }

@@ -1,14 +1,17 @@
-use Rattle.std.proofs.Common.{sym, ◌∙◌}
-use Rattle.cell_key.specs.Entries.{lent_entry}
-use Rattle.commit_log.specs.Edits.{edit_entry}
-use Rattle.commit_log.proofs.Entries.{entry_split, short_edit}
-use Rattle.commit_log.proofs.Results.{of_none}
+use Rattle.std.proofs.Common.{◌≡◌, ◌≢◌, ◌++◌, subst, sym}
+use Rattle.std.specs.Prelude.{IfOk}
+use Rattle.commit_log.specs.Edits.{spelled_as}
+use Rattle.commit_log.specs.declared.edits.EditForm.{EditForm}
 use Rattle.commit_log.proofs.edits.first_edit.Goals as goal
 
-pub returns-in_default-clause-damaged : goal.returns-in_default-clause-damaged
-returns-in_default-clause-damaged c = λ _ edit x is. c.in_default.ensures.none (edit_entry edit) x (short_edit edit is)
+pub returns-in-Fields-clause-found : goal.returns-in-Fields-clause-found
+returns-in-Fields-clause-found c = subst (λ (form : EditForm). IfOk c.first_fields.result (λ p. c.args.bytes.now ≡ spelled_as form p.0 ++ p.1.now)) (sym c.in-Fields.is) c.first_fields.ensures.found
 
-pub returns-in-None-clause-damaged : goal.returns-in-None-clause-damaged
-returns-in-None-clause-damaged c = λ _ edit x is same.
-    of_none _ _ c.in-None.is c.in_ok-edit.ensures.none edit is
-    (entry_split (edit_entry edit) (lent_entry c.in-Some.entry) x c.in-Some.rest.now (short_edit edit is) c.in-Some.ensures.short (sym same ∙ c.in-Some.ensures.found)).0
+pub returns-in-Fields-clause-damaged : goal.returns-in-Fields-clause-damaged
+returns-in-Fields-clause-damaged c = λ e edit rest is. subst (λ (form : EditForm). c.args.bytes.now ≢ spelled_as form edit ++ rest) (sym c.in-Fields.is) (c.first_fields.ensures.damaged e edit rest is)
+
+pub returns-in-Entries-clause-found : goal.returns-in-Entries-clause-found
+returns-in-Entries-clause-found c = subst (λ (form : EditForm). IfOk c.first_entry.result (λ p. c.args.bytes.now ≡ spelled_as form p.0 ++ p.1.now)) (sym c.in-Entries.is) c.first_entry.ensures.found
+
+pub returns-in-Entries-clause-damaged : goal.returns-in-Entries-clause-damaged
+returns-in-Entries-clause-damaged c = λ e edit rest is. subst (λ (form : EditForm). c.args.bytes.now ≢ spelled_as form edit ++ rest) (sym c.in-Entries.is) (c.first_entry.ensures.damaged e edit rest is)

@@ -7,5 +7,5 @@ pub returns-in_err-edit-clause-damaged : goal.returns-in_err-edit-clause-damaged
 returns-in_err-edit-clause-damaged c = λ e more all.
     let (done, _, read, each) = c.loop-rest.invariant in
     let left : c.loop-rest.rest.now ≢ [] = search rules in
-    stuck done more c.args.bytes.now c.loop-rest.rest.now each all read left
+    stuck c.args.form done more c.args.bytes.now c.loop-rest.rest.now each all read left
     (c.in_err-edit.ensures.damaged (passed c.from_residual.result c.in_err-edit.field-0.0 _ c.from_residual.ensures.1 e))

@@ -9,7 +9,7 @@ pub returns-in_default : goal.returns-in_default
 returns-in_default c = (λ h. cc, λ any. absurd (not_over c.args.bytes.now 0 0 c.in_default.ensures.none (inr any)))
 
 pub returns-in-Edits : goal.returns-in-Edits
-returns-in-Edits c = (λ h. cc, λ any. let same = is_any c.args.bytes.now c.in-Some.body.now c.in-Some.kind c.in-Some.stamp c.in-Some.ensures.found any in elim c.in-Edits.is [ inl is ↦ let e = sym is ∙ same in cc | inr is ↦ let e = sym is ∙ same in cc ])
+returns-in-Edits c = (λ h. cc, λ any. let same = is_any c.args.bytes.now c.in-Some.body.now c.in-Some.kind c.in-Some.stamp c.in-Some.ensures.found any in elim c.in-Edits.is [ inl is ↦ let e = sym is ∙ same in cc | inr other ↦ elim other [ inl is ↦ let e = sym is ∙ same in cc | inr is ↦ let e = sym is ∙ same in cc ] ])
 
 pub returns-else-stamp-eq0 : goal.returns-else-stamp-eq0
 returns-else-stamp-eq0 c =

@@ -1,13 +1,22 @@
-use Rattle.std.proofs.Common.{◌∙◌, inl, rules, ap, sym, arith}
+use Rattle.std.proofs.Common.{◌∙◌, inl, inr, rules, ap, sym, arith}
 use Rattle.std.proofs.lemmas.Bool.Decides.{Decides-eqb}
 use Rattle.std.specs.Cmp.Lexicographic.{bytes_decides}
 use Rattle.commit_log.specs.Records.{spelled_record}
 use Rattle.commit_log.specs.declared.records.RecordKind.{RecordKind}
-use Rattle.commit_log.proofs.Naming.{as_root, not_over, over_any, over_root}
+use Rattle.commit_log.proofs.Naming.{as_root, not_over, over_any, over_other, over_root}
 use Rattle.commit_log.proofs.records.is_over.Goals as goal
 
 pub returns-in_default : goal.returns-in_default
 returns-in_default c = (λ h. cc, λ over. absurd (not_over c.args.bytes.now c.args.top c.args.sum c.in_default.ensures.none over))
+
+pub returns-in-Edits : goal.returns-in-Edits
+returns-in-Edits c = (
+  λ h. cc,
+  λ over. absurd (elim c.in-Edits.is [
+    | inl is ↦ over_other c.args.bytes.now c.in-Some.body.now c.in-Some.kind c.in-Some.stamp c.args.top c.args.sum (λ root. let e = sym is ∙ root in cc) (λ any. let e = sym is ∙ any in cc) c.in-Some.ensures.found over
+    | inr is ↦ over_other c.args.bytes.now c.in-Some.body.now c.in-Some.kind c.in-Some.stamp c.args.top c.args.sum (λ root. let e = sym is ∙ root in cc) (λ any. let e = sym is ∙ any in cc) c.in-Some.ensures.found over
+  ]),
+)
 
 pub returns-then-stamp-top : goal.returns-then-stamp-top
 returns-then-stamp-top c =

@@ -5,7 +5,7 @@ use Rattle.std.proofs.lemmas.List.{length-map, length-take-le, map_more, take_al
 use Rattle.commit_log.specs.Frames.{IsBody, bytes_of, frame}
 use Rattle.commit_log.specs.Numbered.{numbered, store_log, upgraded}
 use Rattle.commit_log.specs.Records.{spelled_record}
-use Rattle.commit_log.specs.declared.records.RecordKind.TheVariants.{Edits}
+use Rattle.commit_log.specs.declared.records.RecordKind.TheVariants.{Entries}
 use Rattle.commit_log.proofs.Cuts.{one_reading}
 use Rattle.commit_log.proofs.Naming.{all_last, record_at}
 use Rattle.commit_log.proofs.Results.{passed}
@@ -19,7 +19,7 @@ loop-edits-preserved c =
     let first : bytes_of (take (index + 1) records) ≡ bytes_of (take index records) ++ c.edits-item.result.items ∷ [] =
     map_more (λ (v : Vec ℕ). v.items) records index c.edits-item.result (search rules)
     ∙ ap (λ (v : Vec ℕ). bytes_of (take index records) ++ v.items ∷ []) (sym c.edits-item.is) in
-    let grew : c.extend_from_slice.new.self.items ≡ c.loop-edits.made.items ++ frame (numbered (c.loop-edits.number + 1) (spelled_record Edits 0 c.edits-item.result.items)) = search rules in
+    let grew : c.extend_from_slice.new.self.items ≡ c.loop-edits.made.items ++ frame (numbered (c.loop-edits.number + 1) (spelled_record Entries 0 c.edits-item.result.items)) = search rules in
     let body : IsBody c.edits-item.result.items = search rules in
     record {
       spelled =

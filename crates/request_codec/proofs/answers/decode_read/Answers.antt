@@ -1,6 +1,6 @@
 use Rattle.std.proofs.Common.{◌∙◌, arith}
 use Rattle.std.proofs.lemmas.List.{length-map}
-use Rattle.request_codec.specs.Answers.{told_item, told_items}
+use Rattle.si_model.specs.Answers.{told_item, told_items}
 use Rattle.request_codec.proofs.Fields.{on_err}
 use Rattle.request_codec.proofs.OneAnswer.{reads_only, reads_is, reads_needs}
 use Rattle.request_codec.proofs.Told.{all_told_fit}

@@ -11,7 +11,7 @@ use Rattle.request_codec.proofs.decode_replies.decode_scan.Goals as goal
 pub returns-in_default-clause-none : goal.returns-in_default-clause-none
 returns-in_default-clause-none c = λ reply is.
     let b = scanned_only reply c.args.fields.now is in
-    c.in_default.ensures.none b.items b.reach (all_fit b.items b.starts b.fits.named b.fits.few) b.fits b.fields
+    c.in_default.ensures.none b.items b.reach (all_fit b.items b.starts b.fits.names b.fits.bytes) b.fits b.fields
 
 pub returns-in_err-reach-clause-needed : goal.returns-in_err-reach-clause-needed
 returns-in_err-reach-clause-needed c =

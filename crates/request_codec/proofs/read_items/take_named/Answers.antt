@@ -1,6 +1,6 @@
 use Rattle.std.proofs.Common.{rules, ◌∙◌, sym, subst}
 use Rattle.si_model.specs.Reads.{cell_of}
-use Rattle.request_codec.specs.Scans.{IsNamed}
+use Rattle.si_model.specs.Takings.{IsNamed}
 use Rattle.request_codec.proofs.Fields.{same_cell}
 use Rattle.request_codec.proofs.Scans.{named_fits}
 use Rattle.request_codec.proofs.read_items.take_named.Goals as goal

@@ -14,7 +14,7 @@ returns-in_err-count-clause-none c =
 pub returns-else-rest-le-MOST_ITEM_BYTES-clause-none :
     goal.returns-else-rest-le-MOST_ITEM_BYTES-clause-none
 returns-else-rest-le-MOST_ITEM_BYTES-clause-none c = λ items reach fit scan e.
-    let few = scan.few in
+    let few = scan.bytes in
     let behind = (same_reach _ reach _ _ c.in_ok-reach.ensures.named scan.reached (sym c.in_ok-reach.ensures.found ∙ e)).1 in
     let found = c.in_ok-count.ensures in
     let count = same_number 4 c.in_ok-count.count (length items) _ _ found.fits (omega (arith, few, few_items items)) (sym found.found ∙ behind) in

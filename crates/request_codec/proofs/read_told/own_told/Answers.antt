@@ -2,7 +2,7 @@ use Rattle.std.proofs.Common.{◌≡◌, ◌∷◌, [], ◌++◌, ◌-◌, ◌+�
 use Rattle.std.specs.List.{AllByRecursion, flat_map}
 use Rattle.std.proofs.lemmas.List.{map_push}
 use Rattle.si_model.specs.Messages.{Item}
-use Rattle.request_codec.specs.Answers.{told_item}
+use Rattle.si_model.specs.Answers.{told_item}
 use Rattle.request_codec.specs.Answers.{told_fields, ToldFits}
 use Rattle.request_codec.specs.Scans.{lent_said}
 use Rattle.request_codec.proofs.Told.{same_told}

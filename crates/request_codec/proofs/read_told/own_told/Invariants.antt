@@ -1,6 +1,6 @@
 use Rattle.std.proofs.Common.{◌≡◌, ◌-◌, ◌++◌, length}
 use Rattle.std.specs.List.{AllByRecursion, flat_map}
-use Rattle.request_codec.specs.Answers.{told_items}
+use Rattle.si_model.specs.Answers.{told_items}
 use Rattle.request_codec.specs.Answers.{told_fields, ToldFits}
 use Rattle.request_codec.specs.Answers.{AreTold}
 use Rattle.request_codec.proofs.read_told.own_told.Given as goal

@@ -7,5 +7,5 @@ use Rattle.request_codec.proofs.write_scans.push_scanned.Goals as goal
 pub overflow_cast-len : goal.overflow_cast-len
 overflow_cast-len c =
     let items = c.args.reply.now.items.items in
-    let few = c.requires.fits.few in
+    let few = c.requires.fits.bytes in
     omega (arith, few, few_items (map item_of items), length-map items item_of, c.len.ensures)

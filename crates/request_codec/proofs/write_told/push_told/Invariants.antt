@@ -1,7 +1,8 @@
 use Rattle.std.proofs.Common.{◌≡◌, ◌+◌, ◌*◌, ◌≤◌, ◌++◌, length, vec_capacity}
 use Rattle.std.specs.List.{flat_map}
 use Rattle.si_model.specs.Transactions.{most_told, told_lengths}
-use Rattle.request_codec.specs.Answers.{told_fields, told_items}
+use Rattle.si_model.specs.Answers.{told_items}
+use Rattle.request_codec.specs.Answers.{told_fields}
 use Rattle.request_codec.specs.Buffers.{HasRoomFor}
 use Rattle.request_codec.proofs.write_told.push_told.Given as goal
 

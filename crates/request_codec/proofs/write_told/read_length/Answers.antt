@@ -1,7 +1,7 @@
 use Rattle.std.proofs.Common.{List, Option, ap, ◌∙◌, arith}
 use Rattle.si_model.specs.Transactions.{told_lengths}
 use Rattle.si_model.specs.declared.scans.ScanFound.{ScanFound}
-use Rattle.request_codec.specs.Answers.{told_items}
+use Rattle.si_model.specs.Answers.{told_items}
 use Rattle.request_codec.proofs.OneAnswer.{length-reads}
 use Rattle.request_codec.proofs.write_told.read_length.Goals as goal
 

@@ -1,6 +1,6 @@
 use Rattle.std.proofs.Common.{◌≡◌, ◌+◌, length}
 use Rattle.si_model.specs.Transactions.{told_lengths}
-use Rattle.request_codec.specs.Answers.{told_items}
+use Rattle.si_model.specs.Answers.{told_items}
 use Rattle.request_codec.proofs.write_told.told_length.Given as goal
 
 abbrev pub invariant-cells : goal.invariant-cells

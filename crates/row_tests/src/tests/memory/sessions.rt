@@ -51,7 +51,7 @@ const CALLS: [Call; 16] = [
     // commit of a session with a write
     (b"\x04\x07", b"1L768\x07"),
     // commit of a session that meets a lock
-    (b"\x00\x01", b"1L162\x06"),
+    (b"\x05\x01", b"1L162\x06"),
     // commit in a new session
     (b"\x07\x08", b"1L762\x08"),
 ];
@@ -153,7 +153,7 @@ impl Sessions {
         Ok(told(progress))
     }
 
-    /// The result of a commit that sets `a` too: the lowest bytes of its start and its stamp, or 0 and a place.
+    /// The result of a commit that sets `a` too: the lowest bytes of its start, and of its stamp or of the place of a lock.
     fn commit(&mut self, start: Stamp) -> Result<[u8; 2], Refusal> {
         let cell = CellName {
             row: b"a",
@@ -169,7 +169,7 @@ impl Sessions {
             .commit(&mut self.rows, oracle, start, &[write])?
         {
             CommitReply::Committed(start, stamp) => Ok([(start % 256) as u8, (stamp % 256) as u8]),
-            CommitReply::Conflict(place) => Ok([0, (place % 256) as u8]),
+            CommitReply::Conflict(start, place) => Ok([(start % 256) as u8, (place % 256) as u8]),
         }
     }
 

@@ -1,5 +1,6 @@
 use Rattle.si_model.proofs.CleanerFates.{names_nearest}
+use Rattle.si_model.proofs.ByServers.{by_servers}
 use Rattle.si_model.proofs.laws.names_nearest.Goals as goal
 
 pub returns : goal.returns
-returns c = names_nearest
+returns c = λ cells st reached. names_nearest cells st (by_servers reached)

@@ -15,7 +15,9 @@ entries-init g c =
     record {
       contents = refl;
       quiet = refl;
+      named = refl;
       ready = c.in_ok-builder.ensures.ready;
+      closed = record { front = []; had = c.requires.empty; rest = c.in_ok-builder.ensures.out };
       size = c.in_ok-builder.ensures.size;
       passed = subst (λ (es : List Entry). PassesOver (g.S.Source.steps m) g.S.Source.lent c.args.source.now es c.args.source.now) (sym none) passes_none;
       told = λ hold. (hold, ap (λ (es : List Entry). es ++ g.S.Source.remaining m c.args.source.now) none);
@@ -33,9 +35,11 @@ entries-preserved-in-Continue-branch-3 g c =
     let holds = subst (λ (told : Option Contents). g.S.Source.holds told s → g.S.Source.holds told t) i.contents c.in_ok-advance.ensures.holds in
     let takes = subst (λ (told : Option Contents). g.S.Source.holds told s → Takes (g.S.Source.lent t) (g.S.Source.remaining told s) (g.S.Source.remaining told t)) i.contents c.in_ok-advance.ensures.takes in
     record {
-      contents = c.in_ok-advance.ensures.files ∙ i.contents;
-      quiet = c.in_ok-advance.ensures.reason.told (λ e. cc) ∙ i.quiet;
+      contents = c.in_ok-push.ensures.pushes.same ∙ c.in_ok-advance.ensures.files ∙ i.contents;
+      quiet = c.in_ok-push.ensures.pushes.reason.told (λ e. cc) ∙ c.in_ok-advance.ensures.reason.told (λ e. cc) ∙ i.quiet;
+      named = c.in_ok-push.ensures.pushes.named ∙ i.named;
       ready = c.in_ok-push.ensures.ready;
+      closed = c.in_ok-push.ensures.closed;
       size = c.in_ok-push.ensures.size ∙ i.size;
       passed = subst (λ (es : List Entry). PassesOver (g.S.Source.steps m) g.S.Source.lent c.args.source.now es t) (sym more)
           (passed_one g.S.Source.steps g.S.Source.lent _ m c.args.source.now s t (built c.entries.builder) e i.contents c.in_ok-advance.ensures.steps lent i.passed);

@@ -4,7 +4,7 @@ use cell_key::{CellKey, EntryRef, Refusal, Row, Stamp};
 use compaction::{Input, merge_into};
 use file_store::{FileFault, Files, MemFiles, read_whole};
 use memtable::Memtable;
-use sorted_file::{LockIndex, SortedFile, refusal_of, write_file};
+use sorted_file::{LockIndex, LookupKey, SortedFile, refusal_of, write_file};
 use std::alloc::Global;
 use testing::FILE_LIMIT;
 use testing::edits::{data_key, edits_of};
@@ -13,6 +13,14 @@ use testing::memory::{Call, Subject, Table};
 /// The result of a call of files, as a refusal.
 pub fn refused<T>(call: Result<T, FileFault>) -> Result<T, Refusal> {
     call.map_err(|fault| refusal_of(fault))
+}
+
+/// Makes or replaces a file that is written in two pieces.
+fn put_in_two(files: &mut MemFiles, name: u64, one: &[u8], two: &[u8]) -> Result<(), FileFault> {
+    let mut writing = files.begin(name)?;
+    files.push(&mut writing, one)?;
+    files.push(&mut writing, two)?;
+    files.finish(writing)
 }
 
 /// Files in memory, and a list of names that others are appended to.
@@ -34,7 +42,7 @@ const FILE_CALLS: [Call; 6] = [
     (b"two", b"\x01one-two-----"),
     // remove
     (b"", b"\x01----two-----"),
-    // put_owned over a file
+    // a file in two pieces, over a file
     (b"", b"\x01six-two-----"),
 ];
 
@@ -61,7 +69,7 @@ impl Subject for Stored {
                 };
             }
             4 => refused(self.files.remove(1))?,
-            _ => refused(self.files.put_owned(1, b"six".to_vec(alloc)?))?,
+            _ => refused(put_in_two(&mut self.files, 1, b"s", b"ix"))?,
         }
         Ok(wanted.is_empty())
     }
@@ -92,7 +100,7 @@ const SORTED_CALLS: [Call; 7] = [
     (b"", b"\x95\x95-x2x1"),
     // SortedFile::open
     (b"x", b"\x95--x2x1"),
-    // SortedFile::lookup
+    // SortedFile::newest
     (b"1", b"\x95--x2x1"),
     // merge_into
     (b"", b"\x95\xB5-x2x1"),
@@ -137,10 +145,10 @@ fn found(
     files: &mut MemFiles,
     stamp: Stamp,
 ) -> Result<u8, Refusal> {
-    let key = key_of_a(alloc, stamp)?;
-    match file.lookup(&key, files)? {
-        Some(Some(value)) => Ok(value.first().copied().unwrap_or(b' ')),
-        Some(None) => Ok(b'x'),
+    let key = LookupKey::new(alloc, key_of_a(alloc, stamp)?)?;
+    match file.newest(&key, stamp, files)? {
+        Some((_, Some(value))) => Ok(value.first().copied().unwrap_or(b' ')),
+        Some((_, None)) => Ok(b'x'),
         None => Ok(b'-'),
     }
 }

@@ -1,4 +1,7 @@
-use Rattle.std.proofs.Common.{refl}
+use Rattle.std.proofs.Common.{Option, option_map, refl, sym, ap, ◌∙◌}
+use Rattle.cell_key.specs.Entries.{entry_of_key, lent_entry}
+use Rattle.cell_key.specs.declared.keys.CellKey.{CellKey}
+use Rattle.tablet.proofs.InFiles.{one_found, one_none_found}
 use Rattle.cell_key.specs.declared.refusals.Refusal.TheVariants.{Device}
 use Rattle.sorted_file.specs.Source.{IsReadRefusal}
 use Rattle.std.specs.Option.{option_copied}
@@ -52,3 +55,15 @@ returns-in-None-clause-reads g c = record {
 
 pub returns-in-Some-clause-stay : goal.returns-in-Some-clause-stay
 returns-in-Some-clause-stay g c = same_files (g.F.Files.contents c.args.store.now) c.args.files.now
+
+pub returns-in-Some-2-clause-found : goal.returns-in-Some-2-clause-found
+returns-in-Some-2-clause-found g c =
+    one_found (g.F.Files.contents c.args.store.now) c.args.memtable.now c.args.files.now c.args.key.now _ (ap (λ (k : CellKey). k.stamp) c.key-2.ensures.key)
+    (sym (ap (λ (o : Option _). option_map (λ lent. (lent_entry lent).1) o) c.in_default.is) ∙ c.lookup.ensures.found ∙ ap (λ (k : CellKey). entry_of_key c.args.memtable.now (text k)) c.key.ensures.key) _
+    (rw c.in-Some-2.is at c.in_ok-value.ensures.found)
+
+pub returns-in-None-clause-found : goal.returns-in-None-clause-found
+returns-in-None-clause-found g c =
+    one_none_found (g.F.Files.contents c.args.store.now) c.args.memtable.now c.args.files.now c.args.key.now _ (ap (λ (k : CellKey). k.stamp) c.key-2.ensures.key)
+    (sym (ap (λ (o : Option _). option_map (λ lent. (lent_entry lent).1) o) c.in_default.is) ∙ c.lookup.ensures.found ∙ ap (λ (k : CellKey). entry_of_key c.args.memtable.now (text k)) c.key.ensures.key)
+    (rw c.in-None.is at c.in_ok-value.ensures.found)

@@ -4,7 +4,7 @@ use Rattle.tablet_audit.proofs.judge.judge.Given as goal
 
 abbrev pub invariant-pairs : goal.invariant-pairs
 invariant-pairs l = record {
-  passes : Passes l.reopenings l.requests l.replies l.count l.recording.requests.now l.recording.replies.now l.audit;
+  passes : Passes l.sharing l.reopenings l.requests l.replies l.count l.recording.requests.now l.recording.replies.now l.judge;
   few : l.count + length l.recording.requests.now ≤ length l.requests;
 }
 

@@ -1,19 +1,13 @@
-use Rattle.std.proofs.Common.{◌≡◌, Ok, true, rules}
-use Rattle.request_codec.specs.Answers.{IsAnswerBody, answer_of}
-use Rattle.request_codec.specs.Operations.{IsNoOperation, IsOperation, operation_of}
-use Rattle.tablet_audit.proofs.Recordings.{passes_malformed, passes_step}
+use Rattle.std.proofs.Common.{refl}
+use Rattle.tablet_audit.proofs.Recordings.{judged_alone, judged_shared}
 use Rattle.tablet_audit.proofs.judge.judge_bodies.Goals as goal
 
-pub returns-then-is_bad_request-clause-judged : goal.returns-then-is_bad_request-clause-judged
-returns-then-is_bad_request-clause-judged c =
-    let answers : IsAnswerBody (answer_of c.in-Some.answer) c.args.reply.now = search rules in
-    let malformed : IsNoOperation c.args.request.now = search rules in
-    passes_malformed c.args.audit.now c.args.request.now c.args.reply.now (answer_of c.in-Some.answer) answers malformed (c.is_bad_request.ensures.0 c.if-is_bad_request.true)
+pub returns-in-Alone-clause-judged : goal.returns-in-Alone-clause-judged
+returns-in-Alone-clause-judged c =
+    judged_alone c.args.sharing c.args.judge.now (record { audit = c.judge_alone.new.audit; owners = c.args.judge.now.owners }) c.args.number c.args.request.now c.args.reply.now
+    c.judge_alone.result c.in-Alone.is refl c.judge_alone.ensures.judged
 
-pub returns-then-branch-clause-judged : goal.returns-then-branch-clause-judged
-returns-then-branch-clause-judged c =
-    let answers : IsAnswerBody (answer_of c.in-Some.answer) c.args.reply.now = search rules in
-    let asks : IsOperation (operation_of c.in-Some-2.operation) c.args.request.now = search rules in
-    let yes : c.take_operation.result ≡ Ok true = search rules in
-    passes_step c.args.audit.now c.take_operation.new.self c.args.request.now c.args.reply.now (operation_of c.in-Some-2.operation) (answer_of c.in-Some.answer)
-    c.take_operation.result yes c.take_operation.ensures asks answers
+pub returns-in-Shared-clause-judged : goal.returns-in-Shared-clause-judged
+returns-in-Shared-clause-judged c =
+    judged_shared c.args.sharing c.in-Shared.admin c.args.judge.now c.judge_shared.new.judge c.args.number c.args.request.now c.args.reply.now
+    c.judge_shared.result c.in-Shared.is c.judge_shared.ensures.judged

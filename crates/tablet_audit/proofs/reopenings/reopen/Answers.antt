@@ -1,20 +1,19 @@
-use Rattle.std.proofs.Common.{◌≡◌, ◌∙◌, sym, None, rules}
-use Rattle.tablet_audit.proofs.Recordings.{judged_mark, mark_memory, not_opened, opened_clean}
+use Rattle.std.proofs.Common.{◌≡◌, ◌∙◌, sym, None, true, false, subst, rules}
+use Rattle.tablet_audit.specs.Reopenings.{JudgesOpening}
+use Rattle.tablet_audit.proofs.Recordings.{badly_marked, not_opened, opened}
 use Rattle.tablet_audit.proofs.reopenings.reopen.Goals as goal
 
 pub returns-in_default-clause-judged : goal.returns-in_default-clause-judged
 returns-in_default-clause-judged c =
     let none : c.find_behind.result ≡ None = search rules in
-    not_opened _ c.args.audit.now (sym c.find_behind.ensures ∙ none)
+    not_opened _ c.args.judge.now (sym c.find_behind.ensures ∙ none)
 
-pub returns-in-Some-mark-clause-judged : goal.returns-in-Some-mark-clause-judged
-returns-in-Some-mark-clause-judged c =
-    judged_mark _ c.in-Some.reopening c.in-Some-mark.mark c.args.audit.now c.recover.new.self c.recover.result
-    (sym c.find_behind.ensures ∙ c.in-Some.is) c.in-Some-mark.is c.recover.ensures
+pub returns-then-not-branch-clause-judged : goal.returns-then-not-branch-clause-judged
+returns-then-not-branch-clause-judged c =
+    let bad : JudgesOpening c.in-Some.reopening.mark c.args.judge.now.audit c.open_over.new.audit false = search rules in
+    badly_marked _ c.in-Some.reopening c.args.judge.now (record { audit = c.open_over.new.audit; owners = c.args.judge.now.owners }) c.open_over.new.audit (sym c.find_behind.ensures ∙ c.in-Some.is) bad
 
-pub returns-in-Some-mark-clause-refusal : goal.returns-in-Some-mark-clause-refusal
-returns-in-Some-mark-clause-refusal c = mark_memory c.in-Some-mark.mark c.args.audit.now c.recover.new.self c.recover.result c.recover.ensures
-
-pub returns-in-None-clause-judged : goal.returns-in-None-clause-judged
-returns-in-None-clause-judged c =
-    opened_clean _ c.in-Some.reopening c.args.audit.now c.reopen.new.self (sym c.find_behind.ensures ∙ c.in-Some.is) c.in-None.is c.reopen.ensures
+pub returns-clause-judged : goal.returns-clause-judged
+returns-clause-judged c =
+    let opens : JudgesOpening c.in-Some.reopening.mark c.args.judge.now.audit c.open_over.new.audit true = search rules in
+    opened _ c.in-Some.reopening c.args.judge.now _ (sym c.find_behind.ensures ∙ c.in-Some.is) opens c.new.ensures.empty

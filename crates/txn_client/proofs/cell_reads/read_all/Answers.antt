@@ -1,4 +1,4 @@
-use Rattle.std.proofs.Common.{◌≡◌, ◌∙◌, ◌+◌, ap}
+use Rattle.std.proofs.Common.{◌∙◌, ◌+◌, ap}
 use Rattle.cell_key.proofs.Passed.{passed_err}
 use Rattle.cell_key.proofs.Reasons.{not_refused}
 use Rattle.cell_key.specs.declared.refusals.Refusal.TheVariants.{Device}

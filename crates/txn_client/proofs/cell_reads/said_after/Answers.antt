@@ -1,8 +1,5 @@
-use Rattle.std.proofs.Common.{◌≡◌, ◌+◌, ◌<◌, ◌≤◌, ℕ, length, Some, sym, subst, arith}
-use Rattle.si_model.specs.Machine.{Locked, Unsent, Valued}
-use Rattle.si_model.specs.Replies.{found_reply}
-use Rattle.si_model.specs.Transactions.{IsTold, has_nothing, is_sent, is_left_out, is_blocked}
-use Rattle.si_model.specs.declared.replies.Found.{Found}
+use Rattle.std.proofs.Common.{◌+◌, ◌<◌, ◌≤◌, length, arith}
+use Rattle.si_model.specs.Transactions.{has_nothing, is_sent, is_left_out, is_blocked}
 use Rattle.txn_client.proofs.cell_reads.said_after.Goals as goal
 
 pub returns-then-bytes-len-gt-MOST_TOLD-clause-told : goal.returns-then-bytes-len-gt-MOST_TOLD-clause-told

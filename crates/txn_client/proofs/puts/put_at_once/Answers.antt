@@ -1,4 +1,4 @@
-use Rattle.std.proofs.Common.{◌≡◌, ◌∙◌, ℕ, map, sym, subst, ap}
+use Rattle.std.proofs.Common.{◌∙◌, ℕ, map, sym, subst, ap}
 use Rattle.si_model.specs.PutCells.{all_put_cells}
 use Rattle.txn_client.specs.Puts.{ArePuttings}
 use Rattle.txn_client.specs.Writes.{write_of}

@@ -1,4 +1,4 @@
-use Rattle.std.proofs.Common.{◌++◌, [], List, map, subst, sym, ap, ◌∙◌}
+use Rattle.std.proofs.Common.{[], List, map, subst, sym, ap, ◌∙◌}
 use Rattle.std.proofs.lemmas.List.{append-nil, nil_from_length}
 use Rattle.std.specs.Vec.Iter.{into_iter_items}
 use Rattle.cell_key.specs.Cells.{after_edits}

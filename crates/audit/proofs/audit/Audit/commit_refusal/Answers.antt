@@ -17,16 +17,16 @@ pub returns-then-is_empty-clause-only : goal.returns-then-is_empty-clause-only
 returns-then-is_empty-clause-only c =
     let s = some_session c.args.self.now c.args.start c.session.result (c.is_none.ensures ∙ ap not c.if-is_none.false) c.session.ensures.some in
     let empty : (c.is_empty.result ≡ true) ↔ (length c.in-Ok.all.items ≡ 0) = (let e = c.is_empty.ensures in search rules) in
-    refused_empty c.args.self.now c.args.start (writes_named c.args.asked.now) s.0 s.1.0 c.in-Ok.all c.in-Ok.ensures.takes (no_items c.in-Ok.all.items (empty.0 c.if-is_empty.true))
+    refused_empty c.args.self.now c.args.start (writes_named c.args.asked.now) s.0 s.1 c.in-Ok.all c.in-Ok.ensures.takes (no_items c.in-Ok.all.items (empty.0 c.if-is_empty.true))
 
 pub returns-else-is_empty-clause-only : goal.returns-else-is_empty-clause-only
 returns-else-is_empty-clause-only c =
     let s = some_session c.args.self.now c.args.start c.session.result (c.is_none.ensures ∙ ap not c.if-is_none.false) c.session.ensures.some in
     let empty : (c.is_empty.result ≡ true) ↔ (length c.in-Ok.all.items ≡ 0) = (let e = c.is_empty.ensures in search rules) in
-    refused_never c.args.self.now c.args.start (writes_named c.args.asked.now) s.0 s.1.0 c.in-Ok.all c.in-Ok.ensures.takes (λ e. cc (empty.1 (ap length e), c.if-is_empty.false))
+    refused_never c.args.self.now c.args.start (writes_named c.args.asked.now) s.0 s.1 c.in-Ok.all c.in-Ok.ensures.takes (λ e. cc (empty.1 (ap length e), c.if-is_empty.false))
 
 pub returns-in-Err-clause-only : goal.returns-in-Err-clause-only
 returns-in-Err-clause-only c =
     let s = some_session c.args.self.now c.args.start c.session.result (c.is_none.ensures ∙ ap not c.if-is_none.false) c.session.ensures.some in
     refused_alone c.args.self.now (Commit c.args.start (writes_named c.args.asked.now)) c.in-Err.refusal c.alone.result c.alone.ensures.memory c.alone.ensures.others
-    (λ ne. refused_write c.args.self.now c.args.start (writes_named c.args.asked.now) s.0 s.1.0 c.in-Err.refusal ne c.in-Err.ensures.refusal)
+    (λ ne. refused_write c.args.self.now c.args.start (writes_named c.args.asked.now) s.0 s.1 c.in-Err.refusal ne c.in-Err.ensures.refusal)

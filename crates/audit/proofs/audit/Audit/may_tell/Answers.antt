@@ -1,7 +1,6 @@
 use Rattle.std.proofs.Common.{◌≡◌, Some, Option, IsTrue, sym, subst, rules}
 use Rattle.std.specs.Prelude.{◌↔◌, IfOk}
-use Rattle.request_codec.specs.Answers.{told_item}
-use Rattle.si_model.specs.Answers.{cell_named}
+use Rattle.si_model.specs.Answers.{cell_named, told_item}
 use Rattle.si_model.specs.declared.scans.ScanFound.{ScanFound}
 use Rattle.si_model.specs.declared.scans.ScanFound.TheVariants as scanned
 use Rattle.audit.specs.AuditOperations.{MayTell}

@@ -1,7 +1,6 @@
 use Rattle.std.proofs.Common.{◌+◌, ◌*◌, ◌≤◌, drop}
 use Rattle.std.specs.Prelude.{◌↔◌}
-use Rattle.request_codec.specs.Answers.{told_items}
-use Rattle.si_model.specs.Answers.{cells_named}
+use Rattle.si_model.specs.Answers.{cells_named, told_items}
 use Rattle.audit.specs.AuditOperations.{MayTellAll}
 use Rattle.audit.proofs.audit.Audit.may_tell_all.Given as goal
 

@@ -21,4 +21,4 @@ pub returns : goal.returns
 returns c = λ stays_open.
     let count = subst IsReadCount (sym (length-map c.args.cells.now cell_named)) (c.is_read_count.ensures.0 (cc)) in
     let s = some_session c.args.self.now c.args.start c.session.result (c.is_none.ensures ∙ ap not c.if-is_none.false) c.session.ensures.some in
-    refused_name c.args.self.now c.args.start (cells_named c.args.cells.now) stays_open count s.0 s.1.0 c.first_name_refusal.result c.first_name_refusal.ensures
+    refused_name c.args.self.now c.args.start (cells_named c.args.cells.now) stays_open count s.0 s.1 c.first_name_refusal.result c.first_name_refusal.ensures

@@ -1,7 +1,6 @@
 use Rattle.std.proofs.Common.{◌≡◌, Bool, true, false, List, Option, Ok, subst, sym}
 use Rattle.std.proofs.lemmas.List.{length-map}
-use Rattle.request_codec.specs.Answers.{told_items}
-use Rattle.si_model.specs.Answers.{cell_named, cells_named}
+use Rattle.si_model.specs.Answers.{cell_named, cells_named, told_items}
 use Rattle.si_model.specs.Transactions.{IsReadCount}
 use Rattle.si_model.specs.declared.scans.ScanFound.{ScanFound}
 use Rattle.audit.specs.AuditOperations.{MayTellAll}

@@ -33,7 +33,7 @@ returns-in-Committed c =
 
 pub returns-in-Conflict : goal.returns-in-Conflict
 returns-in-Conflict c =
-    let is : c.args.answer.now ≡ kept.Commit (commit.Conflict c.in-Conflict.place) = search rules in
+    let is : c.args.answer.now ≡ kept.Commit (commit.Conflict c.in-Conflict.session c.in-Conflict.place) = search rules in
     subst (λ (a : Kept). JudgesOperation c.args.self.now c.conflict_together.new.self (Commit c.args.start (writes_named c.args.asked.now)) (answer_of a) c.conflict_together.result) (sym is) c.conflict_together.ensures
 
 pub returns-in-Read : goal.returns-in-Read

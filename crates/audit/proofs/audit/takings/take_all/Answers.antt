@@ -1,6 +1,6 @@
 use Rattle.cell_key.proofs.Passed.{passed_err}
 use Rattle.si_model.specs.Takings.{IsRefusedWrite}
-use Rattle.audit.proofs.TakenWrites.{taken_more, write_refused}
+use Rattle.si_model.proofs.TakenWrites.{taken_more, write_refused}
 use Rattle.audit.proofs.audit.takings.take_all.Goals as goal
 
 pub returns-in_err-take_write-clause-refusal : goal.returns-in_err-take_write-clause-refusal

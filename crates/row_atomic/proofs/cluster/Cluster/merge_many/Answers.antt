@@ -1,38 +1,30 @@
 -- The tablets are checked in the order of their ends.
-use Rattle.std.proofs.Common.{◌<◌, ◌≤◌, length, sym, ◌∙◌, arith}
-use Rattle.row_atomic.proofs.Tiers.{after_none, after_one, at_end, at_start, within_now}
+use Rattle.std.proofs.Common.{◌<◌, ◌≤◌, length, arith}
+use Rattle.row_atomic.proofs.Tiers.{after_one, at_end, at_start, within_now}
 use Rattle.row_atomic.proofs.cluster.Cluster.merge_many.Goals as goal
-use Rattle.row_atomic.proofs.cluster.Cluster.merge_many.Goals.{then-has_files, else-has_files}
 
 pub loop-index-init : goal.loop-index-init
 loop-index-init g c = record {
   as_many = rw (← c.self.view_is) c.len-index-end.ensures.len;
-  reached = at_start g.F.Files.contents g.F.Files.faults c.args.most c.args.self.now (rw (← c.self.view_is) c.len-index-end.ensures.table);
+  reached = at_start g.F.Files.contents g.F.Files.faults c.args.policy c.args.self.now;
 }
 
 pub number_at-tablet-requires : goal.number_at-tablet-requires
 number_at-tablet-requires g c =
     let less : c.loop-index.index < length c.args.self.now.places = let as_many = c.loop-index.invariant.as_many in omega arith in
-    record { within = within_now g.F.Files.contents g.F.Files.faults c.args.most c.args.self.now c.loop-index.self c.loop-index.index c.loop-index.invariant.reached less }
+    record { within = within_now g.F.Files.contents g.F.Files.faults c.args.policy c.args.self.now c.loop-index.self c.loop-index.index c.loop-index.invariant.reached less }
 
 pub loop-index-preserved : goal.loop-index-preserved
 loop-index-preserved g c = record {
   as_many = c.loop-index.invariant.as_many;
-  reached =
-      elim c.if-has_files.branch [
-        | then-has_files w ↦
-            rw w.self-is (after_one g.F.Files.contents g.F.Files.faults c.args.most c.args.self.now c.loop-index.self c.loop-index.index c.loop-index.invariant.reached
-            c.number_at-tablet.result c.number_at-tablet.ensures.at w.merge.new.self w.merge_count-count.result w.merge.result (sym c.has_files.ensures ∙ w.if-has_files.true) w.merge_count-count.ensures w.merge.ensures)
-        | else-has_files w ↦
-            rw w.self-is (after_none g.F.Files.contents g.F.Files.faults c.args.most c.args.self.now c.loop-index.self c.loop-index.index c.loop-index.invariant.reached
-            c.number_at-tablet.result c.number_at-tablet.ensures.at (sym c.has_files.ensures ∙ w.if-has_files.false))
-      ];
+  reached = after_one g.F.Files.contents g.F.Files.faults c.args.policy c.args.self.now c.loop-index.self c.loop-index.index c.loop-index.invariant.reached
+      c.number_at-tablet.result c.merge_newest.new.self c.number_at-tablet.ensures.at c.merge_newest.ensures.merges c.merge_newest.ensures.keeps;
 }
 
 pub returns-clause-merges : goal.returns-clause-merges
 returns-clause-merges g c =
     let past : length c.args.self.now.places ≤ c.loop-index.index = let as_many = c.loop-index.invariant.as_many in omega arith in
-    at_end g.F.Files.contents g.F.Files.faults c.args.most c.args.self.now c.loop-index.self c.loop-index.index c.loop-index.invariant.reached past
+    at_end g.F.Files.contents g.F.Files.faults c.args.policy c.args.self.now c.loop-index.self c.loop-index.index c.loop-index.invariant.reached past
 
 pub returns-clause-keeps : goal.returns-clause-keeps
 returns-clause-keeps g c = c.loop-index.invariant.reached.keeps

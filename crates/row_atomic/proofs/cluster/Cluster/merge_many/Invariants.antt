@@ -6,5 +6,5 @@ use Rattle.row_atomic.proofs.cluster.Cluster.merge_many.Given as goal
 abbrev pub invariant-loop-index : goal.invariant-loop-index
 invariant-loop-index g l = record {
   as_many : l.index-end ≡ length l.initial.self.places;
-  reached : IsReached g.F.Files.contents g.F.Files.faults l.most l.initial.self l.self l.index;
+  reached : IsReached g.F.Files.contents g.F.Files.faults l.policy l.initial.self l.self l.index;
 }

@@ -31,7 +31,7 @@ returns-in-None-clause-fits g c = on_ok_weaker c.apply.result (fits_plain g.F.Fi
 pub returns-then-is_err-clause-err : goal.returns-then-is_err-clause-err
 returns-then-is_err-clause-err g c =
     let pushed : c.push.new.self ≡ with_waiting c.args.edits.items c.in-Some.journal = c.in_ok-push-in-Some.ensures.ok ∙ ap (λ (edits : List Edit). with_waiting edits c.in-Some.journal) c.deref.ensures.value in
-    let back = taken_back c.args.edits.items c.in-Some.journal c.push.new.self c.cut.new.self c.len-len.result c.count-count.result pushed c.len-len.ensures.len c.count-count.ensures c.cut.ensures in
+    let back = taken_back c.args.edits.items c.in-Some.journal c.push.new.self c.cut.new.self c.len-len.result c.count-count.result c.entry_bytes-entry_bytes.result pushed c.len-len.ensures.len c.count-count.ensures c.entry_bytes-entry_bytes.ensures c.cut.ensures in
     on_err_weaker c.apply-done.result (reads_recorded g.F.Files.contents c.root_is_stored.ensures c.args.self.now _ (ap Some back ∙ sym c.in-Some.is)) c.apply-done.ensures.err
 
 pub returns-else-is_err-clause-ok : goal.returns-else-is_err-clause-ok

@@ -55,7 +55,7 @@ returns-else-is_err-clause-within g c =
 pub returns-then-is_err-clause-err : goal.returns-then-is_err-clause-err
 returns-then-is_err-clause-err g c =
     let pushed : c.push_all.new.self ≡ with_waiting (all_edits c.args.changes.items) c.in-Some.journal = c.in_ok-push_all-in-Some.ensures.ok ∙ ap (λ (changes : List RowEdits). with_waiting (all_edits changes) c.in-Some.journal) c.deref.ensures.value in
-    let back = taken_back (all_edits c.args.changes.items) c.in-Some.journal c.push_all.new.self c.cut.new.self c.len-len.result c.count-count.result pushed c.len-len.ensures.len c.count-count.ensures c.cut.ensures in
+    let back = taken_back (all_edits c.args.changes.items) c.in-Some.journal c.push_all.new.self c.cut.new.self c.len-len.result c.count-count.result c.entry_bytes-entry_bytes.result pushed c.len-len.ensures.len c.count-count.ensures c.entry_bytes-entry_bytes.ensures c.cut.ensures in
     on_err_weaker c.apply_all-done.result (reads_recorded g.F.Files.contents c.root_is_stored.ensures c.args.self.now _ (ap Some back ∙ sym c.in-Some.is)) c.apply_all-done.ensures.err
 
 pub returns-else-is_err-clause-ok : goal.returns-else-is_err-clause-ok

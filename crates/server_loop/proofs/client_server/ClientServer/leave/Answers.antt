@@ -1,4 +1,4 @@
-use Rattle.std.proofs.Common.{◌≡◌, ℕ, Bool, not, ◌&&◌, ◌||◌, Option, refl, ap, ◌∙◌}
+use Rattle.std.proofs.Common.{ℕ, not, ◌&&◌, ◌||◌, refl, ap, ◌∙◌}
 use Rattle.std.specs.Prelude.{nat_eq, unwrap_or}
 use Rattle.ownership.specs.Names.{is_session}
 use Rattle.ownership.specs.Tables.{heir_of, owns, table_of}

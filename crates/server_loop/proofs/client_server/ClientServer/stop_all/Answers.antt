@@ -1,5 +1,4 @@
-use Rattle.std.proofs.Common.{[], ◌∷◌, ◌++◌, ◌∙◌, refl, sym, subst}
-use Rattle.server_loop.specs.Clients.{StopsEach}
+use Rattle.std.proofs.Common.{[], ◌∷◌, ◌++◌, ◌∙◌}
 use Rattle.server_loop.proofs.ClientFrames.{stops_then}
 use Rattle.server_loop.proofs.client_server.ClientServer.stop_all.Goals as goal
 

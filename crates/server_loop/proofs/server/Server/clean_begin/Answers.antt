@@ -3,13 +3,13 @@ use Rattle.clean_up.specs.Refusals.{IsBeginRefusal}
 use Rattle.row_atomic.specs.Recorded.{seen_recorded}
 use Rattle.server_loop.proofs.Causes.{refusal_is}
 use Rattle.server_loop.proofs.CellChanges.{unchanged_if}
-use Rattle.server_loop.proofs.CleanSteps.{logged_in, unlogged, cleans_as, started_told, started_undamaged, started_stays}
+use Rattle.server_loop.proofs.CleanSteps.{logged_in, unlogged, cleans_as, started_limits, started_told, started_undamaged, started_stays}
 use Rattle.server_loop.proofs.SessionSteps.{as_err, as_refused, err_undamaged, not_done, ok_not}
 use Rattle.server_loop.proofs.server.Server.clean_begin.Goals as goal
 
 pub returns-in-Ok : goal.returns-in-Ok
 returns-in-Ok g c = let told = c.in-Ok.ensures in record {
-  step = record { step = cleans_as _ _ _ _ _ tt refl refl refl refl (λ st reached shown. unchanged_if _ _ st (told.reads.kept)) told.step told.reads.still told.reads.stays (λ held st reached cells cleaners. started_undamaged c.in-Ok.found); refusal = started_told IsBeginRefusal c.in-Ok.found; limits = tt };
+  step = record { step = cleans_as _ _ _ _ _ tt refl refl refl refl (λ st reached shown. unchanged_if _ _ st (told.reads.kept)) told.step told.reads.still told.reads.stays (λ held st reached cells cleaners. started_undamaged c.in-Ok.found); refusal = started_told IsBeginRefusal c.in-Ok.found; limits = started_limits c.in-Ok.found };
   stamps = record { last = started_stays c.in-Ok.found _; restarted = tt; exhausted = λ is. absurd (not_done _ _ tt is) };
   edits = record { changes = told.reads.kept; room = told.reads.room };
   sessions = record { told = λ st shown. tt; sessions = record { top = refl; each = λ t. refl }; cleaners = told.opens; collectors = record { next = refl; floor = refl; each = λ i. refl; count = refl }; oracle = refl };

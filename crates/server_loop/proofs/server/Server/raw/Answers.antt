@@ -5,11 +5,10 @@ use Rattle.std.specs.declared.vec.Vec.{Vec}
 use Rattle.std.specs.declared.result.Result.TheVariants.{Err}
 use Rattle.cell_key.specs.Versions.{stamped, IsVersionIn}
 use Rattle.cell_key.specs.declared.refusals.Refusal.{Refusal}
-use Rattle.si_model.specs.Machine.{refuses}
-use Rattle.request_codec.specs.declared.replies.Reply.TheVariants as codec
+use Rattle.si_model.specs.Machine.{RawFound, refuses}
+use Rattle.request_codec.specs.Replies.{HoldsWithinLimits}
 use Rattle.row_atomic.specs.ReadableLaw.{all_readable}
 use Rattle.rows.proofs.Calls.{is_read_refusal, read_undamaged}
-use Rattle.server_loop.specs.Runs.{KeepsToLimits}
 use Rattle.server_loop.proofs.Causes.{unmet_causes}
 use Rattle.server_loop.proofs.RawReads.{found_outcome, refused_outcome}
 use Rattle.server_loop.proofs.CleanSteps.{spots_in}
@@ -18,7 +17,7 @@ use Rattle.server_loop.proofs.SessionSteps.{as_err, as_refused, column_not_devic
 use Rattle.server_loop.proofs.UpkeepSteps.{family_whole, raw_unnamed, raw_refused, raw_done, raw_family_named, raw_refuses, raw_row_named, row_whole, tells_as, raw_whole}
 use Rattle.server_loop.proofs.server.Server.raw.Goals as goal
 
-short_found : (lo hi : ℕ) (found : Option (ℕ × Vec ℕ Global)) → IfSome (option_map stamped found) (IsVersionIn lo hi) → KeepsToLimits (codec.Raw found)
+short_found : (lo hi : ℕ) (found : Option (ℕ × Vec ℕ Global)) → IfSome (option_map stamped found) (IsVersionIn lo hi) → HoldsWithinLimits (RawFound (option_map stamped found))
 short_found lo hi None limits = tt
 short_found lo hi (Some version) limits = limits.limits.value
 

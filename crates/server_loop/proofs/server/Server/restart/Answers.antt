@@ -16,6 +16,7 @@ returns-in-Ok g c = let told = c.in-Ok.ensures in record {
       collectors = shown.collectors;
       places = shown.places;
       next = shown.next;
+      alone = shown.alone;
       shows = record { store = shown.shows.store; sessions = shown.shows.sessions; top = no_later _ _ _ shown.shows.top told.rises };
     });
     refusal = tt;
@@ -39,6 +40,7 @@ returns-in-Err g c = let told = c.in-Err.ensures in record {
       collectors = shown.collectors;
       places = shown.places;
       next = shown.next;
+      alone = shown.alone;
       shows = record { store = shown.shows.store; sessions = shown.shows.sessions; top = no_later _ _ _ shown.shows.top told.rises };
     });
     refusal = told.refusal;

@@ -1,6 +1,7 @@
 use Rattle.std.proofs.Common.{Ok, Err, inl, refl}
 use Rattle.row_atomic.specs.Recorded.{seen_recorded}
-use Rattle.server_loop.proofs.AtOnce.{cells_count, err_given, given_err, given_undamaged, named_count, others_stay, read_limits, read_not, read_undamaged, reads_go}
+use Rattle.si_model.proofs.ByServers.{by_servers}
+use Rattle.server_loop.proofs.AtOnce.{cells_count, err_given, given_err, given_undamaged, named_count, others_stay, read_not, read_undamaged, reads_go}
 use Rattle.server_loop.proofs.SessionSteps.{first_stays, ok_not, one_rose, second_stays}
 use Rattle.server_loop.proofs.server.Server.take_read.Goals as goal
 
@@ -11,7 +12,7 @@ returns-in-Ok g c = let told = c.in-Ok.ensures in record {
   at_once = record {
     goes = reads_go g.F.Files.contents _ _ _ _ tt refl refl told.reads told.step (λ st reached held shown. read_undamaged c.in-Ok.reply);
     refusal = tt;
-    limits = read_limits c.in-Ok.reply.found.items told.short;
+    limits = told.short;
     others = others_stay g.F.Files.contents _ _ refl refl refl told.reads.stays;
     refused = tt;
     device = λ is. absurd (read_not _ _ is);
@@ -34,7 +35,7 @@ returns-in-Err g c = let told = c.in-Err.ensures in record {
   gives = refl;
   at_once = record {
     goes = reads_go g.F.Files.contents _ _ _ _ tt refl refl told.reads told.step
-        (λ st reached held shown. given_undamaged _ _ refl (told.undamaged (λ row at. (seen_recorded g.F.Files.contents).each_readable _ held row) st reached shown.store));
+        (λ st reached held shown. given_undamaged _ _ refl (told.undamaged (λ row at. (seen_recorded g.F.Files.contents).each_readable _ held row) st (by_servers reached) shown.store));
     refusal = told.refusal;
     limits = tt;
     others = others_stay g.F.Files.contents _ _ refl refl refl told.reads.stays;

@@ -20,15 +20,15 @@ has_key lent r bounds kind is key stored named within =
     (subst (λ (s : ℕ). IsWithin (column_bounds bounds kind) key.row s) (r.stamp ∙ ap (λ (k : CellKey). k.stamp) same) within)
 
 pub returns-in-Data-clause-has : goal.returns-in-Data-clause-has
-returns-in-Data-clause-has c = λ value key stored named some.
+returns-in-Data-clause-has c = λ value key stored named.
     has_key c.args.key c.requires _ _ c.in-Data.is key stored named (c.widen.ensures.has key.row (c.front_in-number.ensures key named))
 
 pub returns-in-Lock-clause-has : goal.returns-in-Lock-clause-has
-returns-in-Lock-clause-has c = λ value key stored named some.
+returns-in-Lock-clause-has c = λ value key stored named.
     has_key c.args.key c.requires _ _ c.in-Lock.is key stored named (c.widen-in-Lock.ensures.has key.row (c.front_in-number.ensures key named))
 
 pub returns-in-Write-clause-has : goal.returns-in-Write-clause-has
-returns-in-Write-clause-has c = λ value key stored named some.
+returns-in-Write-clause-has c = λ value key stored named.
     has_key c.args.key c.requires _ _ c.in-Write.is key stored named (c.widen-in-Write.ensures.has key.row (c.front_in-number.ensures key named))
 
 pub returns-in-Data-clause-keeps : goal.returns-in-Data-clause-keeps

@@ -8,11 +8,11 @@ use Rattle.sorted_file.proofs.Results.{if_ok}
 use Rattle.sorted_file.proofs.builder.FileBuilder.finish.Goals as goal
 
 pub returns-clause-entries : goal.returns-clause-entries
-returns-clause-entries c =
+returns-clause-entries g c =
     let closed = ap entries_in c.in_ok-close_block.ensures.blocks ∙ flat-last (blocks_of c.args.self.opening.rows.items) (entries_of c.args.self.current.block) in
-    if_ok c.into_image-2.result _ _ (λ made same. ap (λ (o : Opening). entries_in (blocks_of o.rows.items)) same ∙ closed) c.into_image-2.ensures.opening
+    if_ok c.push_rest-2.result _ _ (λ opening same. ap (λ (o : Opening). entries_in (blocks_of o.rows.items)) same ∙ closed) c.push_rest-2.ensures.opening
 
 pub returns-clause-large : goal.returns-clause-large
-returns-clause-large c = λ err fits.
+returns-clause-large g c = λ err fits.
     let closed = ap entries_in c.in_ok-close_block.ensures.blocks ∙ flat-last (blocks_of c.args.self.opening.rows.items) (entries_of c.args.self.current.block) in
-    c.into_image-2.ensures.large err (subst (λ (n : ℕ). FitsIn n (entries_in (blocks_of c.close_block.new.self.opening.rows.items))) (sym c.in_ok-close_block.ensures.size) (subst (FitsIn c.args.self.opening.size) (sym closed) fits))
+    c.push_rest-2.ensures.large err (subst (λ (n : ℕ). FitsIn n (entries_in (blocks_of c.close_block.new.self.opening.rows.items))) (sym c.in_ok-close_block.ensures.size) (subst (FitsIn c.args.self.opening.size) (sym closed) fits))

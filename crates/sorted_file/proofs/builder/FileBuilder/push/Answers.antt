@@ -11,12 +11,12 @@ use Rattle.sorted_file.proofs.BuiltFiles.{keeps_last, next_built, next_list, rea
 use Rattle.sorted_file.proofs.builder.FileBuilder.push.Goals as goal
 
 pub push-requires-clause-list : goal.push-requires-clause-list
-push-requires-clause-list c =
+push-requires-clause-list g c =
     let mid = c.make_room.new.self in
     next_list (entries_in (blocks_of mid.opening.rows.items)) (entries_of mid.current.block) (built c.args.self.now) (lent_entry c.args.entry) c.in_ok-make_room.ensures.built c.in-Some.ensures.list
 
 pub returns-clause-ready : goal.returns-clause-ready
-returns-clause-ready c =
+returns-clause-ready g c =
     let mid = c.make_room.new.self in
     let s = c.in_ok-make_room.ensures.sound in
     let room = c.in_ok-make_room.ensures.room in
@@ -26,7 +26,7 @@ returns-clause-ready c =
     let es = entries_of mid.current.block in
     let more = c.in_ok-push.ensures.entries in
     let now = reached mid s in
-    let before = reached c.args.self.now c.requires.sound in
+    let before = reached c.args.self.now c.requires.ready.sound in
     let bytes = ap (λ (l : List Entry). length (flat_map spelled l)) same in
     let allowed = c.allows.ensures.allows c.if-not-allows.false in
     let size = c.in_ok-make_room.ensures.size in
@@ -36,7 +36,6 @@ returns-clause-ready c =
       sound = record {
         opening = s.opening;
         format = s.format;
-        bytes = s.bytes;
         parsed = c.in_ok-push.ensures.parsed;
         columns = c.in_ok-push.ensures.columns s.columns;
         rising = subst (λ (l : List Entry). IsRising l) (sym (next_built (entries_in blocks) es _ (built c.args.self.now) e same more)) c.in-Some.ensures.list.rising;

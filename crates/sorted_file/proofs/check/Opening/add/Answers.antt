@@ -1,9 +1,8 @@
-use Rattle.std.proofs.Common.{◌≡◌, ◌++◌, ◌∷◌, [], ℕ, List, length, map, Option, option_map, refl, sym, ap, subst, ◌∙◌, arith, length-append}
-use Rattle.std.specs.Global.{Vec}
+use Rattle.std.proofs.Common.{◌≡◌, ◌++◌, ◌∷◌, [], ℕ, List, length, refl, sym, ap, subst, ◌∙◌, arith, length-append}
 use Rattle.std.specs.List.{AllByRecursion}
 use Rattle.cell_key.specs.Entries.{Entry}
-use Rattle.sorted_file.specs.Index.{entries_in, block_of, blocks_of, row_head, texts_of, IsBoundedRow, IsFirstText}
-use Rattle.sorted_file.specs.Block.{first_value, entries_of, IsLastText}
+use Rattle.sorted_file.specs.Index.{entries_in, block_of, blocks_of, IsBoundedRow, IsFirstText, IsLastRow}
+use Rattle.sorted_file.specs.Block.{entries_of, IsLastText}
 use Rattle.sorted_file.specs.Bounds.{IsBounded}
 use Rattle.sorted_file.specs.Columns.{AreColumnsOf}
 use Rattle.sorted_file.specs.declared.block.BlockRow.{BlockRow}
@@ -37,8 +36,6 @@ returns-clause-opening c =
     let added = is_added c.args.self.now.rows.items c.push.new.self.items _ es c.args.self.now.end o.rows_are o.grammar o.list o.reached c.requires.followed
     c.requires.rising c.requires.parsed.list c.requires.fits c.in_ok-push.ensures.items was refl (c.len-length.ensures ∙ block.bytes.ok.0 ∙ ap length c.requires.parsed.bytes)
     (subst (λ (b : List ℕ). IsFirstText b es) (sym c.in_ok-first.ensures.items) (c.first_text.ensures es c.requires.parsed)) in
-    let head : option_map (λ (v : Vec ℕ). v.items) c.in_ok-head.head ≡ option_map (λ (e : Entry). e.0) (first_value (entries_of c.of-was.result.value)) =
-    c.in_ok-head.ensures.head es c.requires.parsed ∙ ap (λ (l : List Entry). option_map (λ (e : Entry). e.0) (first_value l)) (sym was) in
     let columns = c.in_ok-join.ensures.joined all es o.columns c.requires.columns in
     let many = c.len.ensures es c.requires.parsed in
     let counted = o.counted in
@@ -47,9 +44,9 @@ returns-clause-opening c =
       rows_are = added.rows_are;
       grammar = added.grammar;
       list = added.list;
-      heads = ap texts_of c.in_ok-push-2.ensures.items ∙ map_joined (option_map (λ (v : Vec ℕ). v.items)) c.args.self.now.heads.items c.in_ok-head.head
-          ∙ ap (λ (l : List (Option (List ℕ))). l ++ option_map (λ (v : Vec ℕ). v.items) c.in_ok-head.head ∷ []) o.heads ∙ ap (λ (e : Option (List ℕ)). map row_head c.args.self.now.rows.items ++ e ∷ []) head
-          ∙ sym (map_joined row_head c.args.self.now.rows.items _) ∙ ap (λ (l : List BlockRow). map row_head l) (sym c.in_ok-push.ensures.items);
+      lasts = subst (λ (l : List BlockRow). AllByRecursion IsLastRow l) (sym c.in_ok-push.ensures.items)
+          (all_joined IsLastRow c.args.self.now.rows.items (_ ∷ []) o.lasts
+          (subst (λ (l : List Entry). IsLastText l c.in_ok-row_last.row_last.items) (sym was) (subst (IsLastText es) (sym c.in_ok-row_last.ensures.items) (c.last_text-2.ensures es c.requires.parsed)), tt));
       bounded = subst (λ (l : List BlockRow). AllByRecursion IsBoundedRow l) (sym c.in_ok-push.ensures.items)
           (all_joined IsBoundedRow c.args.self.now.rows.items (_ ∷ []) o.bounded (subst (λ (l : List Entry). AllByRecursion (IsBounded c.args.next.columns.bounds) l) (sym was) c.requires.columns.bounded, tt));
       columns = subst (AreColumnsOf c.join.new.self) (sym added.whole) columns;

@@ -1,6 +1,3 @@
-use Rattle.std.proofs.Common.{List, ℕ, Option, ap, ◌∙◌}
-use Rattle.std.specs.Global.{Vec}
-use Rattle.sorted_file.specs.Index.{skips}
 use Rattle.sorted_file.proofs.Keeping.{none_kept}
 use Rattle.sorted_file.proofs.Locked.{keyed_on}
 use Rattle.sorted_file.proofs.Numbered.{numbered_on}
@@ -16,8 +13,7 @@ returns-clause-opened c = λ m w.
       numbered = numbered_on _ _ c.in_ok-numbers.ensures.keeps _ o.columns.numbered;
       keyed = keyed_on _ _ c.in_ok-lock_keys.ensures.keeps _ o.columns.keyed;
       locks_kept = o.columns.locks_kept;
-      heads = o.heads;
-      skips = c.in_ok-skips.ensures.skips ∙ ap (λ (l : List (Option (Vec ℕ))). skips l) c.deref.ensures.value;
+      lasts = o.lasts;
       counted = o.counted;
       format = _;
       image = w.image;

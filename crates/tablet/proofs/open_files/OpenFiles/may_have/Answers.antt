@@ -5,11 +5,11 @@ use Rattle.sorted_file.specs.LockIndexes.{IsIndexOf}
 use Rattle.tablet.proofs.OpenFiles.{none_valued, not_indexed}
 use Rattle.tablet.proofs.open_files.OpenFiles.may_have.Goals as goal
 
-pub returns-then-not-may_have : goal.returns-then-not-may_have
-returns-then-not-may_have c = λ no.
+pub returns-in-Data : goal.returns-in-Data
+returns-in-Data c = λ no.
     let filter = c.self.inside.filter in
     let files = c.args.self.now in
-    none_valued filter c.args.row.now c.args.qualifier c.args.lo c.args.hi (c.may_have.ensures c.if-not-may_have.true) files (All-same (Covers filter) files _ (sym c.self.view_is) c.self.invariant.0)
+    none_valued filter c.args.row.now c.args.qualifier c.args.lo c.args.hi (c.may_have.ensures no) files (All-same (Covers filter) files _ (sym c.self.view_is) c.self.invariant.0)
 
 pub returns-in-Lock : goal.returns-in-Lock
 returns-in-Lock c = λ no m opened key stored same kind low high.

@@ -1,14 +1,16 @@
 use Rattle.std.proofs.Common.{◌≡◌, ◌≤◌, ◌+◌, ◌-◌, ℕ, List, Option, map, option_map, arith, ap, subst, sym, ◌∙◌, None, Some}
 use Rattle.std.specs.Prelude.{IfSome, IsTrue}
 use Rattle.cell_key.specs.Cells.{IsNewest, version}
+use Rattle.cell_key.specs.Entries.{cells_of}
 use Rattle.cell_key.specs.Versions.{stamped}
+use Rattle.std.specs.FinMap.{get}
 use Rattle.cell_key.specs.declared.keys.CellKey.{CellKey}
 use Rattle.file_store.specs.Store.{Contents}
 use Rattle.sorted_file.specs.File.{listed}
 use Rattle.sorted_file.specs.Newest.{at_stamp}
 use Rattle.tablet.specs.Ranges.{has_row}
-use Rattle.tablet.specs.Reads.{HasNoLater}
-use Rattle.tablet.specs.Views.{cells_at, files_of, range_of, Holds}
+use Rattle.tablet.specs.Reads.{HasNoLater, IsNextVersion}
+use Rattle.tablet.specs.Views.{cells_at, files_of, memory_of, range_of, Holds}
 use Rattle.tablet.specs.declared.tablet.Tablet.{Tablet}
 use Rattle.tablet.proofs.Lookups.{if_one, ok_map}
 use Rattle.cell_key.specs.declared.refusals.Refusal.TheVariants.{Device}
@@ -17,9 +19,17 @@ use Rattle.tablet.proofs.Passed.{not_err}
 use Rattle.tablet.proofs.tablet.Tablet.newest_in_files.Goals as goal
 
 -- a fact about a key holds for an equal one
-same_later : (o : Option Contents) (u : Tablet) (lo : ℕ) (found : Option ℕ) (key other : CellKey) → key ≡ other → IfSome o (λ m. Holds m u → HasNoLater key lo found (map (listed m) (files_of u)))
-    → IfSome o (λ m. Holds m u → HasNoLater other lo found (map (listed m) (files_of u)))
-same_later o u lo found key other e h = subst (λ (k : CellKey). IfSome o (λ m. Holds m u → HasNoLater k lo found (map (listed m) (files_of u)))) e h
+same_next : (o : Option Contents) (u : Tablet) (lo : ℕ) (found : Option (ℕ × Option (List ℕ))) (key other : CellKey) → key ≡ other → IfSome o (λ m. Holds m u → IsNextVersion m u key lo found)
+    → IfSome o (λ m. Holds m u → IsNextVersion m u other lo found)
+same_next o u lo found key other e h = subst (λ (k : CellKey). IfSome o (λ m. Holds m u → IsNextVersion m u k lo found)) e h
+
+later_of : (o : Option Contents) (u : Tablet) (key : CellKey) (lo : ℕ) (found : Option (ℕ × Option (List ℕ))) → IfSome o (λ m. Holds m u → IsNextVersion m u key lo found)
+    → IfSome o (λ m. Holds m u → HasNoLater key lo (option_map (λ next. next.0) found) (map (listed m) (files_of u)))
+later_of o u key lo found h = if_one o h (λ m next held. (next held).later)
+
+here_of : (o : Option Contents) (u : Tablet) (key : CellKey) (lo : ℕ) (found : ℕ × Option (List ℕ)) → IfSome o (λ m. Holds m u → IsNextVersion m u key lo (Some found))
+    → IfSome o (λ m. Holds m u → IsTrue (has_row (range_of u) key.row) → get (cells_of (memory_of u)) (at_stamp key found.0) ≡ None → IsNewest (cells_at m u) (at_stamp key) found.0 found.0 (option_map (λ value. (found.0, value)) found.1))
+here_of o u key lo found h = if_one o h (λ m next held. (next held).here)
 
 same_one : (o : Option Contents) (u : Tablet) (found : Option (ℕ × List ℕ)) (key other : CellKey) → key ≡ other
     → IfSome o (λ m. Holds m u → IsTrue (has_row (range_of u) key.row) → IsNewest (cells_at m u) (at_stamp key) key.stamp key.stamp found)
@@ -41,23 +51,22 @@ returns-then-lo-hi-clause-found g c =
     if_one o (same_one o t (option_map stamped found) c.in_ok-key.key (at hi) named h) (λ m finds held has memory.
     subst (λ (least : ℕ). IsNewest (cells_at m t) at least hi (option_map stamped found)) (sym one) (finds held has)))
 
-pub returns-in-Some-2-clause-found : goal.returns-in-Some-2-clause-found
-returns-in-Some-2-clause-found g c =
+pub returns-in-Some-value-clause-found : goal.returns-in-Some-value-clause-found
+returns-in-Some-value-clause-found g c =
     let o = g.F.Files.contents c.args.files.now in
     let i = c.hidden.invariant in
     let t = c.args.self.now in
     let now = g.F.Files.contents c.hidden.files in
     let at = version c.args.row.now c.args.family.now c.args.qualifier in
-    let found = same_later now c.hidden.self c.args.lo (Some c.in-Some.stamp) c.hidden.key (at c.hidden.key.stamp) i.key (rw c.in-Some.is at c.in_ok-stamp.ensures.found) in
-    let named : c.set_stamp.new.self ≡ at c.in-Some.stamp = c.set_stamp.ensures ∙ ap (λ (k : CellKey). at_stamp k c.in-Some.stamp) i.key in
+    let stamp = c.in-Some.stamp in
+    let next = same_next now c.hidden.self c.args.lo (Some (stamp, Some c.in-Some-value.value.items)) c.hidden.key (at c.hidden.key.stamp) i.key
+    (rw c.in-Some-value.is at (rw c.in-Some.is at c.in_ok-stamp.ensures.found)) in
     let within = rw c.in-Some.is at c.in_ok-stamp.ensures.within in
-    let low : c.args.lo ≤ c.in-Some.stamp = within.0 in
-    let high : c.in-Some.stamp ≤ c.args.hi = (let a = within.1 in let b = i.high in omega (arith, a, b)) in
-    let after = none_after o t c.args.row.now c.args.family.now c.args.qualifier c.args.lo c.args.hi (g.F.Files.contents c.hidden.files) c.hidden.self i.same i.stays c.hidden.key.stamp (Some c.in-Some.stamp) i.told found in
-    shows o t c.args.row.now c.args.family.now c.args.qualifier c.args.lo c.args.hi (g.F.Files.contents c.newest_file_stamp.new.files) c.newest_file_stamp.new.self (c.newest_file_stamp.ensures.reads.files.same ∙ i.same)
-    (same_after_tablet o t c.hidden.self c.newest_file_stamp.new.self i.stays (over_now o (g.F.Files.contents c.hidden.files) c.hidden.self c.newest_file_stamp.new.self i.same c.newest_file_stamp.ensures.stays))
-    c.in-Some.stamp low high after (stamped c.in-Some-2.found)
-    (same_one (g.F.Files.contents c.newest_file_stamp.new.files) c.newest_file_stamp.new.self (Some (stamped c.in-Some-2.found)) c.set_stamp.new.self (at c.in-Some.stamp) named (rw c.in-Some-2.is at c.in_ok-found.ensures.found))
+    let high : stamp ≤ c.args.hi = (let a = within.1 in let b = i.high in omega (arith, a, b)) in
+    let after = none_after o t c.args.row.now c.args.family.now c.args.qualifier c.args.lo c.args.hi now c.hidden.self i.same i.stays c.hidden.key.stamp (Some stamp) i.told
+    (later_of now c.hidden.self (at c.hidden.key.stamp) c.args.lo (Some (stamp, Some c.in-Some-value.value.items)) next) in
+    shows o t c.args.row.now c.args.family.now c.args.qualifier c.args.lo c.args.hi now c.hidden.self i.same i.stays stamp within.0 high after (stamp, c.in-Some-value.value.items)
+    (here_of now c.hidden.self (at c.hidden.key.stamp) c.args.lo (stamp, Some c.in-Some-value.value.items) next)
 
 pub hidden-preserved : goal.hidden-preserved
 hidden-preserved g c =
@@ -66,25 +75,24 @@ hidden-preserved g c =
     let t = c.args.self.now in
     let now = g.F.Files.contents c.hidden.files in
     let at = version c.args.row.now c.args.family.now c.args.qualifier in
-    let found = same_later now c.hidden.self c.args.lo (Some c.in-Some.stamp) c.hidden.key (at c.hidden.key.stamp) i.key (rw c.in-Some.is at c.in_ok-stamp.ensures.found) in
-    let named : c.set_stamp.new.self ≡ at c.in-Some.stamp = c.set_stamp.ensures ∙ ap (λ (k : CellKey). at_stamp k c.in-Some.stamp) i.key in
+    let stamp = c.in-Some.stamp in
+    let next = same_next now c.hidden.self c.args.lo (Some (stamp, None)) c.hidden.key (at c.hidden.key.stamp) i.key (rw c.in_default-value.is at (rw c.in-Some.is at c.in_ok-stamp.ensures.found)) in
     let within = rw c.in-Some.is at c.in_ok-stamp.ensures.within in
-    let low : c.args.lo ≤ c.in-Some.stamp = within.0 in
-    let high : c.in-Some.stamp ≤ c.args.hi = (let a = within.1 in let b = i.high in omega (arith, a, b)) in
-    let last = ap (λ (k : CellKey). k.stamp) c.set_stamp-in-hidden.ensures in
-    let one : c.set_stamp-in-hidden.new.self.stamp + 1 ≡ c.in-Some.stamp = (let a = c.requires.from in omega (arith, a, low, last)) in
-    let after = none_after o t c.args.row.now c.args.family.now c.args.qualifier c.args.lo c.args.hi (g.F.Files.contents c.hidden.files) c.hidden.self i.same i.stays c.hidden.key.stamp (Some c.in-Some.stamp) i.told found in
-    let mid = same_after_tablet o t c.hidden.self c.newest_file_stamp.new.self i.stays (over_now o (g.F.Files.contents c.hidden.files) c.hidden.self c.newest_file_stamp.new.self i.same c.newest_file_stamp.ensures.stays) in
-    let same = c.newest_file_stamp.ensures.reads.files.same ∙ i.same in
+    let low : c.args.lo ≤ stamp = within.0 in
+    let high : stamp ≤ c.args.hi = (let a = within.1 in let b = i.high in omega (arith, a, b)) in
+    let named = rw c.in-Some.is at c.in_ok-stamp.ensures.key ∙ ap (λ (k : CellKey). at_stamp k stamp) i.key in
+    let last = ap (λ (k : CellKey). k.stamp) c.set_stamp.ensures in
+    let one : c.set_stamp.new.self.stamp + 1 ≡ stamp = (let a = c.requires.from in omega (arith, a, low, last)) in
+    let after = none_after o t c.args.row.now c.args.family.now c.args.qualifier c.args.lo c.args.hi now c.hidden.self i.same i.stays c.hidden.key.stamp (Some stamp) i.told
+    (later_of now c.hidden.self (at c.hidden.key.stamp) c.args.lo (Some (stamp, None)) next) in
     record {
-      same = c.version_at-in-hidden.ensures.reads.files.same ∙ same;
-      quiet = c.in_ok-found.ensures.reads.files.reason.told (not_err _ Device) ∙ c.in_ok-stamp.ensures.reads.files.reason.told (not_err _ Device) ∙ i.quiet;
+      same = c.next_version.ensures.reads.files.same ∙ i.same;
+      quiet = c.in_ok-stamp.ensures.reads.files.reason.told (not_err _ Device) ∙ i.quiet;
       high = omega (arith, high, one);
-      stays = same_after_tablet o t c.newest_file_stamp.new.self c.version_at-in-hidden.new.self mid (over_now o (g.F.Files.contents c.newest_file_stamp.new.files) c.newest_file_stamp.new.self c.version_at-in-hidden.new.self same c.version_at-in-hidden.ensures.stays);
-      told = hidden o t c.args.row.now c.args.family.now c.args.qualifier c.args.lo c.args.hi (g.F.Files.contents c.newest_file_stamp.new.files) c.newest_file_stamp.new.self same mid
-          c.in-Some.stamp low high after c.set_stamp-in-hidden.new.self.stamp one
-          (same_one (g.F.Files.contents c.newest_file_stamp.new.files) c.newest_file_stamp.new.self None c.set_stamp.new.self (at c.in-Some.stamp) named (rw c.in_default-2.is at c.in_ok-found.ensures.found));
-      key = c.set_stamp-in-hidden.ensures ∙ ap (λ (k : CellKey). at_stamp k (c.in-Some.stamp - 1)) named ∙ ap at (sym last);
+      stays = same_after_tablet o t c.hidden.self c.next_version.new.self i.stays (over_now o now c.hidden.self c.next_version.new.self i.same c.next_version.ensures.stays);
+      told = hidden o t c.args.row.now c.args.family.now c.args.qualifier c.args.lo c.args.hi now c.hidden.self i.same i.stays stamp low high after c.set_stamp.new.self.stamp one
+          (here_of now c.hidden.self (at c.hidden.key.stamp) c.args.lo (stamp, None) next);
+      key = c.set_stamp.ensures ∙ ap (λ (k : CellKey). at_stamp k (stamp - 1)) named ∙ ap at (sym last);
     }
 
 pub returns-in_default-clause-found : goal.returns-in_default-clause-found
@@ -93,35 +101,28 @@ returns-in_default-clause-found g c =
     let i = c.hidden.invariant in
     let now = g.F.Files.contents c.hidden.files in
     let at = version c.args.row.now c.args.family.now c.args.qualifier in
-    let found = same_later now c.hidden.self c.args.lo None c.hidden.key (at c.hidden.key.stamp) i.key (rw c.in_default.is at c.in_ok-stamp.ensures.found) in
+    let next = same_next now c.hidden.self c.args.lo None c.hidden.key (at c.hidden.key.stamp) i.key (rw c.in_default.is at c.in_ok-stamp.ensures.found) in
     none_left o c.args.self.now c.args.row.now c.args.family.now c.args.qualifier c.args.lo c.args.hi
-    (none_after o c.args.self.now c.args.row.now c.args.family.now c.args.qualifier c.args.lo c.args.hi (g.F.Files.contents c.hidden.files) c.hidden.self i.same i.stays c.hidden.key.stamp None i.told found)
+    (none_after o c.args.self.now c.args.row.now c.args.family.now c.args.qualifier c.args.lo c.args.hi now c.hidden.self i.same i.stays c.hidden.key.stamp None i.told
+    (later_of now c.hidden.self (at c.hidden.key.stamp) c.args.lo None next))
 
 pub returns-in_err-stamp-clause-stays : goal.returns-in_err-stamp-clause-stays
 returns-in_err-stamp-clause-stays g c =
     let o = g.F.Files.contents c.args.files.now in
     let i = c.hidden.invariant in
-    same_after_tablet o c.args.self.now c.hidden.self c.newest_file_stamp.new.self i.stays (over_now o (g.F.Files.contents c.hidden.files) c.hidden.self c.newest_file_stamp.new.self i.same c.newest_file_stamp.ensures.stays)
+    same_after_tablet o c.args.self.now c.hidden.self c.next_version.new.self i.stays (over_now o (g.F.Files.contents c.hidden.files) c.hidden.self c.next_version.new.self i.same c.next_version.ensures.stays)
 
-pub returns-in_err-found-clause-stays : goal.returns-in_err-found-clause-stays
-returns-in_err-found-clause-stays g c =
+pub returns-in-Some-value-clause-stays : goal.returns-in-Some-value-clause-stays
+returns-in-Some-value-clause-stays g c =
     let o = g.F.Files.contents c.args.files.now in
     let i = c.hidden.invariant in
-    let mid = same_after_tablet o c.args.self.now c.hidden.self c.newest_file_stamp.new.self i.stays (over_now o (g.F.Files.contents c.hidden.files) c.hidden.self c.newest_file_stamp.new.self i.same c.newest_file_stamp.ensures.stays) in
-    same_after_tablet o c.args.self.now c.newest_file_stamp.new.self c.version_at-in-hidden.new.self mid (over_now o (g.F.Files.contents c.newest_file_stamp.new.files) c.newest_file_stamp.new.self c.version_at-in-hidden.new.self (c.newest_file_stamp.ensures.reads.files.same ∙ i.same) c.version_at-in-hidden.ensures.stays)
-
-pub returns-in-Some-2-clause-stays : goal.returns-in-Some-2-clause-stays
-returns-in-Some-2-clause-stays g c =
-    let o = g.F.Files.contents c.args.files.now in
-    let i = c.hidden.invariant in
-    let mid = same_after_tablet o c.args.self.now c.hidden.self c.newest_file_stamp.new.self i.stays (over_now o (g.F.Files.contents c.hidden.files) c.hidden.self c.newest_file_stamp.new.self i.same c.newest_file_stamp.ensures.stays) in
-    same_after_tablet o c.args.self.now c.newest_file_stamp.new.self c.version_at-in-hidden.new.self mid (over_now o (g.F.Files.contents c.newest_file_stamp.new.files) c.newest_file_stamp.new.self c.version_at-in-hidden.new.self (c.newest_file_stamp.ensures.reads.files.same ∙ i.same) c.version_at-in-hidden.ensures.stays)
+    same_after_tablet o c.args.self.now c.hidden.self c.next_version.new.self i.stays (over_now o (g.F.Files.contents c.hidden.files) c.hidden.self c.next_version.new.self i.same c.next_version.ensures.stays)
 
 pub returns-in_default-clause-stays : goal.returns-in_default-clause-stays
 returns-in_default-clause-stays g c =
     let o = g.F.Files.contents c.args.files.now in
     let i = c.hidden.invariant in
-    same_after_tablet o c.args.self.now c.hidden.self c.newest_file_stamp.new.self i.stays (over_now o (g.F.Files.contents c.hidden.files) c.hidden.self c.newest_file_stamp.new.self i.same c.newest_file_stamp.ensures.stays)
+    same_after_tablet o c.args.self.now c.hidden.self c.next_version.new.self i.stays (over_now o (g.F.Files.contents c.hidden.files) c.hidden.self c.next_version.new.self i.same c.next_version.ensures.stays)
 
 -- the remaining versions are skipped together
 pub returns-clause-found : goal.returns-clause-found

@@ -4,7 +4,7 @@ use Rattle.sorted_file.specs.Source.{IsReadRefusal}
 use Rattle.file_store.specs.Store.{Contents}
 use Rattle.tablet.specs.Compactions.{IsMinorRefusal, TakesName}
 use Rattle.tablet.proofs.Passed.{err_kind, err_map, minor_read, not_err, passed_err, passed_kept, passed_none, passed_on, passed_over, reason_after}
-use Rattle.tablet.proofs.SplitParts.{cut_after, left_after, missing_before, parts_after}
+use Rattle.tablet.proofs.SplitParts.{cut_after, keeps_after, left_after, missing_before, parts_after}
 use Rattle.tablet.proofs.WrittenFiles.{as_on_ok, none_says}
 use Rattle.tablet.proofs.tablet.Tablet.split.Goals as goal
 
@@ -82,3 +82,8 @@ returns-clause-left g c =
 pub returns-clause-name : goal.returns-clause-name
 returns-clause-name g c =
     subst (λ (told : Option Contents). TakesName (g.F.Files.contents c.args.files.now) c.args.next_name.now told c.minor.new.next_name) (sym c.cut.ensures.reads.same) c.in_ok-minor.ensures.name
+
+pub returns-clause-keeps : goal.returns-clause-keeps
+returns-clause-keeps g c =
+    keeps_after c.cut.result (g.F.Files.contents c.args.files.now) (g.F.Files.contents c.minor.new.files) (g.F.Files.contents c.cut.new.files) c.args.next_name.now c.minor.new.next_name c.args.self.now c.minor.new.self c.cut.new.self
+    c.in_ok-minor.ensures.keeps c.cut.ensures.keeps

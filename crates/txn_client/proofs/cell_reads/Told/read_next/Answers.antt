@@ -1,8 +1,8 @@
-use Rattle.std.proofs.Common.{◌≡◌, ◌+◌, ◌∷◌, ◌++◌, [], option_map, sym, subst, ap}
+use Rattle.std.proofs.Common.{◌+◌, sym, subst, ap}
 use Rattle.std.specs.declared.result.Result.TheVariants.{Err}
 use Rattle.cell_key.proofs.Passed.{passed}
 use Rattle.cell_key.specs.declared.refusals.Refusal.TheVariants.{Damaged}
-use Rattle.si_model.specs.Replies.{found_item}
+use Rattle.si_model.specs.Answers.{told_item}
 use Rattle.si_model.specs.declared.replies.Cell.{Cell}
 use Rattle.txn_client.specs.CellReads.{IsReadSo}
 use Rattle.txn_client.proofs.CellReads.{lengths_now, said_next, short_more}
@@ -21,15 +21,15 @@ returns-clause-next g c = λ whole.
     let cells = g.R.Rows.seen.cells c.args.rows.now in
     let there = subst (λ (x : Cell). g.R.Rows.seen.readable c.args.rows.now x.row) (sym c.in_ok-cell.ensures.ok) whole in
     record {
-      said = option_map found_item c.said_after-said.result;
-      read = subst (λ (x : Cell). IsReadSo cells c.args.start c.args.self.now.bytes x (option_map found_item c.said_after-said.result)) c.in_ok-cell.ensures.ok
+      said = told_item c.said_after-said.result;
+      read = subst (λ (x : Cell). IsReadSo cells c.args.start c.args.self.now.bytes x (told_item c.said_after-said.result)) c.in_ok-cell.ensures.ok
           (record { found = c.in_ok-found.found; is_found = c.in_ok-found.ensures.found there; told = c.said_after-said.ensures.told });
       found = said_next _ _ _ c.in_ok-push.ensures.items;
       bytes = ap (λ n. c.args.self.now.bytes + n) c.told_bytes.ensures;
     }
 
 pub returns-clause-sum : goal.returns-clause-sum
-returns-clause-sum g c = lengths_now c.args.self.now.bytes _ _ _ (option_map found_item c.said_after-said.result) c.requires.sum (said_next _ _ _ c.in_ok-push.ensures.items) (ap (λ n. c.args.self.now.bytes + n) c.told_bytes.ensures)
+returns-clause-sum g c = lengths_now c.args.self.now.bytes _ _ _ (told_item c.said_after-said.result) c.requires.sum (said_next _ _ _ c.in_ok-push.ensures.items) (ap (λ n. c.args.self.now.bytes + n) c.told_bytes.ensures)
 
 pub returns-clause-short : goal.returns-clause-short
 returns-clause-short g c = short_more _ _ c.said_after-said.result c.args.self.now.bytes _ _ c.in_ok-push.ensures.items c.requires.short c.said_after-said.ensures.few (ap (λ n. c.args.self.now.bytes + n) c.told_bytes.ensures)

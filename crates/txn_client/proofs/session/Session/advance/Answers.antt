@@ -14,10 +14,11 @@ use Rattle.rows.specs.Calls.{OnlyReads, View}
 use Rattle.rows.proofs.Calls.{reads_none}
 use Rattle.txn_client.specs.Shows.{Advances, DrawsNext, HasNoNext, top_after}
 use Rattle.txn_client.specs.Refusals.{IsAdvanceRefusal, IsCellStepRefusal, IsReadableAt, StepLeaves, next_cell}
+use Rattle.txn_client.specs.Room.{MeetsIn}
 use Rattle.txn_client.specs.declared.session.Phase.{Phase}
 use Rattle.txn_client.specs.declared.session.Phase.TheVariants.{Open, Holding, Stamped, Finishing}
 use Rattle.txn_client.specs.declared.session.Session.{Session}
-use Rattle.txn_client.proofs.Room.{does_so, edits_in, no_room_so, stamped_does}
+use Rattle.txn_client.proofs.Room.{does_so, edits_in, met_so, no_room_so, stamped_does, stamped_met}
 use Rattle.txn_client.proofs.SessionSteps.{ok_at}
 use Rattle.txn_client.proofs.session.Session.advance.Goals as goal
 
@@ -120,6 +121,7 @@ returns-in-Open g c =
       err = at.err;
       refused = left_aside _ _ _ _ _ r at.same;
       does = IfOk-weaker r _ _ (λ o. does_so g.R.Rows.seen rows c.hold_next.new.rows o.progress (edits_in holds cells session (Open) c.in-Open.is)) at.does;
+      met = IfOk-weaker r _ _ (λ o. met_so o.progress (λ place met. subst (λ (p : Phase). MeetsIn p holds cells session place) (sym c.in-Open.is) met)) at.met;
       refusal = cell_refused g.R.Rows.seen rows session Open r _ _ c.in-Open.is (λ none. subst (λ (p : Phase). HasNoNext p (length session.writes)) (sym c.in-Open.is) none) at.refusal;
       empty = λ is. at.empty;
       drawing = λ is. absurd (not_held_open _ _ c.in-Open.is is);
@@ -144,6 +146,7 @@ returns-then-k-len g c =
       err = at.err;
       refused = left_undrawn _ _ _ _ _ r at.stays at.range at.mark;
       does = IfOk-weaker r _ _ (λ o. stamped_does g.R.Rows.seen rows _ o.progress) at.stamped;
+      met = IfOk-weaker r _ _ (λ o. stamped_met _ o.progress) at.stamped;
       refusal = draw_refused r _ _ at.refusal;
       empty = λ is. absurd (not_held_open _ _ is c.in-Holding.is);
       drawing = λ is. at.refusal;
@@ -170,6 +173,7 @@ returns-else-k-len g c =
       err = at.err;
       refused = left_aside _ _ _ _ _ r at.same;
       does = IfOk-weaker r _ _ (λ o. does_so g.R.Rows.seen rows c.hold_next-else-k-len.new.rows o.progress (edits_in holds cells session (Holding c.in-Holding.k) c.in-Holding.is)) at.does;
+      met = IfOk-weaker r _ _ (λ o. met_so o.progress (λ place met. subst (λ (p : Phase). MeetsIn p holds cells session place) (sym c.in-Holding.is) met)) at.met;
       refusal = cell_refused g.R.Rows.seen rows session (Holding c.in-Holding.k) r _ _ c.in-Holding.is (no_next _ _ _ _ c.in-Holding.is c.if-k-len.false c.len.ensures.len) at.refusal;
       empty = λ is. absurd (not_held_open _ _ is c.in-Holding.is);
       drawing = λ is. absurd (held_some _ _ _ _ c.in-Holding.is c.if-k-len.false c.len.ensures.len is);
@@ -196,6 +200,7 @@ returns-in-Stamped g c =
       err = at.err;
       refused = left_aside _ _ _ _ _ r at.same;
       does = IfOk-weaker r _ _ (λ o. does_so g.R.Rows.seen rows c.commit_first.new.rows o.progress (edits_in holds cells session (Stamped) c.in-Stamped.is)) at.does;
+      met = IfOk-weaker r _ _ (λ o. met_so o.progress (λ place none. absurd none)) at.met;
       refusal = cell_refused g.R.Rows.seen rows session Stamped r _ _ c.in-Stamped.is (λ none. subst (λ (p : Phase). HasNoNext p (length session.writes)) (sym c.in-Stamped.is) none) at.refusal;
       empty = λ is. absurd (not_open_stamped _ c.in-Stamped.is is);
       drawing = λ is. absurd (not_held_stamped _ _ c.in-Stamped.is is);
@@ -222,6 +227,7 @@ returns-in-Finishing g c =
       err = at.err;
       refused = left_aside _ _ _ _ _ r at.same;
       does = IfOk-weaker r _ _ (λ o. does_so g.R.Rows.seen rows c.finish_next.new.rows o.progress (edits_in holds cells session (Finishing c.in-Finishing.k) c.in-Finishing.is)) at.does;
+      met = IfOk-weaker r _ _ (λ o. met_so o.progress (λ place none. absurd none)) at.met;
       refusal = cell_refused g.R.Rows.seen rows session (Finishing c.in-Finishing.k) r _ _ c.in-Finishing.is (λ none. subst (λ (p : Phase). HasNoNext p (length session.writes)) (sym c.in-Finishing.is) none) at.refusal;
       empty = λ is. absurd (not_open_finishing _ _ c.in-Finishing.is is);
       drawing = λ is. absurd (not_held_finishing _ _ _ c.in-Finishing.is is);

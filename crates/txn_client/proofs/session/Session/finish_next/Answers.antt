@@ -26,6 +26,7 @@ returns-in_default g c = record {
   writes = refl;
   err = refl;
   does = tt;
+  met = tt;
   same = reads_none;
   refusal = c.in_default.ensures.none;
   full = λ is. absurd (empty_not_full is);
@@ -45,6 +46,7 @@ returns-in_err-_stood g c =
       writes = refl;
       err = passed_kept r _ refl;
       does = passed_none r e _ by;
+      met = passed_none r e _ by;
       same = passed_kept r _ at.err;
       refusal = passed_err r e _ by (row_step _ _ _ e (λ whole. whole c.in-Some.write.now c.in-Some.ensures.found) at.refusal);
       full = λ is. no_room_so g.R.Rows.seen.overfills c.args.rows.now (λ row edits such. (c.in-Some.write.now, c.in-Some.ensures.found, rw c.kind-kind.ensures at such)) (at.full (passed_on r _ e _ by refl is));
@@ -75,6 +77,7 @@ returns g c =
         | inl made ↦ inl (such_so (λ row edits such. (write, c.in-Some.ensures.found, such)) made)
         | inr left ↦ inr left
       ];
+      met = tt;
       same = tt;
       refusal = tt;
       full = λ is. absurd (not_refused _ _ is);

@@ -1,4 +1,4 @@
-use Rattle.std.proofs.Common.{◌≡◌, ◌≢◌, ◌∙◌, ◌+◌, ◌≤◌, ◌<◌, ◌^◌, ℕ, List, map, length, sym, subst, ap, refl}
+use Rattle.std.proofs.Common.{◌∙◌, ℕ, List, map, length, sym, subst, ap, refl}
 use Rattle.std.specs.declared.result.Result.TheVariants.{Err}
 use Rattle.cell_key.proofs.Passed.{as_err, same_refusal}
 use Rattle.cell_key.specs.Cells.{Cells}
@@ -6,9 +6,9 @@ use Rattle.cell_key.specs.declared.refusals.Refusal.{Refusal}
 use Rattle.cell_key.specs.declared.refusals.Refusal.TheVariants.{MemtableFull}
 use Rattle.oracle.specs.Ranges.{OracleState}
 use Rattle.si_model.specs.Answers.{writes_named}
-use Rattle.si_model.specs.Transactions.{Commit, CommitDone}
+use Rattle.si_model.specs.Transactions.{Commit, CommitConflict, CommitDone}
 use Rattle.si_model.specs.PutCells.{all_put_cells}
-use Rattle.txn_client.specs.Commits.{CommitsIn, IsCopyRefusal, PutsWith}
+use Rattle.txn_client.specs.Commits.{CommitsIn, IsCopyRefusal}
 use Rattle.txn_client.specs.Takings.{AreFree, IsFirstTaken}
 use Rattle.txn_client.specs.Transactions.{GoesAs}
 use Rattle.txn_client.specs.Writes.{write_of}
@@ -75,19 +75,20 @@ returns-in-Some-clause-step g c = λ held.
     let before = c.in_ok-found.found.writes in
     let has = subst (λ (n : ℕ). CommitsIn self n c.args.start s before) c.last.ensures.last c.in_ok-found.ensures.session in
     let place = c.in-Some.place in
-    let first = some_at (IsFirstTaken cells c.stamp.result c.as_slice.result.now) c.in_ok-place.field-0 place c.in-Some.is (c.in_ok-place.ensures.taken (λ k w there. g.R.Rows.seen.each_readable c.args.rows.now held w.cell.row)) in
-    conflict_at cells (g.R.Rows.seen.cells c.first_taken.new.rows) self last c.top_after_conflict.new.oracle.last c.args.start (writes_named c.args.asked.now) s before has c.in_ok-writes.writes c.in_ok-writes.ensures.takes
+    let first = some_at (IsFirstTaken cells c.stamp-session.result c.as_slice.result.now) c.in_ok-place.field-0 place c.in-Some.is (c.in_ok-place.ensures.taken (λ k w there. g.R.Rows.seen.each_readable c.args.rows.now held w.cell.row)) in
+    subst (λ (n : ℕ). GoesAs cells self last (Commit c.args.start (writes_named c.args.asked.now)) (CommitConflict n place) (g.R.Rows.seen.cells c.first_taken.new.rows) c.end.new.self c.top_after_conflict.new.oracle.last) (sym c.stamp-session.ensures.stamp)
+    (conflict_at cells (g.R.Rows.seen.cells c.first_taken.new.rows) self last c.top_after_conflict.new.oracle.last c.args.start (writes_named c.args.asked.now) s before has c.in_ok-writes.writes c.in_ok-writes.ensures.takes
     c.in_ok-place.ensures.reads.kept c.end.new.self c.in_ok-top.top place c.end.ensures c.in_ok-top.ensures.named (λ is0. (c.in_ok-top.ensures.new is0).0)
     (λ ne. ap (λ (o : OracleState g.row.M.Denot). o.last) (c.in_ok-top.ensures.aside ne)) (λ is0. (c.in_ok-top.ensures.new is0).1 ∙ (c.in_ok-top.ensures.new is0).0)
-    (subst (λ (p : ℕ × List Write). IsFirstTaken cells p.0 p.1 place) (λ j. (c.stamp.ensures.stamp j, c.as_slice.ensures.writes j)) first)
+    (subst (λ (p : ℕ × List Write). IsFirstTaken cells p.0 p.1 place) (λ j. (c.stamp-session.ensures.stamp j, c.as_slice.ensures.writes j)) first))
 
 pub returns-in-Some-clause-does : goal.returns-in-Some-clause-does
 returns-in-Some-clause-does g c =
     let last = c.args.oracle.now.last in
     let place = c.in-Some.place in
     conflicts_by g.R.Rows.seen c.args.rows.now c.first_taken.new.rows c.first_taken.new.rows c.in_ok-place.ensures.reads c.args.self.now last c.args.start (writes_named c.args.asked.now) c.in_ok-found.found.writes c.in_ok-writes.writes c.in_ok-found.found.start c.last.result
-    c.last.ensures.last c.in_ok-found.ensures.session c.in_ok-writes.ensures.takes c.as_slice.result.now c.stamp.result place c.as_slice.ensures.writes c.stamp.ensures.stamp
-    (λ readable. some_at (IsFirstTaken (g.R.Rows.seen.cells c.args.rows.now) c.stamp.result c.as_slice.result.now) c.in_ok-place.field-0 place c.in-Some.is (c.in_ok-place.ensures.taken readable))
+    c.last.ensures.last c.in_ok-found.ensures.session c.in_ok-writes.ensures.takes c.as_slice.result.now c.stamp-session.result place c.as_slice.ensures.writes c.stamp-session.ensures.stamp
+    (λ readable. some_at (IsFirstTaken (g.R.Rows.seen.cells c.args.rows.now) c.stamp-session.result c.as_slice.result.now) c.in_ok-place.field-0 place c.in-Some.is (c.in_ok-place.ensures.taken readable))
 
 pub returns-in_err-commit-clause-step : goal.returns-in_err-commit-clause-step
 returns-in_err-commit-clause-step g c = λ held.
@@ -119,19 +120,19 @@ returns-clause-step g c = λ held.
     let commit = c.in_ok-commit.commit in
     let reads = c.in_ok-place.ensures.reads in
     let stamp = commit_stamp last c.args.start last c.stamps_drawn-count.result commit refl c.stamps_drawn-count.ensures.new c.stamps_drawn-count.ensures.named c.in_ok-commit.ensures.commit in
-    let free = none_at (AreFree cells c.stamp.result c.as_slice.result.now _) c.in_ok-place.field-0 c.in_default.is (c.in_ok-place.ensures.free (λ k w there. g.R.Rows.seen.each_readable c.args.rows.now held w.cell.row)) in
+    let free = none_at (AreFree cells c.stamp-session.result c.as_slice.result.now _) c.in_ok-place.field-0 c.in_default.is (c.in_ok-place.ensures.free (λ k w there. g.R.Rows.seen.each_readable c.args.rows.now held w.cell.row)) in
     let puts = c.in_ok-commit.ensures.puts in
     let made = puts.made (reads.still held) ∙ (ap (λ (m : Cells). all_put_cells m (map write_of c.into_vec.result.items) s commit) reads.kept ∙ ap (λ (l : List Write). all_put_cells cells (map write_of l) s commit) c.into_vec.ensures) in
-    subst (λ (n : ℕ). GoesAs cells self last (Commit c.args.start asked) (CommitDone n commit) (g.R.Rows.seen.cells c.put_at_once.new.rows) c.end-2.new.self c.put_at_once.new.oracle.last) (sym c.stamp-2.ensures.stamp)
+    subst (λ (n : ℕ). GoesAs cells self last (Commit c.args.start asked) (CommitDone n commit) (g.R.Rows.seen.cells c.put_at_once.new.rows) c.end-2.new.self c.put_at_once.new.oracle.last) (sym c.stamp-session.ensures.stamp)
     (commit_at cells (g.R.Rows.seen.cells c.put_at_once.new.rows) self last c.put_at_once.new.oracle.last c.args.start asked s before has ws c.in_ok-writes.ensures.takes commit c.end-2.new.self stamp c.in_ok-commit.ensures.limit c.in_ok-commit.ensures.served
     (some_writes ws c.len.result c.len.ensures.len c.if-len-eq0.false)
-    (subst (λ (p : ℕ × List Write). AreFree cells p.0 p.1 (length p.1)) (λ j. (c.stamp.ensures.stamp j, c.as_slice.ensures.writes j)) free)
+    (subst (λ (p : ℕ × List Write). AreFree cells p.0 p.1 (length p.1)) (λ j. (c.stamp-session.ensures.stamp j, c.as_slice.ensures.writes j)) free)
     made c.end-2.ensures)
 
 pub returns-clause-does : goal.returns-clause-does
 returns-clause-does g c =
     let last = c.args.oracle.now.last in
     commits_by g.R.Rows.seen c.args.rows.now c.first_taken.new.rows c.put_at_once.new.rows c.in_ok-place.ensures.reads c.args.self.now last c.args.start (writes_named c.args.asked.now) c.in_ok-found.found.writes c.in_ok-writes.writes c.in_ok-found.found.start c.last.result
-    c.last.ensures.last c.in_ok-found.ensures.session c.in_ok-writes.ensures.takes c.as_slice.result.now c.into_vec.result.items c.in_ok-commit.commit c.stamp-2.result c.stamp.result c.as_slice.ensures.writes c.into_vec.ensures c.stamp-2.ensures.stamp c.stamp.ensures.stamp
+    c.last.ensures.last c.in_ok-found.ensures.session c.in_ok-writes.ensures.takes c.as_slice.result.now c.into_vec.result.items c.in_ok-commit.commit c.stamp-session.result c.as_slice.ensures.writes c.into_vec.ensures c.stamp-session.ensures.stamp
     (commit_stamp last c.args.start last c.stamps_drawn-count.result c.in_ok-commit.commit refl c.stamps_drawn-count.ensures.new c.stamps_drawn-count.ensures.named c.in_ok-commit.ensures.commit)
-    (λ readable. none_at (AreFree (g.R.Rows.seen.cells c.args.rows.now) c.stamp.result c.as_slice.result.now _) c.in_ok-place.field-0 c.in_default.is (c.in_ok-place.ensures.free readable)) c.in_ok-commit.ensures.puts
+    (λ readable. none_at (AreFree (g.R.Rows.seen.cells c.args.rows.now) c.stamp-session.result c.as_slice.result.now _) c.in_ok-place.field-0 c.in_default.is (c.in_ok-place.ensures.free readable)) c.in_ok-commit.ensures.puts

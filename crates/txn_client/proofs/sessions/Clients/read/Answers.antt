@@ -1,9 +1,9 @@
-use Rattle.std.proofs.Common.{◌≡◌, ◌∙◌, ◌≤◌, ℕ, length, sym, subst, ap, refl}
+use Rattle.std.proofs.Common.{◌∙◌, ℕ, length, subst, ap, refl}
 use Rattle.std.specs.declared.result.Result.TheVariants.{Err}
 use Rattle.cell_key.proofs.Passed.{as_err}
 use Rattle.cell_key.specs.declared.refusals.Refusal.{Refusal}
 use Rattle.oracle.specs.Ranges.{OracleState}
-use Rattle.txn_client.specs.CellReads.{said_in}
+use Rattle.si_model.specs.Answers.{told_items}
 use Rattle.txn_client.specs.Transactions.{HasSession, IsSessionRefusal}
 use Rattle.txn_client.proofs.ReadsShown.{bad_count, good_count, crowded_refusal, ends_open, ends_stopped, miscounts_at, session_refused_at, read_refused_at, begin_refused_at, reads_named_at, reads_new_at, steps_to}
 use Rattle.txn_client.proofs.sessions.Clients.read.Goals as goal
@@ -56,9 +56,9 @@ returns-then-stays_open-clause-step g c = λ held.
     let last = c.args.oracle.now.last in
     let end = ends_open cells s c.if-start-eq0.self c.if-start-eq0.oracle.last c.args.stays_open c.if-stays_open.true in
     elim c.if-start-eq0.branch [
-      | then-start-eq0+in_ok-begin w ↦ reads_new_at cells (g.R.Rows.seen.cells c.read_all.new.rows) self last c.args.start c.args.names.now c.args.stays_open c.in_ok-found.ensures.reads.kept few s w.in_ok-begin.field-0 (said_in c.in_ok-found.found.items) read
+      | then-start-eq0+in_ok-begin w ↦ reads_new_at cells (g.R.Rows.seen.cells c.read_all.new.rows) self last c.args.start c.args.names.now c.args.stays_open c.in_ok-found.ensures.reads.kept few s w.in_ok-begin.field-0 (told_items c.in_ok-found.found.items) read
           w.if-start-eq0.true w.in_ok-begin.ensures.next.0 has c.if-start-eq0.self c.if-start-eq0.oracle.last (steps_to w.self-is (ap (λ (o : OracleState g.row.M.Denot). o.last) w.oracle-is) (w.in_ok-begin.ensures.step cells)) _ end
-      | else-start-eq0 w ↦ reads_named_at cells (g.R.Rows.seen.cells c.read_all.new.rows) self last c.args.start c.args.names.now c.args.stays_open c.in_ok-found.ensures.reads.kept few s (said_in c.in_ok-found.found.items) read
+      | else-start-eq0 w ↦ reads_named_at cells (g.R.Rows.seen.cells c.read_all.new.rows) self last c.args.start c.args.names.now c.args.stays_open c.in_ok-found.ensures.reads.kept few s (told_items c.in_ok-found.found.items) read
           w.if-start-eq0.false has c.if-start-eq0.self c.if-start-eq0.oracle.last w.self-is (ap (λ (o : OracleState g.row.M.Denot). o.last) w.oracle-is) _ end
     ]
 
@@ -73,8 +73,8 @@ returns-clause-step g c = λ held.
     let last = c.args.oracle.now.last in
     let end = ends_stopped cells s c.if-start-eq0.self c.stop.new.self c.if-start-eq0.oracle.last c.args.stays_open c.stop.result c.if-stays_open.false c.stop.ensures.refusal (c.stop.ensures.step cells c.if-start-eq0.oracle.last) in
     elim c.if-start-eq0.branch [
-      | then-start-eq0+in_ok-begin w ↦ reads_new_at cells (g.R.Rows.seen.cells c.read_all.new.rows) self last c.args.start c.args.names.now c.args.stays_open c.in_ok-found.ensures.reads.kept few s w.in_ok-begin.field-0 (said_in c.in_ok-found.found.items) read
+      | then-start-eq0+in_ok-begin w ↦ reads_new_at cells (g.R.Rows.seen.cells c.read_all.new.rows) self last c.args.start c.args.names.now c.args.stays_open c.in_ok-found.ensures.reads.kept few s w.in_ok-begin.field-0 (told_items c.in_ok-found.found.items) read
           w.if-start-eq0.true w.in_ok-begin.ensures.next.0 has c.if-start-eq0.self c.if-start-eq0.oracle.last (steps_to w.self-is (ap (λ (o : OracleState g.row.M.Denot). o.last) w.oracle-is) (w.in_ok-begin.ensures.step cells)) _ end
-      | else-start-eq0 w ↦ reads_named_at cells (g.R.Rows.seen.cells c.read_all.new.rows) self last c.args.start c.args.names.now c.args.stays_open c.in_ok-found.ensures.reads.kept few s (said_in c.in_ok-found.found.items) read
+      | else-start-eq0 w ↦ reads_named_at cells (g.R.Rows.seen.cells c.read_all.new.rows) self last c.args.start c.args.names.now c.args.stays_open c.in_ok-found.ensures.reads.kept few s (told_items c.in_ok-found.found.items) read
           w.if-start-eq0.false has c.if-start-eq0.self c.if-start-eq0.oracle.last w.self-is (ap (λ (o : OracleState g.row.M.Denot). o.last) w.oracle-is) _ end
     ]

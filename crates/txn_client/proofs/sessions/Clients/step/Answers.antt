@@ -11,7 +11,7 @@ use Rattle.cell_key.proofs.Reasons.{not_refused, reason_kept, reason_none, reaso
 use Rattle.rows.proofs.Calls.{reads_keep, reads_none}
 use Rattle.txn_client.specs.Refusals.{HasOneReason, IsAdvanceRefusal, IsReadableAt, next_cell}
 use Rattle.txn_client.specs.declared.session.Session.{Session}
-use Rattle.txn_client.proofs.Room.{changes_shown, does_below, does_make, does_so, does_take, does_touch, draws_shown, edits_touch, no_room_so, same_touch}
+use Rattle.txn_client.proofs.Room.{changes_shown, does_below, does_make, does_so, does_take, does_touch, draws_shown, edits_touch, met_so, no_room_so, same_touch}
 use Rattle.txn_client.proofs.Passed.{as_err, passed_on, passed_err, passed_none, passed_kept, refused_not, advance_step}
 use Rattle.txn_client.proofs.Exact.{is_kept, is_there, passes, unwritten_none, unwritten_phase}
 use Rattle.txn_client.proofs.Table.{entries_each, same_each, takes_at, steps_refused, advance_unknown_at, twice, with_none, touches_at, draws_next, never_draws}
@@ -221,6 +221,7 @@ returns-in_default-clause-reason g c = inl (reason_none _ _ unknown_no_device, r
 pub returns-then-outcome-clause-accepted : goal.returns-then-outcome-clause-accepted
 returns-then-outcome-clause-accepted g c = record {
   does = does_so g.R.Rows.seen c.args.rows.now c.advance.new.rows c.in_ok-outcome.outcome.progress (λ row edits is. (c.in-Some.session.now, sym c.in-Some.ensures.value, is)) c.in_ok-outcome.ensures.does;
+  met = met_so c.in_ok-outcome.outcome.progress (λ place met. (c.in-Some.session.now, sym c.in-Some.ensures.value, met)) c.in_ok-outcome.ensures.met;
   made = λ held st reached shown kept.
       does_make g.R.Rows.seen c.args.rows.now c.advance.new.rows held _ c.in_ok-outcome.outcome.progress
       (does_so g.R.Rows.seen c.args.rows.now c.advance.new.rows c.in_ok-outcome.outcome.progress (λ row edits is. changes_shown (g.R.Rows.seen.holds c.args.rows.now) (g.R.Rows.seen.cells c.args.rows.now) c.args.self.now c.args.start held st reached shown kept row edits (c.in-Some.session.now, sym c.in-Some.ensures.value, is)) c.in_ok-outcome.ensures.does);
@@ -250,6 +251,7 @@ returns-then-outcome-clause-no_stamp g c = λ is. absurd (not_refused _ _ is)
 pub returns-else-outcome-clause-accepted : goal.returns-else-outcome-clause-accepted
 returns-else-outcome-clause-accepted g c = record {
   does = does_so g.R.Rows.seen c.args.rows.now c.advance.new.rows c.in_ok-outcome.outcome.progress (λ row edits is. (c.in-Some.session.now, sym c.in-Some.ensures.value, is)) c.in_ok-outcome.ensures.does;
+  met = met_so c.in_ok-outcome.outcome.progress (λ place met. (c.in-Some.session.now, sym c.in-Some.ensures.value, met)) c.in_ok-outcome.ensures.met;
   made = λ held st reached shown kept.
       does_make g.R.Rows.seen c.args.rows.now c.advance.new.rows held _ c.in_ok-outcome.outcome.progress
       (does_so g.R.Rows.seen c.args.rows.now c.advance.new.rows c.in_ok-outcome.outcome.progress (λ row edits is. changes_shown (g.R.Rows.seen.holds c.args.rows.now) (g.R.Rows.seen.cells c.args.rows.now) c.args.self.now c.args.start held st reached shown kept row edits (c.in-Some.session.now, sym c.in-Some.ensures.value, is)) c.in_ok-outcome.ensures.does);

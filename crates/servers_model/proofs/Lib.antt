@@ -1,0 +1,7 @@
+mod Added
+mod Below
+mod Beside
+mod Changed
+mod Merging
+mod Raised
+mod Turn
