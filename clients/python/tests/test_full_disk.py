@@ -12,7 +12,7 @@ from pathlib import Path
 from duqishom import Committed, Device, Qualifier, Store, Value
 from duqishom.files import log_of
 from duqishom.program import default_program
-from duqishom.protocol import Sweep
+from duqishom.protocol import Checkpoint, More, Sweep
 from tests.folders import FolderTest
 
 FAMILY = b"c"
@@ -20,6 +20,9 @@ FAMILY = b"c"
 # So many stamps need two further marks of the oracle, each in a record of the log. There is room for these where there
 # is none for a step.
 STAMPS = 2_500
+
+# The bytes in which a small disk's room is counted.
+PAGE = 4_096
 
 
 class FullDisk(FolderTest):
@@ -118,22 +121,64 @@ class FullDisk(FolderTest):
         with self.opened() as store:
             self.assertEqual(store.get(store.begin(), b"000", FAMILY), Value(bytes(60_000)))
 
-    def test_a_small_disk(self) -> None:
+    def mount(self) -> None:
+        """Puts a small disk under the store's folder."""
         mount = ["mount", "-t", "tmpfs", "-o", "size=16m", "none", str(self.store_folder)]
         if os.geteuid() != 0 or subprocess.run(mount, capture_output=True).returncode != 0:
             self.skipTest("no disk can be mounted here")
         self.addCleanup(lambda: subprocess.run(["umount", str(self.store_folder)], check=True))
+
+    def fill_disk(self, pages: int = 0) -> Path:
+        """Fills the small disk but for some pages. Returns the file that does."""
         ballast = self.store_folder / "ballast"
+        with ballast.open("wb", buffering=0) as file:
+            try:
+                while True:
+                    file.write(bytes(PAGE))
+            except OSError:
+                pass
+            file.truncate(max(0, file.tell() - pages * PAGE))
+        return ballast
 
-        def fill() -> None:
-            with ballast.open("wb", buffering=0) as file:
+    def test_a_small_disk(self) -> None:
+        self.mount()
+        self.goes_on(lambda: self.assertTrue(self.fill_disk().exists()), (self.store_folder / "ballast").unlink)
+
+    def test_checkpoints_on_a_small_disk(self) -> None:
+        """Each is made or refused, whichever of its files is the one that finds no room."""
+        self.mount()
+        refused = []
+        with self.opened() as store:
+            for pages in range(16):
+                self.put(store, pages)
+                ballast = self.fill_disk(pages)
                 try:
-                    while True:
-                        file.write(bytes(4096))
-                except OSError:
-                    pass
+                    store.ask(Checkpoint())
+                except Device:
+                    refused.append(pages)
+                ballast.unlink()
+            store.ask(Checkpoint())
+            store.kill()
+        self.assertIn(0, refused)
+        with self.opened() as store:
+            rows = store.run(lambda t: [t.get(b"%03d" % number, FAMILY) for number in range(17)])
+        self.assertEqual(rows, [bytes(60_000)] * 16 + [None])
 
-        self.goes_on(fill, ballast.unlink)
+    def test_a_collector_without_room(self) -> None:
+        """A step of many visits is refused as long as there is no room for what it may write."""
+        rows = [bytes([number]) * 4_000 for number in range(1, 6)]
+        with self.opened() as store:
+            for number in range(130):
+                store.run(lambda t: [t.put(row, FAMILY, b"%d" % number) for row in rows])
+            collector = store.collect_begin().number
+            self.limit(self.log().stat().st_size + 2_000_000)
+            for _ in range(3):
+                self.assertRaises(Device, store.collect_step, collector, 1_000)
+            self.assertEqual(store.run(lambda t: t.get(rows[4], FAMILY)), b"129")
+            self.limit(resource.RLIM_INFINITY)
+            while isinstance(store.collect_step(collector, 1_000), More):
+                pass
+            self.assertEqual(store.run(lambda t: [t.get(row, FAMILY) for row in rows]), [b"129"] * 5)
 
     def test_a_kill_with_room_behind_the_log(self) -> None:
         with self.opened() as store:

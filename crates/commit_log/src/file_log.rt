@@ -137,6 +137,10 @@ impl<F: LogFile> Log for FileLog<F> {
         self.file.reserve(more)
     }
 
+    fn reserve_renewal(&mut self) -> Result<(), LogFault> {
+        self.file.reserve_renewal()
+    }
+
     fn append(&mut self, kind: RecordKind, stamp: Stamp, body: &[u8]) -> Result<(), LogFault> {
         let frame = frame_to_append(self.alloc, self.next, kind, stamp, body)?;
         self.file.write(&frame)?;

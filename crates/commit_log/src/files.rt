@@ -37,6 +37,14 @@ pub trait LogFile {
         ensures taken { ¬ IsErrOf result LogFault.Refused }
         ensures cause { HasFaultCause (faults self.old) (faults self.new) result };
 
+    /// Makes room for a renewal by at most 4,096 bytes, if it is a file that has room. The bytes are unchanged.
+    fn reserve_renewal(&mut self) -> Result<(), LogFault>
+        ensures same { bytes self.new ≡ bytes self.old }
+        ensures stays { is_stopped self.old → is_stopped self.new }
+        ensures intact { ¬ IsErrOf result LogFault.Damaged }
+        ensures taken { ¬ IsErrOf result LogFault.Refused }
+        ensures cause { HasFaultCause (faults self.old) (faults self.new) result };
+
     /// Appends bytes, and forces them to the disk. After an `Err` a prefix of them may have been appended.
     fn write(&mut self, more: &[u8]) -> Result<(), LogFault>
         ensures ok { OnOk result (bytes self.new ≡ with_more more.now (bytes self.old)) }

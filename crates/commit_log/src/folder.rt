@@ -13,9 +13,11 @@ use crate::files::LogFile;
 use crate::frames::{HEAD, read_log};
 use crate::numbers::number_bytes;
 use crate::store_log::{new_log, read_store_log, upgrade_log};
-use disk::{if_there, look_at, open_regular, replace_file, sync_folder};
+use disk::{
+    create_beside, if_there, look_at, open_regular, replace_file, sync_folder, write_synced,
+};
 use std::alloc::{AllocError, Global};
-use std::fs::{File, OpenFile, OpenOptions};
+use std::fs::{File, OpenFile, OpenOptions, remove_file};
 use std::io;
 use std::io::{ErrorKind, Read, Seek, SeekFrom, Write};
 use std::rt::Files as Folders;
@@ -38,6 +40,9 @@ const SIGN_HEAD: [u8; 8] = *b"TABSTORE";
 /// The length of a piece of room, in bytes.
 const PIECE: usize = 131_072;
 
+/// The length of the room for a renewal, in bytes. A log that has only the name of a root is shorter.
+const RENEWAL_ROOM: usize = 4_096;
+
 /// A log in the file `commit.log` of a folder. Its contract doesn't know the bytes.
 pub type DirLog<R> = FileLog<DirFile<R>>;
 
@@ -54,6 +59,8 @@ pub struct DirFile<R> {
     end: usize,
     /// The offset of the end of the room.
     len: usize,
+    /// The temporary file is there, and has room for a renewal.
+    has_renewal_room: bool,
     is_stopped: bool,
     faults: u64,
 }
@@ -157,6 +164,41 @@ fn place_file<R: Folders + AllocGlobal>(
     let path = path_of(rt.alloc(), folder, name)?;
     let beside = path_of(rt.alloc(), folder, BESIDE)?;
     replace_file(rt, folder, beside.as_str(), path.as_str(), bytes)
+}
+
+/// Makes the temporary file, with zeros as room for a renewal. If they can't be written, it is removed.
+fn make_beside<R: Folders + AllocGlobal>(rt: &R, folder: &str) -> io::Result<()> {
+    let beside = path_of(rt.alloc(), folder, BESIDE)?;
+    let mut file = create_beside(rt, beside.as_str())?;
+    let zeros = vec![in rt.alloc(); 0u8; RENEWAL_ROOM]?;
+    let written = write_synced(&mut file, &zeros);
+    if written.is_err() {
+        let _ = remove_file(rt, beside.as_str());
+    }
+    written
+}
+
+/// Writes bytes to a file in the place of all that it has, in its room, and forces them to the disk.
+fn write_over<R: Folders<File = File>>(rt: &R, path: &str, bytes: &[u8]) -> io::Result<()> {
+    look_at(rt, path)?;
+    let mut how = OpenOptions::new();
+    how.write(true);
+    let mut file = how.open(rt, path)?;
+    file.write_all(bytes)?;
+    file.set_len(bytes.len() as u64)?;
+    file.sync_all()
+}
+
+/// Replaces the log of a folder by way of the temporary file that is there.
+fn replace_log<R: Folders<File = File> + AllocGlobal>(
+    rt: &R,
+    folder: &str,
+    bytes: &[u8],
+) -> io::Result<()> {
+    let path = path_of(rt.alloc(), folder, LOG)?;
+    let beside = path_of(rt.alloc(), folder, BESIDE)?;
+    let written = write_over(rt, beside.as_str(), bytes);
+    disk::place_file(rt, folder, beside.as_str(), path.as_str(), written)
 }
 
 /// The fault for an error of the system.
@@ -332,6 +374,7 @@ impl<R: Folders<File = File> + AllocGlobal + Drop> DirFile<R> {
             file,
             end,
             len: end,
+            has_renewal_room: false,
             is_stopped: false,
             faults: 0,
         })
@@ -342,7 +385,13 @@ impl<R: Folders<File = File> + AllocGlobal + Drop> DirFile<R> {
         ensures stopped { self.new.is_stopped ≡ self.old.is_stopped }
         ensures faults { self.new.faults ≡ self.old.faults }
     {
-        place_file(&self.rt, self.folder.as_str(), LOG, bytes)?;
+        let has_room = self.has_renewal_room;
+        self.has_renewal_room = false;
+        if has_room && bytes.len() <= RENEWAL_ROOM {
+            replace_log(&self.rt, self.folder.as_str(), bytes)?;
+        } else {
+            place_file(&self.rt, self.folder.as_str(), LOG, bytes)?;
+        }
         self.file = open_file(&self.rt, self.folder.as_str())?;
         self.end = bytes.len();
         self.len = bytes.len();
@@ -378,6 +427,18 @@ impl<R: Folders<File = File> + AllocGlobal + Drop> DirFile<R> {
             self.is_stopped = self.is_stopped || self.file.set_len(self.len as u64).is_err();
         }
         called
+    }
+
+    /// Makes room for a renewal, unless there is some.
+    fn make_renewal_room(&mut self) -> io::Result<()>
+        ensures stopped { self.new.is_stopped ≡ self.old.is_stopped }
+        ensures faults { self.new.faults ≡ self.old.faults }
+    {
+        if !self.has_renewal_room {
+            make_beside(&self.rt, self.folder.as_str())?;
+            self.has_renewal_room = true;
+        }
+        Ok(())
     }
 
     /// The value of a read, or its fault. A fault of the device is counted.
@@ -443,6 +504,15 @@ impl<R: Folders<File = File> + AllocGlobal + Drop> LogFile for DirFile<R> {
             Err(io::Error::from(ErrorKind::Other))
         } else {
             self.make_room(more)
+        };
+        self.count_fault(called)
+    }
+
+    fn reserve_renewal(&mut self) -> Result<(), LogFault> {
+        let called = if self.is_stopped {
+            Err(io::Error::from(ErrorKind::Other))
+        } else {
+            self.make_renewal_room()
         };
         self.count_fault(called)
     }

@@ -28,6 +28,13 @@ pub trait Log {
         ensures taken { ¬ IsErrOf result LogFault.Refused }
         ensures cause { HasFaultCause (faults self.old) (faults self.new) result };
 
+    /// Makes room for a renewal by the name of a root, which then takes no more of it. The records are unchanged.
+    fn reserve_renewal(&mut self) -> Result<(), LogFault>
+        ensures same { Keeps (holds self.old) (holds self.new) }
+        ensures intact { ¬ IsErrOf result LogFault.Damaged }
+        ensures taken { ¬ IsErrOf result LogFault.Refused }
+        ensures cause { HasFaultCause (faults self.old) (faults self.new) result };
+
     /// Appends a record, and forces it to the disk. After an `Err` the log is unchanged or has the whole record, never
     /// a part of it. After `Memory` or `Refused` it is unchanged.
     fn append(&mut self, kind: RecordKind, stamp: Stamp, body: &[u8]) -> Result<(), LogFault>

@@ -61,6 +61,10 @@ impl LogFile for MemFile {
         Ok(())
     }
 
+    fn reserve_renewal(&mut self) -> Result<(), LogFault> {
+        Ok(())
+    }
+
     fn write(&mut self, more: &[u8]) -> Result<(), LogFault> {
         if self.is_stopped || self.bytes.extend_from_slice(more).is_err() {
             return Err(self.fail());

@@ -60,6 +60,13 @@ impl Log for MemLog {
         Ok(())
     }
 
+    fn reserve_renewal(&mut self) -> Result<(), LogFault>
+        ensures done { IsOk result }
+        ensures same { self.new ≡ self.old }
+    {
+        Ok(())
+    }
+
     fn append(&mut self, kind: RecordKind, stamp: Stamp, body: &[u8]) -> Result<(), LogFault>
         requires { IsBody body.now }
         ensures ok { OnOk result (recorded self.new

@@ -1,4 +1,5 @@
 mod KeptFrames
+mod FewerVisits
 mod FromLogs
 mod Kept
 mod KeptAnswers

@@ -1,6 +1,6 @@
 -- What checkpoints and answers leave over a kill, one after the other.
-use Rattle.std.proofs.Common.{◌≡◌, ◌⊎◌, ℕ, Bool, true, false, inl, inr, refl, sym, subst, ap}
-use Rattle.std.specs.Prelude.{Result, Ok, Err, IfErr, IsErrOf}
+use Rattle.std.proofs.Common.{◌≡◌, ◌≤◌, ◌⊎◌, ◌∙◌, ℕ, Bool, true, false, inl, inr, refl, sym, subst, ap, arith}
+use Rattle.std.specs.Prelude.{Result, Ok, Err, IfErr, IsErrAnd, IsErrOf}
 use Rattle.cell_key.specs.declared.refusals.Refusal.{Refusal}
 use Rattle.cell_key.specs.declared.refusals.Refusal.TheVariants.{Damaged, Device, NoMemory}
 use Rattle.request_codec.specs.Replies.{replied}
@@ -21,9 +21,13 @@ use Rattle.si_model.specs.Machine.{IsStorageRefusal, Refused, Reply as MachineRe
 use Rattle.si_model.specs.Transactions.{Answer as MachineAnswer, Operation as MachineOperation, One, Commit, Read, Said, Goes, steps, transacts, reads_together, gives_up as gives_up_commit, gives_up_reads}
 use Rattle.si_model.specs.Refusing.{gives_up}
 use Rattle.durable.specs.Durability.{GoesOn, Settles, StepsOn}
-use Rattle.durable.specs.Answers.{AnswersInRoom, AnswersDurably, AnswersRooted, Checkpoints, MovesTablets, NeedsLogRoom, NeedsRoom, ActsOnRoots, PutsRoot, SweepsAfter, TouchesRoots}
+use Rattle.commit_log.specs.declared.logs.Log.{Ghosts as Log}
+use Rattle.oracle.specs.declared.marks.MarkStore.{Ghosts as MarkStore}
+use Rattle.durable.specs.Answers.{AnswersInRoom, AnswersDurably, AnswersRooted, Checkpoints, HasFailed, MovesTablets, NeedsLogRoom, NeedsRoom, ActsOnRoots, PutsRoot, SweepsAfter, TouchesRoots}
 use Rattle.durable.specs.View.{RootCalls, View}
-use Rattle.durable.specs.Answers.PutsRoot.{answered, failed, unmarked, unnamed}
+use Rattle.durable.specs.declared.server.DurableServer.{DurableServer}
+use Rattle.durable.proofs.Logged.{no_less}
+use Rattle.durable.specs.Answers.PutsRoot.{answered, failed, roomless, unnamed, unready}
 
 module _ {S : Type 0} (view : View S) (calls : RootCalls S) (says : S → Operation → Answer → S → Type 0) (stopped risen : Type 0) (before now : ℕ) where
   pub moves_rooted : (old new : S) (request : Request) (reply : Reply) → MovesTablets request → AnswersRooted view calls (λ a r b. says a (lent.One request) (given.Said r) b) stopped risen old reply new → AnswersDurably view calls says stopped risen before now old (lent.One request) (given.Said reply) new
@@ -46,7 +50,8 @@ module _ {S : Type 0} (view : View S) (calls : RootCalls S) (says : S → Operat
   room_lasting old new Begin reply needs p = p
   room_lasting old new (Step start) reply needs p = p
   room_lasting old new (CleanStep cleaner) reply needs p = p
-  room_lasting old new (CollectStep collector visits) reply needs p = p
+  room_lasting old new (CollectStep collector visits) reply needs (inl (said, same)) = inl ((visits, inl refl, said), same)
+  room_lasting old new (CollectStep collector visits) reply needs (inr lacks) = inr lacks
   room_lasting old new request reply needs p = absurd needs
 
 pub rootless : (request : Request) → NeedsRoom request → ¬ ActsOnRoots request
@@ -79,7 +84,8 @@ module _ {S : Type 0} (view : View S) (calls : RootCalls S) {stopped stopped' ri
   pub puts_still : (a b : S) (reply : Reply) → PutsRoot view calls stopped risen a reply b → PutsRoot view calls stopped' risen' a reply b
   puts_still a b reply (answered p) = answered p
   puts_still a b reply (unnamed is p) = unnamed is p
-  puts_still a b reply (unmarked is risen p) = unmarked is (rises risen) p
+  puts_still a b reply (unready is risen p) = unready is (rises risen) p
+  puts_still a b reply (roomless is p) = roomless is p
   puts_still a b reply (failed is stops p) = failed is (still stops) p
 
 pub sweeps_still : {S : Type 0} {stopped stopped' : Type 0} (calls : RootCalls S) → (stopped → stopped') → (upkeep : Bool) (reply : Reply) (a b : S) → SweepsAfter calls stopped upkeep reply a b → SweepsAfter calls stopped' upkeep reply a b
@@ -88,19 +94,33 @@ sweeps_still calls still true codec.Checkpoint a b (result, inr none) = (result,
 sweeps_still calls still true _ a b same = same
 sweeps_still calls still false reply a b same = same
 
--- a root whose mark's file did not fail
+-- a root for which no device but the files failed
 module _ {S : Type 0} (view : View S) (calls : RootCalls S) (stopped risen : Type 0) where
-  pub never_unmarked : (old new : S) (reply : Reply) → PutsRoot view calls stopped ⊥ old reply new → PutsRoot view calls stopped risen old reply new
-  never_unmarked old new reply (answered p) = answered p
-  never_unmarked old new reply (unnamed is p) = unnamed is p
-  never_unmarked old new reply (unmarked is risen p) = absurd risen
-  never_unmarked old new reply (failed is stops p) = failed is stops p
+  pub never_unready : (old new : S) (reply : Reply) → PutsRoot view calls stopped ⊥ old reply new → PutsRoot view calls stopped risen old reply new
+  never_unready old new reply (answered p) = answered p
+  never_unready old new reply (unnamed is p) = unnamed is p
+  never_unready old new reply (unready is risen p) = absurd risen
+  never_unready old new reply (roomless is p) = roomless is p
+  never_unready old new reply (failed is stops p) = failed is stops p
+
+pub risen_within : (a b c d : ℕ) → a ≤ b → c ≤ d → HasRisen b c → HasRisen a d
+risen_within a b c d low high risen = omega (arith, low, high, risen)
+
+-- what failed between two moments has failed between an earlier and a later one
+module _ {S M L : Type 0} (marks : MarkStore M) (log : Log L) where
+  pub failed_later : (old mid new : DurableServer S M L) → new.marks.marks ≡ mid.marks.marks → log.faults mid.log ≤ log.faults new.log → HasFailed marks log old mid → HasFailed marks log old new
+  failed_later old mid new same later (inl risen) = inl (subst (λ (m : M). HasRisen (marks.faults old.marks.marks) (marks.faults m)) (sym same) risen)
+  failed_later old mid new same later (inr risen) = inr (risen_within _ _ _ _ (no_less (log.faults old.log)) later risen)
+
+  pub failed_before : (old mid new : DurableServer S M L) → mid.marks.marks ≡ old.marks.marks → log.faults old.log ≤ log.faults mid.log → HasFailed marks log mid new → HasFailed marks log old new
+  failed_before old mid new same later (inl risen) = inl (subst (λ (m : M). HasRisen (marks.faults m) (marks.faults new.marks.marks)) same risen)
+  failed_before old mid new same later (inr risen) = inr (risen_within _ _ _ _ later (no_less (log.faults new.log)) risen)
 
 -- a refusal of a log that was to be renewed
 abbrev pub IsLogRefusal : Refusal → Type 0
 IsLogRefusal refusal = (refusal ≡ Device) ⊎ (refusal ≡ NoMemory)
 
-stored_refusal : (refusal : Refusal) → IsLogRefusal refusal → IsStorageRefusal refusal
+pub stored_refusal : (refusal : Refusal) → IsLogRefusal refusal → IsStorageRefusal refusal
 stored_refusal refusal (inl is) = subst IsStorageRefusal (sym is) tt
 stored_refusal refusal (inr is) = subst IsStorageRefusal (sym is) tt
 
@@ -115,7 +135,19 @@ module _ {S : Type 0} (view : View S) (calls : RootCalls S) (stopped risen : Typ
   named_answer old new (Err refusal) (inl is) stops p = failed (ap codec.Refused is) (stops (ap Err is)) (inr p)
   named_answer old new (Err refusal) (inr is) stops p = unnamed (ap codec.Refused is) p
 
+  -- a checkpoint for which the log got no room
+  pub unready_answer : (old new : S) (r : Result (Unit {0}) Refusal) (e : Refusal) → IsErrAnd r (λ given. given ≡ e) → IsLogRefusal e → (e ≡ Device → risen) → view.same old new → PutsRoot view calls stopped risen old (checkpointed r) new
+  unready_answer old new (Ok done) e by why rises same = absurd by
+  unready_answer old new (Err given) e by (inl device) rises same = unready (ap codec.Refused (by ∙ device)) (rises device) same
+  unready_answer old new (Err given) e by (inr memory) rises same = roomless (ap codec.Refused (by ∙ memory)) same
+
 module _ {S : Type 0} (shows : S → State → Type 0) where
+  pub steps_unready : (old new : S) (r : Result (Unit {0}) Refusal) (e : Refusal) → IsErrAnd r (λ given. given ≡ e) → IsLogRefusal e → ((st : State) → shows old st → shows new st) → StepsAs shows old new CheckpointAsked (replied (checkpointed r))
+  steps_unready old new (Ok done) e by why same = absurd by
+  steps_unready old new (Err given) e by why same =
+      let log : IsLogRefusal given = subst IsLogRefusal (sym by) why in
+      λ before reached shown. (before, refuses (gives_up (stored_refusal given log)), same before shown, λ whole. elim log [ inl is ↦ cc | inr is ↦ cc ])
+
   pub steps_named : (old new : S) (r : Result (Unit {0}) Refusal) → IfErr r IsLogRefusal → StepsAs shows old new CheckpointAsked (replied codec.Checkpoint) → ((st : State) → shows old st → shows new st) → StepsAs shows old new CheckpointAsked (replied (checkpointed r))
   steps_named old new (Ok done) c step same = step
   steps_named old new (Err refusal) c step same = λ before reached shown. (before, refuses (gives_up (stored_refusal refusal c)), same before shown, λ e. elim c [ inl is ↦ cc | inr is ↦ cc ])

@@ -66,6 +66,10 @@ NeedsLogRoom (lent.One request) = ⊥
 NeedsLogRoom (lent.Commit start writes) = ⊤
 NeedsLogRoom (lent.Read start cells stays_open) = start ≡ 0
 
+-- This is a number of visits that a collector makes for a request of n: of 1 to 1,000, any from 1 on.
+abbrev pub AreVisitsOf : ℕ → ℕ → Type 0
+AreVisitsOf n visits = (visits ≡ n) ⊎ ((1 ≤ visits) × (visits ≤ n) × (n ≤ 1000))
+
 -- ---- the journal
 
 -- The files keep cells under a root with the places of a state's tablets. The logged edits, and then the
@@ -201,14 +205,18 @@ module _ {S : Type 0} (view : View S) (calls : RootCalls S) where
       (mid next : S)
       × view.same old mid × calls.checkpoints mid reply next × view.same next new
 
-  -- A checkpoint was answered as the files answered it. Or it was refused with NoMemory: the root was
-  -- put, and memory to name it in the log was refused. Or with Device: the mark's file failed, before the
-  -- root was put; or the log failed, before that or after, and no reply leaves the server any more.
+  -- A checkpoint was answered as the files answered it. Or it was refused before the root was put: with
+  -- Device, since the mark's file failed or the log got no room for its renewal; or with NoMemory, since
+  -- memory for that room was refused. Or with NoMemory after the root was put: memory to name it in the
+  -- log was refused. Or with Device: the log failed, before that or after, and no reply leaves the server
+  -- any more.
   pub data PutsRoot (stopped risen : Type 0) (old : S) (reply : Reply) (new : S) : Type 0 where
     answered : Checkpoints old reply new → PutsRoot stopped risen old reply new
-    unnamed : reply ≡ codec.Refused NoMemory → Checkpoints old codec.Checkpoint new
+    unready : reply ≡ codec.Refused Device → risen → view.same old new
         → PutsRoot stopped risen old reply new
-    unmarked : reply ≡ codec.Refused Device → risen → view.same old new
+    roomless : reply ≡ codec.Refused NoMemory → view.same old new
+        → PutsRoot stopped risen old reply new
+    unnamed : reply ≡ codec.Refused NoMemory → Checkpoints old codec.Checkpoint new
         → PutsRoot stopped risen old reply new
     failed : reply ≡ codec.Refused Device → stopped
         → view.same old new ⊎ Checkpoints old codec.Checkpoint new
@@ -236,8 +244,8 @@ module _ {S : Type 0} (view : View S) (calls : RootCalls S) where
       (is_said × (now ≡ before)) ⊎ LacksRoom is_refused (HasRisen before now) old new
 
   -- The replies of a server with a log are those of one without, except that checkpoints come with
-  -- splits and moves, that a sweep leaves the root's files, and that requests which need room in the log
-  -- are refused if it has none.
+  -- splits and moves, that a sweep leaves the root's files, that requests which need room in the log are
+  -- refused if it has none, and that a collector makes fewer visits than it may if there is room for fewer.
   abbrev pub RepliesDurably : (S → Request → Reply → S → Type 0)
       → (stopped risen : Type 0) → (before now : ℕ) → S → Request → Reply → S → Type 0
   RepliesDurably says stopped risen before now old (Split row) reply new =
@@ -257,8 +265,8 @@ module _ {S : Type 0} (view : View S) (calls : RootCalls S) where
       AnswersInRoom (says old (CleanStep cleaner) reply new) (λ n. reply ≡ codec.Refused n) before
       now old new
   RepliesDurably says stopped risen before now old (CollectStep collector n) reply new =
-      AnswersInRoom (says old (CollectStep collector n) reply new) (λ n. reply ≡ codec.Refused n)
-      before now old new
+      AnswersInRoom ((visits : ℕ) × AreVisitsOf n visits × says old (CollectStep collector visits) reply new)
+      (λ n. reply ≡ codec.Refused n) before now old new
   RepliesDurably says stopped risen before now old request reply new =
       says old request reply new
 
@@ -278,13 +286,20 @@ module _ {S : Type 0} (view : View S) (calls : RootCalls S) where
       AnswersInRoom (says old (lent.Read start cells stays_open) answer new)
       (λ n. (start ≡ 0) × (answer ≡ given.Said (codec.Refused n))) before now old new
 
+-- the mark's file or the log has failed meanwhile
+abbrev pub HasFailed : {S M L : Type 0} → MarkStore M → Log L → DurableServer S M L
+    → DurableServer S M L → Type 0
+HasFailed marks log old new =
+    HasRisen (marks.faults old.marks.marks) (marks.faults new.marks.marks)
+    ⊎ HasRisen (log.faults old.log) (log.faults new.log)
+
 -- An answer of a server with a log: the contract of the answer, and the devices still keep a state.
 pub record IsDurableAnswer {S M L : Type 0} (view : View S) (calls : RootCalls S)
     (shows : S → State → Type 0) (says : S → Operation → Answer → S → Type 0)
     (marks : MarkStore M) (log : Log L) (old : DurableServer S M L) (operation : Operation)
     (answer : Answer) (new : DurableServer S M L) : Type 0 where
   pub answered : AnswersDurably view calls says (new.is_stopped ≡ true)
-      (HasRisen (marks.faults old.marks.marks) (marks.faults new.marks.marks))
+      (HasFailed marks log old new)
       (log.faults old.log) (log.faults new.log) old.server operation answer new.server
   pub goes_on : GoesOn (shown_by shows) (LastsIn view log) (Logs view log)
       (operation_of operation) (answer_of answer) old new
@@ -298,12 +313,12 @@ SweepsAfter calls stopped upkeep reply old new = new ≡ old
 -- A root was put, or refused, and the size from which the next try is counted was set. With upkeep, a
 -- sweep followed a root that was put.
 pub record TriesRoot {S M L : Type 0} (view : View S) (calls : RootCalls S) (marks : MarkStore M)
-    (mid : S) (old new : DurableServer S M L) : Type 0 where
+    (log : Log L) (mid : S) (old new : DurableServer S M L) : Type 0 where
   pub reply : Reply
   pub next : S
   pub last : S
-  pub answered : PutsRoot view calls (new.is_stopped ≡ true)
-      (HasRisen (marks.faults old.marks.marks) (marks.faults new.marks.marks)) mid reply next
+  pub answered : PutsRoot view calls (new.is_stopped ≡ true) (HasFailed marks log old new) mid reply
+      next
   pub swept : SweepsAfter calls (new.is_stopped ≡ true) old.upkeep reply next last
   pub is_same : view.same last new.server
   pub tried : new.tried_bytes ≡ tried_at reply (view.size mid)
@@ -315,7 +330,7 @@ pub record IsDurablyTended {S M L : Type 0} (view : View S) (calls : RootCalls S
     (old new : DurableServer S M L) : Type 0 where
   pub mid : S
   pub tended : between old.server mid
-  pub rooted : (IsRootDue old (view.size mid) × TriesRoot view calls marks mid old new)
+  pub rooted : (IsRootDue old (view.size mid) × TriesRoot view calls marks log mid old new)
       ⊎ ((¬ IsRootDue old (view.size mid)) × view.same mid new.server
       × (new.tried_bytes ≡ old.tried_bytes))
   pub root_bytes : new.root_bytes ≡ old.root_bytes

@@ -3,8 +3,8 @@
 
 ghost use Rattle.std.specs.Prelude.{◌≡◌, ◌≤◌, ◌<◌, ◌^◌, ◌⊎◌, ◌↔◌, [], true, false, IfErr, IfNone, IfSome, IsErrOf, IsTrue, OnErr, OnOk, ℕ, List};
 ghost use Rattle.cell_key.specs.Cells.{Cells};
+ghost use Rattle.cell_key.specs.Faults.{HasReason};
 ghost use Rattle.commit_log.specs.Edits.{LogsEdits};
-ghost use Rattle.cell_key.specs.Faults.{HasRisen};
 ghost use Rattle.commit_log.specs.Held.{Keeps, MayRenew, Renews};
 ghost use Rattle.request_codec.specs.Answers.{answer_of, HoldsAnswerWithinLimits};
 ghost use Rattle.request_codec.specs.Operations.{operation_of};
@@ -14,7 +14,7 @@ ghost use Rattle.request_codec.specs.declared.replies.Reply.{Reply as CodecReply
 ghost use Rattle.durable.specs.Due.{IsDueAlike, IsRootDue, tried_at};
 ghost use Rattle.durable.specs.Durability.{GoesOn, IsSettled, Settles};
 ghost use Rattle.server_loop.specs.Commands.{checkpointed};
-ghost use Rattle.durable.specs.Answers.{AnswersDurably, Checkpoints, HasNewRoot, HoldsLogged, IsDurableAnswer, LastsIn, Logs, MovesTablets, NamesItsRoot, NeedsLogRoom, NeedsRoom, ActsOnRoots, PutsRoot, StaysRooted, SweepsAfter, SweepsNow, named, shown_by};
+ghost use Rattle.durable.specs.Answers.{AnswersDurably, Checkpoints, HasNewRoot, HoldsLogged, HasFailed, IsDurableAnswer, LastsIn, Logs, MovesTablets, NamesItsRoot, NeedsLogRoom, NeedsRoom, ActsOnRoots, AreVisitsOf, PutsRoot, StaysRooted, SweepsAfter, SweepsNow, named, shown_by};
 ghost use Rattle.metadata_table.specs.Roots.{RootView};
 ghost use Rattle.server_loop.specs.Runs.{StepsAs};
 ghost use Rattle.server_loop.specs.OperationLaws.{StandsForSeveral};
@@ -76,11 +76,25 @@ fn tried_after(done: &Result<(), Refusal>, written: usize) -> usize
     }
 }
 
-/// The bytes of edits for which a request gets room: the most that it writes, or for a collector the most of one visit.
+/// The most visits that a collector makes for a request.
+const MOST_VISITS: u32 = 4;
+
+/// The number of visits that a collector makes for a request of so many: at most `MOST_VISITS`, or a number that is
+/// refused.
+fn few_visits(visits: u32) -> u32
+    ensures { AreVisitsOf visits result }
+{
+    if visits > 1000 {
+        return visits;
+    }
+    visits.min(MOST_VISITS)
+}
+
+/// The bytes of edits for which a request gets room: the most that it writes.
 fn most_edit_bytes(request: Request<'_>) -> usize {
     match request {
         Request::Begin => 0,
-        Request::CollectStep { .. } => VISIT_BYTES,
+        Request::CollectStep { visits, .. } => visits.min(MOST_VISITS) as usize * VISIT_BYTES,
         _ => STEP_BYTES,
     }
 }
@@ -108,6 +122,24 @@ fn renew_log<S: Journaled, L: Log>(server: &S, log: &mut L) -> Result<(), Refusa
         Ok(()) => Ok(()),
         Err(LogFault::Memory) => Err(Refusal::NoMemory),
         Err(_) => Err(Refusal::Device),
+    }
+}
+
+/// Makes room for a renewal of a log, which is otherwise unchanged.
+///
+/// # Errors
+///
+/// `Device` or `NoMemory`.
+fn reserve_renewal<L: Log>(log: &mut L) -> Result<(), Refusal>
+    ensures same { Keeps (L.holds log.old) (L.holds log.new) }
+    ensures refusal { IfErr result (λ refusal.
+        (refusal ≡ Refusal.Device) ⊎ (refusal ≡ Refusal.NoMemory)) }
+    ensures reason { HasReason (L.faults log.old) (L.faults log.new) result }
+{
+    match log.reserve_renewal() {
+        Ok(()) => Ok(()),
+        Err(LogFault::Device) => Err(Refusal::Device),
+        Err(_) => Err(Refusal::NoMemory),
     }
 }
 
@@ -149,6 +181,7 @@ impl<S: Journaled, M: MarkStore, L: Log> DurableServer<S, M, L> {
             → Logs S.view L.Log self.old → (st : State) → LastsIn S.view L.Log self.old st
             → LastsIn S.view L.Log self.new st ⊎ LastsIn S.view L.Log self.new now }
         ensures marks { self.new.marks.marks ≡ self.old.marks.marks }
+        ensures later { L.faults self.old.log ≤ L.faults self.new.log }
         ensures due { IsDueAlike self.old self.new }
     {
         as_many_edits();
@@ -225,22 +258,23 @@ impl<S: Journaled, M: MarkStore, L: Log> DurableServer<S, M, L> {
     }
 
     /// Appends the waiting edits to the log, puts a root that keeps the state that is shown, and drops the edits that
-    /// the root has from the log. Before the root is put, a record is appended that the log is over any root, and the
-    /// greatest covered stamp is stored as the mark.
+    /// the root has from the log. Before the root is put, the log gets room for its renewal, a record is appended that
+    /// it is over any root, and the greatest covered stamp is stored as the mark.
     ///
     /// # Errors
     ///
-    /// Those of a checkpoint; `NoMemory` also if the allocation for the new root's name in the log failed, and `Device`
-    /// if the mark wasn't stored: the log stays over any root. `Device` also if the log failed: the server is stopped.
+    /// Those of a checkpoint; before the root is put, `Device` or `NoMemory` if the log got no room for its renewal, and
+    /// `Device` if the mark wasn't stored; `NoMemory` also if the allocation for the new root's name in the log failed:
+    /// the log stays over any root. `Device` also if the log failed: the server is stopped.
     fn root(&mut self) -> Result<(), Refusal>
         ensures step { StepsAs (shown_by S.shows) self.old self.new CheckpointAsked
             (replied (checkpointed result)) }
         ensures refusal { IfErr result IsStorageRefusal }
         ensures settles { Settles (shown_by S.shows) (LastsIn S.view L.Log) (Logs S.view L.Log)
             self.old self.new }
-        ensures answered { PutsRoot S.view S.calls (self.new.is_stopped ≡ true) (HasRisen (M.faults
-            self.old.marks.marks) (M.faults self.new.marks.marks)) self.old.server (checkpointed
-            result) self.new.server }
+        ensures answered { PutsRoot S.view S.calls (self.new.is_stopped ≡ true) (HasFailed
+            M.MarkStore L.Log self.old self.new) self.old.server (checkpointed result)
+            self.new.server }
         ensures done { OnOk result (Checkpoints S.view S.calls self.old.server CodecReply.Checkpoint
             self.new.server) }
         ensures named { OnOk result ((now : State) → S.shows self.old.server now
@@ -259,6 +293,7 @@ impl<S: Journaled, M: MarkStore, L: Log> DurableServer<S, M, L> {
         if !self.log_waiting() {
             return Err(Refusal::Device);
         }
+        reserve_renewal(&mut self.log)?;
         if self.log.append(RecordKind::AnyRoot, 0, &[]).is_err() {
             self.is_stopped = true;
             return Err(Refusal::Device);
@@ -288,6 +323,10 @@ impl<S: Journaled, M: MarkStore, L: Log> DurableServer<S, M, L> {
         logs_edits();
         names_roots();
         S::journal_laws();
+        if reserve_renewal(&mut self.log).is_err() {
+            self.is_stopped = true;
+            return;
+        }
         if self.log.append(RecordKind::AnyRoot, 0, &[]).is_err() {
             self.is_stopped = true;
             return;
@@ -313,9 +352,8 @@ impl<S: Journaled, M: MarkStore, L: Log> DurableServer<S, M, L> {
         ensures settles { Settles (shown_by S.shows) (LastsIn S.view L.Log) (Logs S.view L.Log)
             self.old self.new }
         ensures rooted { S.view.same self.old.server self.new.server
-            ⊎ PutsRoot S.view S.calls (self.new.is_stopped ≡ true) (HasRisen (M.faults
-            self.old.marks.marks) (M.faults self.new.marks.marks)) self.old.server (checkpointed
-            result) self.new.server }
+            ⊎ PutsRoot S.view S.calls (self.new.is_stopped ≡ true) (HasFailed M.MarkStore L.Log
+            self.old self.new) self.old.server (checkpointed result) self.new.server }
         ensures named { OnOk result ((now : State) (root : RootView) → S.shows self.old.server now
             → S.view.is_rooted self.old.server root → HoldsLogged S.view L.Log self.old root
             → NamesItsRoot (L.holds self.new.log)) }
@@ -349,6 +387,7 @@ impl<S: Journaled, M: MarkStore, L: Log> DurableServer<S, M, L> {
         ensures whole { (st : State) → S.shows self.old.server st
             → ¬ IsErrOf result Refusal.Damaged }
         ensures marks { self.new.marks ≡ self.old.marks }
+        ensures log { self.new.log ≡ self.old.log }
         ensures still { self.old.is_stopped ≡ true → self.new.is_stopped ≡ true }
         ensures due { IsDueAlike self.old self.new }
     {
@@ -368,6 +407,7 @@ impl<S: Journaled, M: MarkStore, L: Log> DurableServer<S, M, L> {
         ensures settles { Settles (shown_by S.shows) (LastsIn S.view L.Log) (Logs S.view L.Log)
             self.old self.new }
         ensures marks { self.new.marks ≡ self.old.marks }
+        ensures log { self.new.log ≡ self.old.log }
         ensures still { self.old.is_stopped ≡ true → self.new.is_stopped ≡ true }
         ensures due { IsDueAlike self.old self.new }
     {
@@ -481,6 +521,18 @@ impl<S: Journaled, M: MarkStore, L: Log> DurableServer<S, M, L> {
         }
     }
 
+    /// Answers a collector's step, by so few visits that the log can have room for all that they write.
+    fn collect_step(&mut self, collector: u64, visits: u32) -> Reply
+        ensures limits { HoldsWithinLimits (replied result) }
+        ensures says { IsDurableAnswer S.view S.calls S.shows S.says M.MarkStore L.Log self.old
+            (Operation.One (Request.CollectStep collector visits)) (Answer.Said result) self.new }
+    {
+        self.answer_with_room(Request::CollectStep {
+            collector,
+            visits: few_visits(visits),
+        })
+    }
+
     /// The bytes for which the log must have room before an operation of several cells is answered, if it needs any.
     fn room_for(&self, operation: &Operation<'_>) -> Option<usize>
         requires { StandsForSeveral (operation_of operation.now) }
@@ -557,10 +609,10 @@ impl<S: Journaled, M: MarkStore, L: Log> Handler for DurableServer<S, M, L> {
             Request::Checkpoint => self.checkpoint(),
             Request::Sweep => self.sweep(),
             Request::Split { .. } | Request::Move { .. } => self.rearrange(request),
-            Request::Begin
-            | Request::Step { .. }
-            | Request::CleanStep { .. }
-            | Request::CollectStep { .. } => self.answer_with_room(request),
+            Request::CollectStep { collector, visits } => self.collect_step(collector, visits),
+            Request::Begin | Request::Step { .. } | Request::CleanStep { .. } => {
+                self.answer_with_room(request)
+            }
             _ => self.answer_plainly(request),
         }
     }

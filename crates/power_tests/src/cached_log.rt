@@ -165,6 +165,10 @@ impl<V: Choice> LogFile for CachedLogFile<V> {
         Ok(())
     }
 
+    fn reserve_renewal(&mut self) -> Result<(), LogFault> {
+        self.reserve(0)
+    }
+
     fn write(&mut self, more: &[u8]) -> Result<(), LogFault> {
         if self.is_stopped {
             self.faults = self.faults.saturating_add(1);

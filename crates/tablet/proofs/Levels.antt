@@ -79,11 +79,11 @@ behind : (s : ℕ) (sizes : List ℕ) → AreInLevels (s ∷ sizes) → AreLarge
 behind s sizes levels index size there = elim (cases_lt (s + sum (take index sizes)) size) [
   | inl larger ↦ larger
   | inr small ↦ absurd (levels (suc index) record {
-      size = size;
-      there = there;
-      older = omega arith;
-      small = (let first = sum_first s (take index sizes) in omega (arith, small, first));
-    })
+    size = size;
+    there = there;
+    older = omega arith;
+    small = (let first = sum_first s (take index sizes) in omega (arith, small, first));
+  })
 ]
 
 upper : (n : ℕ) (sizes : List ℕ) → AllByRecursion (λ size. (1 ≤ size) × (size < 2 ^ n)) sizes → AllByRecursion (λ size. size < 2 ^ n) sizes

@@ -77,6 +77,12 @@ const FIRST_PART: [&[Exchange]; 5] = [
     &WRITTEN,
 ];
 
+/// With a log a collector makes at most 4 visits for a request.
+const VISITED: [Exchange; 1] = [
+    // CollectStep 1 1000: More
+    (b"\x09\0\0\0\0\0\0\0\x01\0\0\x03\xE8", b"\x89\x01"),
+];
+
 /// Sessions begin in three ranges of stamps, with a checkpoint in the second one.
 const FIRST_BEGINS: [Exchange; 3] = [
     // Begin: 1
@@ -179,7 +185,9 @@ impl Script {
         if !merges {
             script.push_all(&MERGED, FIRST_MARK)?;
         }
-        script.push_all(&COLLECTED, FIRST_MARK)?;
+        script.push_all(&COLLECTED[..1], FIRST_MARK)?;
+        script.push_all(&VISITED, FIRST_MARK)?;
+        script.push_all(&COLLECTED[1..], FIRST_MARK)?;
         script.push_all(&THREE_CELLS, SECOND_MARK)?;
         script.push_all(&SWEPT, SECOND_MARK)?;
         script.removed_at = script.replies.len().saturating_sub(8);

@@ -309,6 +309,11 @@ impl<L: Log + Drop> Log for Stopping<'_, L> {
         Ok(())
     }
 
+    fn reserve_renewal(&mut self) -> Result<(), LogFault> {
+        // After the kill its renewal fails.
+        Ok(())
+    }
+
     fn append(&mut self, kind: RecordKind, stamp: Stamp, body: &[u8]) -> Result<(), LogFault> {
         let Some((mut log, is_last)) = self.to_write() else {
             return self.log_answer(Err(LogFault::Device), false);

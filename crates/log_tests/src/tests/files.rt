@@ -62,6 +62,10 @@ impl LogFile for FakeFile {
         Ok(())
     }
 
+    fn reserve_renewal(&mut self) -> Result<(), LogFault> {
+        Ok(())
+    }
+
     fn write(&mut self, more: &[u8]) -> Result<(), LogFault> {
         if self.is_stopped {
             return Err(self.fail());

@@ -69,9 +69,12 @@ fn are_found(rt: &HostRuntime, folder: &str) -> Result<bool, Fail> {
     Ok(true)
 }
 
-/// Writes a root's record and one of edits into a new log, and room behind them.
+/// Writes a root's record and one of edits into a new log, and room behind them. The log is renewed twice, with room for
+/// it and without.
 fn fill_log<L: Log>(log: &mut L) -> Result<(), LogFault> {
     log.append(RecordKind::Edits, 7, b"a")?;
+    log.renew(RecordKind::Root, 8, b"\x01\x02\x03\x05")?;
+    log.reserve_renewal()?;
     log.renew(RecordKind::Root, 9, b"\x01\x02\x03\x04")?;
     log.reserve(100)?;
     log.append(RecordKind::Edits, 9, b"b\0\0")

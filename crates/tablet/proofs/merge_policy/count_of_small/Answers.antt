@@ -11,7 +11,7 @@ pub loop-index-preserved : goal.loop-index-preserved
 loop-index-preserved c = record {
   end = c.loop-index.invariant.end;
   newer = (let next = sum_next (map count_of c.args.files.now) c.loop-index.index (count_of c.index-files-index.result)
-          (slice_get-map count_of c.args.files.now c.loop-index.index ∙ ap (option_map count_of) (slice_get-get_or c.args.files.now c.loop-index.index c.index-files-index.result c.loop-index-test.true ∙ ap Some (sym c.index-files-index.is))) in
+      (slice_get-map count_of c.args.files.now c.loop-index.index ∙ ap (option_map count_of) (slice_get-get_or c.args.files.now c.loop-index.index c.index-files-index.result c.loop-index-test.true ∙ ap Some (sym c.index-files-index.is))) in
       let newer = c.loop-index.invariant.newer in
       let added = c.saturating_add-newer.ensures in
       let size = c.len.ensures.count in
@@ -19,7 +19,7 @@ loop-index-preserved c = record {
   counts = elim c.if-is_small.branch [
     | then-is_small w ↦ rw w.count-is (next_small (map count_of c.args.files.now) c.loop-index.index (c.is_small.ensures.0 w.if-is_small.true))
     | else-is_small w ↦ rw w.count-is (next_large (map count_of c.args.files.now) c.loop-index.index c.loop-index.count
-          (λ small. let is = c.is_small.ensures.1 small in let isnt = w.if-is_small.false in cc) c.loop-index.invariant.counts)
+        (λ small. let is = c.is_small.ensures.1 small in let isnt = w.if-is_small.false in cc) c.loop-index.invariant.counts)
   ];
 }
 

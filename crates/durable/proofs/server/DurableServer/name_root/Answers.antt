@@ -2,7 +2,7 @@ use Rattle.std.proofs.Common.{◌∙◌, ℕ, List, ap, inr, refl, sym, subst}
 use Rattle.commit_log.specs.Frames.{bytes_of}
 use Rattle.commit_log.specs.Records.{HasRecord, any_root}
 use Rattle.durable.proofs.Logged.{held_still, ok_through, recounted, true_not_false}
-use Rattle.durable.proofs.Rooted.{settles_then}
+use Rattle.durable.proofs.Rooted.{failed_before, puts_still, settles_then}
 use Rattle.durable.proofs.server.DurableServer.name_root.Goals as goal
 
 pub returns-in-Err-clause-settles : goal.returns-in-Err-clause-settles
@@ -21,3 +21,6 @@ returns-then-is_over_any-clause-named g c = ok_through c.root.result (λ names n
 
 pub returns-clause-named : goal.returns-clause-named
 returns-clause-named g c = λ now root shown rooted held. record { records = held.records; in_log = c.in-Ok.ensures.same held.records held.in_log; names = λ has. true_not_false _ (c.is_over_any.ensures.1 (subst (λ (rs : List (List ℕ)). HasRecord rs any_root) (sym (ap bytes_of c.deref.ensures.value ∙ c.in-Ok.ensures.ok held.records held.in_log)) has)) c.if-is_over_any.false }
+
+pub returns-then-is_over_any-clause-rooted : goal.returns-then-is_over_any-clause-rooted
+returns-then-is_over_any-clause-rooted g c = inr (puts_still g.S.Journaled.view g.S.Journaled.calls (λ stopped. stopped) (failed_before g.M.MarkStore g.L.Log c.args.self.now (record c.args.self.now { log = c.records.new.self }) c.root.new.self refl c.in-Ok.ensures.cause.later) _ _ _ c.root.ensures.answered)

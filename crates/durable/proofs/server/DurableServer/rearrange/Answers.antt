@@ -4,7 +4,7 @@ use Rattle.si_model.specs.Refusing.{gives_up}
 use Rattle.si_model.specs.Transactions.{steps}
 use Rattle.request_codec.specs.declared.replies.Reply.TheVariants as codec
 use Rattle.durable.proofs.Logged.{holds_on, still_lasts, true_not_false}
-use Rattle.durable.proofs.Rooted.{moves_rooted, never_unmarked}
+use Rattle.durable.proofs.Rooted.{moves_rooted, never_unready}
 use Rattle.server_loop.proofs.SessionSteps.{said_of}
 use Rattle.durable.proofs.server.DurableServer.rearrange.Goals as goal
 
@@ -14,7 +14,7 @@ returns-then-not-self-clause-says g c =
     let covered : g.S.Journaled.view.last c.reply_to-reply.new.self ≤ c.root.new.self.marks.covered = (let same = moves.1.stamp in let before = c.in-Ok.ensures.covered in omega (arith, same, before)) in
     record {
       answered = moves_rooted g.S.Journaled.view g.S.Journaled.calls g.S.Handler.says _ _ _ _ c.args.self.now.server c.root_moved.new.self.server c.args.request c.reply_to-reply.result c.requires
-          (inr (c.root.new.self.server, c.reply_to-reply.new.self, c.in-Ok.ensures.done, c.reply_to-reply.ensures.says, inr (c.root_moved.ensures.answered.0, never_unmarked g.S.Journaled.view g.S.Journaled.calls _ _ c.reply_to-reply.new.self c.root_moved.new.self.server c.root_moved.ensures.answered.0 c.root_moved.ensures.answered.1)));
+          (inr (c.root.new.self.server, c.reply_to-reply.new.self, c.in-Ok.ensures.done, c.reply_to-reply.ensures.says, inr (c.root_moved.ensures.answered.0, never_unready g.S.Journaled.view g.S.Journaled.calls _ _ c.reply_to-reply.new.self c.root_moved.new.self.server c.root_moved.ensures.answered.0 c.root_moved.ensures.answered.1)));
       goes_on = λ now reached shown.
           let mid = c.root.ensures.settles.shown now shown in
           let (next, step, shows, whole) = c.reply_to-reply.ensures.step now reached mid in

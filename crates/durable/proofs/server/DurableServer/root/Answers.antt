@@ -1,13 +1,14 @@
-use Rattle.std.proofs.Common.{◌≤◌, ◌∙◌, inl, inr, refl, subst, arith}
-use Rattle.metadata_table.specs.Roots.{RootView}
+use Rattle.std.proofs.Common.{◌≤◌, ◌∙◌, ℕ, List, ap, inl, inr, refl, subst, arith}
+use Rattle.std.specs.Prelude.{Err}
 use Rattle.cell_key.specs.Faults.{HasRisen}
+use Rattle.metadata_table.specs.Roots.{RootView}
 use Rattle.si_model.specs.Machine.{State, refuses}
 use Rattle.si_model.specs.Refusing.{gives_up}
 use Rattle.durable.specs.Answers.{HoldsLogged, LastsIn, Logs, shown_by}
-use Rattle.durable.specs.Answers.PutsRoot.{answered, failed, unmarked}
+use Rattle.durable.specs.Answers.PutsRoot.{answered, failed, unready}
 use Rattle.durable.specs.Devices.{most_stamp}
-use Rattle.durable.proofs.Logged.{holds_any, lasts_any, lasts_on, names_it, no_less, ok_through, on_any, on_err, on_ok, root_lasts}
-use Rattle.durable.proofs.Rooted.{named_answer, only_storage, steps_named}
+use Rattle.durable.proofs.Logged.{holds_any, lasts_any, lasts_on, names_it, no_less, ok_through, on_any, on_err, on_ok, recounted, root_lasts}
+use Rattle.durable.proofs.Rooted.{named_answer, only_storage, risen_within, settles_then, steps_named, steps_unready, unready_answer}
 use Rattle.durable.proofs.server.DurableServer.root.Goals as goal
 
 pub returns-then-not-log_waiting-clause-step : goal.returns-then-not-log_waiting-clause-step
@@ -32,7 +33,7 @@ returns-then-is_err-clause-settles g c =
       logged = λ now reached shown logs. inl refl;
       lasting = λ now reached shown logs st lasts.
           let before = (w.ok is now shown logs).1 now (w.shown now shown) in
-          inr (elim (may before.kept.records before.kept.in_log.0) [
+          inr (elim (may before.kept.records (c.reserve_renewal.ensures.same before.kept.records before.kept.in_log.0)) [
             | inl same ↦ lasts_on g.S.Journaled.view g.L.Log c.logs_edits.ensures c.names_roots.ensures c.log_waiting.new.self _ now (λ root base places is. is, no_less _) before same (inl refl)
             | inr more ↦ lasts_any g.S.Journaled.view g.L.Log c.logs_edits.ensures c.names_roots.ensures c.log_waiting.new.self _ now (λ root base places is. is, no_less _) before more (inl refl)
           ]);
@@ -46,7 +47,7 @@ returns-then-is_err-2-clause-settles g c =
     let is = c.if-not-log_waiting.false in
     let w = c.log_waiting.ensures in
     let m = c.store.ensures in
-    let gains = on_ok c.append.result c.is_err.result c.is_err.ensures.value c.if-is_err.false c.append.ensures.ok in
+    let gains = λ (records : List (List ℕ)) (held : g.L.Log.holds c.log_waiting.new.self.log records). on_ok c.append.result c.is_err.result c.is_err.ensures.value c.if-is_err.false c.append.ensures.ok records (c.reserve_renewal.ensures.same records held) in
     let new = record c.log_waiting.new.self { log = c.append.new.self; marks = c.store.new.self } in
     let stored = on_err c.store.result c.is_err-2.result c.is_err-2.ensures.value c.if-is_err-2.true m.err in
     record {
@@ -76,7 +77,7 @@ returns-in-Ok-clause-settles g c =
     let p = c.checkpoint_now.ensures in
     let m = c.store.ensures in
     let new = record c.log_waiting.new.self { log = c.append.new.self; marks = c.store.new.self; server = c.checkpoint_now.new.self } in
-    let gains = on_ok c.append.result c.is_err.result c.is_err.ensures.value c.if-is_err.false c.append.ensures.ok in
+    let gains = λ (records : List (List ℕ)) (held : g.L.Log.holds c.log_waiting.new.self.log records). on_ok c.append.result c.is_err.result c.is_err.ensures.value c.if-is_err.false c.append.ensures.ok records (c.reserve_renewal.ensures.same records held) in
     let stored = on_ok c.store.result c.is_err-2.result c.is_err-2.ensures.value c.if-is_err-2.false m.ok in
     let within = m.limit in
     let limit : new.marks.stored ≤ most_stamp = omega (arith, stored, m.covered, within) in
@@ -110,7 +111,7 @@ returns-in-Ok-clause-kept g c = on_any c.empty_log.result (λ now shown logs.
     let p = c.checkpoint_now.ensures in
     let m = c.store.ensures in
     let new = record c.log_waiting.new.self { log = c.append.new.self; marks = c.store.new.self; server = c.checkpoint_now.new.self } in
-    let gains = on_ok c.append.result c.is_err.result c.is_err.ensures.value c.if-is_err.false c.append.ensures.ok in
+    let gains = λ (records : List (List ℕ)) (held : g.L.Log.holds c.log_waiting.new.self.log records). on_ok c.append.result c.is_err.result c.is_err.ensures.value c.if-is_err.false c.append.ensures.ok records (c.reserve_renewal.ensures.same records held) in
     let stored = on_ok c.store.result c.is_err-2.result c.is_err-2.ensures.value c.if-is_err-2.false m.ok in
     let within = m.limit in
     let limit : new.marks.stored ≤ most_stamp = omega (arith, stored, m.covered, within) in
@@ -153,7 +154,7 @@ returns-in-Ok-clause-refusal g c = only_storage c.empty_log.result c.empty_log.e
 pub returns-in-Ok-clause-named : goal.returns-in-Ok-clause-named
 returns-in-Ok-clause-named g c = ok_through c.empty_log.result (λ renews now shown logs.
     let held = (c.log_waiting.ensures.ok c.if-not-log_waiting.false now shown logs).0 in
-    let gains = on_ok c.append.result c.is_err.result c.is_err.ensures.value c.if-is_err.false c.append.ensures.ok in
+    let gains = λ (records : List (List ℕ)) (held : g.L.Log.holds c.log_waiting.new.self.log records). on_ok c.append.result c.is_err.result c.is_err.ensures.value c.if-is_err.false c.append.ensures.ok records (c.reserve_renewal.ensures.same records held) in
     record { records = _; in_log = renews _ (gains held.2.records held.2.in_log); names = names_it (g.S.Journaled.view.next_root c.checkpoint_now.new.self) }) c.empty_log.ensures.named
 
 pub returns-then-not-log_waiting-clause-answered : goal.returns-then-not-log_waiting-clause-answered
@@ -165,7 +166,27 @@ returns-then-is_err-clause-answered g c = failed refl refl (inl c.log_waiting.en
 pub returns-then-is_err-2-clause-answered : goal.returns-then-is_err-2-clause-answered
 returns-then-is_err-2-clause-answered g c =
     let risen = on_err c.store.result c.is_err-2.result c.is_err-2.ensures.value c.if-is_err-2.true c.store.ensures.device in
-    unmarked refl (subst (λ (m : g.row.M.Denot). HasRisen (g.M.MarkStore.faults m) (g.M.MarkStore.faults c.store.new.self.marks)) c.log_waiting.ensures.marks risen) c.log_waiting.ensures.same
+    unready refl (inl (subst (λ (m : g.row.M.Denot). HasRisen (g.M.MarkStore.faults m) (g.M.MarkStore.faults c.store.new.self.marks)) c.log_waiting.ensures.marks risen)) c.log_waiting.ensures.same
+
+pub returns-in_err-reserve_renewal-clause-answered : goal.returns-in_err-reserve_renewal-clause-answered
+returns-in_err-reserve_renewal-clause-answered g c =
+    let w = c.log_waiting.ensures in
+    let r = c.in_err-reserve_renewal.ensures in
+    unready_answer g.S.Journaled.view g.S.Journaled.calls _ _ c.args.self.now.server c.log_waiting.new.self.server c.from_residual.result c.in_err-reserve_renewal.field-0.0 c.from_residual.ensures.1 r.refusal (λ device. inr (risen_within _ _ _ _ w.later (no_less _) (r.reason.device (ap Err device)))) w.same
+
+pub returns-in_err-reserve_renewal-clause-step : goal.returns-in_err-reserve_renewal-clause-step
+returns-in_err-reserve_renewal-clause-step g c = steps_unready (shown_by g.S.Handler.shows) c.args.self.now (record c.log_waiting.new.self { log = c.reserve_renewal.new.log }) c.from_residual.result c.in_err-reserve_renewal.field-0.0 c.from_residual.ensures.1 c.in_err-reserve_renewal.ensures.refusal c.log_waiting.ensures.shown
+
+pub returns-in_err-reserve_renewal-clause-settles : goal.returns-in_err-reserve_renewal-clause-settles
+returns-in_err-reserve_renewal-clause-settles g c =
+    let is = c.if-not-log_waiting.false in
+    let w = c.log_waiting.ensures in
+    let mid = c.log_waiting.new.self in
+    settles_then _ _ _ c.args.self.now mid (record mid { log = c.reserve_renewal.new.log }) (record {
+      shown = w.shown;
+      logged = λ now reached shown logs. inr (w.ok is now shown logs).0;
+      lasting = λ now reached shown logs st lasts. inr ((w.ok is now shown logs).1 now (w.shown now shown));
+    }) (recounted g.S.Journaled.view g.L.Log c.logs_edits.ensures c.names_roots.ensures mid (record mid { log = c.reserve_renewal.new.log }) refl refl c.reserve_renewal.ensures.same refl g.S.Handler.shows)
 
 pub returns-in-Err-clause-answered : goal.returns-in-Err-clause-answered
 returns-in-Err-clause-answered g c = answered (c.log_waiting.new.self.server, c.checkpoint_now.new.self, c.log_waiting.ensures.same, c.in-Err.ensures.says, g.met.S.Journaled.same_self c.checkpoint_now.new.self)
@@ -180,7 +201,7 @@ returns-in-Err-clause-settles g c =
     let p = c.checkpoint_now.ensures in
     let m = c.store.ensures in
     let new = record c.log_waiting.new.self { log = c.append.new.self; marks = c.store.new.self; server = c.checkpoint_now.new.self } in
-    let gains = on_ok c.append.result c.is_err.result c.is_err.ensures.value c.if-is_err.false c.append.ensures.ok in
+    let gains = λ (records : List (List ℕ)) (held : g.L.Log.holds c.log_waiting.new.self.log records). on_ok c.append.result c.is_err.result c.is_err.ensures.value c.if-is_err.false c.append.ensures.ok records (c.reserve_renewal.ensures.same records held) in
     let stored = on_ok c.store.result c.is_err-2.result c.is_err-2.ensures.value c.if-is_err-2.false m.ok in
     let within = m.limit in
     let limit : new.marks.stored ≤ most_stamp = omega (arith, stored, m.covered, within) in

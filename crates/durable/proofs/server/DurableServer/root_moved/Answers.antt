@@ -1,4 +1,4 @@
-use Rattle.std.proofs.Common.{◌≤◌, ◌∙◌, inl, inr, refl, true, arith}
+use Rattle.std.proofs.Common.{◌≤◌, ◌∙◌, ℕ, List, inl, inr, refl, true, arith}
 use Rattle.request_codec.specs.declared.replies.Reply.TheVariants as codec
 use Rattle.server_loop.specs.Commands.{checkpointed}
 use Rattle.durable.specs.Devices.{most_stamp}
@@ -10,22 +10,31 @@ use Rattle.durable.proofs.server.DurableServer.root_moved.Goals as goal
 pub returns-then-is_err-clause-answered : goal.returns-then-is_err-clause-answered
 returns-then-is_err-clause-answered g c = (_, failed refl refl (inl (g.met.S.Journaled.same_self c.args.self.now.server)))
 
+pub returns-then-is_err-clause-kept : goal.returns-then-is_err-clause-kept
+returns-then-is_err-clause-kept g c = λ before after root shown held none goes covered lasts. (
+  inl (lasts_on g.S.Journaled.view g.L.Log c.logs_edits.ensures c.names_roots.ensures c.args.self.now _ before (λ root base places is. is, no_less _) lasts (c.reserve_renewal.ensures.same lasts.kept.records lasts.kept.in_log.0) (inl refl)),
+  inl refl,
+)
+
 pub returns-then-is_err-2-clause-answered : goal.returns-then-is_err-2-clause-answered
 returns-then-is_err-2-clause-answered g c = (_, failed refl refl (inl (g.met.S.Journaled.same_self c.args.self.now.server)))
 
-pub returns-then-is_err-clause-kept : goal.returns-then-is_err-clause-kept
-returns-then-is_err-clause-kept g c = λ before after root shown held none goes covered lasts.
-    let may = on_err c.append.result c.is_err.result c.is_err.ensures.value c.if-is_err.true c.append.ensures.err in (
-      inl (elim (may lasts.kept.records lasts.kept.in_log.0) [
+pub returns-then-is_err-3-clause-answered : goal.returns-then-is_err-3-clause-answered
+returns-then-is_err-3-clause-answered g c = (_, failed refl refl (inl (g.met.S.Journaled.same_self c.args.self.now.server)))
+
+pub returns-then-is_err-2-clause-kept : goal.returns-then-is_err-2-clause-kept
+returns-then-is_err-2-clause-kept g c = λ before after root shown held none goes covered lasts.
+    let may = on_err c.append.result c.is_err-2.result c.is_err-2.ensures.value c.if-is_err-2.true c.append.ensures.err in (
+      inl (elim (may lasts.kept.records (c.reserve_renewal.ensures.same lasts.kept.records lasts.kept.in_log.0)) [
         | inl same ↦ lasts_on g.S.Journaled.view g.L.Log c.logs_edits.ensures c.names_roots.ensures c.args.self.now _ before (λ root base places is. is, no_less _) lasts same (inl refl)
         | inr more ↦ lasts_any g.S.Journaled.view g.L.Log c.logs_edits.ensures c.names_roots.ensures c.args.self.now _ before (λ root base places is. is, no_less _) lasts more (inl refl)
       ]),
       inl refl,
     )
 
-pub returns-then-is_err-2-clause-kept : goal.returns-then-is_err-2-clause-kept
-returns-then-is_err-2-clause-kept g c = λ before after root shown held none goes covered lasts.
-    let gains = on_ok c.append.result c.is_err.result c.is_err.ensures.value c.if-is_err.false c.append.ensures.ok in
+pub returns-then-is_err-3-clause-kept : goal.returns-then-is_err-3-clause-kept
+returns-then-is_err-3-clause-kept g c = λ before after root shown held none goes covered lasts.
+    let gains = λ (records : List (List ℕ)) (held : g.L.Log.holds c.args.self.now.log records). on_ok c.append.result c.is_err-2.result c.is_err-2.ensures.value c.if-is_err-2.false c.append.ensures.ok records (c.reserve_renewal.ensures.same records held) in
     (inl (lasts_any g.S.Journaled.view g.L.Log c.logs_edits.ensures c.names_roots.ensures c.args.self.now _ before (λ root base places is. is, c.store.ensures.rises) lasts (gains lasts.kept.records lasts.kept.in_log.0) (inl refl)), inl refl)
 
 pub returns-in-Ok-clause-answered : goal.returns-in-Ok-clause-answered
@@ -38,8 +47,8 @@ pub returns-in-Ok-clause-kept : goal.returns-in-Ok-clause-kept
 returns-in-Ok-clause-kept g c = λ before after old shown held none goes covered lasts.
     let p = c.checkpoint_now.ensures in
     let m = c.store.ensures in
-    let gains = on_ok c.append.result c.is_err.result c.is_err.ensures.value c.if-is_err.false c.append.ensures.ok in
-    let stored = on_ok c.store.result c.is_err-2.result c.is_err-2.ensures.value c.if-is_err-2.false m.ok in
+    let gains = λ (records : List (List ℕ)) (held : g.L.Log.holds c.args.self.now.log records). on_ok c.append.result c.is_err-2.result c.is_err-2.ensures.value c.if-is_err-2.false c.append.ensures.ok records (c.reserve_renewal.ensures.same records held) in
+    let stored = on_ok c.store.result c.is_err-3.result c.is_err-3.ensures.value c.if-is_err-3.false m.ok in
     let new = record c.args.self.now { server = c.checkpoint_now.new.self; log = c.append.new.self; marks = c.store.new.self } in
     let within = m.limit in
     let same = p.keeps.stamp in
@@ -59,8 +68,8 @@ pub returns-in-Err-clause-kept : goal.returns-in-Err-clause-kept
 returns-in-Err-clause-kept g c = λ before after old shown held none goes covered lasts.
     let p = c.checkpoint_now.ensures in
     let m = c.store.ensures in
-    let gains = on_ok c.append.result c.is_err.result c.is_err.ensures.value c.if-is_err.false c.append.ensures.ok in
-    let stored = on_ok c.store.result c.is_err-2.result c.is_err-2.ensures.value c.if-is_err-2.false m.ok in
+    let gains = λ (records : List (List ℕ)) (held : g.L.Log.holds c.args.self.now.log records). on_ok c.append.result c.is_err-2.result c.is_err-2.ensures.value c.if-is_err-2.false c.append.ensures.ok records (c.reserve_renewal.ensures.same records held) in
+    let stored = on_ok c.store.result c.is_err-3.result c.is_err-3.ensures.value c.if-is_err-3.false m.ok in
     let new = record c.args.self.now { server = c.checkpoint_now.new.self; log = c.append.new.self; marks = c.store.new.self; is_stopped = true } in
     let within = m.limit in
     let same = p.keeps.stamp in

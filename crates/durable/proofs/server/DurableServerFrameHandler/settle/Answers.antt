@@ -1,6 +1,5 @@
-use Rattle.std.proofs.Common.{◌∙◌, inl, inr, subst, sym}
-use Rattle.cell_key.specs.Faults.{HasRisen}
-use Rattle.durable.proofs.Rooted.{puts_still, settles_then, sweeps_still}
+use Rattle.std.proofs.Common.{◌∙◌, inl, inr}
+use Rattle.durable.proofs.Rooted.{failed_later, puts_still, settles_then, sweeps_still}
 use Rattle.durable.proofs.server.DurableServerFrameHandler.settle.Goals as goal
 
 pub returns-then-log_waiting-clause-ok : goal.returns-then-log_waiting-clause-ok
@@ -18,7 +17,7 @@ returns-then-log_waiting-clause-ok g c = record {
               reply = put.reply;
               next = put.next;
               last = put.last;
-              answered = puts_still g.S.Journaled.view g.S.Journaled.calls w.still (λ risen. subst (λ (m : g.row.M.Denot). HasRisen (g.M.MarkStore.faults first.marks.marks) (g.M.MarkStore.faults m)) (sym w.marks) risen) b.mid put.next put.reply put.answered;
+              answered = puts_still g.S.Journaled.view g.S.Journaled.calls w.still (failed_later g.M.MarkStore g.L.Log first c.args.self.now c.log_waiting.new.self w.marks w.later) b.mid put.next put.reply put.answered;
               swept = sweeps_still g.S.Journaled.calls w.still first.upkeep put.reply put.next put.last put.swept;
               is_same = g.met.S.Journaled.same_then put.last _ _ put.is_same w.same;
               tried = w.due.1 ∙ put.tried;
@@ -53,7 +52,7 @@ returns-else-log_waiting-clause-err g c = record {
               reply = put.reply;
               next = put.next;
               last = put.last;
-              answered = puts_still g.S.Journaled.view g.S.Journaled.calls w.still (λ risen. subst (λ (m : g.row.M.Denot). HasRisen (g.M.MarkStore.faults first.marks.marks) (g.M.MarkStore.faults m)) (sym w.marks) risen) b.mid put.next put.reply put.answered;
+              answered = puts_still g.S.Journaled.view g.S.Journaled.calls w.still (failed_later g.M.MarkStore g.L.Log first c.args.self.now c.log_waiting.new.self w.marks w.later) b.mid put.next put.reply put.answered;
               swept = sweeps_still g.S.Journaled.calls w.still first.upkeep put.reply put.next put.last put.swept;
               is_same = g.met.S.Journaled.same_then put.last _ _ put.is_same w.same;
               tried = w.due.1 ∙ put.tried;

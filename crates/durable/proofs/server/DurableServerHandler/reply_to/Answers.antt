@@ -19,3 +19,6 @@ returns-in_default g c = record {
   says = c.answer_plainly.ensures.says;
   limits = c.answer_plainly.ensures.limits;
 }
+
+pub returns-in-CollectStep-clause-step : goal.returns-in-CollectStep-clause-step
+returns-in-CollectStep-clause-step g c = rw c.in-CollectStep.is (λ before reached shown. step_of (c.collect_step.ensures.says.goes_on before reached shown))

@@ -1,10 +1,9 @@
-use Rattle.std.proofs.Common.{◌≡◌, ◌∙◌, Bool, true, ap, inl, inr, refl, subst, sym}
-use Rattle.cell_key.specs.Faults.{HasRisen}
+use Rattle.std.proofs.Common.{◌≡◌, ◌≤◌, ◌∙◌, Bool, true, ap, inl, inr, refl, subst, sym}
 use Rattle.server_loop.specs.Commands.{checkpointed}
 use Rattle.durable.specs.Due.{IsRootDue, tried_at}
 use Rattle.durable.specs.Answers.{SweepsAfter}
-use Rattle.durable.proofs.Logged.{logs_on, recounted, still_lasts, true_not_false}
-use Rattle.durable.proofs.Rooted.{puts_still, settles_then}
+use Rattle.durable.proofs.Logged.{logs_on, no_less, recounted, still_lasts, true_not_false}
+use Rattle.durable.proofs.Rooted.{failed_later, puts_still, settles_then}
 use Rattle.durable.proofs.server.DurableServerHandler.tend.Goals as goal
 
 pub returns-then-is_root_due-clause-between : goal.returns-then-is_root_due-clause-between
@@ -19,7 +18,7 @@ returns-then-is_root_due-clause-between g c =
           reply = checkpointed c.root-done.result;
           next = c.root-done.new.self.server;
           answered = puts_still g.S.Journaled.view g.S.Journaled.calls c.sweep_after.ensures.still
-              (subst (λ m. HasRisen (g.M.MarkStore.faults c.args.self.now.marks.marks) (g.M.MarkStore.faults m.marks)) (sym c.sweep_after.ensures.marks)) _ _ _ c.root-done.ensures.answered;
+              (failed_later g.M.MarkStore g.L.Log c.args.self.now c.root-done.new.self c.sweep_after.new.self (ap (λ m. m.marks) c.sweep_after.ensures.marks) (subst (λ l. g.L.Log.faults c.root-done.new.self.log ≤ g.L.Log.faults l) (sym c.sweep_after.ensures.log) (no_less _))) _ _ _ c.root-done.ensures.answered;
           last = c.sweep_after.new.self.server;
           is_same = g.met.S.Journaled.same_self c.sweep_after.new.self.server;
           swept = subst (λ (upkeep : Bool). SweepsAfter g.S.Journaled.calls (c.sweep_after.new.self.is_stopped ≡ true) upkeep (checkpointed c.root-done.result) c.root-done.new.self.server c.sweep_after.new.self.server) c.root-done.ensures.due.2 c.sweep_after.ensures.swept;
