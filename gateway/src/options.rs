@@ -59,6 +59,9 @@ pub struct Options {
     /// blocks of each file that stay in memory
     #[arg(long, value_name = "C")]
     cache: Option<String>,
+    /// bytes of the writes that all sessions may buffer
+    #[arg(long, value_name = "S")]
+    session_bytes: Option<String>,
     /// wait until no other program has the folder, and serve it then
     #[arg(long, requires = "dir")]
     pub standby: bool,
@@ -150,6 +153,7 @@ impl Options {
             ("--flush-bytes", &self.flush_bytes),
             ("--merge", &self.merge),
             ("--cache", &self.cache),
+            ("--session-bytes", &self.session_bytes),
         ];
         for (name, value) in given {
             words.extend(value.iter().flat_map(|value| [name.to_string(), value.clone()]));

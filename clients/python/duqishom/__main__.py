@@ -79,6 +79,7 @@ def parser() -> argparse.ArgumentParser:
     made.add_argument("--flush-bytes", metavar="B", help="given to the program: how many bytes of entries compact a memtable too")
     made.add_argument("--merge", metavar="M", help="given to the program: how many files a tablet has before some are merged")
     made.add_argument("--cache", metavar="C", help="given to the program: how many blocks of each file stay in memory")
+    made.add_argument("--session-bytes", metavar="S", help="given to the program: how many bytes of writes all sessions may buffer")
     made.add_argument("--no-checkpoint", action="store_true", help="make no checkpoint of a folder at the end")
     made.add_argument("--record", metavar="FOLDER", help="keep all frames there, for tablet_audit")
     form = made.add_mutually_exclusive_group()
@@ -124,7 +125,7 @@ def main(given: Sequence[str]) -> int:
 
 def opened(options: argparse.Namespace) -> Store:
     """The store that the options name."""
-    named = ("log-bytes", "flush", "flush-bytes", "merge", "cache")
+    named = ("log-bytes", "flush", "flush-bytes", "merge", "cache", "session-bytes")
     words = [word for name in named if (value := getattr(options, name.replace("-", "_"))) for word in (f"--{name}", value)]
     return Store(
         options.program,

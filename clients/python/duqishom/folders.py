@@ -122,10 +122,10 @@ class Unsaved:
 
 def tuned(words: Sequence[str], has_folder: bool) -> list[str]:
     """These words of a command line, after the client's defaults for options that they don't set: a memtable is also
-    compacted at 32 MiB, so that large values don't fill it. In a folder 256 blocks of each file are cached, and files that
-    nothing needs go by themselves."""
+    compacted at 32 MiB, so that large values don't fill it, and sessions buffer 1 GiB of writes at most. In a folder 256
+    blocks of each file are cached, and files that nothing needs go by themselves."""
     in_folder: list[tuple[str, ...]] = [("--cache", "256"), ("--upkeep",)]
-    wanted = [("--flush-bytes", "33554432"), *(in_folder if has_folder else [])]
+    wanted = [("--flush-bytes", "33554432"), ("--session-bytes", "1073741824"), *(in_folder if has_folder else [])]
     named = {word.partition("=")[0] for word in words}
     return [*(part for option in wanted if option[0] not in named for part in option), *words]
 

@@ -21,6 +21,7 @@ from duqishom.answers import (
     Committed,
     Decided,
     Lost,
+    More,
     Pending,
     Qualifier,
     Stamped,
@@ -54,6 +55,9 @@ LOG.addHandler(logging.NullHandler())
 
 MOST_STAMP = 9_223_372_036_854_775_807
 MOST_TABLETS = 1024
+
+# With a log a collector makes at most so many visits for a request.
+LOGGED_VISITS = 4
 
 # The longest pause between two attempts, in seconds.
 LONGEST_PAUSE = 1.0
@@ -359,21 +363,29 @@ class StorePlans:
         yield from self.clean(*cell)
 
     def collect(self, visits: int) -> Plan[int]:
-        """Erases old versions, by requests of so many visits: the floor up to which that was done."""
+        """Erases old versions, by trips of so many visits: the floor up to which that was done."""
         collector = yield from ask(CollectBegin())
-        while (done := (yield from self._collect_step(collector.number, visits))) != Collected():
+        steps = [CollectStep(collector.number, visits)]
+        while (done := (yield from self._collect_steps(steps))) != Collected():
             if isinstance(done, Blocked):
                 yield from self.clean(done.row, done.family)
+            steps = [CollectStep(collector.number, min(visits, LOGGED_VISITS))] * -(-visits // LOGGED_VISITS)
         return collector.floor
 
-    def _collect_step(self, collector: int, visits: int) -> Plan[Collection]:
-        """A collector's step. Where a memtable is full, all are written to files, for the refusal doesn't tell which it
-        is; the visits that were made before it stay, so each try comes further."""
+    def _collect_steps(self, steps: list[CollectStep]) -> Plan[Collection]:
+        """Steps of a collector in one trip: the first answer that isn't More, or else More. Where a memtable is full, all are
+        written to files, for the refusal doesn't tell which it is; the visits that were made before it stay, so each try
+        comes further."""
         while True:
-            try:
-                return (yield from ask(CollectStep(collector, visits)))
-            except MemtableFull:
+            answers = yield list(steps)
+            done = next((answer for answer in answers if answer != More()), More())
+            if isinstance(done, MemtableFull):
                 yield from self.make_room()
+            elif isinstance(done, Refused):
+                raise done
+            else:
+                result: Collection = done
+                return result
 
     def fate(self, start: int, row: bytes, family: bytes, patience: Patience) -> Plan[Fate]:
         """What became of a session's commit, by its first cell. A record there that names the session says that it has

@@ -112,6 +112,46 @@ class Sessions(Limits):
             ]
         )
 
+    def test_bytes_of_all_sessions(self) -> None:
+        """15 writes of 65,539 bytes leave room for 65,491. One in place of another counts for what it adds."""
+        self.assert_met(
+            [
+                *all_done([Begin(), Begin()]),
+                *all_done(set_to(b"r%x" % row, b"v" * LONGEST_VALUE, 1 + row % 2) for row in range(15)),
+                (set_to(b"rf", b"v" * 65_489), 20),
+                (set_to(b"rf", b"v" * 65_488), 0),
+                (set_to(b"rf", b"v" * 65_489), 20),
+                (Delete(2, b"s", FAMILY), 20),
+                (Get(2, b"rf", FAMILY), NOT_FOUND),
+                (set_to(b"rf", b"v" * 65_487), 0),
+                (Delete(2, b"s", FAMILY), 20),
+                (Delete(1, b"rf", FAMILY), 0),
+                (Delete(2, b"s", FAMILY), 0),
+                (set_to(b"rf", b"v" * LONGEST_VALUE), 20),
+                (Stop(2), 0),
+                (set_to(b"rf", b"v" * LONGEST_VALUE), 0),
+            ],
+            "--session-bytes",
+            "1048576",
+        )
+
+    def test_bytes_of_a_session_that_is_committed(self) -> None:
+        """They count until its last step."""
+        full = [set_to(b"r%x" % row, b"v" * LONGEST_VALUE) for row in range(15)]
+        another = set_to(b"s", b"v" * LONGEST_VALUE, 2)
+        self.assert_met(
+            [
+                *all_done([Begin(), Begin(), *full]),
+                (another, 20),
+                *steps(1, 30),
+                (another, 20),
+                *steps(1, 1),
+                (another, 0),
+            ],
+            "--session-bytes",
+            "1048576",
+        )
+
     def test_deletions_of_256_cells(self) -> None:
         """Each cell is visited once in the first pass. In the second pass its older record is erased, and then its
         deletion."""

@@ -591,12 +591,14 @@ class Unasked(unittest.TestCase):
             self.assertEqual(store.sweep(), 2)
 
     def test_words_of_a_store(self) -> None:
+        flush, sessions = ["--flush-bytes", "33554432"], ["--session-bytes", "1073741824"]
         table: list[tuple[list[str], bool, list[str]]] = [
-            ([], False, ["--flush-bytes", "33554432"]),
-            ([], True, ["--flush-bytes", "33554432", "--cache", "256", "--upkeep"]),
-            (["--merge", "8"], False, ["--flush-bytes", "33554432", "--merge", "8"]),
-            (["--flush-bytes=1048576"], True, ["--cache", "256", "--upkeep", "--flush-bytes=1048576"]),
-            (["--cache", "8"], True, ["--flush-bytes", "33554432", "--upkeep", "--cache", "8"]),
+            ([], False, [*flush, *sessions]),
+            ([], True, [*flush, *sessions, "--cache", "256", "--upkeep"]),
+            (["--merge", "8"], False, [*flush, *sessions, "--merge", "8"]),
+            (["--flush-bytes=1048576"], True, [*sessions, "--cache", "256", "--upkeep", "--flush-bytes=1048576"]),
+            (["--session-bytes", "1048576"], False, [*flush, "--session-bytes", "1048576"]),
+            (["--cache", "8"], True, [*flush, *sessions, "--upkeep", "--cache", "8"]),
         ]
         for words, has_folder, tuned_words in table:
             self.assertEqual(tuned(words, has_folder), tuned_words)

@@ -24,6 +24,9 @@ pub const LEAST_CACHE: u32 = 8;
 /// The greatest value of `--cache`.
 pub const MOST_CACHE: u32 = 4096;
 
+/// The least value of `--session-bytes`. The greatest is 4,294,967,295.
+pub const LEAST_SESSION_BYTES: u32 = 1_048_576;
+
 /// The least value of `--log-bytes`.
 pub const LEAST_LOG_BYTES: u32 = 4096;
 
@@ -48,6 +51,8 @@ pub struct Options<'a> {
     pub merge: Option<u32>,
     /// The most blocks cached of each file: 8 to 4,096.
     pub cache: u32,
+    /// The most bytes that the writes of all sessions may have: 1,048,576 or more. None: there is no limit.
+    pub session_bytes: Option<u32>,
     /// Whether the store keeps house by itself: files are merged by levels if no number is given, and a checkpoint that a
     /// log makes due is followed by a sweep of the files that nothing needs.
     pub upkeep: bool,

@@ -8,8 +8,8 @@ ghost use Rattle.std.specs.Prelude.{◌≡◌, ◌≤◌, IfOk, IfSome, IsTrue, 
 use clap::builder::ValueParser;
 use clap::{Arg, ArgAction, Command, Error};
 pub use command_options::{
-    DEFAULT_FLUSH, LEAST_CACHE, LEAST_FLUSH_BYTES, LEAST_LOG_BYTES, MOST_CACHE, MOST_FLUSH,
-    MOST_FLUSH_BYTES, MOST_LOG_BYTES, MOST_MERGE, Options, VERSION,
+    DEFAULT_FLUSH, LEAST_CACHE, LEAST_FLUSH_BYTES, LEAST_LOG_BYTES, LEAST_SESSION_BYTES,
+    MOST_CACHE, MOST_FLUSH, MOST_FLUSH_BYTES, MOST_LOG_BYTES, MOST_MERGE, Options, VERSION,
 };
 use std::alloc::{AllocError, Global};
 
@@ -46,6 +46,10 @@ const MERGE_HELP: &str =
 
 const CACHE_HELP: &str =
     "Blocks of each file that stay in memory, those that were read last: 8 to 4096 [default: 8]";
+
+const SESSION_BYTES_HELP: &str =
+    "Bytes of rows, families and values in the Sets and Deletes that all sessions buffer, past which one that adds to them \
+    is refused NoMemory: 1048576 to 4294967295 [default: no limit]";
 
 const UPKEEP_HELP: &str =
     "Merge a tablet's newest files after a file was written, so that each has more entries than all newer ones together; in \
@@ -133,18 +137,30 @@ fn upkeep_command<'a>(alloc: Global) -> Result<Command<'a>, AllocError> {
 
 /// The command with all its options.
 fn command<'a>(alloc: Global) -> Result<Command<'a>, AllocError> {
+    let session_bytes = number(
+        alloc,
+        "session-bytes",
+        "S",
+        SESSION_BYTES_HELP,
+        LEAST_SESSION_BYTES,
+        u32::MAX,
+    );
     let clients = Arg::new(alloc, "clients")
         .long("clients")
         .help(CLIENTS_HELP)
         .action(ArgAction::SetTrue);
     let admin = number(alloc, "admin", "A", ADMIN_HELP, 1, u32::MAX).requires_arg("clients")?;
-    upkeep_command(alloc)?.arg(clients)?.arg(admin)
+    upkeep_command(alloc)?
+        .arg(session_bytes)?
+        .arg(clients)?
+        .arg(admin)
 }
 
 /// Parses the words of the command line, the program's name first: `tabletd [--dir DIR [--log]] [--log-bytes L]
-/// [--flush N] [--flush-bytes B] [--merge M] [--cache C] [--upkeep] [--clients [--admin A]]`, where L is 4,096 to
-/// 33,554,432, N is 1 to 100,000, B is 1,048,576 to 67,108,864, M is 2 to 64, C is 8 to 4,096 and A is 1 or more. An
-/// error has the parser's text, which for a request for help or the version is that.
+/// [--flush N] [--flush-bytes B] [--merge M] [--cache C] [--upkeep] [--session-bytes S] [--clients [--admin A]]`,
+/// where L is 4,096 to 33,554,432, N is 1 to 100,000, B is 1,048,576 to 67,108,864, M is 2 to 64, C is 8 to 4,096, S is
+/// 1,048,576 or more and A is 1 or more. An error has the parser's text, which for a request for help or the version is
+/// that.
 pub fn options<'a>(alloc: Global, words: &'a [&'a str]) -> Result<Options<'a>, Error>
     ensures log { IfOk result (λ options. options.log ≡ true → is_some options.dir ≡ true) }
     ensures log_bytes { IfOk result (λ options.
@@ -156,6 +172,8 @@ pub fn options<'a>(alloc: Global, words: &'a [&'a str]) -> Result<Options<'a>, E
         IfSome options.merge (λ most. (2 ≤ most) × (most ≤ MOST_MERGE))) }
     ensures cache { IfOk result (λ options.
         (LEAST_CACHE ≤ options.cache) × (options.cache ≤ MOST_CACHE)) }
+    ensures session_bytes { IfOk result (λ options. IfSome options.session_bytes (λ bytes.
+        LEAST_SESSION_BYTES ≤ bytes)) }
     ensures admin { IfOk result (λ options. is_some options.admin ≡ true → options.clients ≡ true) }
     ensures nobody { IfOk result (λ options. IfSome options.admin (λ admin. 1 ≤ admin)) }
 {
@@ -176,6 +194,11 @@ pub fn options<'a>(alloc: Global, words: &'a [&'a str]) -> Result<Options<'a>, E
         ),
         merge: within(matches.get_one::<u32>("merge"), 2, MOST_MERGE),
         cache: cache_of(matches.get_one::<u32>("cache")),
+        session_bytes: within(
+            matches.get_one::<u32>("session-bytes"),
+            LEAST_SESSION_BYTES,
+            u32::MAX,
+        ),
         upkeep: matches.get_flag("upkeep"),
         clients,
         admin: admin_of(clients, matches.get_one::<u32>("admin")),

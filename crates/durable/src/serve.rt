@@ -48,6 +48,17 @@ impl<F: AtomicPut + Drop, M: MarkStore + Drop, L: Log + Drop> DurableServer<
         self.server.cache_blocks(most_blocks);
     }
 
+    /// Limits the bytes of the writes that all sessions buffer, as `Server::limit_buffer` does.
+    pub fn limit_buffer(&mut self, most: u64)
+        ensures { self.new ≡ record self.old {
+          server = record self.old.server {
+            clients = record self.old.server.clients { most_buffered = most };
+          };
+        } }
+    {
+        self.server.limit_buffer(most);
+    }
+
     /// From now on, after a reply, a root is put and the log is emptied if the journal's size is at least this many
     /// bytes. Its size is its bytes, or 671 for each edit if that is more. A refusal is not reported. The next try
     /// comes when the size has grown by 8,388,608 bytes, or has fallen.

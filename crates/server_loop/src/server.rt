@@ -179,6 +179,16 @@ impl<F: Files + Drop, M: MarkStore + Drop> Server<F, M> {
         self.rows.cluster.resize_caches(most_blocks);
     }
 
+    /// Limits the bytes of the writes that all sessions buffer: their rows, families and values. A Set or a Delete that
+    /// makes them more than they are, and more than `most`, is refused `NoMemory`. Without this call there is no limit.
+    pub fn limit_buffer(&mut self, most: u64)
+        ensures { self.new ≡ record self.old {
+          clients = record self.old.clients { most_buffered = most };
+        } }
+    {
+        self.clients.limit_buffer(most);
+    }
+
     /// Whether a merge is due: a memtable is full, so that a file will be written, or a file was written since the last
     /// merge.
     fn is_merge_due(&self) -> bool

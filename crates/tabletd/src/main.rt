@@ -1,6 +1,7 @@
 //! `tabletd [--dir DIR [--log]] [--log-bytes L] [--flush N] [--flush-bytes B] [--merge M] [--cache C] [--upkeep]
-//! [--clients [--admin A]]` serves framed requests from standard input, and writes a framed reply to each to standard
-//! output. The store is in memory, or in a folder, with or without a log. Several clients may share the streams.
+//! [--session-bytes S] [--clients [--admin A]]` serves framed requests from standard input, and writes a framed reply
+//! to each to standard output. The store is in memory, or in a folder, with or without a log. Several clients may share
+//! the streams.
 #![tactic(auto)]
 
 ghost use Rattle.std.specs.Prelude.{◌≡◌, ◌≤◌, IfErr, IfOk, IfSome, None, OnOk, Some, false, true};
@@ -231,6 +232,9 @@ fn serve<R: AllocGlobal + Input + Print, F: Files + Drop, M: MarkStore + Drop>(
     if let Some(most_blocks) = NonZeroUsize::new(options.cache as usize) {
         server.cache_blocks(most_blocks);
     }
+    if let Some(most) = options.session_bytes {
+        server.limit_buffer(u64::from(most));
+    }
     if options.clients {
         return serve_clients(rt, server, options.admin);
     }
@@ -302,6 +306,9 @@ fn serve_logged<
     }
     if let Some(most_blocks) = NonZeroUsize::new(options.cache as usize) {
         server.cache_blocks(most_blocks);
+    }
+    if let Some(most) = options.session_bytes {
+        server.limit_buffer(u64::from(most));
     }
     if options.clients {
         return serve_logged_clients(rt, server, options.admin);

@@ -1,4 +1,5 @@
 pub mod Advance
+pub mod Buffered
 pub mod CellReads
 pub mod CommitShown
 pub mod Committed

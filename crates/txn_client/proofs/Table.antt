@@ -67,7 +67,7 @@ after_low (progress.Finished k n) a b h = h
 -- ---- entries
 
 -- the entries of a map after one key has changed
-upd_at : (old new : ℕ → Option Session) (k : ℕ) (w : Option Session) → ((q : ℕ) → new q ≡ cond (is_eq (nat_cmp k q)) w (old q)) → new k ≡ w
+pub upd_at : (old new : ℕ → Option Session) (k : ℕ) (w : Option Session) → ((q : ℕ) → new q ≡ cond (is_eq (nat_cmp k q)) w (old q)) → new k ≡ w
 upd_at old new k w h = h k ∙ ap (λ (b : Bool). cond b w (old k)) (eq_test k k refl)
 
 upd_off : (old new : ℕ → Option Session) (k : ℕ) (w : Option Session) → ((q : ℕ) → new q ≡ cond (is_eq (nat_cmp k q)) w (old q)) → (q : ℕ) → q ≢ k → new q ≡ old q

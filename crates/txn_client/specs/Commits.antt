@@ -12,6 +12,7 @@ use Rattle.si_model.specs.Machine.{Writes}
 use Rattle.si_model.specs.PutCells.{all_put_cells}
 use Rattle.si_model.specs.declared.transactions.CommitReply.{CommitReply}
 use Rattle.si_model.specs.declared.transactions.CommitReply.TheVariants.{Committed, Conflict}
+use Rattle.txn_client.specs.Buffers.{BuffersNone}
 use Rattle.txn_client.specs.Puts.{ArePuttings}
 use Rattle.txn_client.specs.Shows.{IsOpenSession}
 use Rattle.txn_client.specs.Takings.{AreFree, AreReadable, IsFirstTaken}
@@ -136,3 +137,4 @@ pub record EndsAt (old new : Clients) (start now : ℕ) : Type 0 where
   pub updates : start ≢ 0 → Updates nat_cmp old.sessions new.sessions start None
   pub len : start ≢ 0 → (session : Session) → btree.get nat_cmp old.sessions start ≡ Some session
       → btree.btree_map_len new.sessions + 1 ≡ btree.btree_map_len old.sessions
+  pub buffered : start ≢ 0 → BuffersNone old new start

@@ -1,3 +1,4 @@
+pub mod Buffers
 pub mod CellOrder
 pub mod CellReads
 pub mod Commits

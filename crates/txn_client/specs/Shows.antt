@@ -101,9 +101,11 @@ abbrev pub DrawsNext : ℕ → Progress → Type 0
 DrawsNext last (progress.Stamped c) = c ≡ last + 1
 DrawsNext last p = ⊤
 
--- the same sessions, and the same top
+-- the same sessions, and the same top, with as many bytes buffered and the same limit
 pub record SameClients (old new : Clients) : Type 0 where
   pub top : new.top ≡ old.top
+  pub buffered : new.buffered ≡ old.buffered
+  pub limit : new.most_buffered ≡ old.most_buffered
   pub each : (t : ℕ) → btree.get nat_cmp new.sessions t ≡ btree.get nat_cmp old.sessions t
 
 -- the most sessions are active

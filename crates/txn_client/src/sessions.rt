@@ -1,6 +1,6 @@
 //! The table of active sessions. Its type is named for those who run them: clients (Percolator).
 
-ghost use Rattle.std.specs.Prelude.{◌≡◌, ◌+◌, ◌<◌, ◌^◌, ◌⊎◌, ℕ, IfErr, IfOk, IsErrOf, IsSome, OnErr, OnOk};
+ghost use Rattle.std.specs.Prelude.{◌≡◌, ◌+◌, ◌-◌, ◌<◌, ◌^◌, ◌⊎◌, ℕ, IfErr, IfOk, IsErrOf, IsSome, OnErr, OnOk};
 ghost use Rattle.std.specs.Prelude.{◌≤◌, Some, is_some, if◌then◌else◌, map};
 ghost use Rattle.std.specs.BTreeMap as btree;
 ghost use Rattle.std.specs.BTreeMap.{Updates, btree_map_len};
@@ -23,6 +23,7 @@ ghost use Rattle.txn_client.specs.Ranges.{range_named};
 ghost use Rattle.si_model.specs.AnswerLimits.{IsInScanLimits};
 ghost use Rattle.txn_client.specs.Scans.{IsScanCount, IsScanDamaged, IsScanFound, IsScanReadable};
 ghost use Rattle.txn_client.specs.Refusals.{HasNoStamp, HasOneReason, IsBeginRefusal, IsDeleteRefusal, IsGetRefusal, IsNextReadable, IsScanRefusal, IsSetRefusal, IsStepRefusal, StepCauses, StepLeaves};
+ghost use Rattle.txn_client.specs.Buffers.{BeginsEmpty, Buffers, BuffersNone};
 ghost use Rattle.rows.specs.Calls.{KeepsBelow, OnlyReads};
 ghost use Rattle.rows.specs.Room.{HasNoRoom};
 ghost use Rattle.txn_client.specs.Room.{ChangesNext, EditsOfStep, StepMakes};
@@ -57,6 +58,10 @@ pub struct Clients {
     pub(crate) alloc: Global,
     pub(crate) top: Stamp,
     pub(crate) sessions: BTreeMap<Stamp, Session>,
+    /// The bytes of the writes that all sessions buffer.
+    pub(crate) buffered: u64,
+    /// The most of these bytes: `u64::MAX` without a limit.
+    pub(crate) most_buffered: u64,
 }
 
 /// The greatest stamp answered, after a step.
@@ -76,12 +81,24 @@ impl Clients {
         requires { top < 2 ^ 63 }
         ensures top { result.top ≡ top }
         ensures shown { (st : State) → top ≤ st.top → st.active ≡ empty → ShowsClients result st }
+        ensures buffered { result.buffered ≡ 0 }
+        ensures limit { result.most_buffered ≡ 2 ^ 64 - 1 }
     {
         Clients {
             alloc,
             top,
             sessions: BTreeMap::new(alloc),
+            buffered: 0,
+            most_buffered: u64::MAX,
         }
+    }
+
+    /// Sets the most bytes that the writes of all sessions may have: at first there is no limit. Only `set` and
+    /// `delete` keep to it. A write counts its row, its family and its value in bytes.
+    pub fn limit_buffer(&mut self, most: u64)
+        ensures { self.new ≡ record self.old { most_buffered = most } }
+    {
+        self.most_buffered = most;
     }
 
     /// The greatest stamp answered, or 0 before the first. If other servers draw stamps, this server may not know a
@@ -134,6 +151,7 @@ impl Clients {
             → oracle.new ≡ oracle.old }
         ensures exhausted { IsErrOf result Refusal.Exhausted → oracle.old.last ≡ MOST_STAMP }
         ensures reason { HasReason (M.faults oracle.old.marks) (M.faults oracle.new.marks) result }
+        ensures buffered { IfOk result (BeginsEmpty self.old self.new) }
     {
         if self.sessions.len() >= MOST_SESSIONS {
             return Err(Refusal::TooManySessions);
@@ -161,7 +179,7 @@ impl Clients {
         ensures len { OnOk result (btree_map_len self.new.sessions ≡ btree_map_len self.old.sessions
             + (if is_some (btree.get nat_cmp self.old.sessions start) then 0 else 1)) }
         ensures err { OnErr result (self.new.sessions.entries ≡ self.old.sessions.entries) }
-        ensures top { self.new.top ≡ self.old.top }
+        ensures others { self.new ≡ record self.old { sessions = self.new.sessions } }
         ensures refusal { IfErr result (λ refusal. refusal ≡ Refusal.NoMemory) }
     {
         let session = Session {
@@ -180,7 +198,7 @@ impl Clients {
         ensures undone { Updates nat_cmp self.old.sessions self.new.sessions start replaced }
         ensures len { btree_map_len self.new.sessions + (if is_some replaced then 0 else 1)
             ≡ btree_map_len self.old.sessions }
-        ensures top { self.new.top ≡ self.old.top }
+        ensures others { self.new ≡ record self.old { sessions = self.new.sessions } }
     {
         match replaced {
             Some(session) => {
@@ -204,10 +222,12 @@ impl Clients {
         ensures err { OnErr result (SameClients self.old self.new) }
         ensures unknown { (st : State) → ShowsClients self.old st → IsInactive st start
             → IsErrOf result Refusal.UnknownSession }
+        ensures buffered { BuffersNone self.old self.new start }
     {
-        let Some(_session) = self.sessions.remove(&start) else {
+        let Some(session) = self.sessions.remove(&start) else {
             return Err(Refusal::UnknownSession);
         };
+        self.buffered = self.buffered.saturating_sub(session.writes.bytes());
         Ok(())
     }
 
@@ -365,7 +385,8 @@ impl Clients {
     /// # Errors
     ///
     /// In this order: `UnknownSession`, `WrongPhase` after the session's first step, `BadRow`,
-    /// `BadColumn`, `BadValue` above 65,536 bytes, `TooManyWrites` at a 257th cell; `NoMemory`.
+    /// `BadColumn`, `BadValue` above 65,536 bytes, `TooManyWrites` at a 257th cell; `NoMemory`, also if the writes that
+    /// all sessions buffer would have more bytes than the limit, and more than they have now.
     pub fn set(
         &mut self,
         start: Stamp,
@@ -380,14 +401,22 @@ impl Clients {
         ensures err { OnErr result (SameClients self.old self.new) }
         ensures unknown { (st : State) → ShowsClients self.old st → IsInactive st start
             → IsErrOf result Refusal.UnknownSession }
+        ensures buffered { Buffers self.old self.new start }
+        ensures limit { OnOk result ((self.new.buffered ≤ self.old.buffered)
+            ⊎ (self.new.buffered ≤ self.old.most_buffered)) }
     {
         let cell = self.open_cell(start, row, family)?;
         let value = Value::new(self.alloc, value)?;
         let session = self.sessions.get_mut(&start).unwrap();
-        session.writes.set(Write {
+        let write = Write {
             cell,
             value: Some(value),
-        })
+        };
+        let bytes = session
+            .writes
+            .buffer(write, self.buffered, self.most_buffered)?;
+        self.buffered = bytes;
+        Ok(())
     }
 
     /// Buffers the deletion of a cell, in the same way as `set`: an earlier write of the cell keeps its place and
@@ -396,7 +425,7 @@ impl Clients {
     /// # Errors
     ///
     /// In this order: `UnknownSession`, `WrongPhase` after the session's first step, `BadRow`,
-    /// `BadColumn`, `TooManyWrites` at a 257th cell; `NoMemory`.
+    /// `BadColumn`, `TooManyWrites` at a 257th cell; `NoMemory`, in the same way as `set`.
     pub fn delete(&mut self, start: Stamp, row: &[u8], family: &[u8]) -> Result<(), Refusal>
         ensures step { (cells : Cells) (last : ℕ)
             → Steps cells self.old last (machine.Delete start (cell_of row.now family.now))
@@ -405,10 +434,18 @@ impl Clients {
         ensures err { OnErr result (SameClients self.old self.new) }
         ensures unknown { (st : State) → ShowsClients self.old st → IsInactive st start
             → IsErrOf result Refusal.UnknownSession }
+        ensures buffered { Buffers self.old self.new start }
+        ensures limit { OnOk result ((self.new.buffered ≤ self.old.buffered)
+            ⊎ (self.new.buffered ≤ self.old.most_buffered)) }
     {
         let cell = self.open_cell(start, row, family)?;
         let session = self.sessions.get_mut(&start).unwrap();
-        session.writes.set(Write { cell, value: None })
+        let write = Write { cell, value: None };
+        let bytes = session
+            .writes
+            .buffer(write, self.buffered, self.most_buffered)?;
+        self.buffered = bytes;
+        Ok(())
     }
 
     /// Takes the next step of a session's commit (Percolator, Prewrite and Commit): holds the next cell, draws the
@@ -434,6 +471,7 @@ impl Clients {
         ensures refused { OnErr result (StepLeaves R.seen M.mark
             rows.old rows.new oracle.old oracle.new) }
         ensures err { OnErr result (SameClients self.old self.new) }
+        ensures buffered { Buffers self.old self.new start }
         ensures below { KeepsBelow R.seen rows.old rows.new }
         // At most one row changes, and each added key has the session's start or its commit stamp.
         ensures touched { R.seen.holds rows.old → (st : State) → ShowsClients self.old st
@@ -465,10 +503,12 @@ impl Clients {
         let Some(session) = self.sessions.get_mut(&start) else {
             return Err(Refusal::UnknownSession);
         };
+        let bytes = session.writes.bytes();
         let outcome = session.advance(self.alloc, rows, oracle)?;
         self.top = top_after_step(self.top, outcome.progress);
         if outcome.ended {
             self.sessions.remove(&start);
+            self.buffered = self.buffered.saturating_sub(bytes);
         }
         Ok(outcome.progress)
     }

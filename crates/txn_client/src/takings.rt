@@ -44,7 +44,7 @@ fn take_write(alloc: Global, taken: &mut Writes, write: CellWrite<'_>) -> Result
 {
     let cell = Cell::new(alloc, write.cell.row, write.cell.family)?;
     let value = value_of(alloc, write.value)?;
-    taken.set(Write { cell, value })
+    taken.set(Write { cell, value }, u64::MAX)
 }
 
 /// Takes writes, one after the other.

@@ -11,6 +11,7 @@ ghost use Rattle.si_model.specs.Machine.{State};
 ghost use Rattle.si_model.specs.Servers.{IsReachedByServers};
 ghost use Rattle.si_model.specs.ShowsCells.{ShowsCells};
 ghost use Rattle.si_model.specs.Transactions.{Commit, IsReadCount, Read};
+ghost use Rattle.txn_client.specs.Buffers.{BuffersNamed};
 ghost use Rattle.txn_client.specs.CellReads.{AreRead};
 ghost use Rattle.txn_client.specs.Commits.{BeganAt, CommitDoes, CommitDraws, CommitsIn, EndsAt, HasNoRoomToCommit, IsCopyRefusal, LacksStamps};
 ghost use Rattle.txn_client.specs.Refusals.{HasOneReason, StepLeaves};
@@ -182,6 +183,7 @@ impl Clients {
         ensures refused { OnErr result (StepLeaves R.seen M.mark
             rows.old rows.new oracle.old oracle.new) }
         ensures same { OnErr result (SameClients self.old self.new) }
+        ensures buffered { BuffersNamed self.old self.new start }
         ensures refusal { IfErr result IsReadRequestRefusal }
         ensures count { ¬ IsReadCount (length names.now) → IsErrOf result Refusal.BadCount }
         ensures unknown { IsReadCount (length names.now) → start ≢ 0 → (st : State)
@@ -257,9 +259,13 @@ impl Clients {
         ensures { EndsAt self.old self.new start top }
     {
         self.top = top;
-        if start != 0 {
-            self.sessions.remove(&start);
+        if start == 0 {
+            return;
         }
+        let Some(session) = self.sessions.remove(&start) else {
+            return;
+        };
+        self.buffered = self.buffered.saturating_sub(session.writes.bytes());
     }
 
     /// Commits writes in one session, with nothing between: that of the start, whose own writes come first, or a new
@@ -293,6 +299,7 @@ impl Clients {
         ensures named { start ≢ 0 → (st : State) → ShowsClients self.old st
             → IfOk result (BeganAt start) }
         ensures same { OnErr result (SameClients self.old self.new) }
+        ensures buffered { BuffersNamed self.old self.new start }
         ensures reads { OnErr result (OnlyReads R.seen rows.old rows.new) }
         ensures stays { OnErr result (oracle.new.last ≡ oracle.old.last) }
         // A refusal leaves the range and the mark unchanged, or the next range has begun.

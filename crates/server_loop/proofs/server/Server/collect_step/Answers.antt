@@ -26,7 +26,7 @@ returns-in-Ok g c = let told = c.in-Ok.ensures in rw c.collected.ensures.reply (
     );
     room = told.room;
   };
-  sessions = record { told = λ st shown. (λ gone. absurd (ok_not _ _ (told.unknown _ st shown.collectors gone)), λ bad. absurd (never_bad _ _ _ (told.count bad))); sessions = record { top = refl; each = λ t. refl }; cleaners = record { next = refl; each = λ i. refl; count = refl }; collectors = (told.one, collected_told _ c.in-Ok.done); oracle = refl };
+  sessions = record { told = λ st shown. (λ gone. absurd (ok_not _ _ (told.unknown _ st shown.collectors gone)), λ bad. absurd (never_bad _ _ _ (told.count bad))); sessions = record { top = refl; buffered = refl; limit = refl; each = λ t. refl }; cleaners = record { next = refl; each = λ i. refl; count = refl }; collectors = (told.one, collected_told _ c.in-Ok.done); oracle = refl };
   tablets = ap unlogged told.below.stays;
   causes = record { device = λ is. absurd (not_done _ _ tt is); told = λ _. record { files = told.refusal.1.told (ok_not _ _); marks = refl }; full = λ is. absurd (not_done _ _ tt is); damaged = λ is. absurd (not_done _ _ tt is) };
   tending = refl;
@@ -51,7 +51,7 @@ returns-in-Err g c = let told = c.in-Err.ensures in record {
     );
     room = told.room;
   };
-  sessions = record { told = λ st shown. (λ gone. as_refused _ _ _ refl (told.unknown _ st shown.collectors gone), λ bad. bad_told _ _ refl (told.count bad)); sessions = record { top = refl; each = λ t. refl }; cleaners = record { next = refl; each = λ i. refl; count = refl }; collectors = (told.one, (told.refused.stays, λ first. elim first [ inl early ↦ (told.early early).0 | inr one ↦ told.refused.same one ])); oracle = refl };
+  sessions = record { told = λ st shown. (λ gone. as_refused _ _ _ refl (told.unknown _ st shown.collectors gone), λ bad. bad_told _ _ refl (told.count bad)); sessions = record { top = refl; buffered = refl; limit = refl; each = λ t. refl }; cleaners = record { next = refl; each = λ i. refl; count = refl }; collectors = (told.one, (told.refused.stays, λ first. elim first [ inl early ↦ (told.early early).0 | inr one ↦ told.refused.same one ])); oracle = refl };
   tablets = ap unlogged told.below.stays;
   causes = record { device = λ is. inl (told.refusal.1.device (as_err _ _ _ refl is)); told = λ none. record { files = told.refusal.1.told (λ is. none (as_refused _ _ _ refl is)); marks = refl }; full = λ same. told.full (as_err _ _ _ refl same); damaged = λ is whole st reached store shown. told.undamaged whole st reached store shown (as_err _ _ _ refl is) };
   tending = refl;

@@ -11,7 +11,7 @@ returns-in-Ok g c = let o = c.in-Ok.ensures in record {
   step = record { step = tells_as _ _ _ (λ held. (o.still held, o.answers held)) (λ held. c.keeps_following.ensures.commands (command.Merge _ _) _ _ _ _ o tt (λ is. cc) held) refl refl refl refl _ _ o.files.1 (λ st shown. merge_done st _ (sym shown.places) _ _ o.cause.known (two_merged _ _ _ _ _ o.cause.counted o.upholds.made)) (λ held. merge_whole); refusal = tt; limits = tt };
   stamps = record { last = refl; restarted = tt; exhausted = λ _. tt };
   edits = record { changes = o.answers; room = tt };
-  sessions = record { told = λ st shown. tt; sessions = record { top = refl; each = λ t. refl }; cleaners = record { next = refl; each = λ i. refl; count = refl }; collectors = record { next = refl; floor = refl; each = λ i. refl; count = refl }; oracle = refl };
+  sessions = record { told = λ st shown. tt; sessions = record { top = refl; buffered = refl; limit = refl; each = λ t. refl }; cleaners = record { next = refl; each = λ i. refl; count = refl }; collectors = record { next = refl; floor = refl; each = λ i. refl; count = refl }; oracle = refl };
   tablets = inl o;
   causes = (done_causes g.F.Files.contents g.F.Files.faults g.M.MarkStore.faults _ _ _ _ _ refl (λ is. absurd (not_done _ _ tt is)) (λ is. cc) o.faults (λ _. tt) (λ _. tt));
   tending = refl;
@@ -23,7 +23,7 @@ returns-in-Err g c = let o = c.in-Err.ensures in record {
   step = record { step = tells_as _ _ _ (λ held. (o.still held, (o.answers held).1)) (λ held. c.keeps_following.ensures.commands (command.Merge _ _) _ _ _ _ o tt (λ is. cc) held) refl refl refl refl _ _ o.files.1 (λ st shown. refuses (merge_refuses st _ (sym shown.places) _ _ _ o.upholds.0 o.cause.due.0.unknown.0 (λ is. (o.cause.due.0.count.0 is).0))) (λ held. name_undamaged _ (o.answers held).0); refusal = o.upholds.0; limits = tt };
   stamps = record { last = refl; restarted = tt; exhausted = λ _. tt };
   edits = record { changes = λ held. (o.answers held).1; room = tt };
-  sessions = record { told = λ st shown. tt; sessions = record { top = refl; each = λ t. refl }; cleaners = record { next = refl; each = λ i. refl; count = refl }; collectors = record { next = refl; floor = refl; each = λ i. refl; count = refl }; oracle = refl };
+  sessions = record { told = λ st shown. tt; sessions = record { top = refl; buffered = refl; limit = refl; each = λ t. refl }; cleaners = record { next = refl; each = λ i. refl; count = refl }; collectors = record { next = refl; floor = refl; each = λ i. refl; count = refl }; oracle = refl };
   tablets = inl o;
   causes = (refused_causes g.F.Files.contents g.F.Files.faults g.M.MarkStore.faults _ _ _ _ refl o.faults (λ _. tt) (λ _. tt));
   tending = refl;

@@ -11,7 +11,7 @@ returns-in-Ok-clause-plain g c = let o = c.in-Ok.ensures in record {
   step = record { step = tells_as _ _ _ o.keeps.kept (λ held follows. tt) refl refl refl refl _ _ o.keeps.spots (λ st shown. checkpoint_done st) (λ held. checkpoint_whole); refusal = tt; limits = tt };
   stamps = record { last = refl; restarted = tt; exhausted = λ _. tt };
   edits = record { changes = λ held. (o.keeps.kept held).1; room = tt };
-  sessions = record { told = λ st shown. tt; sessions = record { top = refl; each = λ t. refl }; cleaners = record { next = refl; each = λ i. refl; count = refl }; collectors = record { next = refl; floor = refl; each = λ i. refl; count = refl }; oracle = refl };
+  sessions = record { told = λ st shown. tt; sessions = record { top = refl; buffered = refl; limit = refl; each = λ t. refl }; cleaners = record { next = refl; each = λ i. refl; count = refl }; collectors = record { next = refl; floor = refl; each = λ i. refl; count = refl }; oracle = refl };
   tablets = rw (← c.top-top.ensures.top, ← c.greatest_floor-floor.ensures.floor) (o.steps, (λ is. o.rests), λ replaces refusal is. absurd (not_done _ _ tt is));
   causes = (done_causes g.F.Files.contents g.F.Files.faults g.M.MarkStore.faults _ _ _ _ _ refl (λ is. absurd (not_done _ _ tt is)) (λ is. cc) o.faults (λ _. tt) (λ _. tt));
   tending = refl;
@@ -27,7 +27,7 @@ returns-in-Err-clause-plain g c = let o = c.in-Err.ensures in record {
   };
   stamps = record { last = refl; restarted = tt; exhausted = λ _. tt };
   edits = record { changes = λ held. (o.keeps.kept held).1; room = tt };
-  sessions = record { told = λ st shown. tt; sessions = record { top = refl; each = λ t. refl }; cleaners = record { next = refl; each = λ i. refl; count = refl }; collectors = record { next = refl; floor = refl; each = λ i. refl; count = refl }; oracle = refl };
+  sessions = record { told = λ st shown. tt; sessions = record { top = refl; buffered = refl; limit = refl; each = λ t. refl }; cleaners = record { next = refl; each = λ i. refl; count = refl }; collectors = record { next = refl; floor = refl; each = λ i. refl; count = refl }; oracle = refl };
   tablets = rw (← c.top-top.ensures.top, ← c.greatest_floor-floor.ensures.floor) (o.steps, (λ is. absurd (not_done _ _ tt (sym is))), λ replaces refusal is. o.whole replaces);
   causes = (refused_causes g.F.Files.contents g.F.Files.faults g.M.MarkStore.faults _ _ _ _ refl o.faults (λ _. tt) (λ _. tt));
   tending = refl;

@@ -24,7 +24,7 @@ returns-in-Ok g c = let told = c.in-Ok.ensures in record {
   };
   stamps = record { last = told.rises; restarted = told.mark; exhausted = λ _. tt };
   edits = record { changes = refl; room = λ row edits over. over };
-  sessions = record { told = λ st shown. tt; sessions = record { top = refl; each = λ t. refl }; cleaners = record { next = refl; each = λ i. refl; count = refl }; collectors = record { next = refl; floor = refl; each = λ i. refl; count = refl }; oracle = (told.kept, tt) };
+  sessions = record { told = λ st shown. tt; sessions = record { top = refl; buffered = refl; limit = refl; each = λ t. refl }; cleaners = record { next = refl; each = λ i. refl; count = refl }; collectors = record { next = refl; floor = refl; each = λ i. refl; count = refl }; oracle = (told.kept, tt) };
   tablets = refl;
   causes = record { device = λ is. absurd (not_done _ _ tt is); told = λ _. record { files = refl; marks = told.told }; full = λ _. tt; damaged = λ _. tt };
   tending = refl;
@@ -48,7 +48,7 @@ returns-in-Err g c = let told = c.in-Err.ensures in record {
   };
   stamps = record { last = told.err.last; restarted = tt; exhausted = λ _. tt };
   edits = record { changes = refl; room = λ row edits over. over };
-  sessions = record { told = λ st shown. tt; sessions = record { top = refl; each = λ t. refl }; cleaners = record { next = refl; each = λ i. refl; count = refl }; collectors = record { next = refl; floor = refl; each = λ i. refl; count = refl }; oracle = (told.kept, told.err) };
+  sessions = record { told = λ st shown. tt; sessions = record { top = refl; buffered = refl; limit = refl; each = λ t. refl }; cleaners = record { next = refl; each = λ i. refl; count = refl }; collectors = record { next = refl; floor = refl; each = λ i. refl; count = refl }; oracle = (told.kept, told.err) };
   tablets = refl;
   causes = record { device = λ _. inr told.device; told = λ none. record { files = refl; marks = absurd (none (ap (λ (r : Refusal). Refused r) told.refusal)) }; full = λ _. tt; damaged = λ _. tt };
   tending = refl;

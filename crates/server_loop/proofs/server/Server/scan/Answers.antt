@@ -12,7 +12,7 @@ returns-in-Ok g c = let told = c.in-Ok.ensures in record {
   step = record { step = steps_as _ _ _ _ _ tt refl refl refl (λ st reached shown. unchanged_if _ _ st (told.reads.kept)) (λ h. told.step h _) told.reads.still told.reads.stays (λ st reached held shown. scan_undamaged c.in-Ok.reply); refusal = tt; limits = told.limits };
   stamps = record { last = refl; restarted = tt; exhausted = λ _. tt };
   edits = record { changes = (told.reads.kept, told.found); room = told.reads.room };
-  sessions = record { told = λ st shown gone. absurd (ok_not _ _ (told.unknown st shown.shows.sessions gone)); sessions = record { top = refl; each = λ t. refl }; cleaners = record { next = refl; each = λ i. refl; count = refl }; collectors = record { next = refl; floor = refl; each = λ i. refl; count = refl }; oracle = refl };
+  sessions = record { told = λ st shown gone. absurd (ok_not _ _ (told.unknown st shown.shows.sessions gone)); sessions = record { top = refl; buffered = refl; limit = refl; each = λ t. refl }; cleaners = record { next = refl; each = λ i. refl; count = refl }; collectors = record { next = refl; floor = refl; each = λ i. refl; count = refl }; oracle = refl };
   tablets = ap unlogged told.reads.stays;
   causes = record { device = λ is. absurd (not_done _ _ tt is); told = λ _. record { files = told.reason.told (ok_not _ _); marks = refl }; full = λ _. tt; damaged = λ is. absurd (not_done _ _ tt is) };
   tending = refl;
@@ -24,7 +24,7 @@ returns-in-Err g c = let told = c.in-Err.ensures in record {
   step = record { step = steps_as _ _ _ _ _ tt refl refl refl (λ st reached shown. unchanged_if _ _ st (told.reads.kept)) (λ h. told.step h _) told.reads.still told.reads.stays (λ st reached held shown. err_undamaged _ _ refl (told.undamaged (λ row from. (seen_recorded g.F.Files.contents).each_readable _ held row) st (by_servers reached) shown.store)); refusal = told.refusal; limits = tt };
   stamps = record { last = refl; restarted = tt; exhausted = λ _. tt };
   edits = record { changes = told.reads.kept; room = told.reads.room };
-  sessions = record { told = λ st shown gone. as_refused _ _ _ refl (told.unknown st shown.shows.sessions gone); sessions = record { top = refl; each = λ t. refl }; cleaners = record { next = refl; each = λ i. refl; count = refl }; collectors = record { next = refl; floor = refl; each = λ i. refl; count = refl }; oracle = refl };
+  sessions = record { told = λ st shown gone. as_refused _ _ _ refl (told.unknown st shown.shows.sessions gone); sessions = record { top = refl; buffered = refl; limit = refl; each = λ t. refl }; cleaners = record { next = refl; each = λ i. refl; count = refl }; collectors = record { next = refl; floor = refl; each = λ i. refl; count = refl }; oracle = refl };
   tablets = ap unlogged told.reads.stays;
   causes = record { device = λ is. inl (told.reason.device (as_err _ _ _ refl is)); told = λ none. record { files = told.reason.told (λ is. none (as_refused _ _ _ refl is)); marks = refl }; full = λ _. tt; damaged = λ is whole. told.damaged whole (refusal_is _ _ is) };
   tending = refl;

@@ -1,4 +1,4 @@
-use Rattle.std.proofs.Common.{◌≡◌, ◌⊎◌, ◌∙◌, ◌+◌, ◌^◌, ◌<◌, ◌≤◌, ℕ, inl, inr, ap, refl, sym, subst, arith}
+use Rattle.std.proofs.Common.{◌≡◌, ◌⊎◌, ◌∙◌, ◌+◌, ◌^◌, ◌<◌, ◌≤◌, ℕ, Some, inl, inr, ap, refl, sym, subst, arith}
 use Rattle.si_model.specs.Machine as machine
 use Rattle.si_model.specs.Machine.{IsStorageRefusal}
 use Rattle.cell_key.specs.declared.refusals.Refusal.TheVariants.{TooManySessions, Exhausted, Device, NoMemory}
@@ -7,13 +7,16 @@ use Rattle.std.specs.Result.{IsErrOf}
 use Rattle.std.specs.declared.result.Result.TheVariants.{Ok, Err}
 use Rattle.oracle.specs.Ranges.{IsDrawRefusal}
 use Rattle.txn_client.specs.Refusals.{IsBeginRefusal}
-use Rattle.txn_client.specs.Shows.{SameClients, Steps}
+use Rattle.std.specs.BTreeMap as btree
+use Rattle.std.specs.Ordering.{nat_cmp}
+use Rattle.txn_client.specs.Buffers.{session_bytes}
+use Rattle.txn_client.specs.Shows.{SameClients, Steps, open_session}
 use Rattle.txn_client.specs.declared.sessions.Clients.{Clients}
 use Rattle.txn_client.proofs.Exact.{not_crowded}
 use Rattle.cell_key.proofs.Reasons.{not_refused, reason_none}
 use Rattle.txn_client.proofs.Passed.{as_err, at_most_itself, passed_err, passed_none, passed_kept, no_memory_only, device_not, refused_not}
 use Rattle.txn_client.proofs.Refused.{draw_begin, draw_storage}
-use Rattle.txn_client.proofs.Table.{begins_at, begin_full_at, begin_storage_at, begin_undone_at, undone_each, entries_each}
+use Rattle.txn_client.proofs.Table.{begins_at, begin_full_at, begin_storage_at, begin_undone_at, undone_each, entries_each, upd_at}
 use Rattle.txn_client.proofs.sessions.Clients.begin.Goals as goal
 
 too_many_not_exhausted : {A : Type 0} → IsErrOf {T = A} (Err TooManySessions) Exhausted → ⊥
@@ -23,7 +26,7 @@ too_many_no_device : {A : Type 0} → IsErrOf {T = A} (Err TooManySessions) Devi
 too_many_no_device is = cc
 
 same_itself : (clients : Clients) → SameClients clients clients
-same_itself clients = record { top = refl; each = λ start. refl }
+same_itself clients = record { top = refl; buffered = refl; limit = refl; each = λ start. refl }
 
 not_undrawn : {A : Type 0} (x : A) (m n o : Refusal) → IsErrOf (Ok x) m ⊎ (IsErrOf (Ok x) n ⊎ IsErrOf (Ok x) o) → ⊥
 not_undrawn x m n o (inl is) = not_refused x m is
@@ -62,7 +65,7 @@ pub returns-in_err-replaced-clause-step : goal.returns-in_err-replaced-clause-st
 returns-in_err-replaced-clause-step g c = λ cells.
     let e = as_err c.from_residual-in_err-replaced.result c.in_err-replaced.field-0.0 c.from_residual-in_err-replaced.ensures.1 in
     rw e (begin_storage_at cells c.args.self.now c.make_session.new.self c.args.oracle.now.last c.args.oracle.now.last c.in_err-replaced.field-0.0 (subst IsStorageRefusal (sym c.in_err-replaced.ensures.refusal) tt)
-    c.in_err-replaced.ensures.top c.in_err-replaced.ensures.err (at_most_itself _))
+    (ap (λ (k : Clients). k.top) c.in_err-replaced.ensures.others) c.in_err-replaced.ensures.err (at_most_itself _))
 
 pub returns-in-Ok-clause-step : goal.returns-in-Ok-clause-step
 returns-in-Ok-clause-step g c = λ cells.
@@ -75,7 +78,7 @@ returns-in-Ok-clause-step g c = λ cells.
 pub returns-in-Err-clause-step : goal.returns-in-Err-clause-step
 returns-in-Err-clause-step g c = λ cells.
     begin_undone_at cells c.args.self.now c.make_session.new.self c.undo_session.new.self c.args.oracle.now.last c.draw.new.self.last c.in_ok-start.start c.in-Err.refusal c.in_ok-replaced.replaced
-    (draw_storage c.in-Err.refusal c.in-Err.ensures.refusals) (not_less _ _ c.in-Err.ensures.err.last) (c.undo_session.ensures.top ∙ c.in_ok-replaced.ensures.top) c.in_ok-replaced.ensures.replaced
+    (draw_storage c.in-Err.refusal c.in-Err.ensures.refusals) (not_less _ _ c.in-Err.ensures.err.last) (ap (λ (k : Clients). k.top) c.undo_session.ensures.others ∙ ap (λ (k : Clients). k.top) c.in_ok-replaced.ensures.others) c.in_ok-replaced.ensures.replaced
     (undone_each c.args.self.now c.make_session.new.self c.undo_session.new.self c.in_ok-start.start c.in_ok-replaced.replaced c.in_ok-replaced.ensures.replaced c.in_ok-replaced.ensures.made.0 c.undo_session.ensures.undone.0)
     c.in_ok-replaced.ensures.len c.undo_session.ensures.len
 
@@ -119,7 +122,12 @@ pub returns-in_err-replaced-clause-stays : goal.returns-in_err-replaced-clause-s
 returns-in_err-replaced-clause-stays g c = passed_kept c.from_residual-in_err-replaced.result _ refl
 
 pub returns-in_err-replaced-clause-same : goal.returns-in_err-replaced-clause-same
-returns-in_err-replaced-clause-same g c = passed_kept c.from_residual-in_err-replaced.result _ (record { top = c.in_err-replaced.ensures.top; each = entries_each c.args.self.now c.make_session.new.self c.in_err-replaced.ensures.err })
+returns-in_err-replaced-clause-same g c = passed_kept c.from_residual-in_err-replaced.result _ (record {
+  top = ap (λ (k : Clients). k.top) c.in_err-replaced.ensures.others;
+  buffered = ap (λ (k : Clients). k.buffered) c.in_err-replaced.ensures.others;
+  limit = ap (λ (k : Clients). k.most_buffered) c.in_err-replaced.ensures.others;
+  each = entries_each c.args.self.now c.make_session.new.self c.in_err-replaced.ensures.err;
+})
 
 pub returns-in_err-replaced-clause-range : goal.returns-in_err-replaced-clause-range
 returns-in_err-replaced-clause-range g c = passed_kept c.from_residual-in_err-replaced.result _ refl
@@ -144,7 +152,9 @@ returns-in-Err-clause-stays g c = c.in-Err.ensures.err.last
 
 pub returns-in-Err-clause-same : goal.returns-in-Err-clause-same
 returns-in-Err-clause-same g c = record {
-  top = c.undo_session.ensures.top ∙ c.in_ok-replaced.ensures.top;
+  top = ap (λ (k : Clients). k.top) c.undo_session.ensures.others ∙ ap (λ (k : Clients). k.top) c.in_ok-replaced.ensures.others;
+  buffered = ap (λ (k : Clients). k.buffered) c.undo_session.ensures.others ∙ ap (λ (k : Clients). k.buffered) c.in_ok-replaced.ensures.others;
+  limit = ap (λ (k : Clients). k.most_buffered) c.undo_session.ensures.others ∙ ap (λ (k : Clients). k.most_buffered) c.in_ok-replaced.ensures.others;
   each = undone_each c.args.self.now c.make_session.new.self c.undo_session.new.self c.in_ok-start.start c.in_ok-replaced.replaced c.in_ok-replaced.ensures.replaced c.in_ok-replaced.ensures.made.0 c.undo_session.ensures.undone.0;
 }
 
@@ -228,3 +238,25 @@ returns-in_err-start-clause-mark g c = passed_kept c.from_residual.result _ (inl
 
 pub returns-in_err-replaced-clause-mark : goal.returns-in_err-replaced-clause-mark
 returns-in_err-replaced-clause-mark g c = passed_kept c.from_residual-in_err-replaced.result _ (inl refl)
+
+pub returns-in-Ok-clause-buffered : goal.returns-in-Ok-clause-buffered
+returns-in-Ok-clause-buffered g c =
+    let same : c.in_ok-start.start ≡ c.in-Ok.start = c.in_ok-start.ensures.next ∙ ap (λ n. n + 1) c.last.ensures.last ∙ sym c.in-Ok.ensures.next in
+    let made = upd_at (btree.get nat_cmp c.args.self.now.sessions) (btree.get nat_cmp c.make_session.new.self.sessions) c.in_ok-start.start (Some (open_session c.in_ok-start.start)) c.in_ok-replaced.ensures.made.0 in
+    record {
+      empty = subst (λ (n : ℕ). session_bytes (btree.get nat_cmp c.make_session.new.self.sessions n) ≡ 0) same (ap session_bytes made);
+      bytes = ap (λ (k : Clients). k.buffered) c.in_ok-replaced.ensures.others;
+      limit = ap (λ (k : Clients). k.most_buffered) c.in_ok-replaced.ensures.others;
+    }
+
+pub returns-in_err-start-clause-buffered : goal.returns-in_err-start-clause-buffered
+returns-in_err-start-clause-buffered g c = passed_none c.from_residual.result c.in_err-start.field-0.0 _ c.from_residual.ensures.1
+
+pub returns-in_err-replaced-clause-buffered : goal.returns-in_err-replaced-clause-buffered
+returns-in_err-replaced-clause-buffered g c = passed_none c.from_residual-in_err-replaced.result c.in_err-replaced.field-0.0 _ c.from_residual-in_err-replaced.ensures.1
+
+pub returns-in-Err-clause-buffered : goal.returns-in-Err-clause-buffered
+returns-in-Err-clause-buffered g c = tt
+
+pub returns-then-len-ge-MOST_SESSIONS-clause-buffered : goal.returns-then-len-ge-MOST_SESSIONS-clause-buffered
+returns-then-len-ge-MOST_SESSIONS-clause-buffered g c = tt

@@ -13,6 +13,7 @@ use Rattle.txn_client.specs.Takings.{AreFree, IsFirstTaken}
 use Rattle.txn_client.specs.Transactions.{GoesAs}
 use Rattle.txn_client.specs.Writes.{write_of}
 use Rattle.txn_client.specs.declared.writes.Write.{Write}
+use Rattle.txn_client.proofs.Buffered.{named_ends, named_itself}
 use Rattle.txn_client.proofs.CommitShown.{commit_at, conflict_at, empty_at, none_at, not_less, session_refused_at, some_at, some_writes, storage_at, taken_none, write_refused_at}
 use Rattle.txn_client.proofs.Committed.{commit_stamp, commits_by, conflicts_by, no_room_by}
 use Rattle.txn_client.proofs.Passed.{at_most_itself}
@@ -136,3 +137,27 @@ returns-clause-does g c =
     c.last.ensures.last c.in_ok-found.ensures.session c.in_ok-writes.ensures.takes c.as_slice.result.now c.into_vec.result.items c.in_ok-commit.commit c.stamp-session.result c.as_slice.ensures.writes c.into_vec.ensures c.stamp-session.ensures.stamp
     (commit_stamp last c.args.start last c.stamps_drawn-count.result c.in_ok-commit.commit refl c.stamps_drawn-count.ensures.new c.stamps_drawn-count.ensures.named c.in_ok-commit.ensures.commit)
     (λ readable. none_at (AreFree (g.R.Rows.seen.cells c.args.rows.now) c.stamp-session.result c.as_slice.result.now _) c.in_ok-place.field-0 c.in_default.is (c.in_ok-place.ensures.free readable)) c.in_ok-commit.ensures.puts
+
+pub returns-in_err-found-clause-buffered : goal.returns-in_err-found-clause-buffered
+returns-in_err-found-clause-buffered g c = named_itself c.args.self.now c.args.start
+
+pub returns-in_err-writes-clause-buffered : goal.returns-in_err-writes-clause-buffered
+returns-in_err-writes-clause-buffered g c = named_itself c.args.self.now c.args.start
+
+pub returns-then-len-eq0-clause-buffered : goal.returns-then-len-eq0-clause-buffered
+returns-then-len-eq0-clause-buffered g c = named_itself c.args.self.now c.args.start
+
+pub returns-in_err-place-clause-buffered : goal.returns-in_err-place-clause-buffered
+returns-in_err-place-clause-buffered g c = named_itself c.args.self.now c.args.start
+
+pub returns-in_err-top-clause-buffered : goal.returns-in_err-top-clause-buffered
+returns-in_err-top-clause-buffered g c = named_itself c.args.self.now c.args.start
+
+pub returns-in_err-commit-clause-buffered : goal.returns-in_err-commit-clause-buffered
+returns-in_err-commit-clause-buffered g c = named_itself c.args.self.now c.args.start
+
+pub returns-in-Some-clause-buffered : goal.returns-in-Some-clause-buffered
+returns-in-Some-clause-buffered g c = named_ends c.args.self.now c.end.new.self c.args.start c.in_ok-top.top c.end.ensures
+
+pub returns-clause-buffered : goal.returns-clause-buffered
+returns-clause-buffered g c = named_ends c.args.self.now c.end-2.new.self c.args.start c.in_ok-commit.commit c.end-2.ensures

@@ -1,10 +1,13 @@
-use Rattle.std.proofs.Common.{◌∙◌, ℕ, length, subst, ap, refl}
+use Rattle.std.proofs.Common.{◌∙◌, ◌+◌, ℕ, length, subst, sym, ap, refl}
 use Rattle.std.specs.declared.result.Result.TheVariants.{Err}
 use Rattle.cell_key.proofs.Passed.{as_err}
 use Rattle.cell_key.specs.declared.refusals.Refusal.{Refusal}
 use Rattle.oracle.specs.Ranges.{OracleState}
 use Rattle.si_model.specs.Answers.{told_items}
+use Rattle.txn_client.specs.Buffers.{BeginsEmpty, BuffersNone}
+use Rattle.txn_client.specs.declared.sessions.Clients.{Clients}
 use Rattle.txn_client.specs.Transactions.{HasSession, IsSessionRefusal}
+use Rattle.txn_client.proofs.Buffered.{named_itself, named_same, named_stopped, unnamed_begun, unnamed_stopped}
 use Rattle.txn_client.proofs.ReadsShown.{bad_count, good_count, crowded_refusal, ends_open, ends_stopped, miscounts_at, session_refused_at, read_refused_at, begin_refused_at, reads_named_at, reads_new_at, steps_to}
 use Rattle.txn_client.proofs.sessions.Clients.read.Goals as goal
 use Rattle.txn_client.proofs.sessions.Clients.read.Goals.{then-start-eq0+in_ok-begin, else-start-eq0}
@@ -77,4 +80,34 @@ returns-clause-step g c = λ held.
           w.if-start-eq0.true w.in_ok-begin.ensures.next.0 has c.if-start-eq0.self c.if-start-eq0.oracle.last (steps_to w.self-is (ap (λ (o : OracleState g.row.M.Denot). o.last) w.oracle-is) (w.in_ok-begin.ensures.step cells)) _ end
       | else-start-eq0 w ↦ reads_named_at cells (g.R.Rows.seen.cells c.read_all.new.rows) self last c.args.start c.args.names.now c.args.stays_open c.in_ok-found.ensures.reads.kept few s (told_items c.in_ok-found.found.items) read
           w.if-start-eq0.false has c.if-start-eq0.self c.if-start-eq0.oracle.last w.self-is (ap (λ (o : OracleState g.row.M.Denot). o.last) w.oracle-is) _ end
+    ]
+
+pub returns-then-is_empty-clause-buffered : goal.returns-then-is_empty-clause-buffered
+returns-then-is_empty-clause-buffered g c = named_itself c.args.self.now c.args.start
+
+pub returns-in_err-session-clause-buffered : goal.returns-in_err-session-clause-buffered
+returns-in_err-session-clause-buffered g c = named_itself c.args.self.now c.args.start
+
+pub returns-in_err-found-clause-buffered : goal.returns-in_err-found-clause-buffered
+returns-in_err-found-clause-buffered g c = named_itself c.args.self.now c.args.start
+
+pub returns-in_err-begin-clause-buffered : goal.returns-in_err-begin-clause-buffered
+returns-in_err-begin-clause-buffered g c = named_same c.args.self.now c.begin.new.self c.args.start c.in_err-begin.ensures.same
+
+pub returns-then-stays_open-clause-buffered : goal.returns-then-stays_open-clause-buffered
+returns-then-stays_open-clause-buffered g c = elim c.if-start-eq0.branch [
+  | then-start-eq0+in_ok-begin w ↦ rw w.self-is (unnamed_begun c.args.self.now w.begin.new.self c.args.start w.in_ok-begin.field-0 w.if-start-eq0.true w.in_ok-begin.ensures.buffered)
+  | else-start-eq0 w ↦ rw w.self-is (named_itself c.args.self.now c.args.start)
+]
+
+pub returns-clause-buffered : goal.returns-clause-buffered
+returns-clause-buffered g c =
+    let s = c.in_ok-session.session in
+    let stopped = c.stop.ensures.buffered in
+    elim c.if-start-eq0.branch [
+      | then-start-eq0+in_ok-begin w ↦ unnamed_stopped c.args.self.now _ c.stop.new.self c.args.start w.in_ok-begin.field-0 s w.if-start-eq0.true
+          (w.in_ok-begin.ensures.next.0 ∙ ap (λ n. n + 1) (sym c.last.ensures.last) ∙ sym (c.in_ok-session.ensures.session.is_new w.if-start-eq0.true).0)
+          (subst (λ (k : Clients). BeginsEmpty c.args.self.now k w.in_ok-begin.field-0) (sym w.self-is) w.in_ok-begin.ensures.buffered) stopped
+      | else-start-eq0 w ↦ named_stopped c.args.self.now c.stop.new.self c.args.start s w.if-start-eq0.false (c.in_ok-session.ensures.session.is_open w.if-start-eq0.false).0
+          (subst (λ (k : Clients). BuffersNone k c.stop.new.self s) w.self-is stopped)
     ]

@@ -1,4 +1,4 @@
-use Rattle.std.proofs.Common.{◌≡◌, ◌∙◌, sym, ap, subst, refl, Option, Some, None, true, cond, inl, inr, ℕ, ◌≤◌, arith}
+use Rattle.std.proofs.Common.{◌≡◌, ◌∙◌, sym, ap, subst, refl, Option, Some, None, true, cond, inl, inr, ℕ, ◌-◌, ◌≤◌, arith}
 use Rattle.std.specs.Prelude.{is_some, IsSome}
 use Rattle.std.specs.Ordering.{nat_cmp, is_eq}
 use Rattle.std.specs.BTreeMap as btree
@@ -13,8 +13,9 @@ use Rattle.txn_client.specs.Refusals.{HasOneReason, IsAdvanceRefusal, IsReadable
 use Rattle.txn_client.specs.declared.session.Session.{Session}
 use Rattle.txn_client.proofs.Room.{changes_shown, does_below, does_make, does_so, does_take, does_touch, draws_shown, edits_touch, met_so, no_room_so, same_touch}
 use Rattle.txn_client.proofs.Passed.{as_err, passed_on, passed_err, passed_none, passed_kept, refused_not, advance_step}
+use Rattle.txn_client.proofs.Buffered.{buffers_kept, buffers_same, from_none, none_gone}
 use Rattle.txn_client.proofs.Exact.{is_kept, is_there, passes, unwritten_none, unwritten_phase}
-use Rattle.txn_client.proofs.Table.{entries_each, same_each, takes_at, steps_refused, advance_unknown_at, twice, with_none, touches_at, draws_next, never_draws}
+use Rattle.txn_client.proofs.Table.{entries_each, same_each, takes_at, steps_refused, advance_unknown_at, twice, with_none, touches_at, upd_at, draws_next, never_draws}
 use Rattle.txn_client.proofs.sessions.Clients.step.Goals as goal
 
 one_reason_kept : {A B : Type 0} (x : A) (y : B) (before now before' now' : ℕ) → HasOneReason before now before' now' (Ok x) → HasOneReason before now before' now' (Ok y)
@@ -48,7 +49,7 @@ returns-then-outcome-clause-step g c = λ held.
     let lent = c.get_mut.follows.holds w in
     let set = lent.3 there in
     let found : is_some c.remove.result ≡ true = ap is_some (c.remove.ensures.value ∙ set.1) in
-    takes_at (g.R.Rows.seen.cells c.args.rows.now) (g.R.Rows.seen.cells c.advance.new.rows) c.args.self.now (record c.args.self.now { top = c.top_after_step-self.result; sessions = c.remove.new.self }) c.args.oracle.now.last c.advance.new.oracle.last
+    takes_at (g.R.Rows.seen.cells c.args.rows.now) (g.R.Rows.seen.cells c.advance.new.rows) c.args.self.now (record c.args.self.now { top = c.top_after_step-self.result; sessions = c.remove.new.self; buffered = c.saturating_sub-self.result }) c.args.oracle.now.last c.advance.new.oracle.last
     c.in-Some.session.now w c.in_ok-outcome.outcome (c.in_ok-outcome.ensures.step held) c.in_ok-outcome.ensures.start c.in_ok-outcome.ensures.writes c.top_after_step-self.ensures
     (rw c.if-outcome.true ((rw found at c.remove.ensures.len) ∙ lent.2)) c.args.start was
     (λ q. rw c.if-outcome.true (c.remove.ensures.updates.0 q ∙ (ap (λ (o : Option Session). cond (is_eq (nat_cmp c.args.start q)) None o) (set.0 q) ∙ twice (is_eq (nat_cmp c.args.start q)) None (Some w) (btree.get nat_cmp c.args.self.now.sessions q))))
@@ -85,11 +86,13 @@ returns-in_err-outcome-clause-err g c =
     let w = c.advance.new.self in
     let lent = c.get_mut.follows.holds w in
     rw (as_err c.from_residual.result c.in_err-outcome.field-0.0 c.from_residual.ensures.1)
-    (record { top = refl; each = same_each (btree.get nat_cmp c.args.self.now.sessions) (btree.get nat_cmp (c.get_mut.follows.lender w)) c.args.start c.in-Some.session.now w was c.in_err-outcome.ensures.err (lent.3 there).0 })
+    (record { top = refl; buffered = refl; limit = refl; each = same_each (btree.get nat_cmp c.args.self.now.sessions) (btree.get nat_cmp (c.get_mut.follows.lender w)) c.args.start c.in-Some.session.now w was c.in_err-outcome.ensures.err (lent.3 there).0 })
 
 pub returns-in_default-clause-err : goal.returns-in_default-clause-err
 returns-in_default-clause-err g c = record {
   top = refl;
+  buffered = refl;
+  limit = refl;
   each = entries_each c.args.self.now (record c.args.self.now { sessions = c.get_mut.follows.lender-at-none }) (ap (λ m. m.entries) c.get_mut.follows.holds-at-none);
 }
 
@@ -319,3 +322,35 @@ returns-in_default-clause-causes g c = λ st shown. record {
 
 pub returns-in_default-clause-no_stamp : goal.returns-in_default-clause-no_stamp
 returns-in_default-clause-no_stamp g c = λ is. absurd (unknown_not_exhausted is)
+
+pub returns-then-outcome-clause-buffered : goal.returns-then-outcome-clause-buffered
+returns-then-outcome-clause-buffered g c =
+    let was = sym c.in-Some.ensures.value in
+    let there : IsSome (btree.get nat_cmp c.args.self.now.sessions c.args.start) = subst (λ (o : Option Session). IsSome o) c.in-Some.ensures.value refl in
+    let w = c.advance.new.self in
+    let lent = c.get_mut.follows.holds w in
+    let new = record c.args.self.now { top = c.top_after_step-self.result; sessions = c.remove.new.self; buffered = c.saturating_sub-self.result } in
+    from_none c.args.self.now new c.args.start (none_gone c.args.self.now new c.args.start c.in-Some.session.now was
+    (upd_at (btree.get nat_cmp (c.get_mut.follows.lender w)) (btree.get nat_cmp c.remove.new.self) c.args.start None c.remove.ensures.updates.0)
+    (c.saturating_sub-self.ensures ∙ ap (λ (n : ℕ). c.args.self.now.buffered - n) c.bytes-bytes.ensures) refl)
+
+pub returns-else-outcome-clause-buffered : goal.returns-else-outcome-clause-buffered
+returns-else-outcome-clause-buffered g c =
+    let was = sym c.in-Some.ensures.value in
+    let there : IsSome (btree.get nat_cmp c.args.self.now.sessions c.args.start) = subst (λ (o : Option Session). IsSome o) c.in-Some.ensures.value refl in
+    let w = c.advance.new.self in
+    let lent = c.get_mut.follows.holds w in
+    buffers_kept c.args.self.now (record c.args.self.now { top = c.top_after_step-self.result; sessions = c.get_mut.follows.lender w }) c.args.start c.in-Some.session.now w was (lent.3 there).1 c.in_ok-outcome.ensures.writes refl refl
+
+pub returns-in_err-outcome-clause-buffered : goal.returns-in_err-outcome-clause-buffered
+returns-in_err-outcome-clause-buffered g c =
+    let was = sym c.in-Some.ensures.value in
+    let there : IsSome (btree.get nat_cmp c.args.self.now.sessions c.args.start) = subst (λ (o : Option Session). IsSome o) c.in-Some.ensures.value refl in
+    let w = c.advance.new.self in
+    let lent = c.get_mut.follows.holds w in
+    buffers_kept c.args.self.now (record c.args.self.now { sessions = c.get_mut.follows.lender w }) c.args.start c.in-Some.session.now w was (lent.3 there).1 c.in_err-outcome.ensures.writes refl refl
+
+pub returns-in_default-clause-buffered : goal.returns-in_default-clause-buffered
+returns-in_default-clause-buffered g c =
+    let new = record c.args.self.now { sessions = c.get_mut.follows.lender-at-none } in
+    buffers_same c.args.self.now new c.args.start (record { top = refl; buffered = refl; limit = refl; each = entries_each c.args.self.now new (ap (λ m. m.entries) c.get_mut.follows.holds-at-none) })

@@ -1,14 +1,15 @@
-use Rattle.std.proofs.Common.{◌≡◌, ◌++◌, ◌∷◌, [], List, Some, None, length, map, inl, ap, sym, subst, ◌∙◌, arith}
+use Rattle.std.proofs.Common.{◌≡◌, ℕ, ◌+◌, ◌-◌, ◌<◌, ◌≤◌, ◌++◌, ◌∷◌, [], List, Some, None, get_or, length, map, inl, ap, sym, subst, ◌∙◌, arith}
 use Rattle.std.specs.Prelude.{slice_set}
 use Rattle.std.specs.Vec.{vec_len}
 use Rattle.std.proofs.lemmas.Bool.Decides.{nat_tests}
+use Rattle.std.proofs.lemmas.List.Sums.{get_or-le-sum_by, sum_by-set}
+use Rattle.std.proofs.lemmas.Option.{slice_get_within}
 use Rattle.si_model.specs.Machine.{Sets}
-use Rattle.txn_client.specs.Writes.{write_of, IsIndexOf}
+use Rattle.txn_client.specs.Writes.{bytes_of, bytes_of_write, write_of, IsIndexOf}
 use Rattle.txn_client.specs.declared.writes.Write.{Write}
 use Rattle.txn_client.proofs.WriteIndexes.{none_there, sets_last, sets_there, named_there, unnamed}
 use Rattle.txn_client.proofs.OrderedCells.{few_replaced}
 use Rattle.txn_client.proofs.writes.Writes.set.Goals as goal
-use Rattle.txn_client.proofs.writes.Writes.set.Goals.{in-Some-2, in-None-2}
 
 -- the first write
 pub returns-then-is_empty-clause-ok : goal.returns-then-is_empty-clause-ok
@@ -17,22 +18,47 @@ returns-then-is_empty-clause-ok c =
     subst (λ (ws : List Write). Sets c.args.write.cell c.args.write.value (map write_of c.args.self.now) (map write_of ws)) (sym (c.in_ok-push.ensures.items ∙ ap (λ (ws : List Write). ws ++ c.args.write ∷ []) c.self.view_is))
     (sets_last c.args.self.now c.args.write (subst (λ (ws : List Write). IsIndexOf ws c.args.write.cell None) c.self.view_is (none c.args.write.cell)))
 
+-- the bytes of a write are among those of all
+taken_bytes : (ws : List Write) (k : ℕ) (u : Write) (o m : ℕ) → k < length ws → u ≡ get_or ws k u → m ≡ bytes_of ws → o ≡ bytes_of_write u → o ≤ m
+taken_bytes ws k u o m lt at was is =
+    let same = ap bytes_of_write at in
+    let within = get_or-le-sum_by bytes_of_write ws k u lt in
+    omega (arith, same, within, was, is)
+
+-- the bytes of all, after another write has taken a write's place
+replaced_bytes : (ws : List Write) (k : ℕ) (u w : Write) (o m n : ℕ) → k < length ws → u ≡ get_or ws k u → m ≡ bytes_of ws → o ≡ bytes_of_write u → n ≡ m - o + bytes_of_write w → n ≡ bytes_of (slice_set ws k w)
+replaced_bytes ws k u w o m n lt at was is sum =
+    let same = ap bytes_of_write at in
+    let within = get_or-le-sum_by bytes_of_write ws k u lt in
+    let swap = sum_by-set bytes_of_write ws k w u lt in
+    omega (arith, same, within, swap, was, is, sum)
+
 -- the cell's earlier write is replaced
+pub overflow_sub-others : goal.overflow_sub-others
+overflow_sub-others c =
+    let found = subst (λ (ws : List Write). IsIndexOf ws c.args.write.cell (Some c.in-Ok.index)) c.deref.ensures.value c.in-Ok.ensures.found in
+    taken_bytes c.self.inside.entries.items c.in-Ok.index c.index.result.now c.bytes.result c.self.inside.bytes (slice_get_within c.self.inside.entries.items c.in-Ok.index found.0.0 found.0.1) c.index.ensures c.self.invariant.2 c.bytes.ensures
+
 pub invariant_of-self-in-Ok : goal.invariant_of-self-in-Ok
-invariant_of-self-in-Ok c = few_replaced _ _ c.in-Ok.index c.args.write (rw (← c.deref.ensures.value) c.in-Ok.ensures.found) c.self.invariant
+invariant_of-self-in-Ok c =
+    let found = subst (λ (ws : List Write). IsIndexOf ws c.args.write.cell (Some c.in-Ok.index)) c.deref.ensures.value c.in-Ok.ensures.found in
+    let both = few_replaced c.self.inside.entries.items c.self.inside.order.items c.in-Ok.index c.args.write found (c.self.invariant.0, c.self.invariant.1) in
+    (both.0, both.1, replaced_bytes c.self.inside.entries.items c.in-Ok.index c.index.result.now c.args.write c.bytes.result c.self.inside.bytes c.in_ok-bytes-in-Ok.bytes (slice_get_within c.self.inside.entries.items c.in-Ok.index found.0.0 found.0.1) c.index.ensures c.self.invariant.2 c.bytes.ensures c.in_ok-bytes-in-Ok.ensures.sum)
 
-pub invariant_of-self-in-Ok-2 : goal.invariant_of-self-in-Ok-2
-invariant_of-self-in-Ok-2 c = few_replaced _ _ c.in-Ok.index c.args.write (rw (← c.deref.ensures.value) c.in-Ok.ensures.found) c.self.invariant
+pub returns-in_ok-bytes-in-Ok-clause-most : goal.returns-in_ok-bytes-in-Ok-clause-most
+returns-in_ok-bytes-in-Ok-clause-most c =
+    let found = subst (λ (ws : List Write). IsIndexOf ws c.args.write.cell (Some c.in-Ok.index)) c.deref.ensures.value c.in-Ok.ensures.found in
+    subst (λ (n : ℕ). n ≤ c.args.most) (replaced_bytes c.self.inside.entries.items c.in-Ok.index c.index.result.now c.args.write c.bytes.result c.self.inside.bytes c.in_ok-bytes-in-Ok.bytes (slice_get_within c.self.inside.entries.items c.in-Ok.index found.0.0 found.0.1) c.index.ensures c.self.invariant.2 c.bytes.ensures c.in_ok-bytes-in-Ok.ensures.sum)
+    c.in_ok-bytes-in-Ok.ensures.most
 
-pub returns-in-Ok-clause-ok : goal.returns-in-Ok-clause-ok
-returns-in-Ok-clause-ok c =
+pub returns-in_ok-bytes-in-Ok-clause-ok : goal.returns-in_ok-bytes-in-Ok-clause-ok
+returns-in_ok-bytes-in-Ok-clause-ok c =
     let found = subst (λ (ws : List Write). IsIndexOf ws c.args.write.cell (Some c.in-Ok.index)) (c.deref.ensures.value ∙ c.self.view_is) c.in-Ok.ensures.found in
-    let there = subst (λ (ws : List Write). Sets c.args.write.cell c.args.write.value (map write_of c.args.self.now) (map write_of (slice_set ws c.in-Ok.index c.args.write))) (sym c.self.view_is)
-    (sets_there c.args.self.now c.in-Ok.index c.args.write found) in
-    elim c.match-index_mut-write.branch [ in-Some-2 w ↦ rw w.self-is there | in-None-2 w ↦ rw w.self-is there ]
+    subst (λ (ws : List Write). Sets c.args.write.cell c.args.write.value (map write_of c.args.self.now) (map write_of (slice_set ws c.in-Ok.index c.args.write))) (sym c.self.view_is)
+    (sets_there c.args.self.now c.in-Ok.index c.args.write found)
 
-pub returns-in-Ok-clause-room : goal.returns-in-Ok-clause-room
-returns-in-Ok-clause-room c =
+pub returns-in_ok-bytes-in-Ok-clause-room : goal.returns-in_ok-bytes-in-Ok-clause-room
+returns-in_ok-bytes-in-Ok-clause-room c =
     let found = subst (λ (ws : List Write). IsIndexOf ws c.args.write.cell (Some c.in-Ok.index)) (c.deref.ensures.value ∙ c.self.view_is) c.in-Ok.ensures.found in
     inl (named_there c.args.self.now c.in-Ok.index c.args.write.cell found)
 
