@@ -171,9 +171,11 @@ class FullDisk(FolderTest):
             for number in range(130):
                 store.run(lambda t: [t.put(row, FAMILY, b"%d" % number) for row in rows])
             collector = store.collect_begin().number
-            self.limit(self.log().stat().st_size + 2_000_000)
-            for _ in range(3):
-                self.assertRaises(Device, store.collect_step, collector, 1_000)
+            # There is room for four visits of a megabyte, and not for five
+            self.limit(self.log().stat().st_size + 4_600_000)
+            with self.assertRaises(Device):
+                while isinstance(store.collect_step(collector, 1_000), More):
+                    pass
             self.assertEqual(store.run(lambda t: t.get(rows[4], FAMILY)), b"129")
             self.limit(resource.RLIM_INFINITY)
             while isinstance(store.collect_step(collector, 1_000), More):

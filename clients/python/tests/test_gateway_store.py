@@ -8,7 +8,18 @@ import sys
 import threading
 import unittest
 
-from duqishom import Committed, ConnectionLost, Lost, Nothing, Patience, Pending, Store, TransactionConflict, UnknownSession
+from duqishom import (
+    Committed,
+    ConnectionLost,
+    Lost,
+    NoMemory,
+    Nothing,
+    Patience,
+    Pending,
+    Store,
+    TransactionConflict,
+    UnknownSession,
+)
 from tests.gateways import PACKAGE, Gateway, folder_of, stand_in
 
 ROW, OTHER, FAMILY = b"r", b"s", b"c"
@@ -40,6 +51,17 @@ class Stores(unittest.TestCase):
         self.assertEqual(one.split(b"m"), 2)
         two.make_room(ROW)
         self.assertRaises(ValueError, two.tablets)
+
+    def test_the_bytes_of_all_sessions(self) -> None:
+        """The program's limit is that of all clients together."""
+        gateway = Gateway(self, ["--session-bytes", "1048576"])
+        one, two = self.store(gateway), self.store(gateway)
+        start, other = one.begin(), two.begin()
+        for row in range(15):
+            one.set(start, b"%d" % row, FAMILY, bytes(65_536))
+        self.assertRaises(NoMemory, two.set, other, OTHER, FAMILY, bytes(65_536))
+        one.stop(start)
+        two.set(other, OTHER, FAMILY, bytes(65_536))
 
     def test_threads_and_processes_count(self) -> None:
         gateway, each = Gateway(self), 20

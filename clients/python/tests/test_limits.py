@@ -4,6 +4,7 @@ scans."""
 from __future__ import annotations
 
 import subprocess
+import tempfile
 import unittest
 from collections.abc import Iterable, Iterator
 from typing import Any, Union
@@ -134,6 +135,19 @@ class Sessions(Limits):
             "--session-bytes",
             "1048576",
         )
+
+    def test_bytes_of_all_sessions_in_a_folder(self) -> None:
+        """The option reaches a store in a folder, and one with a log."""
+        for log in ([], ["--log"]):
+            with tempfile.TemporaryDirectory() as folder:
+                self.assert_met(
+                    [
+                        (Begin(), 0),
+                        *all_done(set_to(b"r%x" % row, b"v" * LONGEST_VALUE) for row in range(15)),
+                        (set_to(b"rf", b"v" * LONGEST_VALUE), 20),
+                    ],
+                    *("--dir", folder, *log, "--session-bytes", "1048576"),
+                )
 
     def test_bytes_of_a_session_that_is_committed(self) -> None:
         """They count until its last step."""

@@ -137,6 +137,13 @@ class Order(FolderTest):
             self.assertEqual(draws, 2 * [{LOG}, set(), set()])
             self.assertEqual((NEW_MARK in opening, NEW_MARK in checkpoint), (not is_new, True))
 
+    @unittest.skipUnless(shutil.which("strace"), "strace isn't here; Debian has it in the package strace")
+    def test_the_next_log_has_room_before_its_root_is_put(self) -> None:
+        trace = self.traced(self.commit_twice)
+        put = max(number for number, line in enumerate(trace) if "rename" in line and ROOT in line)
+        calls = [line for line in trace[:put] if "commit.new" in line]
+        self.assertIn("fsync", calls[-1])
+
     def commit(self, store: Store) -> None:
         """Commits a cell."""
         store.run(lambda t: t.set(b"a", b"c", b"1"))

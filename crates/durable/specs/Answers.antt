@@ -245,7 +245,7 @@ module _ {S : Type 0} (view : View S) (calls : RootCalls S) where
 
   -- The replies of a server with a log are those of one without, except that checkpoints come with
   -- splits and moves, that a sweep leaves the root's files, that requests which need room in the log are
-  -- refused if it has none, and that a collector makes fewer visits than it may if there is room for fewer.
+  -- refused if it has none, and that a collector may make fewer visits than it is asked for.
   abbrev pub RepliesDurably : (S → Request → Reply → S → Type 0)
       → (stopped risen : Type 0) → (before now : ℕ) → S → Request → Reply → S → Type 0
   RepliesDurably says stopped risen before now old (Split row) reply new =
@@ -265,7 +265,8 @@ module _ {S : Type 0} (view : View S) (calls : RootCalls S) where
       AnswersInRoom (says old (CleanStep cleaner) reply new) (λ n. reply ≡ codec.Refused n) before
       now old new
   RepliesDurably says stopped risen before now old (CollectStep collector n) reply new =
-      AnswersInRoom ((visits : ℕ) × AreVisitsOf n visits × says old (CollectStep collector visits) reply new)
+      AnswersInRoom
+      ((visits : ℕ) × AreVisitsOf n visits × says old (CollectStep collector visits) reply new)
       (λ n. reply ≡ codec.Refused n) before now old new
   RepliesDurably says stopped risen before now old request reply new =
       says old request reply new
