@@ -8,6 +8,7 @@ pub mod OnlyPlace
 pub mod Orders
 pub mod Passed
 pub mod Ranges
+pub mod StepLists
 pub mod Tied
 pub mod Turns
 pub mod Written

@@ -5,12 +5,13 @@ use Rattle.std.specs.Prelude.{Option, Some, None, IfSome, IsSomeAnd}
 use Rattle.cell_key.specs.Entries.{Entry, IsEntryList}
 use Rattle.sorted_file.specs.Passing.{BreaksAfter, IsFileOf, PassesNoList, PassesOver, PassesTooMuch, passes_none, passes_one}
 use Rattle.sorted_file.specs.Grammar.{FitsIn, IsFile}
+use Rattle.sorted_file.specs.PartialFiles.{EndsWithin, PassesBudget}
 use Rattle.sorted_file.specs.declared.format.Format.TheVariants.{Two}
 use Rattle.compaction.specs.Order.{IsReady}
 use Rattle.compaction.specs.OrderLaw.{ordered_least}
 use Rattle.compaction.specs.MergeLaw.{none_at}
 use Rattle.compaction.specs.Merging.{first_lent, BreaksAmong, IsMoved, MergeSteps}
-use Rattle.compaction.specs.Passing.{IsFileOfMerge, IsMergeOf, MergeBreaks, MergesNoList, MergesTooMuch, merges_none, merges_one}
+use Rattle.compaction.specs.Passing.{IsFileOfMerge, IsMergeOf, MergeBreaks, MergesBudget, MergesNoList, MergesToEnd, MergesTooMuch, merges_none, merges_one}
 use Rattle.compaction.specs.Writing.{is_written, only_written, BreaksOn, StepsOn, breaks_here, breaks_past, steps_once, steps_past}
 
 pub either : {A B C D : Type 0} → A ⊎ B → (A → C) → (B → D) → C ⊎ D
@@ -124,6 +125,31 @@ module _ {S M : Type 0} (steps : S → S → Type 0) (lent : S → Option Entry)
       let first = ordered_least (map lent (sources b)) (order b) e s.ordered is in
       let rest = merge_passed more (inr s.ordered) in
       (merges_one first.place s.past first.least first.is (subst (λ (o : Option Entry). IsMergeOf steps lent o (sources b) es (ML n) (sources n)) is rest.0), rest.1)
+
+  module _ (made : M) (xs : List S) (all : sources made ≡ xs) (fresh : order made ≡ []) where
+    -- from no entry on
+    of_made : (n : M) (es : List Entry) → IsMergeOf steps lent (ML made) (sources made) es (ML n) (sources n) → IsMergeOf steps lent None xs es (ML n) (sources n)
+    of_made n es h = subst (λ (l : List S). IsMergeOf steps lent None l es (ML n) (sources n)) all (subst (λ (o : Option Entry). IsMergeOf steps lent o (sources made) es (ML n) (sources n)) (ap (first_lent lent (sources made)) fresh) h)
+
+    pub merges_budget : (budget : ℕ) (n : M) (next : List ℕ) → PassesBudget MS ML budget made n next → MergesBudget steps lent budget xs next
+    merges_budget budget n next h =
+        let m = merge_passed h.passes (inl fresh) in
+        record { passed = h.passed; last = h.last; at = ML n; later = sources n; merge = of_made n (h.passed ++ h.last ∷ []) m.0; enough = h.enough; within = h.within; behind = h.behind }
+
+    pub merges_to_end : (budget : ℕ) → EndsWithin MS ML budget made → MergesToEnd steps lent budget xs
+    merges_to_end budget h =
+        let m = merge_passed h.all.passes (inl fresh) in
+        let s = h.all.step m.1 in
+        record {
+          passed = h.passed;
+          at = ML h.all.last;
+          last = sources h.all.last;
+          merge = of_made h.all.last h.passed m.0;
+          ended = sources h.all.end;
+          moves = s.past;
+          none = none_at lent (λ _. []) (λ _. Unit {0}) (sources h.all.end) (order h.all.end) s.ordered h.all.none;
+          within = h.within;
+        }
 
   module _ {V : Type 0} (source : V → M) (keeps : V → Bool) (keep : Bool) (v : V) (xs : List S) (k : keeps v ≡ keep) (all : sources (source v) ≡ xs) (fresh : order (source v) ≡ []) where
     ready : Ready (source v)

@@ -1,8 +1,9 @@
 -- The entries that a merge passes, whatever its sources stand for.
-use Rattle.std.specs.Prelude.{◌≡◌, ℕ, List, [], ◌∷◌, Bool, Option, Some, None, Contains, map}
+use Rattle.std.specs.Prelude.{◌≡◌, ◌<◌, ◌≤◌, ℕ, List, [], ◌∷◌, ◌++◌, sum_by, Bool, Option, Some, None, Contains, map}
 use Rattle.std.specs.List.{AllByRecursion, AllZip}
 use Rattle.cell_key.specs.Entries.{Entry, IsEntryList}
 use Rattle.sorted_file.specs.Grammar.{FitsIn, IsFile}
+use Rattle.sorted_file.specs.PartialFiles.{entry_size, next_text}
 use Rattle.sorted_file.specs.declared.format.Format.TheVariants.{Two}
 use Rattle.compaction.specs.Least.{IsLeast}
 use Rattle.compaction.specs.Merging.{lent_at, IsMoved, MovesPast}
@@ -57,3 +58,26 @@ module _ {S : Type 0} (steps : S → S → Type 0) (lent : S → Option Entry) w
     pub among : Contains last source
     pub moved : IsMoved lent at source
     pub here : breaks source
+
+  -- A merge of sources passes entries of at least this many bytes, and without the last of them of fewer. The next text
+  -- is the least above the last entry's.
+  pub record MergesBudget (budget : ℕ) (sources : List S) (next : List ℕ) : Type 0 where
+    pub passed : List Entry
+    pub last : Entry
+    pub at : Option Entry
+    pub later : List S
+    pub merge : IsMergeOf None sources (passed ++ last ∷ []) at later
+    pub enough : budget ≤ sum_by entry_size (passed ++ last ∷ [])
+    pub within : sum_by entry_size passed < budget
+    pub behind : next ≡ next_text last.0
+
+  -- a merge of sources passes entries of fewer bytes, and all sources have then ended
+  pub record MergesToEnd (budget : ℕ) (sources : List S) : Type 0 where
+    pub passed : List Entry
+    pub at : Option Entry
+    pub last : List S
+    pub merge : IsMergeOf None sources passed at last
+    pub ended : List S
+    pub moves : AllZip (MovesPast steps lent at) last ended
+    pub none : AllByRecursion (λ s. lent s ≡ None) ended
+    pub within : sum_by entry_size passed < budget

@@ -1,16 +1,9 @@
 -- The entries that are written of several lists.
 use Rattle.std.proofs.Common.{◌≡◌, Bool, true, false}
-use Rattle.std.specs.Prelude.{ℕ, List, [], ◌∷◌, filter, Option, Some, None, IfSome, IsSomeAnd, is_some, ◌||◌}
+use Rattle.std.specs.Prelude.{ℕ, List, [], ◌∷◌, Option, Some, None, IfSome, IsSomeAnd}
 use Rattle.std.specs.List.{AllByRecursion}
 use Rattle.cell_key.specs.Entries.{Entry, IsEntryList, merged, entry_of_key, first_naming, value_of}
-
--- whether an entry is written: a value always, and an erasure if erasures are kept
-abbrev pub is_written : Bool → Entry → Bool
-is_written keep_erasures entry = keep_erasures || is_some entry.1
-
--- the entries that are written
-abbrev pub only_written : Bool → List Entry → List Entry
-only_written keep_erasures es = filter (is_written keep_erasures) es
+pub use Rattle.sorted_file.specs.Written.{is_written, only_written}
 
 abbrev pub is_written_lent : Bool → Option Entry → Bool
 is_written_lent keep_erasures None = false

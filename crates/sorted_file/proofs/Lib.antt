@@ -13,6 +13,7 @@ mod Fronts
 mod Growth
 mod GrowingBlocks
 mod Halves
+mod InSteps
 mod Joining
 mod Keeping
 mod KeptLocks

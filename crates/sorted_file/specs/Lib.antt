@@ -17,5 +17,7 @@ pub mod LockStamps
 pub mod LookupKey
 pub mod Newest
 pub mod Numbers
+pub mod PartialFiles
+pub mod Written
 pub use Rattle.cell_key.specs.Entries
 pub use Rattle.file_store.specs.Store

@@ -18,6 +18,7 @@ mod lock_stamps;
 mod lock_values;
 mod lookup_key;
 mod numbers;
+mod partial_file;
 mod source;
 mod writer;
 
@@ -31,5 +32,6 @@ pub use laws::{
 };
 pub use lock_index::LockIndex;
 pub use lookup_key::LookupKey;
+pub use partial_file::PartialFile;
 pub use source::{Source, refusal_of};
 pub use writer::write_file;

@@ -102,7 +102,7 @@ fn write_rest<F: Files, S: Source<F>>(
 }
 
 /// Begins a file.
-fn begin<F: Files>(files: &mut F, name: u64) -> Result<F::Writing, Refusal>
+pub(crate) fn begin<F: Files>(files: &mut F, name: u64) -> Result<F::Writing, Refusal>
     ensures named { IfOk result (λ writing. F.writes_to writing ≡ name) }
     ensures empty { IfOk result (λ writing. F.has writing []) }
     ensures same { F.contents files.new ≡ F.contents files.old }
@@ -113,7 +113,7 @@ fn begin<F: Files>(files: &mut F, name: u64) -> Result<F::Writing, Refusal>
 }
 
 /// Makes or replaces the file that was begun.
-fn finish<F: Files>(files: &mut F, writing: F::Writing) -> Result<(), Refusal>
+pub(crate) fn finish<F: Files>(files: &mut F, writing: F::Writing) -> Result<(), Refusal>
     ensures ok { OnOk result ((image : List ℕ) → F.has writing image → F.contents files.new
         ≡ with_file (F.writes_to writing) image (F.contents files.old)) }
     ensures others { KeepsOthers (F.writes_to writing)
