@@ -24,6 +24,8 @@ MAP_SOURCE = Path(__file__).with_name("map.cc")
 BESIDE_MAP = {
     "rows": (10_000, "commits of one cell"),
     "transfer": (5_000, "transfers: two Gets and two Sets"),
+    "commit": (10_000, "commits of one cell, in one request"),
+    "move": (5_000, "transfers, in two requests: a Read and a Commit"),
     "many": (5_000, "commits by 1,000 sessions at once"),
     "wide": (8, "commits of 256 cells of 1 KiB"),
     "long": (1_000, "commits on rows of 4,000 bytes"),

@@ -19,12 +19,12 @@ sys.path.insert(0, str(TOP / "clients" / "python"))
 
 from duqishom.files import RecordKind, frame_of, log_of  # noqa: E402
 
-SOURCE = Path(__file__).with_name("leveldb_log.cc")
+FOLDER = Path(__file__).parent
 HEADER = Path("/usr/include/leveldb/db.h")
 
 VALUE = b"v" * 100
 FAMILY = b"c"
-BEGIN, COMMITTED, DONE = b"\x01", b"\x84\x04", b"\xb2\x01"
+BEGIN, COMMITTED = b"\x01", b"\x84\x04"
 
 # The size in bytes of a one-cell commit's edits with such a row and value.
 COMMIT_BYTES = 259
@@ -101,12 +101,6 @@ def commits(program: Program, new: Iterator[bytes], count: int) -> None:
     check(program.ask(bodies)[3::4])
 
 
-def whole_commits(program: Program, new: Iterator[bytes], count: int) -> None:
-    """Commits rows, each in a request of its own."""
-    head, tail = b"\x32" + bytes(8) + b"\0\0\0\x01", field(FAMILY) + b"\x01" + field(VALUE)
-    check(program.ask([head + field(next(new)) + tail for _ in range(count)]), DONE)
-
-
 def commit(program: Program, new: Iterator[bytes], count: int) -> None:
     """Commits this many rows in one session."""
     [reply] = program.ask([BEGIN])
@@ -115,9 +109,9 @@ def commit(program: Program, new: Iterator[bytes], count: int) -> None:
     check([program.ask(bodies)[2 * count + 1]])
 
 
-def check(replies: list[bytes], wanted: bytes = COMMITTED) -> None:
-    """Ends the script if a reply to a commit doesn't begin so."""
-    if not all(reply.startswith(wanted) for reply in replies):
+def check(replies: list[bytes]) -> None:
+    """Ends the script if a reply isn't that of a commit."""
+    if not all(reply.startswith(COMMITTED) for reply in replies):
         sys.exit("not the replies that are wanted")
 
 
@@ -177,14 +171,31 @@ def file_rate(folder: Path, count: int, seconds: float) -> float:
         return rate(add, count, seconds)
 
 
+def compiled(name: str, place: Path, *words: str) -> str | None:
+    """A program of this folder, or None if a compiler is missing."""
+    compiler = shutil.which("c++")
+    if compiler is None:
+        return None
+    program = str(place / name)
+    subprocess.run([compiler, "-O2", "-std=c++17", str(FOLDER / f"{name}.cc"), "-o", program, *words], check=True)
+    return program
+
+
+def compiled_client(place: Path) -> str | None:
+    """The program that sends Commits to tabletd, or None if a compiler is missing."""
+    return compiled("tabletd_log", place)
+
+
 def compiled_leveldb(place: Path) -> str | None:
     """The program that drives LevelDB, or None if its header or a compiler is missing."""
-    compiler = shutil.which("c++")
-    if compiler is None or not HEADER.exists():
-        return None
-    program = str(place / "leveldb_log")
-    subprocess.run([compiler, "-O2", "-std=c++17", str(SOURCE), "-o", program, "-lleveldb"], check=True)
-    return program
+    return compiled("leveldb_log", place, "-lleveldb") if HEADER.exists() else None
+
+
+def client_rate(client: str, program: str, folder: Path, count: int, ahead: int, seconds: float) -> float:
+    """The rate of tabletd with a log, by a client that sends Commits of a row: `count` at once, as soon as at most `ahead` of
+    those before aren't answered. Its memtables are as large as they may be, as LevelDB's are large."""
+    words = [client, count, ahead, seconds, program, "--dir", folder, "--log", "--flush", MANY]
+    return float(subprocess.run(list(map(str, words)), check=True, capture_output=True, text=True).stdout)
 
 
 def leveldb(program: str, what: str, folder: Path, *words: object) -> float:
@@ -251,7 +262,7 @@ os._exit(0)
 
 def sqlite_opening(folder: Path, count: int) -> tuple[float, int]:
     """The same for SQLite, with this many rows in its log, and the first read."""
-    place = {**os.environ, "PYTHONPATH": str(SOURCE.parents[1])}
+    place = {**os.environ, "PYTHONPATH": str(FOLDER.parent)}
     subprocess.run([sys.executable, "-B", "-c", FILL_SQLITE, str(folder), str(count)], check=True, env=place)
     size = (folder / "database-wal").stat().st_size
     began = time.monotonic()

@@ -1,5 +1,6 @@
 // map: answers requests as tabletd does, from one ordered map of C++'s standard library with the same three columns, but with no
-// limits, no files and no proof: Begin, Get, Set, Step and Stop, and Minor and Major, which change nothing here.
+// limits, no files and no proof: Begin, Get, Set, Step and Stop, Read and Commit of values, and Minor and Major, which change nothing
+// here.
 #include <cstdint>
 #include <cstdio>
 #include <cstdlib>
@@ -42,6 +43,8 @@ void AddField(string& out, string_view text) {
 // The fields of a request.
 struct Fields {
   const char* at;
+  bool Flag() { return *at++ != 0; }
+  uint32_t Count() { return at += 4, Number(at - 4, 4); }
   uint64_t Stamp() { return at += 8, Number(at - 8, 8); }
   string_view Text() {
     size_t size = Number(at, 4);
@@ -112,6 +115,10 @@ class Server {
       case 0x05:
         sessions_.erase(fields.Stamp());
         return;
+      case 0x32:
+        return Commit(fields, out);
+      case 0x33:
+        return Read(fields, out);
       case 0x0A:
       case 0x0C:
         return;
@@ -136,7 +143,44 @@ class Server {
 
   void Get(Fields& fields, string& out) {
     uint64_t start = fields.Stamp();
-    const string& place = Place(fields);
+    Find(start, Place(fields), out);
+  }
+
+  // A session that stays open, and its Gets.
+  void Read(Fields& fields, string& out) {
+    uint64_t start = fields.Stamp();
+    if (start == 0) sessions_.emplace(start = ++last_, Session());
+    if (!fields.Flag()) sessions_.erase(start);
+    uint32_t count = fields.Count();
+    Add(out, start, 8);
+    Add(out, count, 4);
+    for (; count > 0; count--) Find(start, Place(fields), out);
+  }
+
+  // Puts values and records of a session, if no cell has a lock or a newer record.
+  void Commit(Fields& fields, string& out) {
+    uint64_t start = fields.Stamp();
+    if (start == 0) start = ++last_; else sessions_.erase(start);
+    writes_.clear();
+    for (uint32_t count = fields.Count(); count > 0; count--) {
+      const string& place = Place(fields);
+      if (!fields.Flag() || !IsFree(place, start)) {
+        std::fprintf(stderr, "map: a deletion or a conflict\n");
+        std::exit(1);
+      }
+      writes_.push_back({place, string(fields.Text())});
+    }
+    uint64_t commit = ++last_;
+    for (const Buffered& write : writes_) {
+      cells_.Put(write.place, kData, start, write.value);
+      PutRecord(write.place, start, commit);
+    }
+    out.push_back(1);
+    Add(out, start, 8);
+    Add(out, commit, 8);
+  }
+
+  void Find(uint64_t start, const string& place, string& out) {
     string_view value;
     if (cells_.Newest(place, kLock, 0, start, &value)) {
       std::fprintf(stderr, "map: a lock that is read\n");
@@ -183,12 +227,22 @@ class Server {
     }
   }
 
+  // Whether a cell has no lock and no newer record.
+  bool IsFree(const string& place, uint64_t start) {
+    string_view value;
+    return !cells_.Newest(place, kLock, 0, kAny, &value) && !cells_.Newest(place, kWrite, start, kAny, &value);
+  }
+
+  void PutRecord(const string& place, uint64_t start, uint64_t commit) {
+    char text[8];
+    for (int i = 0; i < 8; i++) text[i] = static_cast<char>(start >> 8 * (7 - i));
+    cells_.Put(place, kWrite, commit, string_view(text, 8));
+  }
+
   // Puts value and lock, if the cell has no lock and no newer record.
   bool Hold(uint64_t start, Session& session) {
     const Buffered& write = session.writes[session.next++];
-    string_view value;
-    if (cells_.Newest(write.place, kLock, 0, kAny, &value)) return false;
-    if (cells_.Newest(write.place, kWrite, start, kAny, &value)) return false;
+    if (!IsFree(write.place, start)) return false;
     cells_.Put(write.place, kData, start, write.value);
     cells_.Put(write.place, kLock, start, session.writes[0].place);
     return true;
@@ -202,9 +256,7 @@ class Server {
       std::fprintf(stderr, "map: a lock that is gone\n");
       std::exit(1);
     }
-    char text[8];
-    for (int i = 0; i < 8; i++) text[i] = static_cast<char>(start >> 8 * (7 - i));
-    cells_.Put(write.place, kWrite, session.commit, string_view(text, 8));
+    PutRecord(write.place, start, session.commit);
     cells_.Erase(write.place, kLock, start);
   }
 
@@ -212,6 +264,7 @@ class Server {
   std::unordered_map<uint64_t, Session> sessions_;
   uint64_t last_ = 0;
   string place_;
+  std::vector<Buffered> writes_;
 };
 
 void Write(const string& out) {

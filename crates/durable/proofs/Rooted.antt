@@ -25,6 +25,7 @@ use Rattle.commit_log.specs.declared.logs.Log.{Ghosts as Log}
 use Rattle.oracle.specs.declared.marks.MarkStore.{Ghosts as MarkStore}
 use Rattle.durable.specs.Answers.{AnswersInRoom, AnswersDurably, AnswersRooted, Checkpoints, HasFailed, MovesTablets, NeedsLogRoom, NeedsRoom, ActsOnRoots, PutsRoot, SweepsAfter, TouchesRoots}
 use Rattle.durable.specs.View.{RootCalls, View}
+use Rattle.durable.specs.Visits.{AsksForFew}
 use Rattle.durable.specs.declared.server.DurableServer.{DurableServer}
 use Rattle.durable.proofs.Logged.{no_less}
 use Rattle.durable.specs.Answers.PutsRoot.{answered, failed, roomless, unnamed, unready}
@@ -46,13 +47,13 @@ module _ {S : Type 0} (view : View S) (calls : RootCalls S) (says : S → Operat
   plain_lasting old new (CollectStep collector visits) reply other plain p = absurd (plain tt)
   plain_lasting old new request reply other plain p = p
 
-  pub room_lasting : (old new : S) (request : Request) (reply : Reply) → NeedsRoom request → AnswersInRoom view calls (says old (lent.One request) (given.Said reply) new) (λ n. reply ≡ codec.Refused n) before now old new → AnswersDurably view calls says stopped risen before now old (lent.One request) (given.Said reply) new
-  room_lasting old new Begin reply needs p = p
-  room_lasting old new (Step start) reply needs p = p
-  room_lasting old new (CleanStep cleaner) reply needs p = p
-  room_lasting old new (CollectStep collector visits) reply needs (inl (said, same)) = inl ((visits, inl refl, said), same)
-  room_lasting old new (CollectStep collector visits) reply needs (inr lacks) = inr lacks
-  room_lasting old new request reply needs p = absurd needs
+  pub room_lasting : (old new : S) (request : Request) (reply : Reply) → NeedsRoom request → AsksForFew request → AnswersInRoom view calls (says old (lent.One request) (given.Said reply) new) (λ n. reply ≡ codec.Refused n) before now old new → AnswersDurably view calls says stopped risen before now old (lent.One request) (given.Said reply) new
+  room_lasting old new Begin reply needs few p = p
+  room_lasting old new (Step start) reply needs few p = p
+  room_lasting old new (CleanStep cleaner) reply needs few p = p
+  room_lasting old new (CollectStep collector visits) reply needs few p =
+      subst (λ k. AnswersInRoom view calls (says old (lent.One (CollectStep collector k)) (given.Said reply) new) (λ n. reply ≡ codec.Refused n) before now old new) (sym few) p
+  room_lasting old new request reply needs few p = absurd needs
 
 pub rootless : (request : Request) → NeedsRoom request → ¬ ActsOnRoots request
 rootless Begin needs root = root

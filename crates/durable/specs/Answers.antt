@@ -30,6 +30,7 @@ use Rattle.durable.specs.Due.{IsRootDue, tried_at}
 use Rattle.durable.specs.Durability.{GoesOn, Settles}
 use Rattle.durable.specs.StoredMarks.{CoversStamp}
 use Rattle.durable.specs.View.{RootCalls, View}
+use Rattle.durable.specs.Visits.{visits_of}
 use Rattle.durable.specs.declared.server.DurableServer.{DurableServer}
 use Rattle.server_loop.specs.declared.upkeep.RootName.{RootName}
 
@@ -65,10 +66,6 @@ abbrev pub NeedsLogRoom : Operation → Type 0
 NeedsLogRoom (lent.One request) = ⊥
 NeedsLogRoom (lent.Commit start writes) = ⊤
 NeedsLogRoom (lent.Read start cells stays_open) = start ≡ 0
-
--- This is a number of visits that a collector makes for a request of n: of 1 to 1,000, any from 1 on.
-abbrev pub AreVisitsOf : ℕ → ℕ → Type 0
-AreVisitsOf n visits = (visits ≡ n) ⊎ ((1 ≤ visits) × (visits ≤ n) × (n ≤ 1000))
 
 -- ---- the journal
 
@@ -245,7 +242,7 @@ module _ {S : Type 0} (view : View S) (calls : RootCalls S) where
 
   -- The replies of a server with a log are those of one without, except that checkpoints come with
   -- splits and moves, that a sweep leaves the root's files, that requests which need room in the log are
-  -- refused if it has none, and that a collector may make fewer visits than it is asked for.
+  -- refused if it has none, and that a collector makes few visits for a request.
   abbrev pub RepliesDurably : (S → Request → Reply → S → Type 0)
       → (stopped risen : Type 0) → (before now : ℕ) → S → Request → Reply → S → Type 0
   RepliesDurably says stopped risen before now old (Split row) reply new =
@@ -265,8 +262,7 @@ module _ {S : Type 0} (view : View S) (calls : RootCalls S) where
       AnswersInRoom (says old (CleanStep cleaner) reply new) (λ n. reply ≡ codec.Refused n) before
       now old new
   RepliesDurably says stopped risen before now old (CollectStep collector n) reply new =
-      AnswersInRoom
-      ((visits : ℕ) × AreVisitsOf n visits × says old (CollectStep collector visits) reply new)
+      AnswersInRoom (says old (CollectStep collector (visits_of n)) reply new)
       (λ n. reply ≡ codec.Refused n) before now old new
   RepliesDurably says stopped risen before now old request reply new =
       says old request reply new

@@ -9,3 +9,4 @@ pub mod OverDevices
 pub mod Replay
 pub mod Recovery
 pub mod View
+pub mod Visits

@@ -14,7 +14,8 @@ ghost use Rattle.request_codec.specs.declared.replies.Reply.{Reply as CodecReply
 ghost use Rattle.durable.specs.Due.{IsDueAlike, IsRootDue, tried_at};
 ghost use Rattle.durable.specs.Durability.{GoesOn, IsSettled, Settles};
 ghost use Rattle.server_loop.specs.Commands.{checkpointed};
-ghost use Rattle.durable.specs.Answers.{AnswersDurably, Checkpoints, HasNewRoot, HoldsLogged, HasFailed, IsDurableAnswer, LastsIn, Logs, MovesTablets, NamesItsRoot, NeedsLogRoom, NeedsRoom, ActsOnRoots, AreVisitsOf, PutsRoot, StaysRooted, SweepsAfter, SweepsNow, named, shown_by};
+ghost use Rattle.durable.specs.Answers.{AnswersDurably, Checkpoints, HasNewRoot, HoldsLogged, HasFailed, IsDurableAnswer, LastsIn, Logs, MovesTablets, NamesItsRoot, NeedsLogRoom, NeedsRoom, ActsOnRoots, PutsRoot, StaysRooted, SweepsAfter, SweepsNow, named, shown_by};
+ghost use Rattle.durable.specs.Visits.{AsksForFew, visits_of};
 ghost use Rattle.metadata_table.specs.Roots.{RootView};
 ghost use Rattle.server_loop.specs.Runs.{StepsAs};
 ghost use Rattle.server_loop.specs.OperationLaws.{StandsForSeveral};
@@ -77,24 +78,27 @@ fn tried_after(done: &Result<(), Refusal>, written: usize) -> usize
 }
 
 /// The most visits that a collector makes for a request.
-const MOST_VISITS: u32 = 4;
+const FEW_VISITS: u32 = 4;
 
-/// The number of visits that a collector makes for a request of so many: at most `MOST_VISITS`, or a number that is
-/// refused.
+/// The most visits that may be asked for.
+const MOST_VISITS: u32 = 1000;
+
+/// The number of visits for which the server inside is asked, for a request of so many: at most `FEW_VISITS`, or a number
+/// that is refused.
 fn few_visits(visits: u32) -> u32
-    ensures { AreVisitsOf visits result }
+    ensures { result ≡ visits_of visits }
 {
-    if visits > 1000 {
+    if visits <= FEW_VISITS || visits > MOST_VISITS {
         return visits;
     }
-    visits.min(MOST_VISITS)
+    FEW_VISITS
 }
 
 /// The bytes of edits for which a request gets room: the most that it writes.
 fn most_edit_bytes(request: Request<'_>) -> usize {
     match request {
         Request::Begin => 0,
-        Request::CollectStep { visits, .. } => visits.min(MOST_VISITS) as usize * VISIT_BYTES,
+        Request::CollectStep { visits, .. } => visits.min(FEW_VISITS) as usize * VISIT_BYTES,
         _ => STEP_BYTES,
     }
 }
@@ -505,7 +509,8 @@ impl<S: Journaled, M: MarkStore, L: Log> DurableServer<S, M, L> {
 
     /// Answers a request that may write edits or draw a stamp, if the log has room for what it records.
     fn answer_with_room(&mut self, request: Request<'_>) -> Reply
-        requires { NeedsRoom request }
+        requires needs { NeedsRoom request }
+        requires few { AsksForFew request }
         ensures limits { HoldsWithinLimits (replied result) }
         ensures says { IsDurableAnswer S.view S.calls S.shows S.says M.MarkStore L.Log self.old
             (Operation.One request.entry) (Answer.Said result) self.new }

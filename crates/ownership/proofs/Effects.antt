@@ -1,27 +1,26 @@
 -- What an operation does to what is live.
-use Rattle.std.proofs.Common.{◌≡◌, ◌≢◌, ℕ, Bool, true, false, ◌&&◌, cond, List, [], ◌∷◌, Option, Some, None, refl, sym, ap, subst, ◌∙◌, arith, if◌then◌else◌}
+use Rattle.std.proofs.Common.{◌≡◌, ◌≢◌, ℕ, Bool, true, false, ◌&&◌, not, ◌+◌, List, Option, Some, None, refl, sym, ap, subst, ◌∙◌, arith, if◌then◌else◌}
 use Rattle.std.specs.Prelude.{is_some, nat_eq}
-use Rattle.std.specs.FinMap.{get}
+use Rattle.std.specs.Ordering.{nat_cmp}
+use Rattle.std.specs.FinMap.{FinMap, get, insert}
 use Rattle.std.proofs.lemmas.Bool.Decides.{nat_tests}
 use Rattle.std.proofs.lemmas.Option.{none-some, same_Some}
-use Rattle.cell_key.specs.declared.refusals.Refusal.{Refusal}
-use Rattle.si_model.specs.Machine.{State, Range, Change, Value, Item, Request, Reply, Writes, Advance, Begin, Begun, Get, Stop, StopDone, IsReached, Step, refuses, accepts, tells, reads as reads_cell, scans, sets, deletes, stops}
-use Rattle.si_model.specs.Machine.{waits}
+use Rattle.si_model.specs.Machine.{State, Holding, Stamped, holds, draws, Range, Change, Value, Item, Request, Reply, Writes, Advance, Begin, Get, Stop, StopDone, IsReached, Step, refuses, accepts, tells, reads as reads_cell, scans, sets, deletes, stops}
 use Rattle.si_model.specs.Messages as asks
-use Rattle.si_model.specs.Transactions.{Operation, One, Commit, Read, Answer, Said, ReadDone, Opens, is_open as found_open, begins, Buffers, all_taken, takes, Advances, rests, advances, request_of, reply_of, HasEnded, Transacts, commits, conflicts, is_unknown, is_late, gives_up, refuses as refuses_one, ReadsAll, all_read, finds, IsTold, has_nothing, is_sent, is_left_out, is_blocked, StaysOrEnds, ReadsTogether, miscounts, gives_up_reads, reads, names_unknown, names_late, refuses_begin, refuses_read, Goes, steps, transacts, reads_together}
+use Rattle.si_model.specs.Transactions.{Operation, One, Commit, Read, Answer, Said, ReadDone, Opens, is_open as found_open, begins, Buffers, all_taken, takes, Advances, rests, advances, request_of, reply_of, Transacts, commits, conflicts, is_unknown, is_late, gives_up, refuses as refuses_one, ReadsAll, all_read, finds, IsTold, has_nothing, is_sent, is_left_out, is_blocked, StaysOrEnds, ReadsTogether, miscounts, gives_up_reads, reads, names_unknown, names_late, refuses_begin, refuses_read, steps, transacts, reads_together}
 use Rattle.si_model.specs.Replies.{progress_reply}
 use Rattle.si_model.specs.declared.replies.Cell.{Cell}
 use Rattle.si_model.specs.declared.replies.Progress.{Progress}
 use Rattle.si_model.specs.declared.replies.Progress.TheVariants as progress
-use Rattle.si_model.proofs.Tools.{get_removed}
+use Rattle.si_model.proofs.Tools.{get_other, get_removed}
 use Rattle.ownership.specs.Names.{name_of, request_kind, request_name, reply_name, start_name, is_kind, is_open, is_name, if_of_kind, kind_of, same_name}
 use Rattle.ownership.specs.Names as names
-use Rattle.ownership.specs.Effects.{StaysAsItWas, may_end, TouchesItsOwn, EachTouchesItsOwn}
+use Rattle.ownership.specs.Effects.{StaysAsItWas, goes_further, may_close, may_end, TouchesItsOwn, EachTouchesItsOwn}
 use Rattle.ownership.specs.declared.names.Kind.{Kind}
 use Rattle.ownership.specs.declared.names.Kind.TheVariants as kinds
 use Rattle.ownership.specs.declared.names.Name.{Name}
 use Rattle.ownership.specs.declared.names.Name.TheVariants.{Session, Cleaner, Collector}
-use Rattle.ownership.proofs.Steps.{fits, gives, given, others, differ, same, itself, is_named, not_named, ne_of, none_of, stays_open, stays_closed}
+use Rattle.ownership.proofs.Steps.{fits, gives, given, others, differ, same, itself, is_there, ne_of, stays_open, stays_closed}
 use Rattle.ownership.proofs.Fresh.{new_name, session_zero}
 
 -- ---- as it was
@@ -166,7 +165,7 @@ is_or_not : (name : Name) (s : ℕ) → (same_name (Session s) name ≡ true →
 is_or_not name s fits e = fits (subst (λ (n : Name). same_name (Session s) n ≡ true) (sym e) (itself (Session s)))
 
 -- an operation of one session, which ends
-one_ended : (st next : State) (operation : Operation) (answer : Answer) (start s : ℕ) (mid : State) → name_of operation ≡ start_name start → may_end operation ≡ true
+one_ended : (st next : State) (operation : Operation) (answer : Answer) (start s : ℕ) (mid : State) → name_of operation ≡ start_name start → may_close operation answer ≡ true
     → ((n : Name) → names.gives operation answer n ≡ false) → IsOpened st start s mid → OneSession s mid next → is_open next (Session s) ≡ false → TouchesItsOwn st operation answer next
 one_ended st next operation answer start s mid is_named_so ends none begun one closed = record {
   others = λ name live ne. leaves name (λ e. ne (is_named_so ∙ (begun.named (subst (λ n. is_open st n ≡ true) e live) ∙ ap Some (sym e))));
@@ -312,6 +311,42 @@ stays_there asks.OracleRestart step e name = absurd (differ e)
 stays_there (asks.Raw x f low high) step e name = absurd (differ e)
 stays_there asks.Checkpoint step e name = absurd (differ e)
 
+and_true : (b : Bool) → (b && not false) ≡ b
+and_true true = refl
+and_true false = refl
+
+still_some : {X : Type 0} (m : FinMap nat_cmp X) (k q : ℕ) (v : X) → is_some (get m q) ≡ true → is_some (get (insert m k v) q) ≡ true
+still_some m k q v live = either (nat_eq k q) refl
+  where
+    either : (b : Bool) → nat_eq k q ≡ b → is_some (get (insert m k v) q) ≡ true
+    either true e = is_there m k q v e
+    either false e = ap is_some (get_other m k v q (ne_of k q e)) ∙ live
+
+held_open : {st next : State} {q : Request} {n c : ℕ} → Step st q (asks.Held n c) next → (name : Name) → is_open st name ≡ true → is_open next name ≡ true
+held_open (accepts ok (tells told)) name live = elim told [ ]
+held_open {st = st} (accepts ok (holds {t = t} {k = k} h w p free)) (Session n) live = still_some st.active t n (Holding (k + 1)) live
+held_open (accepts ok (holds h w p free)) (Cleaner n) live = live
+held_open (accepts ok (holds h w p free)) (Collector n) live = live
+
+drawn_open : {st next : State} {q : Request} {c : ℕ} → Step st q (asks.Drawn c) next → (name : Name) → is_open st name ≡ true → is_open next name ≡ true
+drawn_open (accepts ok (tells told)) name live = elim told [ ]
+drawn_open {st = st} {c = c} (accepts ok (draws {t = t} h w d)) (Session n) live = still_some st.active t n (Stamped c) live
+drawn_open (accepts ok (draws h w d)) (Cleaner n) live = live
+drawn_open (accepts ok (draws h w d)) (Collector n) live = live
+
+-- what is open stays so, if the answer says that its session goes on
+further : {st next : State} {q : Request} (r : Reply) → Step st q r next → goes_further (Said r) ≡ true → (name : Name) → is_open st name ≡ true → is_open next name ≡ true
+further (asks.Held n c) step e name live = held_open step name live
+further (asks.Drawn c) step e name live = drawn_open step name live
+further r step e name live = absurd (differ (sym e))
+
+goes_there : (q : Request) {st next : State} (r : Reply) → Step st q r next → may_close (One q) (Said r) ≡ false → (name : Name) → is_open st name ≡ true → is_open next name ≡ true
+goes_there q {next = next} r step e name live = either (goes_further (Said r)) refl
+  where
+    either : (b : Bool) → goes_further (Said r) ≡ b → is_open next name ≡ true
+    either true is = further r step is name live
+    either false is = stays_there q step (sym (and_true (may_end (One q))) ∙ (ap (λ (b : Bool). may_end (One q) && not b) (sym is) ∙ e)) name ∙ live
+
 -- a name that is given is told, and is of the kind that the operation may give
 is_told : (kind : Option Kind) (told : Option Name) (name : Name) → is_name (if_of_kind kind told) name ≡ true → is_name told name ≡ true
 is_told kind None name e = e
@@ -332,7 +367,7 @@ touches {st} {next} {q} {r} reached step = record {
   was_new = λ name g. new_name reached step name (is_told (request_kind q) (reply_name r) name g);
   is_there = λ name g. given step name (is_told (request_kind q) (reply_name r) name g);
   only = λ name shut live. let g = told name shut live (gives r name) refl in is_given (request_kind q) (reply_name r) name g (fits step name g);
-  goes_on = λ name e live. stays_there q step e name ∙ live;
+  goes_on = λ name e live. goes_there q r step e name live;
 }
   where
     quiet : (name : Name) → is_open st name ≡ true → (b : Bool) → gives r name ≡ b → gives r name ≡ false

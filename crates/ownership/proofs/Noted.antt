@@ -5,11 +5,11 @@ use Rattle.std.specs.FinMap.{get, remove}
 use Rattle.std.specs.List.{AllByRecursion}
 use Rattle.std.proofs.lemmas.Option.{same_Some}
 use Rattle.cell_key.specs.declared.refusals.Refusal.{Refusal}
-use Rattle.si_model.specs.Machine.{State, IsReached, Phase, Stop, StopDone, Step, accepts, stops}
+use Rattle.si_model.specs.Machine.{State, IsReached, Stop, StopDone, Step, accepts, stops}
 use Rattle.si_model.specs.Refusing.{Applies, stop_unknown}
 use Rattle.si_model.specs.Sets.{◌∈◌, here, there}
-use Rattle.si_model.specs.Transactions.{Operation, One, Answer, Said, Goes, steps}
-use Rattle.ownership.specs.Effects.{StaysAsItWas, TouchesItsOwn, may_end}
+use Rattle.si_model.specs.Transactions.{Operation, One, Answer, Said, Goes}
+use Rattle.ownership.specs.Effects.{may_close}
 use Rattle.ownership.specs.Names.{gives, is_name, is_open, is_session, name_of, same_name}
 use Rattle.ownership.specs.Tables.{IsOrdered, Knows, Table, nobodys, owned_without, owns, table_of}
 use Rattle.ownership.specs.Turns.{Ends, Stops, StopsSome, Turn, none, one_more}
@@ -71,11 +71,11 @@ settled true false ends false true false a b c d e = refl
 
 module _ {st next : State} {table table' : Table} {client : ℕ} {operation : Operation} {answer : Answer} (reached : IsReached st) (known : Knows table st) (ordered : IsOrdered table')
     (own : (name : Name) → name_of operation ≡ Some name → owns table client name ≡ true) (goes : Goes st operation answer next)
-    (notes : (other : ℕ) (name : Name) → owns table' other name ≡ ((owns table other name && not (nat_eq client other && (may_end operation && (is_name (name_of operation) name && not (is_open next name))))) || (nat_eq client other && gives operation answer name))) where
+    (notes : (other : ℕ) (name : Name) → owns table' other name ≡ ((owns table other name && not (nat_eq client other && (may_close operation answer && (is_name (name_of operation) name && not (is_open next name))))) || (nat_eq client other && gives operation answer name))) where
   pub turn_of : Turn st table client operation answer next table'
   turn_of = let touched = touches_its_own st next operation answer reached goes in record {
     goes = goes;
-    noted = λ other name. notes other name ∙ settled (owns table other name) (nat_eq client other) (may_end operation) (is_name (name_of operation) name) (is_open next name) (gives operation answer name)
+    noted = λ other name. notes other name ∙ settled (owns table other name) (nat_eq client other) (may_close operation answer) (is_name (name_of operation) name) (is_open next name) (gives operation answer name)
         (λ o. not_given other name o (dec (gives operation answer name)))
         (λ g. touched.is_there name g)
         (λ o n. stays_open st next name (touched.others name (known.is_there other name o) (not_named (name_of operation) name n)) ∙ known.is_there other name o)

@@ -5,9 +5,8 @@ use Rattle.std.specs.Ordering.{nat_cmp}
 use Rattle.std.specs.FinMap.{FinMap, get, insert, remove}
 use Rattle.std.proofs.lemmas.Bool.Decides.{nat_tests}
 use Rattle.std.proofs.lemmas.Option.{none-some, same_Some}
-use Rattle.cell_key.specs.declared.refusals.Refusal.{Refusal}
 use Rattle.cell_key.specs.declared.refusals.Refusal.TheVariants.{UnknownSession, UnknownCleaner, UnknownCollector}
-use Rattle.si_model.specs.Machine.{Refused, State, Phase, Open, Finishing, Request, Reply, finishing, IsAcceptable}
+use Rattle.si_model.specs.Machine.{State, Phase, Open, Finishing, Request, Reply, finishing, IsAcceptable}
 use Rattle.si_model.specs.Messages as asks
 use Rattle.si_model.specs.Refusing.{get_unknown, set_unknown, delete_unknown, scan_unknown, advance_unknown, stop_unknown, clean_unknown, collect_unknown}
 use Rattle.si_model.specs.Machine.{Tells, waits, finds_none, is_blocked, goes_further, minors, merges, majors, sweeps, restarts, finds_raw, checkpoints, Acts, tells, begins, reads, scans, sets, deletes, holds, conflicts, draws, loses, commits, finishes, stops, opens, kills, learns, rolls_forward, rolls_back, finds_gone, collects, has_collected, splits, moves_tablet, Step, refuses, accepts}
@@ -123,7 +122,7 @@ others (accepts ok a) (Session k) ne g = session_acts a k ne g
 others (accepts ok a) (Cleaner k) ne g = cleaner_acts a k ne g
 others (accepts ok a) (Collector k) ne g = collector_acts a k ne g
 
-is_there : {X : Type 0} (m : FinMap nat_cmp X) (k q : ℕ) (v : X) → nat_eq k q ≡ true → is_some (get (insert m k v) q) ≡ true
+pub is_there : {X : Type 0} (m : FinMap nat_cmp X) (k q : ℕ) (v : X) → nat_eq k q ≡ true → is_some (get (insert m k v) q) ≡ true
 is_there m k q v e = ap is_some (ap (get (insert m k v)) (eq_of k q e) ∙ get_same m k v)
 
 pub tells_none : {st : State} {q : Request} {r : Reply} → Tells st q r → (name : Name) → gives r name ≡ true → ⊥

@@ -4,17 +4,16 @@ use Rattle.std.specs.Prelude.{nat_eq}
 use Rattle.std.specs.List.{AllByRecursion}
 use Rattle.std.proofs.lemmas.Bool.Decides.{nat_tests}
 use Rattle.std.proofs.lemmas.Option.{none-some, same_Some}
-use Rattle.cell_key.specs.declared.refusals.Refusal.{Refusal}
 use Rattle.cell_key.specs.declared.refusals.Refusal.TheVariants.{BadRequest, NoMemory, TooManySessions}
-use Rattle.si_model.specs.Machine.{State, IsReached, Refused, Step, Stop, StopDone}
+use Rattle.si_model.specs.Machine.{State, IsReached, Step, Stop, StopDone}
 use Rattle.si_model.specs.Sets.{◌∈◌, here, there}
 use Rattle.si_model.specs.Transactions.{Operation, One, Answer, Said, Goes, steps}
 use Rattle.si_model.proofs.Reached.{stays_reached}
 use Rattle.ownership.specs.Effects.{StaysAsItWas, TouchesItsOwn}
-use Rattle.ownership.specs.Laws.{EachWasGiven, IsGone, IsLeftAlone, IsOfAnother, IsRefused, OthersAreRefused, StaysKnown, WasGiven, WasLeft}
+use Rattle.ownership.specs.Laws.{EachWasGiven, IsGone, IsLeftAlone, IsOfAnother, OthersAreRefused, StaysKnown, WasGiven, WasLeft}
 use Rattle.ownership.specs.Names.{gives, is_open, is_session, name_of}
-use Rattle.ownership.specs.Tables.{Knows, Table, heir_of, is_full, may_ask, name_refusal, owned_after, owned_without, owns, refusal_for, unknown}
-use Rattle.ownership.specs.Turns.{Frame, Asks, Leaves, Malformed, NoClient, TooLarge, Turn, Stops, none, one_more, Ends, Exchange, Handles, turns, refuses, lacks_memory, leaves, is_malformed, has_no_client, is_too_large, HandlesAll}
+use Rattle.ownership.specs.Tables.{Knows, Table, heir_of, is_full, may_ask, name_refusal, owns, refusal_for, unknown}
+use Rattle.ownership.specs.Turns.{Frame, Asks, Leaves, Turn, Stops, none, one_more, Ends, Exchange, Handles, turns, refuses, lacks_memory, leaves, is_malformed, has_no_client, is_too_large}
 use Rattle.ownership.specs.declared.names.Name.{Name}
 use Rattle.ownership.specs.declared.names.Name.TheVariants.{Session, Cleaner, Collector}
 use Rattle.ownership.proofs.Effects.{stays_itself, stays_on, stop_closes, touches_its_own}

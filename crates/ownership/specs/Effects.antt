@@ -1,9 +1,9 @@
 -- What an operation does to what is open.
-use Rattle.std.specs.Prelude.{◌≡◌, ◌≢◌, true, false, Bool, Some}
+use Rattle.std.specs.Prelude.{◌≡◌, ◌≢◌, ◌&&◌, not, true, false, Bool, Some}
 use Rattle.std.specs.FinMap.{get}
 use Rattle.si_model.specs.Machine.{State, IsReached}
 use Rattle.si_model.specs.Messages as asks
-use Rattle.si_model.specs.Transactions.{Operation, One, Answer, Goes}
+use Rattle.si_model.specs.Transactions.{Operation, One, Answer, Said, Goes}
 use Rattle.ownership.specs.Names.{name_of, gives, is_open}
 use Rattle.ownership.specs.declared.names.Name.{Name}
 use Rattle.ownership.specs.declared.names.Name.TheVariants.{Session, Cleaner, Collector}
@@ -23,6 +23,16 @@ may_end (One (asks.Set start cell value)) = false
 may_end (One (asks.Delete start cell)) = false
 may_end operation = true
 
+-- a step that held a cell or drew its commit stamp doesn't end its session either
+abbrev pub goes_further : Answer → Bool
+goes_further (Said (asks.Held place count)) = true
+goes_further (Said (asks.Drawn stamp)) = true
+goes_further answer = false
+
+-- an operation with this answer may have ended what it names
+abbrev pub may_close : Operation → Answer → Bool
+may_close operation answer = may_end operation && not (goes_further answer)
+
 -- What an operation does to names. What is open and isn't named stays as it was. A name that the answer gives was
 -- nobody's, and is open then; and nothing else begins to be open.
 pub record TouchesItsOwn (st : State) (operation : Operation) (answer : Answer) (next : State)
@@ -33,7 +43,7 @@ pub record TouchesItsOwn (st : State) (operation : Operation) (answer : Answer) 
   pub is_there : (name : Name) → gives operation answer name ≡ true → is_open next name ≡ true
   pub only : (name : Name) → is_open st name ≡ false → is_open next name ≡ true
       → gives operation answer name ≡ true
-  pub goes_on : (name : Name) → may_end operation ≡ false → is_open st name ≡ true
+  pub goes_on : (name : Name) → may_close operation answer ≡ false → is_open st name ≡ true
       → is_open next name ≡ true
 
 abbrev pub EachTouchesItsOwn : Type 0

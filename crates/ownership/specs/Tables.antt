@@ -1,12 +1,11 @@
 -- Tables of owners: which client's each name is.
-use Rattle.std.specs.Prelude.{◌≡◌, ℕ, Bool, true, false, ◌&&◌, ◌||◌, not, List, [], ◌∷◌, Option, None, Some, nat_eq, nat_lt, nat_le, unwrap_or, vec_len, vec_capacity, ◌<◌, ◌+◌, if◌then◌else◌, ⊤}
-use Rattle.std.specs.List.{list_any, AllByRecursion}
+use Rattle.std.specs.Prelude.{◌≡◌, ℕ, Bool, true, false, ◌&&◌, ◌||◌, not, List, [], Option, None, Some, nat_eq, nat_le, unwrap_or, vec_len, vec_capacity, ◌<◌, ◌+◌, if◌then◌else◌, ⊤}
 use Rattle.cell_key.specs.declared.refusals.Refusal.{Refusal}
 use Rattle.cell_key.specs.declared.refusals.Refusal.TheVariants.{BadRequest, TooManySessions, UnknownSession, UnknownCleaner, UnknownCollector}
-use Rattle.si_model.specs.Machine.{State, Request}
+use Rattle.si_model.specs.Machine.{State}
 use Rattle.si_model.specs.Messages as asks
-use Rattle.si_model.specs.Transactions.{Operation, One, Commit, Read, Answer}
-use Rattle.ownership.specs.Names.{name_of, is_name, given_kind, gives, is_open, is_session}
+use Rattle.si_model.specs.Transactions.{Operation, One, Answer}
+use Rattle.ownership.specs.Names.{name_of, given_kind, gives, is_open, is_session}
 use Rattle.ownership.specs.declared.names.Kind.{Kind}
 use Rattle.ownership.specs.declared.names.Kind.TheVariants as kinds
 use Rattle.ownership.specs.declared.names.Name.{Name}

@@ -12,5 +12,5 @@ pub use holdings::Holdings;
 pub use laws::{
     each_was_given, is_gone, is_left_alone, others_are_refused, stays_known, touches_its_own,
 };
-pub use names::{Kind, Name, given_kind, may_end, named};
+pub use names::{Kind, Name, given_kind, may_close, may_end, named};
 pub use owners::Owners;

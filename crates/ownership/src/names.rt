@@ -1,6 +1,6 @@
 //! The names of sessions, cleaners and collectors.
 
-ghost use Rattle.std.specs.Prelude.{◌≡◌, IfSome, Some};
+ghost use Rattle.std.specs.Prelude.{◌≡◌, ◌&&◌, not, IfSome, Some};
 ghost use Rattle.request_codec.specs.Answers.{answer_of};
 ghost use Rattle.request_codec.specs.Operations.{operation_of};
 ghost use Rattle.request_codec.specs.Replies.{replied};
@@ -10,7 +10,7 @@ ghost use Rattle.ownership.specs.Names as names;
 
 use cell_key::Stamp;
 use request_codec::{Answer, Operation, Reply, Request};
-use si_model::CleanStart;
+use si_model::{CleanStart, Progress};
 
 /// The name that an operation may have and an answer may give: a session by its start, a cleaner or a collector by its
 /// number.
@@ -135,6 +135,18 @@ pub fn may_end(operation: &Operation<'_>) -> bool
             | Request::Delete { .. },
         ) => false,
         _ => true,
+    }
+}
+
+/// Whether an operation with this answer may have ended what it names, if the operation may end it: not if a step held a
+/// cell or drew its commit stamp.
+#[inline(always)]
+pub fn may_close(ends: bool, answer: &Answer) -> bool
+    ensures { result ≡ (ends && not (effects.goes_further (answer_of answer.now))) }
+{
+    match answer {
+        Answer::Said(Reply::Step(Progress::Held(..) | Progress::Stamped(_))) => false,
+        _ => ends,
     }
 }
 

@@ -13,7 +13,7 @@ use Rattle.si_model.specs.Transactions.{Operation, One, Answer, Said, Goes, step
 use Rattle.si_model.proofs.Reached.{stays_reached}
 use Rattle.request_codec.specs.declared.answers.Answer.{Answer as CodecAnswer}
 use Rattle.request_codec.specs.declared.operations.Operation.{Operation as Lent}
-use Rattle.ownership.specs.Effects.{TouchesItsOwn, may_end}
+use Rattle.ownership.specs.Effects.{TouchesItsOwn}
 use Rattle.ownership.specs.Frames.{client_body}
 use Rattle.ownership.specs.Names.{gives, is_name, is_open, is_session, name_of, same_name}
 use Rattle.ownership.specs.Tables.{Knows, Table, heir_of, owned_after, owned_without, owns, refusal_for, table_of}

@@ -11,7 +11,7 @@ use Rattle.request_codec.specs.Operations.{operation_of}
 use Rattle.request_codec.specs.Stream.{frame, frames, BeginsNoFrame, IsBody}
 use Rattle.request_codec.specs.declared.answers.Answer.{Answer as CodecAnswer}
 use Rattle.request_codec.specs.declared.operations.Operation.{Operation as Lent}
-use Rattle.ownership.specs.Effects.{may_end}
+use Rattle.ownership.specs.Effects.{may_close}
 use Rattle.ownership.specs.Frames.{IsBodyOf, client_body}
 use Rattle.ownership.specs.Names.{gives, is_name, is_open, is_session, name_of, same_name}
 use Rattle.ownership.specs.Tables.{Knows, heir_of, owns, refusal_for, table_of}
@@ -95,7 +95,7 @@ module _ {S : Type 0} (shows : S → State → Type 0)
       (st : State) → shows new.server st → (other : ℕ) (name : Name)
       → owns (table_of new.owners) other name
       ≡ ((owns (table_of old.owners) other name && not (nat_eq client other
-      && (may_end operation && (is_name (name_of operation) name && not (is_open st name)))))
+      && (may_close operation answer && (is_name (name_of operation) name && not (is_open st name)))))
       || (nat_eq client other && gives operation answer name))
 
   -- A frame is answered to a client: by one answer of the server inside, by none, or by the Stops of an end.

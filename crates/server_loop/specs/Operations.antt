@@ -1,7 +1,7 @@
 -- The contract of an answer to an operation: one request, a Commit or a Read.
 use Rattle.std.specs.Prelude.{◌≡◌, ◌≢◌, ◌⊎◌, ℕ, List, Bool, Option, None, Result, Ok, Err, IfOk, IsErrOf, length}
 use Rattle.cell_key.specs.declared.refusals.Refusal.{Refusal}
-use Rattle.cell_key.specs.declared.refusals.Refusal.TheVariants.{BadCount, Device, Exhausted, MemtableFull, TooManySessions, UnknownSession}
+use Rattle.cell_key.specs.declared.refusals.Refusal.TheVariants.{BadCount, Device, Exhausted, MemtableFull}
 use Rattle.file_store.specs.Store.{Contents}
 use Rattle.file_store.specs.declared.files.Files.{Ghosts as Files}
 use Rattle.oracle.specs.declared.marks.MarkStore.{Ghosts as MarkStore}
@@ -29,8 +29,8 @@ use Rattle.server_loop.specs.Sessions.{LeavesMark}
 use Rattle.server_loop.specs.declared.server.Server.{Server}
 use Rattle.txn_client.specs.CellReads.{AreRead}
 use Rattle.txn_client.specs.Commits.{BeganAt, CommitDoes, CommitDraws, HasNoRoomToCommit, LacksStamps}
-use Rattle.txn_client.specs.Shows.{IsCrowded, IsInactive, SameClients}
-use Rattle.txn_client.specs.Transactions.{HasSession, IsCommitRefusal, IsReadRequestRefusal}
+use Rattle.txn_client.specs.Shows.{SameClients}
+use Rattle.txn_client.specs.Transactions.{DrawsSession, IsCommitRefusal, IsReadRequestRefusal, SessionCauses}
 
 -- the answers that the results of the sessions' calls give
 abbrev pub commit_given : Result CommitReply Refusal → CodecAnswer
@@ -102,10 +102,7 @@ pub record IsPlainCommit {F M W : Type 0} (files : Files F W) (marks : MarkStore
   pub draws : IfOk result (CommitDraws (last_of old) (last_of new) start)
   pub named : start ≢ 0 → (st : State) → Shows files.contents old st
       → IfOk result (BeganAt start)
-  pub unknown : start ≢ 0 → (st : State) → Shows files.contents old st → IsInactive st start
-      → IsErrOf result UnknownSession
-  pub crowded : start ≡ 0 → (st : State) → Shows files.contents old st → IsCrowded st
-      → IsErrOf result TooManySessions
+  pub causes : (st : State) → Shows files.contents old st → SessionCauses st start result
   -- Exhausted: the stamps that it would draw aren't there.
   pub exhausted : IsErrOf result Exhausted → LacksStamps (last_of old) start
   -- MemtableFull: the edits of all writes have no room in the memtables.
@@ -134,14 +131,12 @@ pub record IsPlainRead {F M W : Type 0} (files : Files F W) (marks : MarkStore M
   pub found : AreReadableFrom (seen_recorded files.contents) (rows_of old) None
       → IfOk result (λ reply. AreRead (server_cells files.contents old) reply.start 0 cells
       (told_items reply.found.items))
-  pub session : IfOk result (λ reply. HasSession old.clients (last_of old) start reply.start)
-  pub drawn : start ≡ 0 → IfOk result (λ reply. last_of new ≡ reply.start)
+  pub session : IfOk result (λ reply.
+      DrawsSession old.clients (last_of old) (last_of new) start reply.start)
   pub aside : start ≢ 0 → new.oracle ≡ old.oracle
   pub count : ¬ IsReadCount (length cells) → IsErrOf result BadCount
-  pub unknown : IsReadCount (length cells) → start ≢ 0 → (st : State)
-      → Shows files.contents old st → IsInactive st start → IsErrOf result UnknownSession
-  pub crowded : IsReadCount (length cells) → start ≡ 0 → (st : State)
-      → Shows files.contents old st → IsCrowded st → IsErrOf result TooManySessions
+  pub causes : IsReadCount (length cells) → (st : State) → Shows files.contents old st
+      → SessionCauses st start result
   pub exhausted : IsErrOf result Exhausted → last_of old ≡ 9_223_372_036_854_775_807
 
 pub record IsReadAnswer {F M W : Type 0} (files : Files F W) (marks : MarkStore M)

@@ -23,7 +23,7 @@ use crate::frame_loop::{FrameHandler, Handler, Incoming, LONGEST_FRAME, serve_al
 use crate::frames::{push_client_frame, push_refusal};
 use crate::statuses::{End, ServeFault};
 use cell_key::Refusal;
-use ownership::{Name, Owners, given_kind, may_end, named, split_client};
+use ownership::{Name, Owners, given_kind, may_close, may_end, named, split_client};
 use request_codec::{Answer, Operation, Reply, Request, decode_operation};
 use std::alloc::Global;
 use std::io::{Read, Write};
@@ -74,13 +74,13 @@ impl<A: Lookup> ClientServer<A> {
         }
     }
 
-    /// What was named, if the operation may have ended it and it is open no more.
-    fn closed(&self, ends: bool, name: Option<Name>) -> Option<Name>
+    /// What was named, if it may have been closed and is open no more.
+    fn closed(&self, closes: bool, name: Option<Name>) -> Option<Name>
         ensures { (st : State) → A.shows self.now.server st → (n : NameOf)
-            → is_name result n ≡ (ends && (is_name name n && not (is_open st n))) }
+            → is_name result n ≡ (closes && (is_name name n && not (is_open st n))) }
     {
         let name = name?;
-        if !ends || self.server.is_open(name) {
+        if !closes || self.server.is_open(name) {
             return None;
         }
         Some(name)
@@ -103,7 +103,8 @@ impl<A: Lookup> ClientServer<A> {
         let name = named(&operation);
         let ends = may_end(&operation);
         let answer = self.server.answer_to(operation);
-        let closed = self.closed(ends, name);
+        let closes = may_close(ends, &answer);
+        let closed = self.closed(closes, name);
         self.owners.note(client, closed, kind, &answer);
         push_client_frame(client, &answer, waiting);
     }

@@ -11,7 +11,7 @@ use Rattle.request_codec.specs.Answers.{IsAnswerBody, IsNoAnswer}
 use Rattle.request_codec.specs.Fields.{number}
 use Rattle.audit.specs.Audits.{JudgesOperation, JudgesStep, Keeps as KeepsState, KeepsReached}
 use Rattle.audit.specs.declared.audit.Audit.{Audit}
-use Rattle.ownership.specs.Effects.{may_end}
+use Rattle.ownership.specs.Effects.{may_close}
 use Rattle.ownership.specs.Frames.{IsBodyOf, IsOfClient}
 use Rattle.ownership.specs.Names.{gives, is_name, is_open, is_session, name_of, same_name}
 use Rattle.ownership.specs.Tables.{Knows, Table, heir_of, owns, refusal_for, table_of}
@@ -108,7 +108,7 @@ asked admin old new client operation said (Err refusal) free lacks judges = tt
 pub turned : (old : Judge) (audit : Audit) (owners : Owners) (client : ℕ) (operation : Operation) (said : Answer) (result : Result Bool Refusal) → result ≡ Ok true → JudgesOperation old.audit audit operation said result
     → ((name : Name) → name_of operation ≡ Some name → owns (table_of old.owners) client name ≡ true)
     → ((st : State) → KeepsState audit st → (other : ℕ) (name : Name) → owns (table_of owners) other name
-    ≡ ((owns (table_of old.owners) other name && not (nat_eq client other && (may_end operation && (is_name (name_of operation) name && not (is_open st name))))) || (nat_eq client other && gives operation said name)))
+    ≡ ((owns (table_of old.owners) other name && not (nat_eq client other && (may_close operation said && (is_name (name_of operation) name && not (is_open st name))))) || (nat_eq client other && gives operation said name)))
     → JudgesTurn old (record { audit = audit; owners = owners }) client operation said true
 turned old audit owners client operation said result is judges own noted = λ st known.
     let (next, goes, kept) = subst (JudgesOperation old.audit audit operation said) is judges st known.state in

@@ -18,7 +18,7 @@ ghost use Rattle.tablet_audit.specs.Judges.{JudgesFrame, JudgesStops, JudgesTurn
 use crate::judges::Judge;
 use audit::Audit;
 use cell_key::{Refusal, Stamp};
-use ownership::{Frame, Name, given_kind, may_end, named};
+use ownership::{Frame, Name, given_kind, may_close, may_end, named};
 use request_codec::{Answer, Operation, Reply, Request};
 
 /// Whether this is open.
@@ -32,14 +32,14 @@ fn is_open(audit: &Audit, name: Name) -> bool
     }
 }
 
-/// What was named, if the operation may have ended it and it is open no more.
-fn closed(audit: &Audit, ends: bool, name: Option<Name>) -> Option<Name>
+/// What was named, if it may have been closed and is open no more.
+fn closed(audit: &Audit, closes: bool, name: Option<Name>) -> Option<Name>
     ensures { (st : State) → KeepsState audit.now st → (n : NameOf)
         → names.is_name result n
-        ≡ (ends && (names.is_name name n && not (names.is_open st n))) }
+        ≡ (closes && (names.is_name name n && not (names.is_open st n))) }
 {
     let name = name?;
-    if !ends || is_open(audit, name) {
+    if !closes || is_open(audit, name) {
         return None;
     }
     Some(name)
@@ -112,7 +112,8 @@ impl Judge {
         if !self.audit.take_operation(operation, answer)? {
             return Ok(false);
         }
-        let closed = closed(&self.audit, may_end(operation), named(operation));
+        let closes = may_close(may_end(operation), answer);
+        let closed = closed(&self.audit, closes, named(operation));
         self.owners.note(client, closed, kind, answer);
         Ok(true)
     }

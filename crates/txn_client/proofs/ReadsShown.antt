@@ -28,10 +28,10 @@ use Rattle.si_model.proofs.ByServers.{servers_step}
 use Rattle.txn_client.specs.CellReads.{AreRead, IsReadingRefusal, IsRefusedAmong}
 use Rattle.txn_client.specs.Reads.{IsFound}
 use Rattle.si_model.specs.Takings.{IsNamed}
-use Rattle.txn_client.specs.Shows.{IsCrowded, KnowsTop, Shows, ShowsClients, Steps}
+use Rattle.txn_client.specs.Shows.{IsCrowded, IsInactive, KnowsTop, Shows, ShowsClients, Steps}
 use Rattle.txn_client.specs.Transactions.{GoesAs, HasSession, IsSessionRefusal}
 use Rattle.txn_client.specs.declared.sessions.Clients.{Clients}
-use Rattle.txn_client.proofs.Exact.{not_crowded}
+use Rattle.txn_client.proofs.Exact.{is_kept, not_crowded}
 use Rattle.txn_client.proofs.ShownReads.{after_read, waits_at, reads_nothing, reads_deletion, reads_value}
 use Rattle.txn_client.proofs.Table.{begun_at, late_phase, open_phase, shown_none, shown_some, shows_along}
 
@@ -162,6 +162,13 @@ crowded_refusal clients last start st WrongPhase is0 shown many why = absurd (wh
 crowded_refusal clients last start st TooManySessions is0 shown many why = refl
 crowded_refusal clients last start st Exhausted is0 shown many why = absurd (not_crowded clients st shown why.1 many)
 crowded_refusal clients last start st _ is0 shown many why = absurd why
+
+pub unknown_refusal : (clients : Clients) (last start : ℕ) (st : State) (e : Refusal) → start ≢ 0 → ShowsClients clients st → IsInactive st start → IsSessionRefusal clients last start e → e ≡ UnknownSession
+unknown_refusal clients last start st UnknownSession some shown gone why = refl
+unknown_refusal clients last start st WrongPhase some shown gone why = absurd (is_kept clients start st shown gone why.1.0 why.1.1)
+unknown_refusal clients last start st TooManySessions some shown gone why = absurd (some why.0)
+unknown_refusal clients last start st Exhausted some shown gone why = absurd (some why.0)
+unknown_refusal clients last start st _ some shown gone why = absurd why
 
 -- ---- a Read
 

@@ -1,10 +1,12 @@
 -- Transactions in one call: their session, their writes, the edits that put them, and their stamps.
-use Rattle.std.specs.Prelude.{◌≡◌, ◌≢◌, ℕ, ◌+◌, ◌-◌, ◌<◌, ◌^◌, List, [], length, map, Some, None}
+use Rattle.std.specs.Prelude.{◌≡◌, ◌≢◌, ◌⊎◌, ℕ, ◌+◌, ◌-◌, ◌<◌, ◌^◌, List, [], length, map, Option, Some, None}
 use Rattle.std.specs.Ordering.{nat_cmp}
 use Rattle.std.specs.BTreeMap as btree
 use Rattle.std.specs.BTreeMap.{Updates}
 use Rattle.cell_key.specs.declared.refusals.Refusal.{Refusal}
 use Rattle.cell_key.specs.declared.refusals.Refusal.TheVariants.{NoMemory}
+use Rattle.oracle.specs.Marks.{MayHold}
+use Rattle.oracle.specs.Ranges.{OracleState, next_range_end}
 use Rattle.rows.specs.Calls.{AppliesAll, OnlyReads, View}
 use Rattle.rows.specs.Room.{OverfillsOne}
 use Rattle.rows.specs.declared.row_edits.RowEdits.{RowEdits}
@@ -117,6 +119,16 @@ pub record HasNoRoomToCommit {R : Type 0} (seen : View R) (clients : Clients) (l
   pub changes : List RowEdits
   pub transaction : IsTransaction clients last start asked s c all changes
   pub over : OverfillsOne seen.overfills changes old
+
+-- A refused transaction leaves the rows and the last stamp unchanged. The oracle's range and mark are unchanged too, or
+-- its next range has begun.
+pub record CommitLeaves {R M : Type 0} (seen : View R) (mark_of : M → Option ℕ) (old new : R)
+    (oracle oracle' : OracleState M) : Type 0 where
+  pub same : OnlyReads seen old new
+  pub stays : oracle'.last ≡ oracle.last
+  pub range : (oracle'.range_end ≡ oracle.range_end)
+      ⊎ (oracle'.range_end ≡ next_range_end oracle.range_end)
+  pub mark : MayHold (next_range_end oracle.range_end) (mark_of oracle.marks) (mark_of oracle'.marks)
 
 -- the stamps that it draws: the start of a new session, and then its commit stamp, unless it met a conflict
 abbrev pub CommitDraws : ℕ → ℕ → ℕ → CommitReply → Type 0

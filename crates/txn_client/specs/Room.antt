@@ -8,7 +8,7 @@ use Rattle.cell_key.specs.declared.keys.Qualifier.TheVariants.{Data, Lock}
 use Rattle.cell_key.specs.Columns.{lock_text}
 use Rattle.cell_key.specs.LockEdits.{IsPut, IsRecording}
 use Rattle.rows.specs.Calls.{AppliesSuch, OnlyReads, View}
-use Rattle.rows.specs.Room.{AreAfter, TakesNoRoom, TakesRoomOf}
+use Rattle.rows.specs.Room.{AreAfter, HasNoRoom, TakesNoRoom, TakesRoomOf}
 use Rattle.si_model.specs.Machine as machine
 use Rattle.si_model.specs.Machine.{State, Change, Writes, InPhase, Wrote, Puts, Marked, Clashes}
 use Rattle.si_model.specs.Edits.{RecordsCell}
@@ -169,3 +169,12 @@ pub record StepMakes {R : Type 0} (seen : View R) (clients : Clients) (t : ℕ) 
       TakesRoom seen.overfills (ChangesNext st t) progress old new)
   pub draws : DrawsNext before progress
   pub last : now ≡ top_after before progress
+
+-- The rows have no room for the edits of the session's next step. In each state that is shown, they are also the
+-- machine's of that step.
+pub record LacksStepRoom {R : Type 0} (seen : View R) (clients : Clients) (t : ℕ) (rows : R)
+    : Type 0 where
+  pub edits : HasNoRoom seen.overfills rows
+      (EditsOfStep (seen.holds rows) (seen.cells rows) clients t)
+  pub shown : seen.holds rows → InEachShown (seen.cells rows) clients (λ st.
+      HasNoRoom seen.overfills rows (ChangesNext st t))

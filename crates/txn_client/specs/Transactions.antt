@@ -1,5 +1,5 @@
 -- Requests that stand for several of a session: what they come to, and their refusals.
-use Rattle.std.specs.Prelude.{◌≡◌, ◌≢◌, ⊤, ℕ, ◌+◌, ◌<◌, ◌≤◌, ◌-◌, ◌^◌, None}
+use Rattle.std.specs.Prelude.{◌≡◌, ◌≢◌, ⊤, ℕ, ◌+◌, ◌<◌, ◌≤◌, ◌-◌, ◌^◌, None, Result, IsErrOf}
 use Rattle.std.specs.Ordering.{nat_cmp}
 use Rattle.std.specs.BTreeMap as btree
 use Rattle.cell_key.specs.Cells.{Cells}
@@ -8,7 +8,7 @@ use Rattle.cell_key.specs.declared.refusals.Refusal.TheVariants.{UnknownSession,
 use Rattle.si_model.specs.Machine.{State}
 use Rattle.si_model.specs.Servers.{IsReachedByServers}
 use Rattle.si_model.specs.Transactions.{Answer, Operation, Goes}
-use Rattle.txn_client.specs.Shows.{IsLate, IsOpenSession, KnowsTop, Shows}
+use Rattle.txn_client.specs.Shows.{IsCrowded, IsInactive, IsLate, IsOpenSession, KnowsTop, Shows}
 use Rattle.txn_client.specs.declared.sessions.Clients.{Clients}
 
 -- From each reached state that is shown before, the request may be answered so, and leads to a state that is shown
@@ -35,6 +35,18 @@ IsSessionRefusal clients last start TooManySessions =
 IsSessionRefusal clients last start Exhausted =
     (start ≡ 0) × (btree.btree_map_len clients.sessions < 1024) × (last ≡ 2 ^ 63 - 1)
 IsSessionRefusal clients last start _ = ⊥
+
+-- The session of a request, and the last stamp after it: a new session's start is drawn.
+pub record DrawsSession (clients : Clients) (last last' start s : ℕ) : Type 0 where
+  pub session : HasSession clients last start s
+  pub drawn : start ≡ 0 → last' ≡ s
+
+-- Why a request is refused in this state, whatever memory there is: the session that is named isn't active, or no
+-- further one may begin.
+abbrev pub SessionCauses : {T : Type 0} → State → ℕ → Result T Refusal → Type 0
+SessionCauses st start result =
+    (start ≢ 0 → IsInactive st start → IsErrOf result UnknownSession)
+    × (start ≡ 0 → IsCrowded st → IsErrOf result TooManySessions)
 
 abbrev pub IsReadRequestRefusal : Refusal → Type 0
 IsReadRequestRefusal UnknownSession = ⊤

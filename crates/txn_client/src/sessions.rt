@@ -25,9 +25,8 @@ ghost use Rattle.txn_client.specs.Scans.{IsScanCount, IsScanDamaged, IsScanFound
 ghost use Rattle.txn_client.specs.Refusals.{HasNoStamp, HasOneReason, IsBeginRefusal, IsDeleteRefusal, IsGetRefusal, IsNextReadable, IsScanRefusal, IsSetRefusal, IsStepRefusal, StepCauses, StepLeaves};
 ghost use Rattle.txn_client.specs.Buffers.{BeginsEmpty, Buffers, BuffersNone};
 ghost use Rattle.rows.specs.Calls.{KeepsBelow, OnlyReads};
-ghost use Rattle.rows.specs.Room.{HasNoRoom};
-ghost use Rattle.txn_client.specs.Room.{ChangesNext, EditsOfStep, StepMakes};
-ghost use Rattle.txn_client.specs.Shows.{InEachShown, IsAboutToDraw, IsCellRefusal, IsCrowded, IsInactive, IsOpenSession, IsScanCause, KnowsTop, SameClients, Shows, ShowsClients, Steps, TouchesFor, open_session, top_after};
+ghost use Rattle.txn_client.specs.Room.{LacksStepRoom, StepMakes};
+ghost use Rattle.txn_client.specs.Shows.{IsAboutToDraw, IsCellRefusal, IsCrowded, IsInactive, IsOpenSession, IsScanCause, KnowsTop, SameClients, Shows, ShowsClients, Steps, TouchesFor, open_session, top_after};
 
 use crate::cells;
 use crate::range::Range;
@@ -492,11 +491,8 @@ impl Clients {
             → HasNoStamp ((st : State) → ShowsClients self.old st → IsAboutToDraw st start)
             oracle.old oracle.new }
         // MemtableFull comes only if the rows have no room for the edits of the session's next step.
-        ensures full { IsErrOf result Refusal.MemtableFull → HasNoRoom R.seen.overfills
-            rows.old (EditsOfStep (R.seen.holds rows.old) (R.seen.cells rows.old) self.old start) }
-        ensures full_shown { R.seen.holds rows.old → IsErrOf result Refusal.MemtableFull
-            → InEachShown (R.seen.cells rows.old) self.old (λ st.
-            HasNoRoom R.seen.overfills rows.old (ChangesNext st start)) }
+        ensures full { IsErrOf result Refusal.MemtableFull
+            → LacksStepRoom R.seen self.old start rows.old }
         ensures reason { HasOneReason (R.faults rows.old) (R.faults rows.new)
             (M.faults oracle.old.marks) (M.faults oracle.new.marks) result }
     {

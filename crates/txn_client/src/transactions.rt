@@ -1,6 +1,6 @@
 //! Requests that stand for several of a session, in one call each.
 
-ghost use Rattle.std.specs.Prelude.{◌≡◌, ◌≢◌, ◌+◌, ◌<◌, ◌≤◌, ◌^◌, ◌⊎◌, length, None, IfErr, IfOk, IsErrOf, OnErr};
+ghost use Rattle.std.specs.Prelude.{◌≡◌, ◌≢◌, ◌+◌, ◌<◌, ◌≤◌, ◌^◌, length, None, IfErr, IfOk, IsErrOf, OnErr};
 ghost use Rattle.cell_key.specs.Faults.{HasReason};
 ghost use Rattle.oracle.specs.Marks.{MayHold};
 ghost use Rattle.oracle.specs.Ranges.{IsDrawRefusal, next_range_end};
@@ -13,10 +13,10 @@ ghost use Rattle.si_model.specs.ShowsCells.{ShowsCells};
 ghost use Rattle.si_model.specs.Transactions.{Commit, IsReadCount, Read};
 ghost use Rattle.txn_client.specs.Buffers.{BuffersNamed};
 ghost use Rattle.txn_client.specs.CellReads.{AreRead};
-ghost use Rattle.txn_client.specs.Commits.{BeganAt, CommitDoes, CommitDraws, CommitsIn, EndsAt, HasNoRoomToCommit, IsCopyRefusal, LacksStamps};
+ghost use Rattle.txn_client.specs.Commits.{BeganAt, CommitDoes, CommitDraws, CommitLeaves, CommitsIn, EndsAt, HasNoRoomToCommit, IsCopyRefusal, LacksStamps};
 ghost use Rattle.txn_client.specs.Refusals.{HasOneReason, StepLeaves};
-ghost use Rattle.txn_client.specs.Shows.{IsCrowded, IsInactive, SameClients, ShowsClients};
-ghost use Rattle.txn_client.specs.Transactions.{GoesAs, HasSession, IsCommitRefusal, IsReadRequestRefusal, IsSessionRefusal};
+ghost use Rattle.txn_client.specs.Shows.{SameClients, ShowsClients};
+ghost use Rattle.txn_client.specs.Transactions.{DrawsSession, GoesAs, HasSession, IsCommitRefusal, IsReadRequestRefusal, IsSessionRefusal, SessionCauses};
 
 use crate::session::Phase;
 use crate::sessions::{Clients, MOST_SESSIONS};
@@ -171,8 +171,7 @@ impl Clients {
             (told_items reply.found.items)) }
         ensures short { IfOk result (λ reply. IsInReadLimits (told_items reply.found.items)) }
         ensures session { IfOk result (λ reply.
-            HasSession self.old oracle.old.last start reply.start) }
-        ensures drawn { start ≡ 0 → IfOk result (λ reply. oracle.new.last ≡ reply.start) }
+            DrawsSession self.old oracle.old.last oracle.new.last start reply.start) }
         // The oracle has no part in a session that is named.
         ensures aside { start ≢ 0 → oracle.new ≡ oracle.old }
         ensures reads { OnlyReads R.seen rows.old rows.new }
@@ -186,11 +185,8 @@ impl Clients {
         ensures buffered { BuffersNamed self.old self.new start }
         ensures refusal { IfErr result IsReadRequestRefusal }
         ensures count { ¬ IsReadCount (length names.now) → IsErrOf result Refusal.BadCount }
-        ensures unknown { IsReadCount (length names.now) → start ≢ 0 → (st : State)
-            → ShowsClients self.old st → IsInactive st start
-            → IsErrOf result Refusal.UnknownSession }
-        ensures crowded { IsReadCount (length names.now) → start ≡ 0 → (st : State)
-            → ShowsClients self.old st → IsCrowded st → IsErrOf result Refusal.TooManySessions }
+        ensures causes { IsReadCount (length names.now) → (st : State) → ShowsClients self.old st
+            → SessionCauses st start result }
         ensures exhausted { IsErrOf result Refusal.Exhausted → oracle.old.last ≡ MOST_STAMP }
         ensures reason { HasOneReason (R.faults rows.old) (R.faults rows.new)
             (M.faults oracle.old.marks) (M.faults oracle.new.marks) result }
@@ -300,19 +296,11 @@ impl Clients {
             → IfOk result (BeganAt start) }
         ensures same { OnErr result (SameClients self.old self.new) }
         ensures buffered { BuffersNamed self.old self.new start }
-        ensures reads { OnErr result (OnlyReads R.seen rows.old rows.new) }
-        ensures stays { OnErr result (oracle.new.last ≡ oracle.old.last) }
-        // A refusal leaves the range and the mark unchanged, or the next range has begun.
-        ensures range { OnErr result ((oracle.new.range_end ≡ oracle.old.range_end)
-            ⊎ (oracle.new.range_end ≡ next_range_end oracle.old.range_end)) }
-        ensures mark { OnErr result (MayHold (next_range_end oracle.old.range_end)
-            (M.mark oracle.old.marks) (M.mark oracle.new.marks)) }
+        ensures refused { OnErr result (CommitLeaves R.seen M.mark
+            rows.old rows.new oracle.old oracle.new) }
         ensures below { KeepsBelow R.seen rows.old rows.new }
         ensures refusal { IfErr result IsCommitRefusal }
-        ensures unknown { start ≢ 0 → (st : State) → ShowsClients self.old st
-            → IsInactive st start → IsErrOf result Refusal.UnknownSession }
-        ensures crowded { start ≡ 0 → (st : State) → ShowsClients self.old st → IsCrowded st
-            → IsErrOf result Refusal.TooManySessions }
+        ensures causes { (st : State) → ShowsClients self.old st → SessionCauses st start result }
         // Exhausted is answered only if the stamps that it would draw aren't there.
         ensures exhausted { IsErrOf result Refusal.Exhausted → LacksStamps oracle.old.last start }
         // MemtableFull comes only if the rows have no room for the edits of all writes.

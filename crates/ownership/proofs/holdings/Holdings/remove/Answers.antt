@@ -1,7 +1,7 @@
 use Rattle.std.proofs.Common.{List, ◌∙◌, ◌<◌, ap, arith, subst, sym}
-use Rattle.ownership.specs.Lists.{IsInOrder, held_by, holds}
+use Rattle.ownership.specs.Lists.{held_by, holds}
 use Rattle.ownership.specs.declared.holdings.Holding.{Holding}
-use Rattle.ownership.proofs.Places.{held_less, holds_at, holds_less, in_order_less, is_there, ordered, rises}
+use Rattle.ownership.proofs.Places.{held_less, holds_at, holds_less, is_there, rises}
 use Rattle.ownership.proofs.holdings.Holdings.remove.Goals as goal
 
 pub remove-requires : goal.remove-requires

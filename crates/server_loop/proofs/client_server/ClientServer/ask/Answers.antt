@@ -5,7 +5,7 @@ use Rattle.request_codec.specs.Operations.{operation_of}
 use Rattle.si_model.specs.Machine.{Refused}
 use Rattle.si_model.specs.Transactions.{Said}
 use Rattle.cell_key.specs.declared.refusals.Refusal.TheVariants.{NoMemory}
-use Rattle.ownership.specs.Effects.{may_end}
+use Rattle.ownership.specs.Effects.{goes_further}
 use Rattle.ownership.specs.Names.{answer_name, is_name, is_open}
 use Rattle.ownership.specs.declared.names.Kind.{Kind}
 use Rattle.ownership.specs.Tables.{Table, owns, refusal_for}
@@ -40,6 +40,7 @@ returns-clause-replies g c =
     let operation = operation_of c.args.operation in
     let answer = answer_of c.answer_to-answer.result in
     let said = c.answer_to-answer.ensures.goes in
+    let closes = c.may_close-closes.ensures ∙ ap (λ (b : Bool). b && not (goes_further answer)) c.may_end-ends.ensures in
     record {
       to = c.args.client;
       answer = answer;
@@ -60,7 +61,7 @@ returns-clause-replies g c =
             ap (λ (t : Table). owns t other name) c.reserve.ensures.same i,
             (
               (c.closed-closed.ensures st shown name
-                  ∙ ap (λ (p : Bool × Option Name). p.0 && (is_name p.1 name && not (is_open st name))) (λ j. (c.may_end-ends.ensures j, c.named-name.ensures j))) i,
+                  ∙ ap (λ (p : Bool × Option Name). p.0 && (is_name p.1 name && not (is_open st name))) (λ j. (closes j, c.named-name.ensures j))) i,
               ap (λ (k : Option Kind). is_name (answer_name k answer) name) c.given_kind-kind.ensures i,
             ),
           )));

@@ -27,7 +27,7 @@ returns-in-Err g c = let told = c.in-Err.ensures in record {
   edits = record { changes = told.refused.same.kept; room = told.refused.same.room };
   sessions = record { told = λ st shown. (λ gone. as_refused _ _ _ refl ((told.causes st shown.shows.sessions).unknown gone), λ empty. as_refused _ _ _ refl ((told.causes st shown.shows.sessions).empty empty), λ about. (told.causes st shown.shows.sessions).drawing about); sessions = told.err; cleaners = record { next = refl; each = λ i. refl; count = refl }; collectors = record { next = refl; floor = refl; each = λ i. refl; count = refl }; oracle = (λ st shown. told.aside st shown.shows.sessions, (told.refused.mark, record { last = told.refused.stays; range_end = told.refused.range })) };
   tablets = ap unlogged told.below.stays;
-  causes = record { device = λ same. one_rose told.reason (as_err _ _ _ refl same); told = λ none. record { files = first_stays told.reason (λ is. none (as_refused _ _ _ refl is)); marks = second_stays told.reason (λ is. none (as_refused _ _ _ refl is)) }; full = λ same. (told.full (as_err _ _ _ refl same), λ st reached shown. told.full_shown shown.in_order (as_err _ _ _ refl same) st (by_servers reached) shown.shows.store shown.shows.sessions); damaged = λ is whole. told.undamaged whole (as_err _ _ _ refl is) };
+  causes = record { device = λ same. one_rose told.reason (as_err _ _ _ refl same); told = λ none. record { files = first_stays told.reason (λ is. none (as_refused _ _ _ refl is)); marks = second_stays told.reason (λ is. none (as_refused _ _ _ refl is)) }; full = λ same. let full = told.full (as_err _ _ _ refl same) in (full.edits, λ st reached shown. full.shown shown.in_order st (by_servers reached) shown.shows.store shown.shows.sessions); damaged = λ is whole. told.undamaged whole (as_err _ _ _ refl is) };
   tending = refl;
   logged = ap logged_in told.below.stays;
 }

@@ -20,8 +20,7 @@ returns-in-Ok g c = let told = c.in-Ok.ensures in record {
   does = told.does;
   draws = told.draws;
   named = λ some st shown. told.named some st shown.shows.sessions;
-  unknown = λ some st shown gone. told.unknown some st shown.shows.sessions gone;
-  crowded = λ none st shown many. told.crowded none st shown.shows.sessions many;
+  causes = λ st shown. told.causes st shown.shows.sessions;
   exhausted = told.exhausted;
   full = told.full;
 }
@@ -31,20 +30,19 @@ returns-in-Err g c = let told = c.in-Err.ensures in record {
   result = Err c.in-Err.refusal;
   gives = refl;
   at_once = record {
-    goes = reads_go g.F.Files.contents _ _ _ _ tt refl refl told.reads told.step
+    goes = reads_go g.F.Files.contents _ _ _ _ tt refl refl told.refused.same told.step
         (λ st reached held shown. given_undamaged _ _ refl (told.undamaged (λ row at. (seen_recorded g.F.Files.contents).each_readable _ held row)));
     refusal = told.refusal;
     limits = tt;
     others = others_stay g.F.Files.contents _ _ refl refl refl told.below.stays;
-    refused = record { sessions = told.same; rows = told.reads; last = told.stays; range = told.range; marked = told.mark };
+    refused = record { sessions = told.same; rows = told.refused.same; last = told.refused.stays; range = told.refused.range; marked = told.refused.mark };
     device = λ is. one_rose told.reason (given_err _ _ _ refl is);
     told = λ none. record { files = first_stays told.reason (λ is. none (err_given _ _ _ refl is)); marks = second_stays told.reason (λ is. none (err_given _ _ _ refl is)) };
   };
   does = tt;
   draws = tt;
   named = λ some st shown. tt;
-  unknown = λ some st shown gone. told.unknown some st shown.shows.sessions gone;
-  crowded = λ none st shown many. told.crowded none st shown.shows.sessions many;
+  causes = λ st shown. told.causes st shown.shows.sessions;
   exhausted = told.exhausted;
   full = told.full;
 }

@@ -21,11 +21,9 @@ returns-in-Ok g c = let told = c.in-Ok.ensures in record {
   reads = told.reads;
   found = told.found;
   session = told.session;
-  drawn = told.drawn;
   aside = told.aside;
   count = λ many. told.count (λ few. many (cells_count c.args.cells.now few));
-  unknown = λ few some st shown gone. told.unknown (named_count c.args.cells.now few) some st shown.shows.sessions gone;
-  crowded = λ few none st shown many. told.crowded (named_count c.args.cells.now few) none st shown.shows.sessions many;
+  causes = λ few st shown. told.causes (named_count c.args.cells.now few) st shown.shows.sessions;
   exhausted = told.exhausted;
 }
 
@@ -46,10 +44,8 @@ returns-in-Err g c = let told = c.in-Err.ensures in record {
   reads = told.reads;
   found = told.found;
   session = told.session;
-  drawn = told.drawn;
   aside = told.aside;
   count = λ many. told.count (λ few. many (cells_count c.args.cells.now few));
-  unknown = λ few some st shown gone. told.unknown (named_count c.args.cells.now few) some st shown.shows.sessions gone;
-  crowded = λ few none st shown many. told.crowded (named_count c.args.cells.now few) none st shown.shows.sessions many;
+  causes = λ few st shown. told.causes (named_count c.args.cells.now few) st shown.shows.sessions;
   exhausted = told.exhausted;
 }

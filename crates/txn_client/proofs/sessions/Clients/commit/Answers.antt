@@ -1,6 +1,8 @@
-use Rattle.std.proofs.Common.{◌∙◌, ℕ, List, map, length, sym, subst, ap, refl}
+use Rattle.std.proofs.Common.{◌∙◌, ℕ, List, map, length, inr, sym, subst, ap, refl}
 use Rattle.std.specs.declared.result.Result.TheVariants.{Err}
-use Rattle.cell_key.proofs.Passed.{as_err, same_refusal}
+use Rattle.cell_key.proofs.Passed.{as_err, passed_kept, same_refusal}
+use Rattle.cell_key.proofs.Reasons.{reason_passed}
+use Rattle.rows.proofs.Calls.{reads_then}
 use Rattle.cell_key.specs.Cells.{Cells}
 use Rattle.cell_key.specs.declared.refusals.Refusal.{Refusal}
 use Rattle.cell_key.specs.declared.refusals.Refusal.TheVariants.{MemtableFull}
@@ -98,6 +100,19 @@ returns-in_err-commit-clause-step g c = λ held.
     let e = c.in_err-commit.field-0.0 in
     rw (as_err c.from_residual-in_err-commit.result e c.from_residual-in_err-commit.ensures.1)
     (storage_at cells (g.R.Rows.seen.cells c.put_at_once.new.rows) c.args.self.now last c.put_at_once.new.oracle.last c.args.start (writes_named c.args.asked.now) (c.in_err-commit.ensures.reads.kept ∙ c.in_ok-place.ensures.reads.kept) (not_less _ _ c.in_err-commit.ensures.stays) e (put_storage e c.in_err-commit.ensures.refusal))
+
+pub returns-in_err-commit-clause-refused : goal.returns-in_err-commit-clause-refused
+returns-in_err-commit-clause-refused g c =
+    let put = c.in_err-commit.ensures in
+    passed_kept c.from_residual-in_err-commit.result _ (record { same = reads_then c.in_ok-place.ensures.reads put.reads; stays = put.stays; range = put.range; mark = put.mark })
+
+pub returns-in_err-commit-clause-reason : goal.returns-in_err-commit-clause-reason
+returns-in_err-commit-clause-reason g c =
+    let put = c.in_err-commit.ensures in
+    inr (
+      reason_passed c.from_residual-in_err-commit.result c.in_err-commit.field-0.0 _ _ c.from_residual-in_err-commit.ensures.1 put.reason,
+      put.untouched ∙ c.in_ok-place.ensures.reason.told (λ e. cc),
+    )
 
 pub returns-in_err-commit-clause-full : goal.returns-in_err-commit-clause-full
 returns-in_err-commit-clause-full g c = λ is.

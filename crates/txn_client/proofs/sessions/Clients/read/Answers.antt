@@ -8,7 +8,7 @@ use Rattle.txn_client.specs.Buffers.{BeginsEmpty, BuffersNone}
 use Rattle.txn_client.specs.declared.sessions.Clients.{Clients}
 use Rattle.txn_client.specs.Transactions.{HasSession, IsSessionRefusal}
 use Rattle.txn_client.proofs.Buffered.{named_itself, named_same, named_stopped, unnamed_begun, unnamed_stopped}
-use Rattle.txn_client.proofs.ReadsShown.{bad_count, good_count, crowded_refusal, ends_open, ends_stopped, miscounts_at, session_refused_at, read_refused_at, begin_refused_at, reads_named_at, reads_new_at, steps_to}
+use Rattle.txn_client.proofs.ReadsShown.{bad_count, good_count, crowded_refusal, unknown_refusal, ends_open, ends_stopped, miscounts_at, session_refused_at, read_refused_at, begin_refused_at, reads_named_at, reads_new_at, steps_to}
 use Rattle.txn_client.proofs.sessions.Clients.read.Goals as goal
 use Rattle.txn_client.proofs.sessions.Clients.read.Goals.{then-start-eq0+in_ok-begin, else-start-eq0}
 
@@ -25,10 +25,13 @@ returns-in_err-session-clause-step g c = λ held.
     (session_refused_at cells cells c.args.self.now c.args.oracle.now.last c.args.start c.args.names.now c.args.stays_open refl (good_count (length c.args.names.now) c.is_empty.result c.is_empty.ensures c.if-is_empty.false c.if-names-gt-MOST_READ.false)
     e (subst (λ (n : ℕ). IsSessionRefusal c.args.self.now n c.args.start e) c.last.ensures.last c.in_err-session.ensures.refusal))
 
-pub returns-in_err-session-clause-crowded : goal.returns-in_err-session-clause-crowded
-returns-in_err-session-clause-crowded g c = λ few is0 st shown crowded.
+pub returns-in_err-session-clause-causes : goal.returns-in_err-session-clause-causes
+returns-in_err-session-clause-causes g c = λ few st shown.
     let e = c.in_err-session.field-0.0 in
-    as_err c.from_residual.result e c.from_residual.ensures.1 ∙ ap (λ (r : Refusal). Err r) (crowded_refusal c.args.self.now c.last.result c.args.start st e is0 shown crowded c.in_err-session.ensures.refusal)
+    let is = as_err c.from_residual.result e c.from_residual.ensures.1 in (
+      λ some gone. is ∙ ap (λ (r : Refusal). Err r) (unknown_refusal c.args.self.now c.last.result c.args.start st e some shown gone c.in_err-session.ensures.refusal),
+      λ is0 crowded. is ∙ ap (λ (r : Refusal). Err r) (crowded_refusal c.args.self.now c.last.result c.args.start st e is0 shown crowded c.in_err-session.ensures.refusal),
+    )
 
 pub returns-in_err-found-clause-step : goal.returns-in_err-found-clause-step
 returns-in_err-found-clause-step g c = λ held.

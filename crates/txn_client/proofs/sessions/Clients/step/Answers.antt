@@ -144,9 +144,6 @@ returns-then-outcome-clause-undamaged g c = λ held is. not_refused _ _ is
 pub returns-then-outcome-clause-full : goal.returns-then-outcome-clause-full
 returns-then-outcome-clause-full g c = λ is. absurd (not_refused _ _ is)
 
-pub returns-then-outcome-clause-full_shown : goal.returns-then-outcome-clause-full_shown
-returns-then-outcome-clause-full_shown g c = λ held is. absurd (not_refused _ _ is)
-
 pub returns-then-outcome-clause-reason : goal.returns-then-outcome-clause-reason
 returns-then-outcome-clause-reason g c = one_reason_kept _ _ _ _ _ _ c.in_ok-outcome.ensures.reason
 
@@ -168,9 +165,6 @@ returns-else-outcome-clause-undamaged g c = λ held is. not_refused _ _ is
 pub returns-else-outcome-clause-full : goal.returns-else-outcome-clause-full
 returns-else-outcome-clause-full g c = λ is. absurd (not_refused _ _ is)
 
-pub returns-else-outcome-clause-full_shown : goal.returns-else-outcome-clause-full_shown
-returns-else-outcome-clause-full_shown g c = λ held is. absurd (not_refused _ _ is)
-
 pub returns-else-outcome-clause-reason : goal.returns-else-outcome-clause-reason
 returns-else-outcome-clause-reason g c = one_reason_kept _ _ _ _ _ _ c.in_ok-outcome.ensures.reason
 
@@ -191,11 +185,14 @@ returns-in_err-outcome-clause-undamaged g c = λ held is.
     refused_not c.from_residual.result c.in_err-outcome.field-0.0 Damaged (IsAdvanceRefusal (IsReadableAt g.R.Rows.seen c.args.rows.now c.in-Some.session.now (next_cell c.in-Some.session.now.phase)) _) (λ u. u (held c.in-Some.session.now (sym c.in-Some.ensures.value))) c.from_residual.ensures.1 c.in_err-outcome.ensures.refusal is
 
 pub returns-in_err-outcome-clause-full : goal.returns-in_err-outcome-clause-full
-returns-in_err-outcome-clause-full g c = λ is. no_room_so g.R.Rows.seen.overfills c.args.rows.now (λ row edits so. (c.in-Some.session.now, sym c.in-Some.ensures.value, so)) (c.in_err-outcome.ensures.full (passed_on c.from_residual.result _ c.in_err-outcome.field-0.0 _ c.from_residual.ensures.1 refl is))
-
-pub returns-in_err-outcome-clause-full_shown : goal.returns-in_err-outcome-clause-full_shown
-returns-in_err-outcome-clause-full_shown g c = λ held is st reached shown kept.
-    no_room_so g.R.Rows.seen.overfills c.args.rows.now (λ row edits so. changes_shown (g.R.Rows.seen.holds c.args.rows.now) (g.R.Rows.seen.cells c.args.rows.now) c.args.self.now c.args.start held st reached shown kept row edits (c.in-Some.session.now, sym c.in-Some.ensures.value, so)) (c.in_err-outcome.ensures.full (passed_on c.from_residual.result _ c.in_err-outcome.field-0.0 _ c.from_residual.ensures.1 refl is))
+returns-in_err-outcome-clause-full g c = λ is.
+    let full = c.in_err-outcome.ensures.full (passed_on c.from_residual.result _ c.in_err-outcome.field-0.0 _ c.from_residual.ensures.1 refl is) in
+    let was = sym c.in-Some.ensures.value in
+    record {
+      edits = no_room_so g.R.Rows.seen.overfills c.args.rows.now (λ row edits so. (c.in-Some.session.now, was, so)) full;
+      shown = λ held st reached shown kept.
+          no_room_so g.R.Rows.seen.overfills c.args.rows.now (λ row edits so. changes_shown (g.R.Rows.seen.holds c.args.rows.now) (g.R.Rows.seen.cells c.args.rows.now) c.args.self.now c.args.start held st reached shown kept row edits (c.in-Some.session.now, was, so)) full;
+    }
 
 pub returns-in_err-outcome-clause-reason : goal.returns-in_err-outcome-clause-reason
 returns-in_err-outcome-clause-reason g c = one_reason_passed c.from_residual.result c.in_err-outcome.field-0.0 _ _ _ _ c.from_residual.ensures.1 c.in_err-outcome.ensures.reason
@@ -214,9 +211,6 @@ returns-in_default-clause-undamaged g c = λ held is. unknown_undamaged is
 
 pub returns-in_default-clause-full : goal.returns-in_default-clause-full
 returns-in_default-clause-full g c = λ is. absurd (unknown_not_full is)
-
-pub returns-in_default-clause-full_shown : goal.returns-in_default-clause-full_shown
-returns-in_default-clause-full_shown g c = λ held is. absurd (unknown_not_full is)
 
 pub returns-in_default-clause-reason : goal.returns-in_default-clause-reason
 returns-in_default-clause-reason g c = inl (reason_none _ _ unknown_no_device, refl)
