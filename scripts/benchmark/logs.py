@@ -192,8 +192,8 @@ def compiled_leveldb(place: Path) -> str | None:
 
 
 def client_rate(client: str, program: str, folder: Path, count: int, ahead: int, seconds: float) -> float:
-    """The rate of tabletd with a log, by a client that sends Commits of a row: `count` at once, as soon as at most `ahead` of
-    those before aren't answered. Its memtables are as large as they may be, as LevelDB's are large."""
+    """The rate of tabletd with a log and large memtables, by a client that sends Commits of a row: as soon as at most `ahead` of
+    them wait for an answer, it sends more, so that `count` wait."""
     words = [client, count, ahead, seconds, program, "--dir", folder, "--log", "--flush", MANY]
     return float(subprocess.run(list(map(str, words)), check=True, capture_output=True, text=True).stdout)
 

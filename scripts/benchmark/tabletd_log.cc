@@ -1,6 +1,6 @@
 // tabletd_log BATCH AHEAD SECONDS PROGRAM WORD..: starts tabletd with these words, sends it Commits of one new row each for
-// SECONDS seconds, and prints the rows per second that were answered Done. Whenever fewer than AHEAD + 1 of them aren't
-// answered, more are sent in one piece, until BATCH aren't: AHEAD is 0 for batches of which each waits for the one before.
+// SECONDS seconds, and prints the rows per second that were answered Done. As soon as at most AHEAD Commits wait for an
+// answer, it sends more, so that BATCH wait. With AHEAD 0 a batch is sent when all of the one before is answered.
 #include <csignal>
 #include <cstdint>
 #include <cstdio>

@@ -279,6 +279,21 @@ abbrev NotBefore : ℕ → List Holding → Type 0
 NotBefore c xs = AllByRecursion (λ (x : Holding). is_before c 0 x ≡ false) xs
 
 -- none of a list is a client's
+at_most_all : (c : ℕ) (xs : List Holding) → held_by c xs ≤ length xs
+at_most_all c [] = omega arith
+at_most_all c (x ∷ xs) = either (nat_eq x.client c) refl (at_most_all c xs)
+  where
+    either : (b : Bool) → nat_eq x.client c ≡ b → held_by c xs ≤ length xs → held_by c (x ∷ xs) ≤ length (x ∷ xs)
+    either true e few = let more = its_more c x xs e in omega (arith, more, few)
+    either false e few = let more = others_more c x xs e in omega (arith, more, few)
+
+below_most : (n m most : ℕ) → n ≤ m → m < most → nat_le most n ≡ false
+below_most n m most few short = grind (arith, nat_tests)
+
+-- a client has no more than there are in all
+pub too_few : (c most : ℕ) (xs : List Holding) → length xs < most → nat_le most (held_by c xs) ≡ false
+too_few c most xs short = below_most (held_by c xs) (length xs) most (at_most_all c xs) short
+
 none_its : (c : ℕ) (xs : List Holding) (k : ℕ) → held_by c xs ≡ 0 → is_its c (slice_get xs k) ≡ false
 none_its c [] zero e = refl
 none_its c [] (suc k) e = refl

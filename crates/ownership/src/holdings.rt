@@ -145,6 +145,9 @@ impl Holdings {
         requires { 1 ≤ most }
         ensures { result ≡ nat_le most (held_by client self.now.list.items) }
     {
+        if self.list.len() < most as usize {
+            return false;
+        }
         let (_, rest) = self.list.split_at(self.place(client, 0));
         match rest.get(most as usize - 1) {
             Some(holding) => holding.client == client,

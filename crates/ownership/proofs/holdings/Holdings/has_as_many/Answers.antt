@@ -1,8 +1,12 @@
 use Rattle.std.proofs.Common.{List, ◌∙◌, ◌-◌, ap, arith, sym, slice_get, drop}
+use Rattle.std.proofs.lemmas.Bool.Decides.{nat_tests}
 use Rattle.ownership.specs.Lists.{held_by}
 use Rattle.ownership.specs.declared.holdings.Holding.{Holding}
-use Rattle.ownership.proofs.Places.{as_many, found_at, held_at, is_its, none_at, rises}
+use Rattle.ownership.proofs.Places.{as_many, found_at, held_at, is_its, none_at, rises, too_few}
 use Rattle.ownership.proofs.holdings.Holdings.has_as_many.Goals as goal
+
+pub returns-then-len-most : goal.returns-then-len-most
+returns-then-len-most c = sym (too_few c.args.client c.args.most c.args.self.now.list.items (grind (arith, nat_tests, c.if-len-most.true, c.len.ensures)))
 
 pub returns-in-Some : goal.returns-in-Some
 returns-in-Some c =
