@@ -21,6 +21,10 @@ pub mod NextVersions
 pub mod OpenFiles
 pub mod ReadPlaces
 pub mod Passed
+pub mod RunCells
+pub mod RunEnds
+pub mod RunFiles
+pub mod RunSteps
 pub mod SameFiles
 pub mod Seen
 pub mod Short

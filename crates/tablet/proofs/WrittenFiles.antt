@@ -74,7 +74,7 @@ all_take P zero xs h = tt
 all_take P (suc count) [] h = tt
 all_take P (suc count) (x ∷ xs) h = (h.0, all_take P count xs h.1)
 
-between_seen : (range : RowRange) (lists : List (List Entry)) → AllByRecursion IsEntryList lists → map (entries_between (lower_fence range) (upper_fence range)) lists ≡ map (seen range) lists
+pub between_seen : (range : RowRange) (lists : List (List Entry)) → AllByRecursion IsEntryList lists → map (entries_between (lower_fence range) (upper_fence range)) lists ≡ map (seen range) lists
 between_seen range [] h = refl
 between_seen range (es ∷ lists) h = λ i. seen_between range es h.0.each i ∷ between_seen range lists h.1 i
 

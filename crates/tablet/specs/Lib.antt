@@ -4,6 +4,7 @@ pub mod Laws
 pub mod MergePolicies
 pub mod Ranges
 pub mod Reads
+pub mod RunMerges
 pub mod Sources
 pub mod Splits
 pub mod Views

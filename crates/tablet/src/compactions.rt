@@ -47,7 +47,7 @@ pub enum Compaction {
 }
 
 /// Takes the next file name, which is never used again.
-fn take_name(next_name: &mut u64) -> Result<u64, Refusal>
+pub(crate) fn take_name(next_name: &mut u64) -> Result<u64, Refusal>
     ensures name { IfOk result (λ name. name ≡ next_name.old) }
     ensures used { OnOk result (next_name.new ≡ next_name.old + 1) }
     ensures left { OnOk result (next_name.old < 2 ^ 63) }

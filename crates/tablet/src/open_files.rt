@@ -1,6 +1,6 @@
 //! The open files of a tablet, with a filter of their keys and an index of their locks.
 
-ghost use Rattle.std.specs.Prelude.{◌≡◌, ◌≤◌, ◌<◌, ◌^◌, ◌∷◌, [], false, Option, option_map, map, drop, length, vec_len, IfOk, IfSome, IsErrOf, OnOk, OnErr, IsOkUnless};
+ghost use Rattle.std.specs.Prelude.{◌≡◌, ◌≤◌, ◌<◌, ◌+◌, ◌^◌, ◌∷◌, ◌++◌, [], false, Option, option_map, map, take, drop, length, vec_len, IfOk, IfSome, IsErrOf, OnOk, OnErr, IsOkUnless};
 ghost use Rattle.std.specs.List.{AllByRecursion, AllZip};
 ghost use Rattle.cell_key.specs.Entries.{merged};
 ghost use Rattle.cell_key.specs.declared.keys.Qualifier.TheVariants.{Lock};
@@ -44,6 +44,19 @@ fn put_newest(files: &mut Vec<SortedFile>, count: usize, file: SortedFile) -> Re
         replace_newest(files, count, file);
     }
     Ok(())
+}
+
+/// Replaces `count` files from a place on with one.
+fn put_run(files: &mut Vec<SortedFile>, at: usize, count: usize, file: SortedFile)
+    requires some { 1 ≤ count }
+    requires within { at + count ≤ vec_len files.old }
+    ensures { files.new.items
+        ≡ take at files.old.items ++ file ∷ drop (at + count) files.old.items }
+{
+    'run: for _ in 0..count - 1 {
+        let _ = files.remove(at);
+    }
+    files[at] = file;
 }
 
 /// Empties the caches of some files. The files are unchanged.
@@ -143,6 +156,23 @@ impl OpenFiles {
         self.locks_behind(count)?.over(file)
     }
 
+    /// The index of the locks of the files with one in the place of `count` from a place on. Answers `NoMemory` if there
+    /// is no memory.
+    fn locks_with(&self, at: usize, count: usize, file: &SortedFile) -> Result<LockIndex, Refusal>
+        requires { at + count ≤ length self.now }
+        ensures index { IfOk result (λ index. IsIndexOf index
+            (take at self.now ++ file.now ∷ drop (at + count) self.now)) }
+        ensures refusal { IsOkUnless result Refusal.NoMemory }
+    {
+        let mut newer = &self.files[..at];
+        let mut index = self.locks_over(at + count, file)?;
+        'newer: while let Some((next, rest)) = newer.split_last() {
+            index = index.over(next)?;
+            newer = rest;
+        }
+        Ok(index)
+    }
+
     /// Whether the files' merged list may have a value of a column of this kind in the row, at a stamp in `lo..=hi`.
     /// For a lock the index says whether the row may have one. Allocates nothing and reads no file.
     pub(crate) fn may_have(&self, row: &Row, qualifier: Qualifier, lo: Stamp, hi: Stamp) -> bool
@@ -176,6 +206,28 @@ impl OpenFiles {
         let locks = self.locks_over(count, &file)?;
         self.filter.add(&file);
         put_newest(&mut self.files, count, file)?;
+        self.locks = locks;
+        Ok(())
+    }
+
+    /// Replaces `count` files from a place on, one at least, with one. Answers `NoMemory` if there is no memory; the files
+    /// are then unchanged.
+    pub(crate) fn replace_run(
+        &mut self,
+        at: usize,
+        count: usize,
+        file: SortedFile,
+    ) -> Result<(), Refusal>
+        requires some { 1 ≤ count }
+        requires within { at + count ≤ length self.old }
+        ensures ok { OnOk result (self.new
+            ≡ take at self.old ++ file ∷ drop (at + count) self.old) }
+        ensures err { OnErr result (self.new ≡ self.old) }
+        ensures refusal { IsOkUnless result Refusal.NoMemory }
+    {
+        let locks = self.locks_with(at, count, &file)?;
+        self.filter.add(&file);
+        put_run(&mut self.files, at, count, file);
         self.locks = locks;
         Ok(())
     }
