@@ -4,7 +4,6 @@
 // leveldb_log open FOLDER: prints the seconds in which a store opens.
 #include <cstdio>
 #include <cstdlib>
-#include <ctime>
 #include <memory>
 #include <random>
 #include <string>
@@ -13,25 +12,14 @@
 #include <leveldb/db.h>
 #include <leveldb/write_batch.h>
 
+#include "driver.h"
+
 namespace {
 
 constexpr int kValueBytes = 100;
 
 // The maximum bytes of a memtable, and so of a log.
 constexpr int kBufferBytes = 64 << 20;
-
-double Seconds() {
-  timespec now;
-  clock_gettime(CLOCK_MONOTONIC, &now);
-  return now.tv_sec + now.tv_nsec * 1e-9;
-}
-
-void Check(bool is_well, const char* what) {
-  if (!is_well) {
-    std::fprintf(stderr, "leveldb_log: %s\n", what);
-    std::exit(1);
-  }
-}
 
 std::unique_ptr<leveldb::DB> Opened(const char* folder) {
   leveldb::Options options;

@@ -3,30 +3,20 @@
 // prints the processor seconds of all passes.
 #include <cstdio>
 #include <cstdlib>
-#include <ctime>
 #include <memory>
 #include <string>
 
 #include <leveldb/db.h>
 #include <leveldb/write_batch.h>
 
+#include "driver.h"
+
 namespace {
 
 // The number of rows written, or read into one buffer, at once.
 constexpr int kBatch = 1000;
 
-double ProcessorSeconds() {
-  timespec now;
-  clock_gettime(CLOCK_PROCESS_CPUTIME_ID, &now);
-  return now.tv_sec + now.tv_nsec * 1e-9;
-}
-
-void Check(bool is_well, const char* what) {
-  if (!is_well) {
-    std::fprintf(stderr, "leveldb_scan: %s\n", what);
-    std::exit(1);
-  }
-}
+double ProcessorSeconds() { return SecondsOf(CLOCK_PROCESS_CPUTIME_ID); }
 
 std::string Text(const char* form, int number) {
   char text[32];

@@ -5,13 +5,14 @@
 #include <cstdint>
 #include <cstdio>
 #include <cstdlib>
-#include <ctime>
 #include <fcntl.h>
 #include <poll.h>
 #include <random>
 #include <string>
 #include <sys/wait.h>
 #include <unistd.h>
+
+#include "driver.h"
 
 namespace {
 
@@ -20,19 +21,6 @@ constexpr int kValueBytes = 100;
 // The bytes of a frame's length, and the first bytes of the answer Done.
 constexpr int kLengthBytes = 4;
 const std::string kDone = "\xb2\x01";
-
-double Seconds() {
-  timespec now;
-  clock_gettime(CLOCK_MONOTONIC, &now);
-  return now.tv_sec + now.tv_nsec * 1e-9;
-}
-
-void Check(bool is_well, const char* what) {
-  if (!is_well) {
-    std::fprintf(stderr, "tabletd_log: %s\n", what);
-    std::exit(1);
-  }
-}
 
 // A field: its length in four bytes, and its bytes.
 std::string Field(const std::string& bytes) {

@@ -95,7 +95,8 @@ module _ {S : Type 0} (shows : S → State → Type 0)
       (st : State) → shows new.server st → (other : ℕ) (name : Name)
       → owns (table_of new.owners) other name
       ≡ ((owns (table_of old.owners) other name && not (nat_eq client other
-      && (may_close operation answer && (is_name (name_of operation) name && not (is_open st name)))))
+      && (may_close operation answer
+      && (is_name (name_of operation) name && not (is_open st name)))))
       || (nat_eq client other && gives operation answer name))
 
   -- A frame is answered to a client: by one answer of the server inside, by none, or by the Stops of an end.

@@ -128,7 +128,8 @@ pub record CommitLeaves {R M : Type 0} (seen : View R) (mark_of : M → Option �
   pub stays : oracle'.last ≡ oracle.last
   pub range : (oracle'.range_end ≡ oracle.range_end)
       ⊎ (oracle'.range_end ≡ next_range_end oracle.range_end)
-  pub mark : MayHold (next_range_end oracle.range_end) (mark_of oracle.marks) (mark_of oracle'.marks)
+  pub mark : MayHold (next_range_end oracle.range_end)
+      (mark_of oracle.marks) (mark_of oracle'.marks)
 
 -- the stamps that it draws: the start of a new session, and then its commit stamp, unless it met a conflict
 abbrev pub CommitDraws : ℕ → ℕ → ℕ → CommitReply → Type 0
