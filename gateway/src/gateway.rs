@@ -174,14 +174,12 @@ impl Gateway {
         for kind in [Kind::Cleaner, Kind::Collector] {
             self.tasks.begin(self.own.clone().end_inherited(kind));
         }
-        let (own, pause) = (self.own.clone(), self.options.checkpoint);
+        let pause = self.options.checkpoint;
         if !pause.is_zero() && self.options.dir.is_some() {
-            self.tasks.begin(async move {
-                loop {
-                    own.sleep(pause).await;
-                    own.checkpoint().await;
-                }
-            });
+            self.tasks.begin(self.own.clone().keep(pause));
+        }
+        if self.options.collect > 0 {
+            self.tasks.begin(self.own.clone().collect(self.options.collect));
         }
         let (own, pause) = (self.own.clone(), self.idle.pause);
         if !pause.is_zero() {

@@ -13,12 +13,15 @@ use std::time::{Duration, Instant};
 
 use crate::failure::tell;
 use crate::protocol::*;
+use crate::things::opened;
 
 /// The most tablets of a store, which are numbered from 1.
 const MOST_TABLETS: u32 = 1024;
 
-/// The visits of an inherited collector in one request: few, so that no client waits long.
-const VISITS: u32 = 100;
+/// The visits of a collector in one request: few, so that no client waits long. With a log the program makes no more than
+/// the second.
+const VISITS: u32 = 16;
+const LOGGED_VISITS: u32 = 4;
 
 /// How often a refused request is repeated, and the pause before that.
 const TRIES: u32 = 5;
@@ -75,6 +78,8 @@ pub struct State {
 #[derive(Default)]
 pub struct Household {
     pub has_log: Cell<bool>,
+    /// How many commits of clients the program has answered.
+    pub commits: Cell<u64>,
     pub state: Cell<State>,
     pub events: RefCell<Vec<Event>>,
     waiting: RefCell<VecDeque<(Vec<u8>, Reply)>>,
@@ -204,37 +209,75 @@ impl Household {
         reply
     }
 
+    /// Makes checkpoints, with such a pause before each. With a log a Sweep follows, which leaves what the root names, unless
+    /// a copy of the folder is being made.
+    pub async fn keep(self: Rc<Self>, pause: Duration) {
+        loop {
+            self.sleep(pause).await;
+            if self.checkpoint().await && self.has_log.get() && self.state.get().copies == 0 {
+                self.ask(vec![SWEEP]).await;
+            }
+        }
+    }
+
     /// Ends what is inherited of a kind, one after the other.
     pub async fn end_inherited(self: Rc<Self>, kind: Kind) {
         let place = usize::from(kind == Kind::Collector);
         loop {
             self.until(None, |own| !own.inherited[place].borrow().is_empty()).await;
             let name = self.inherited[place].borrow_mut().pop_front();
-            self.end(kind, name.unwrap_or_default()).await;
+            let _ = self.end(kind, name.unwrap_or_default()).await;
             self.cleaners.set(self.cleaners.get() + place - 1);
         }
     }
 
-    /// Takes the steps of a cleaner or a collector until it has ended. One that is refused too often in a row is left
-    /// open.
-    async fn end(&self, kind: Kind, name: u64) {
+    /// Collects old versions, again and again: once clients have made so many commits since the last collection, or as
+    /// many as that one had visits, if they were more. So a commit pays for one visit at most.
+    pub async fn collect(self: Rc<Self>, after: u64) {
+        let (mut due, mut open) = (after, None);
+        loop {
+            let before = self.commits.get();
+            self.until(None, |own| own.commits.get() - before >= due).await;
+            if open.is_none() {
+                open = opened(Kind::Collector, &self.ask(vec![COLLECT_BEGIN]).await);
+            }
+            let Some(name) = open else { continue };
+            if let Some(whole) = self.end(Kind::Collector, name).await {
+                (due, open) = (after.max(whole * u64::from(self.visits())), None);
+            }
+        }
+    }
+
+    /// The visits of a collector in one request.
+    fn visits(&self) -> u32 {
+        if self.has_log.get() {
+            LOGGED_VISITS
+        } else {
+            VISITS
+        }
+    }
+
+    /// Takes the steps of a cleaner or a collector until it has ended, and returns how many left more to do. One that is
+    /// refused too often in a row is left open (`None`).
+    async fn end(&self, kind: Kind, name: u64) -> Option<u64> {
         let mut body = body_of(if kind == Kind::Cleaner { CLEAN_STEP } else { COLLECT_STEP }, &name.to_be_bytes());
         if kind == Kind::Collector {
-            body.extend_from_slice(&VISITS.to_be_bytes());
+            body.extend_from_slice(&self.visits().to_be_bytes());
         }
-        let mut tries = 0;
+        let (mut tries, mut whole) = (0, 0);
         while tries < TRIES {
             let reply = self.ask(body.clone()).await;
             tries = if reply[0] == REFUSED { tries + 1 } else { 0 };
             match (kind, reply[0], reply[1]) {
-                (_, REFUSED, refusal) if refusal == kind.unknown() => return,
+                (_, REFUSED, refusal) if refusal == kind.unknown() => return Some(whole),
                 (_, REFUSED, _) if reply == MEMTABLE_FULL => self.make_room().await,
                 (_, REFUSED, _) => self.sleep(PAUSE).await,
                 (Kind::Collector, _, 2) => self.unblock(&reply[2..]).await,
-                (Kind::Collector, _, 3) | (Kind::Cleaner, _, 2..) => return,
-                _ => {}
+                (Kind::Collector, _, 3) | (Kind::Cleaner, _, 2..) => return Some(whole),
+                _ => whole += 1,
             }
         }
+        None
     }
 
     /// Clears the cell at which a collector is blocked.
@@ -246,7 +289,7 @@ impl Household {
         let reply = self.ask(body).await;
         match reply[..2] {
             [REFUSED, _] => self.sleep(PAUSE).await,
-            [_, 1] => Box::pin(self.end(Kind::Cleaner, be64(&reply[2..10]))).await,
+            [_, 1] => drop(Box::pin(self.end(Kind::Cleaner, be64(&reply[2..10]))).await),
             _ => {}
         }
     }

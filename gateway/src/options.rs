@@ -68,6 +68,9 @@ pub struct Options {
     /// the time between two checkpoints (none)
     #[arg(long, value_name = "SECONDS", value_parser = seconds, default_value = "0", hide_default_value = true)]
     pub checkpoint: Duration,
+    /// collect old versions after so many commits, and again after as many as that took visits (10000; 0: never)
+    #[arg(long, value_name = "COMMITS", default_value = "10000", hide_default_value = true)]
+    pub collect: u64,
     /// leave what a dead client had open as it is
     #[arg(long)]
     pub leave: bool,

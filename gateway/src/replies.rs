@@ -11,7 +11,7 @@ use crate::household::Event;
 use crate::program::{Asker, Run, ADMINISTRATOR};
 use crate::protocol::*;
 use crate::shares;
-use crate::things::{opened, Thing};
+use crate::things::{opened, stamp_of_commit, Thing};
 
 impl Gateway {
     pub fn take_replies(&mut self, has_hung_up: bool) -> Result<(), Failure> {
@@ -56,6 +56,7 @@ impl Gateway {
         if run.code != 0 {
             self.counts.note(reply);
         }
+        self.own.commits.set(self.own.commits.get() + u64::from(stamp_of_commit(reply).is_some()));
         self.note_time(place, run.code, run.since);
         self.put(place, reply);
         if reply == MEMTABLE_FULL {

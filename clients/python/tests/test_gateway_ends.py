@@ -110,6 +110,15 @@ class Ends(unittest.TestCase):
         self.assertTrue(until(lambda: not program.exists()))
         self.assertEqual(Gateway(self, ["--dir", folder]).wire().read(b"r"), VALUE)
 
+    def test_a_sweep_follows_them_in_a_folder_with_a_log(self) -> None:
+        folder = folder_of(self)
+        gateway = Gateway(self, ["--dir", folder, "--log", "--checkpoint", "0.05", "--flush", "10", "--merge", "2"])
+        wire = gateway.wire()
+        for number in range(100):
+            self.assertEqual(wire.commit(b"r", b"%d" % number)[:2], b"\x84\x04")
+        self.assertTrue(until(lambda: len(list(Path(folder).glob("*.tab"))) <= 2))
+        self.assertEqual(wire.read(b"r")[-2:], b"99")
+
     def test_a_checkpoint_goes_right_behind_a_sweep(self) -> None:
         folder = folder_of(self)
         gateway = Gateway(self, ["--dir", folder, "--no-log"])

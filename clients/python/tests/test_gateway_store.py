@@ -16,11 +16,13 @@ from duqishom import (
     Nothing,
     Patience,
     Pending,
+    Qualifier,
     Store,
     TransactionConflict,
     UnknownSession,
+    Value,
 )
-from tests.gateways import PACKAGE, Gateway, folder_of, stand_in
+from tests.gateways import PACKAGE, Gateway, folder_of, stand_in, until
 
 ROW, OTHER, FAMILY = b"r", b"s", b"c"
 
@@ -51,6 +53,35 @@ class Stores(unittest.TestCase):
         self.assertEqual(one.split(b"m"), 2)
         two.make_room(ROW)
         self.assertRaises(ValueError, two.tablets)
+
+    def test_old_versions_go_by_themselves(self) -> None:
+        """After so many commits, and again after as many more: all but those that a session may read."""
+        gateway = Gateway(self, ["--collect", "20"])
+        store = self.store(gateway)
+
+        def put(count: int) -> list[int]:
+            """Commits so many values, and returns their stamps."""
+            stamps = []
+            for _ in range(count):
+                store.run(lambda t: t.set(ROW, FAMILY, b"x"))
+                newest = store.raw(ROW, FAMILY, Qualifier.WRITE)
+                stamps.append(newest.stamp if newest else 0)
+            return stamps
+
+        def is_there(stamp: int) -> bool:
+            return store.raw(ROW, FAMILY, Qualifier.WRITE, stamp, stamp) is not None
+
+        first = put(19)
+        self.assertTrue(all(is_there(stamp) for stamp in first))
+        read = store.begin()
+        later = put(1)
+        self.assertTrue(until(lambda: not any(is_there(stamp) for stamp in first[:-1])))
+        self.assertTrue(is_there(first[-1]) and is_there(later[0]))
+        self.assertEqual(store.get(read, ROW, FAMILY), Value(b"x"))
+        store.stop(read)
+        newest = put(20)[-1]
+        self.assertTrue(until(lambda: not is_there(later[0])))
+        self.assertTrue(is_there(newest))
 
     def test_the_bytes_of_all_sessions(self) -> None:
         """The program's limit is that of all clients together."""
