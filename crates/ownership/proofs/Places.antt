@@ -1,9 +1,10 @@
 -- Places in a sorted list of what clients have.
-use Rattle.std.proofs.Common.{◌≡◌, ◌≢◌, ℕ, zero, suc, ◌+◌, ◌<◌, ◌≤◌, Bool, true, false, not, ◌&&◌, ◌||◌, List, [], ◌∷◌, length, get_or, drop, Option, Some, None, refl, sym, ap, subst, ◌∙◌, arith, slice_get, ◌⊎◌, inl, inr, if◌then◌else◌}
+use Rattle.std.proofs.Common.{◌≡◌, ◌≢◌, ℕ, zero, suc, ◌+◌, ◌-◌, ◌++◌, take, ◌<◌, ◌≤◌, Bool, true, false, not, ◌&&◌, ◌||◌, List, [], ◌∷◌, length, get_or, drop, Option, Some, None, refl, sym, ap, subst, ◌∙◌, arith, slice_get, ◌⊎◌, inl, inr, if◌then◌else◌}
 use Rattle.std.specs.Prelude.{nat_eq, nat_le, nat_lt}
 use Rattle.std.specs.List.{AllByRecursion, insert, remove}
 use Rattle.std.proofs.lemmas.Bool.Decides.{nat_tests}
-use Rattle.ownership.specs.Lists.{IsInOrder, IsPlaceOf, held_by, holds, is_after, is_before, is_of}
+use Rattle.std.proofs.lemmas.Option.{same_Some}
+use Rattle.ownership.specs.Lists.{IsInOrder, IsLast, IsPlaceOf, held_by, holds, is_after, is_before, is_of}
 use Rattle.ownership.specs.declared.holdings.Holding.{Holding}
 
 abbrev pub AreAfter : Holding → List Holding → Type 0
@@ -105,7 +106,7 @@ holds_at c n (x ∷ xs) (suc i) r p =
 
 -- ---- one more
 
-abbrev new_one : ℕ → ℕ → Holding
+abbrev pub new_one : ℕ → ℕ → Holding
 new_one c n = record { client = c; number = n }
 
 is_new : (c n a b : ℕ) → is_of a b (new_one c n) ≡ (nat_eq c a && nat_eq n b)
@@ -395,3 +396,62 @@ none_at [] zero le = refl
 none_at [] (suc i) le = refl
 none_at (y ∷ xs) zero le = absurd (omega (arith, le))
 none_at (y ∷ xs) (suc i) le = none_at xs i (omega (arith, le))
+
+-- ---- the end of a list
+
+read_at : (xs : List Holding) (i : ℕ) (x d : Holding) → slice_get xs i ≡ Some x → get_or xs i d ≡ x
+read_at [] zero x d e = cc
+read_at [] (suc i) x d e = cc
+read_at (y ∷ xs) zero x d e = same_Some y x e
+read_at (y ∷ xs) (suc i) x d e = read_at xs i x d e
+
+in_range : (xs : List Holding) (i : ℕ) (x : Holding) → slice_get xs i ≡ Some x → i < length xs
+in_range [] zero x e = cc
+in_range [] (suc i) x e = cc
+in_range (y ∷ xs) zero x e = omega arith
+in_range (y ∷ xs) (suc i) x e = let less = in_range xs i x e in omega (arith, less)
+
+before_same : (c n : ℕ) (x : Holding) → is_of c n x ≡ true → is_before c n x ≡ false
+before_same c n x it = grind (arith, nat_tests)
+
+sooner_same : (c n : ℕ) (a x : Holding) → is_of c n x ≡ true → is_after a x ≡ true → is_before c n a ≡ true
+sooner_same c n a x it after = grind (arith, nat_tests)
+
+-- each before the last comes before it
+pub last_is : (c n : ℕ) (xs : List Holding) (x : Holding) → Rises xs → slice_get xs (length xs - 1) ≡ Some x → is_of c n x ≡ true → IsLast c n xs
+last_is c n xs x r e it = record {
+  held = holds_found c n xs (length xs - 1) x e it;
+  place = record {
+    bound = omega arith;
+    before = λ k d a b. sooner_same c n (get_or xs k d) x it (subst (λ (y : Holding). is_after (get_or xs k d) y ≡ true) (read_at xs (length xs - 1) x d e) (ordered xs r k (length xs - 1) d b (in_range xs (length xs - 1) x e)));
+    others = λ k d a b. subst (λ (y : Holding). is_before c n y ≡ false) (sym (read_at xs (length xs - 1) x d e) ∙ ap (λ (i : ℕ). get_or xs i d) (omega (arith, a, b))) (before_same c n x it);
+  };
+}
+
+-- the whole list comes before what its last comes before
+pub all_before : (c n : ℕ) (xs : List Holding) (x : Holding) → Rises xs → slice_get xs (length xs - 1) ≡ Some x → is_before c n x ≡ true → IsPlaceOf c n xs (length xs)
+all_before c n xs x r e last = record {
+  bound = omega arith;
+  before = λ k d a b. parted c n xs r k (length xs - 1) d (omega (arith, b)) (in_range xs (length xs - 1) x e) (subst (λ (y : Holding). is_before c n y ≡ true) (sym (read_at xs (length xs - 1) x d e)) last);
+  others = λ k d a b. absurd (omega (arith, a, b));
+}
+
+pub none_at_end : (c n : ℕ) (xs : List Holding) → Rises xs → IsPlaceOf c n xs (length xs) → holds xs c n ≡ false
+none_at_end c n xs r p = sym (holds_at c n xs (length xs) r p) ∙ ap (is_it c n) (none_at xs (length xs) (omega arith))
+
+pub at_end : (x : Holding) (xs : List Holding) → insert xs (length xs) x ≡ xs ++ x ∷ []
+at_end x [] = refl
+at_end x (y ∷ xs) = ap (λ (l : List Holding). y ∷ l) (at_end x xs)
+
+without_last : (k : ℕ) (xs : List Holding) → length xs ≡ suc k → take k xs ≡ remove xs k
+without_last k [] e = absurd (omega (arith, e))
+without_last zero (x ∷ []) e = refl
+without_last zero (x ∷ (y ∷ xs)) e = absurd (omega (arith, e))
+without_last (suc k) (x ∷ xs) e = ap (λ (l : List Holding). x ∷ l) (without_last k xs (omega (arith, e)))
+
+some_there : (c n : ℕ) (xs : List Holding) → holds xs c n ≡ true → length xs ≡ suc (length xs - 1)
+some_there c n [] e = cc
+some_there c n (x ∷ xs) e = omega arith
+
+pub shortened : (c n : ℕ) (xs : List Holding) → holds xs c n ≡ true → take (length xs - 1) xs ≡ remove xs (length xs - 1)
+shortened c n xs held = without_last (length xs - 1) xs (some_there c n xs held)

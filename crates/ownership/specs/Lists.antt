@@ -1,5 +1,5 @@
 -- Sorted lists of what clients have of one kind.
-use Rattle.std.specs.Prelude.{◌≡◌, ◌≤◌, ℕ, Bool, true, false, ◌&&◌, ◌||◌, List, [], ◌∷◌, ◌+◌, if◌then◌else◌, nat_eq, nat_lt, length, slice_index_or, ◌<◌}
+use Rattle.std.specs.Prelude.{◌≡◌, ◌≤◌, ℕ, Bool, true, false, ◌&&◌, ◌||◌, List, [], ◌∷◌, ◌+◌, if◌then◌else◌, nat_eq, nat_lt, length, slice_index_or, ◌<◌, ◌-◌}
 use Rattle.std.specs.List.{list_any, AllWithin}
 use Rattle.ownership.specs.declared.holdings.Holding.{Holding}
 
@@ -35,3 +35,8 @@ pub record IsPlaceOf (client number : ℕ) (list : List Holding) (place : ℕ) :
   pub before : AllWithin (λ holding. is_before client number holding ≡ true) list 0 place
   pub others : AllWithin (λ holding. is_before client number holding ≡ false) list place
       (length list)
+
+-- the last of the list is this number of the client, and its place is the last
+pub record IsLast (client number : ℕ) (list : List Holding) : Type 0 where
+  pub held : holds list client number ≡ true
+  pub place : IsPlaceOf client number list (length list - 1)

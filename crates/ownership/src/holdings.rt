@@ -1,7 +1,7 @@
 //! A sorted list of what clients have of one kind.
 
-ghost use Rattle.std.specs.Prelude.{◌≡◌, ◌≢◌, ◌≤◌, ◌<◌, ◌&&◌, ◌||◌, not, ℕ, [], true, false, nat_eq, nat_le, IfSome, IfNone, OnOk, vec_len, vec_capacity};
-ghost use Rattle.ownership.specs.Lists.{IsInOrder, IsPlaceOf, held_by, holds, is_before, is_of};
+ghost use Rattle.std.specs.Prelude.{◌≡◌, ◌≢◌, ◌≤◌, ◌<◌, ◌&&◌, ◌||◌, not, ℕ, [], true, false, nat_eq, nat_le, IfSome, IfNone, OnOk, length, vec_len, vec_capacity};
+ghost use Rattle.ownership.specs.Lists.{IsInOrder, IsLast, IsPlaceOf, held_by, holds, is_before, is_of};
 
 use std::alloc::{AllocError, Global};
 
@@ -78,12 +78,47 @@ impl Holdings {
         }
     }
 
+    /// Whether the last of the list is this number of a client. What is used is often what was noted last, and comes
+    /// last.
+    #[inline(always)]
+    fn ends_with(&self, client: u32, number: u64) -> bool
+        ensures { result ≡ true → IsLast client number self.now.list.items }
+    {
+        match self.list.last() {
+            Some(last) => is_number_of(last, client, number),
+            None => false,
+        }
+    }
+
+    /// Whether the whole list comes before a number of a client.
+    #[inline(always)]
+    fn ends_before(&self, client: u32, number: u64) -> bool
+        ensures { result ≡ true
+            → IsPlaceOf client number self.now.list.items (length self.now.list.items) }
+    {
+        match self.list.last() {
+            Some(last) => comes_before(last, client, number),
+            None => true,
+        }
+    }
+
+    /// Whether a number is this client's, by a search.
+    #[inline(never)]
+    fn has_within(&self, client: u32, number: u64) -> bool
+        ensures { result ≡ holds self.now.list.items client number }
+    {
+        self.is_at(self.place(client, number), client, number)
+    }
+
     /// Whether a number is this client's.
     #[inline(always)]
     pub fn has(&self, client: u32, number: u64) -> bool
         ensures { result ≡ holds self.now.list.items client number }
     {
-        self.is_at(self.place(client, number), client, number)
+        if self.ends_with(client, number) {
+            return true;
+        }
+        self.has_within(client, number)
     }
 
     /// Takes room for one more.
@@ -95,8 +130,9 @@ impl Holdings {
         self.list.reserve(1)
     }
 
-    /// Notes that a number is a client's, for which there is room.
-    pub fn insert(&mut self, client: u32, number: u64)
+    /// Notes that a number is a client's, for which there is room, where it belongs.
+    #[inline(never)]
+    fn insert_within(&mut self, client: u32, number: u64)
         requires room { vec_len self.old.list < vec_capacity self.old.list }
         ensures held { (c n : ℕ) → holds self.new.list.items c n
             ≡ (holds self.old.list.items c n || (nat_eq client c && nat_eq number n)) }
@@ -110,8 +146,25 @@ impl Holdings {
         self.list.insert(place, Holding { client, number }).unwrap();
     }
 
-    /// Notes that a number is a client's no more.
-    pub fn remove(&mut self, client: u32, number: u64)
+    /// Notes that a number is a client's, for which there is room.
+    #[inline(always)]
+    pub fn insert(&mut self, client: u32, number: u64)
+        requires room { vec_len self.old.list < vec_capacity self.old.list }
+        ensures held { (c n : ℕ) → holds self.new.list.items c n
+            ≡ (holds self.old.list.items c n || (nat_eq client c && nat_eq number n)) }
+        ensures others { (c : ℕ) → c ≢ client
+            → held_by c self.new.list.items ≡ held_by c self.old.list.items }
+    {
+        if !self.ends_before(client, number) {
+            self.insert_within(client, number);
+            return;
+        }
+        self.list.push(Holding { client, number }).unwrap();
+    }
+
+    /// Notes that a number is a client's no more, after a search.
+    #[inline(never)]
+    fn remove_within(&mut self, client: u32, number: u64)
         ensures held { (c n : ℕ) → holds self.new.list.items c n
             ≡ (holds self.old.list.items c n && not (nat_eq client c && nat_eq number n)) }
         ensures fewer { holds self.old.list.items client number ≡ true
@@ -127,6 +180,25 @@ impl Holdings {
         }
     }
 
+    /// Notes that a number is a client's no more.
+    #[inline(always)]
+    pub fn remove(&mut self, client: u32, number: u64)
+        ensures held { (c n : ℕ) → holds self.new.list.items c n
+            ≡ (holds self.old.list.items c n && not (nat_eq client c && nat_eq number n)) }
+        ensures fewer { holds self.old.list.items client number ≡ true
+            → held_by client self.new.list.items < held_by client self.old.list.items }
+        ensures room { holds self.old.list.items client number ≡ true
+            → vec_len self.new.list < vec_capacity self.new.list }
+        ensures kept { vec_len self.old.list < vec_capacity self.old.list
+            → vec_len self.new.list < vec_capacity self.new.list }
+    {
+        if !self.ends_with(client, number) {
+            self.remove_within(client, number);
+            return;
+        }
+        self.list.pop();
+    }
+
     /// A number of a client, if it has one.
     pub fn first_of(&self, client: u32) -> Option<u64>
         ensures some { IfSome result (λ number. holds self.now.list.items client number ≡ true) }
@@ -140,7 +212,21 @@ impl Holdings {
         }
     }
 
+    /// Whether a client has at least so many, by a search. `most` is 1 or more.
+    #[inline(never)]
+    fn has_as_many_within(&self, client: u32, most: u32) -> bool
+        requires { 1 ≤ most }
+        ensures { result ≡ nat_le most (held_by client self.now.list.items) }
+    {
+        let (_, rest) = self.list.split_at(self.place(client, 0));
+        match rest.get(most as usize - 1) {
+            Some(holding) => holding.client == client,
+            None => false,
+        }
+    }
+
     /// Whether a client has at least so many. `most` is 1 or more.
+    #[inline(always)]
     pub fn has_as_many(&self, client: u32, most: u32) -> bool
         requires { 1 ≤ most }
         ensures { result ≡ nat_le most (held_by client self.now.list.items) }
@@ -148,11 +234,7 @@ impl Holdings {
         if self.list.len() < most as usize {
             return false;
         }
-        let (_, rest) = self.list.split_at(self.place(client, 0));
-        match rest.get(most as usize - 1) {
-            Some(holding) => holding.client == client,
-            None => false,
-        }
+        self.has_as_many_within(client, most)
     }
 
     /// What is one client's becomes another's.

@@ -162,6 +162,7 @@ impl Owners {
     }
 
     /// Notes that a name was given to a client. There is room for it.
+    #[inline(always)]
     fn insert(&mut self, client: u32, name: Name)
         requires room { tables.HasRoom self.old (Some (names.kind_of name)) }
         ensures { (c : ℕ) (n : NameOf) → owns (table_of self.new) c n
@@ -175,6 +176,7 @@ impl Owners {
     }
 
     /// Notes that a name is a client's no more.
+    #[inline(always)]
     pub fn remove(&mut self, client: u32, name: Name)
         ensures held { (c : ℕ) (n : NameOf) → owns (table_of self.new) c n
             ≡ (owns (table_of self.old) c n && not (nat_eq client c && names.same_name name n)) }

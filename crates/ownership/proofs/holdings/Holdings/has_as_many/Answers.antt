@@ -1,27 +1,7 @@
-use Rattle.std.proofs.Common.{List, ◌∙◌, ◌-◌, ap, arith, sym, slice_get, drop}
+use Rattle.std.proofs.Common.{arith, sym}
 use Rattle.std.proofs.lemmas.Bool.Decides.{nat_tests}
-use Rattle.ownership.specs.Lists.{held_by}
-use Rattle.ownership.specs.declared.holdings.Holding.{Holding}
-use Rattle.ownership.proofs.Places.{as_many, found_at, held_at, is_its, none_at, rises, too_few}
+use Rattle.ownership.proofs.Places.{too_few}
 use Rattle.ownership.proofs.holdings.Holdings.has_as_many.Goals as goal
 
 pub returns-then-len-most : goal.returns-then-len-most
 returns-then-len-most c = sym (too_few c.args.client c.args.most c.args.self.now.list.items (grind (arith, nat_tests, c.if-len-most.true, c.len.ensures)))
-
-pub returns-in-Some : goal.returns-in-Some
-returns-in-Some c =
-    let xs = c.args.self.now.list.items in
-    let client = c.args.client in
-    let k = c.args.most - 1 in
-    let rest = c.split_at.ensures.back ∙ ap (λ (l : List Holding). drop c.place.result l) c.deref.ensures.value in
-    let read = ap (λ (l : List Holding). slice_get l k) (sym rest) ∙ found_at c.split_at.result.1.now k c.in-Some.holding.now c.in-Some.ensures.lookup.3.0 c.in-Some.ensures.lookup.1 in
-    sym (ap (is_its client) read) ∙ (held_at client xs c.place.result k (rises xs c.args.self.now.order) c.place.ensures ∙ as_many k c.args.most (held_by client xs) (omega (arith, c.requires)))
-
-pub returns-in-None : goal.returns-in-None
-returns-in-None c =
-    let xs = c.args.self.now.list.items in
-    let client = c.args.client in
-    let k = c.args.most - 1 in
-    let rest = c.split_at.ensures.back ∙ ap (λ (l : List Holding). drop c.place.result l) c.deref.ensures.value in
-    let read = ap (λ (l : List Holding). slice_get l k) (sym rest) ∙ none_at c.split_at.result.1.now k c.in-None.ensures.lookup.3 in
-    sym (ap (is_its client) read) ∙ (held_at client xs c.place.result k (rises xs c.args.self.now.order) c.place.ensures ∙ as_many k c.args.most (held_by client xs) (omega (arith, c.requires)))
