@@ -11,6 +11,7 @@ from pathlib import Path
 
 from duqishom import Committed, Device, Qualifier, Store, Value
 from duqishom.files import log_of
+from duqishom.folders import read_root
 from duqishom.program import default_program
 from duqishom.protocol import Checkpoint, More, Sweep
 from tests.folders import FolderTest
@@ -163,6 +164,58 @@ class FullDisk(FolderTest):
         with self.opened() as store:
             rows = store.run(lambda t: [t.get(b"%03d" % number, FAMILY) for number in range(17)])
         self.assertEqual(rows, [bytes(60_000)] * 16 + [None])
+
+    def is_made(self, store: Store, pages: int, change: Callable[[], object]) -> bool:
+        """Whether a change of the tablets is made with so many pages left. It is refused otherwise, and then the store
+        still answers."""
+        store.ask(Checkpoint())
+        ballast = self.fill_disk(pages)
+        try:
+            change()
+        except Device:
+            return False
+        finally:
+            self.assertFalse((self.store_folder / "room.new").exists())
+            self.assertIsNotNone(store.raw(b"000", FAMILY, Qualifier.DATA))
+            ballast.unlink()
+        return True
+
+    def test_splits_and_moves_on_a_small_disk(self) -> None:
+        """Each puts two roots, of a page for each tablet. It is made or refused, also with room for the first alone."""
+        self.mount()
+        splits, moves, server = [], [], 0
+        with self.opened() as store:
+            for number in range(6):
+                store.split(b"%03d" % number + bytes(3_997))
+            for pages in range(16):
+                store.put(b"%03d" % pages, FAMILY, b"%d" % pages)
+                if self.is_made(store, pages, lambda: store.move(1, pages % 15 + 1)):
+                    moves.append(pages)
+                    server = pages % 15 + 1
+                row = b"%03d" % (pages + 6) + bytes(3_997)
+                if self.is_made(store, pages, lambda: store.split(row)):
+                    splits.append(pages)
+            tablets = store.tablets()
+            store.kill()
+        self.assertEqual(len(tablets), 7 + len(splits))
+        for made in (splits, moves):
+            self.assertTrue(made and 6 < made[0] and made[-1] == 15)
+        found = read_root(self.store_folder).tablets
+        self.assertEqual([(tablet.number, tablet.end) for tablet in found], [(t.number, t.end) for t in tablets])
+        self.assertEqual([tablet.server for tablet in found if tablet.number == 1], [server])
+        with self.opened() as store:
+            rows = store.run(lambda t: [t.get(b"%03d" % pages, FAMILY) for pages in range(16)])
+        self.assertEqual(rows, [b"%d" % pages for pages in range(16)])
+
+    def test_room_that_a_kill_left(self) -> None:
+        with self.opened() as store:
+            self.put(store, 0)
+            store.kill()
+        room = self.store_folder / "room.new"
+        room.write_bytes(bytes(PAGE))
+        with self.opened() as store:
+            self.assertFalse(room.exists())
+            self.assertEqual(store.run(lambda t: t.get(b"000", FAMILY)), bytes(60_000))
 
     def test_a_collector_without_room(self) -> None:
         """A step of many visits is refused as long as there is no room for what it may write."""

@@ -141,6 +141,14 @@ impl<F: LogFile> Log for FileLog<F> {
         self.file.reserve_renewal()
     }
 
+    fn reserve_beside(&mut self, len: usize) -> Result<(), LogFault> {
+        self.file.reserve_beside(len)
+    }
+
+    fn release_beside(&mut self) {
+        self.file.release_beside();
+    }
+
     fn append(&mut self, kind: RecordKind, stamp: Stamp, body: &[u8]) -> Result<(), LogFault> {
         let frame = frame_to_append(self.alloc, self.next, kind, stamp, body)?;
         self.file.write(&frame)?;

@@ -45,6 +45,21 @@ pub trait LogFile {
         ensures taken { ¬ IsErrOf result LogFault.Refused }
         ensures cause { HasFaultCause (faults self.old) (faults self.new) result };
 
+    /// Makes room for so many bytes on its device beside its own, if it is a file that has room. Nothing else is written
+    /// there until `release_beside`. The bytes are unchanged.
+    fn reserve_beside(&mut self, len: usize) -> Result<(), LogFault>
+        ensures same { bytes self.new ≡ bytes self.old }
+        ensures stays { is_stopped self.old → is_stopped self.new }
+        ensures intact { ¬ IsErrOf result LogFault.Damaged }
+        ensures taken { ¬ IsErrOf result LogFault.Refused }
+        ensures cause { HasFaultCause (faults self.old) (faults self.new) result };
+
+    /// Gives back the room beside its own. If the device fails, the room stays taken. The bytes are unchanged.
+    fn release_beside(&mut self)
+        ensures same { bytes self.new ≡ bytes self.old }
+        ensures stays { is_stopped self.old → is_stopped self.new }
+        ensures told { faults self.new ≡ faults self.old };
+
     /// Appends bytes, and forces them to the disk. After an `Err` a prefix of them may have been appended.
     fn write(&mut self, more: &[u8]) -> Result<(), LogFault>
         ensures ok { OnOk result (bytes self.new ≡ with_more more.now (bytes self.old)) }

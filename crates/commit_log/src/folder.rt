@@ -34,6 +34,9 @@ const CUT: &str = "commit.cut";
 /// The temporary name under which each of them is written before the rename.
 const BESIDE: &str = "commit.new";
 
+/// The name of the file that is room for another file of the folder.
+const ROOM: &str = "room.new";
+
 /// The bytes with which the sign of a store begins.
 const SIGN_HEAD: [u8; 8] = *b"TABSTORE";
 
@@ -166,16 +169,27 @@ fn place_file<R: Folders + AllocGlobal>(
     replace_file(rt, folder, beside.as_str(), path.as_str(), bytes)
 }
 
-/// Makes the temporary file, with zeros as room for a renewal. If they can't be written, it is removed.
-fn make_beside<R: Folders + AllocGlobal>(rt: &R, folder: &str) -> io::Result<()> {
-    let beside = path_of(rt.alloc(), folder, BESIDE)?;
-    let mut file = create_beside(rt, beside.as_str())?;
-    let zeros = vec![in rt.alloc(); 0u8; RENEWAL_ROOM]?;
+/// Makes a file of a folder with so many zeros, as room. If they can't be written, it is removed.
+fn put_zeros<R: Folders + AllocGlobal>(
+    rt: &R,
+    folder: &str,
+    name: &str,
+    len: usize,
+) -> io::Result<()> {
+    let path = path_of(rt.alloc(), folder, name)?;
+    let zeros = vec![in rt.alloc(); 0u8; len]?;
+    let mut file = create_beside(rt, path.as_str())?;
     let written = write_synced(&mut file, &zeros);
     if written.is_err() {
-        let _ = remove_file(rt, beside.as_str());
+        let _ = remove_file(rt, path.as_str());
     }
     written
+}
+
+/// Removes the file that is room for another file, if there is one.
+fn remove_room<R: Folders + AllocGlobal>(rt: &R, folder: &str) -> io::Result<()> {
+    let room = path_of(rt.alloc(), folder, ROOM)?;
+    remove_file(rt, room.as_str())
 }
 
 /// Writes bytes to a file in the place of all that it has, in its room, and forces them to the disk.
@@ -333,6 +347,8 @@ pub fn open_log<R: Folders<File = File> + AllocGlobal + Drop>(
             None => Ok(None),
         };
     };
+    // A killed program may have left room. If it can't be removed, nothing is lost but the room.
+    let _ = remove_room(&rt, folder);
     let (end, cut) = if !bytes.starts_with(&HEAD) {
         force_records(&rt, folder, &bytes, sign)?
     } else if sign.is_none() {
@@ -435,7 +451,7 @@ impl<R: Folders<File = File> + AllocGlobal + Drop> DirFile<R> {
         ensures faults { self.new.faults ≡ self.old.faults }
     {
         if !self.has_renewal_room {
-            make_beside(&self.rt, self.folder.as_str())?;
+            put_zeros(&self.rt, self.folder.as_str(), BESIDE, RENEWAL_ROOM)?;
             self.has_renewal_room = true;
         }
         Ok(())
@@ -515,6 +531,19 @@ impl<R: Folders<File = File> + AllocGlobal + Drop> LogFile for DirFile<R> {
             self.make_renewal_room()
         };
         self.count_fault(called)
+    }
+
+    fn reserve_beside(&mut self, len: usize) -> Result<(), LogFault> {
+        let called = if self.is_stopped {
+            Err(io::Error::from(ErrorKind::Other))
+        } else {
+            put_zeros(&self.rt, self.folder.as_str(), ROOM, len)
+        };
+        self.count_fault(called)
+    }
+
+    fn release_beside(&mut self) {
+        let _ = remove_room(&self.rt, self.folder.as_str());
     }
 
     fn write(&mut self, more: &[u8]) -> Result<(), LogFault> {

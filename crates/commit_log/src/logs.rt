@@ -35,6 +35,20 @@ pub trait Log {
         ensures taken { ¬ IsErrOf result LogFault.Refused }
         ensures cause { HasFaultCause (faults self.old) (faults self.new) result };
 
+    /// Makes room for so many bytes on its device, for a file beside it that is written after `release_beside`. The
+    /// records are unchanged.
+    fn reserve_beside(&mut self, len: usize) -> Result<(), LogFault>
+        ensures same { Keeps (holds self.old) (holds self.new) }
+        ensures intact { ¬ IsErrOf result LogFault.Damaged }
+        ensures taken { ¬ IsErrOf result LogFault.Refused }
+        ensures cause { HasFaultCause (faults self.old) (faults self.new) result };
+
+    /// Gives back the room that `reserve_beside` made. If the device fails, the room stays taken. The records are
+    /// unchanged.
+    fn release_beside(&mut self)
+        ensures same { Keeps (holds self.old) (holds self.new) }
+        ensures told { faults self.new ≡ faults self.old };
+
     /// Appends a record, and forces it to the disk. After an `Err` the log is unchanged or has the whole record, never
     /// a part of it. After `Memory` or `Refused` it is unchanged.
     fn append(&mut self, kind: RecordKind, stamp: Stamp, body: &[u8]) -> Result<(), LogFault>

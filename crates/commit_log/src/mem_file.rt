@@ -65,6 +65,12 @@ impl LogFile for MemFile {
         Ok(())
     }
 
+    fn reserve_beside(&mut self, _len: usize) -> Result<(), LogFault> {
+        Ok(())
+    }
+
+    fn release_beside(&mut self) {}
+
     fn write(&mut self, more: &[u8]) -> Result<(), LogFault> {
         if self.is_stopped || self.bytes.extend_from_slice(more).is_err() {
             return Err(self.fail());

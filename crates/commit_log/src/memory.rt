@@ -67,6 +67,17 @@ impl Log for MemLog {
         Ok(())
     }
 
+    fn reserve_beside(&mut self, _len: usize) -> Result<(), LogFault>
+        ensures done { IsOk result }
+        ensures same { self.new ≡ self.old }
+    {
+        Ok(())
+    }
+
+    fn release_beside(&mut self)
+        ensures { self.new ≡ self.old }
+    {}
+
     fn append(&mut self, kind: RecordKind, stamp: Stamp, body: &[u8]) -> Result<(), LogFault>
         requires { IsBody body.now }
         ensures ok { OnOk result (recorded self.new

@@ -12,7 +12,7 @@ use Rattle.request_codec.specs.declared.replies.Reply.{Reply}
 use Rattle.request_codec.specs.declared.replies.Reply.TheVariants as codec
 use Rattle.request_codec.specs.declared.requests.Request.{Request}
 use Rattle.request_codec.specs.declared.requests.Request.TheVariants.{Begin, Step, CleanStep, CollectStep, Split, Move, Sweep, Checkpoint}
-use Rattle.cell_key.specs.Faults.{HasRisen}
+use Rattle.cell_key.specs.Faults.{HasReason, HasRisen}
 use Rattle.request_codec.specs.Operations.{operation_of}
 use Rattle.server_loop.specs.Commands.{checkpointed}
 use Rattle.server_loop.specs.OperationLaws.{StandsForSeveral}
@@ -23,7 +23,7 @@ use Rattle.si_model.specs.Refusing.{gives_up}
 use Rattle.durable.specs.Durability.{GoesOn, Settles, StepsOn}
 use Rattle.commit_log.specs.declared.logs.Log.{Ghosts as Log}
 use Rattle.oracle.specs.declared.marks.MarkStore.{Ghosts as MarkStore}
-use Rattle.durable.specs.Answers.{AnswersInRoom, AnswersDurably, AnswersRooted, Checkpoints, HasFailed, MovesTablets, NeedsLogRoom, NeedsRoom, ActsOnRoots, PutsRoot, SweepsAfter, TouchesRoots}
+use Rattle.durable.specs.Answers.{AnswersInRoom, AnswersDurably, AnswersRooted, Checkpoints, HasFailed, MovesTablets, NeedsLogRoom, NeedsRoom, ActsOnRoots, PutsRoot, RefusesRooted, SweepsAfter, TouchesRoots}
 use Rattle.durable.specs.View.{RootCalls, View}
 use Rattle.durable.specs.Visits.{AsksForFew}
 use Rattle.durable.specs.declared.server.DurableServer.{DurableServer}
@@ -141,6 +141,16 @@ module _ {S : Type 0} (view : View S) (calls : RootCalls S) (stopped risen : Typ
   unready_answer old new (Ok done) e by why rises same = absurd by
   unready_answer old new (Err given) e by (inl device) rises same = unready (ap codec.Refused (by ∙ device)) (rises device) same
   unready_answer old new (Err given) e by (inr memory) rises same = roomless (ap codec.Refused (by ∙ memory)) same
+
+  -- a checkpoint that was made, and behind which there may be no room for a second one
+  pub second_unready : (old new : S) (r : Result (Unit {0}) Refusal) → IfErr r IsLogRefusal → (IsErrOf r Device → risen) → ¬ stopped → Checkpoints view calls old codec.Checkpoint new → IfErr r (λ refusal. RefusesRooted view calls stopped risen old refusal new)
+  second_unready old new (Ok done) c rises on p = tt
+  second_unready old new (Err refusal) (inl is) rises on p = inr (p, on, inl (is, rises (ap Err is)))
+  second_unready old new (Err refusal) (inr is) rises on p = inr (p, on, inr is)
+
+-- a call after one of which no device failed
+pub reason_then : {T : Type 0} (a b c : ℕ) (r : Result T Refusal) → b ≡ a → HasReason b c r → HasReason a c r
+reason_then a b c r same reason = subst (λ (n : ℕ). HasReason n c r) same reason
 
 module _ {S : Type 0} (shows : S → State → Type 0) where
   pub steps_unready : (old new : S) (r : Result (Unit {0}) Refusal) (e : Refusal) → IsErrAnd r (λ given. given ≡ e) → IsLogRefusal e → ((st : State) → shows old st → shows new st) → StepsAs shows old new CheckpointAsked (replied (checkpointed r))

@@ -219,13 +219,22 @@ module _ {S : Type 0} (view : View S) (calls : RootCalls S) where
         → view.same old new ⊎ Checkpoints old codec.Checkpoint new
         → PutsRoot stopped risen old reply new
 
-  -- It was refused with the refusal of the checkpoint before it. Or it was answered after that
-  -- checkpoint, and another checkpoint may have followed.
+  -- A split or a move was refused before a tablet was changed: with the refusal of the checkpoint before
+  -- it; or after that checkpoint, since there was no room for a second one: a device failed, or memory
+  -- was refused. Then replies still leave the server.
+  abbrev pub RefusesRooted : (stopped risen : Type 0) → S → Refusal → S → Type 0
+  RefusesRooted stopped risen old refusal new =
+      PutsRoot stopped risen old (codec.Refused refusal) new
+      ⊎ (Checkpoints old codec.Checkpoint new × (¬ stopped)
+      × (((refusal ≡ Device) × risen) ⊎ (refusal ≡ NoMemory)))
+
+  -- It was so refused. Or it was answered after that checkpoint, and another checkpoint may have
+  -- followed.
   abbrev pub AnswersRooted : (S → Reply → S → Type 0) → (stopped risen : Type 0) → S → Reply → S
       → Type 0
   AnswersRooted answers stopped risen old reply new =
       ((refusal : Refusal) × (reply ≡ codec.Refused refusal)
-      × PutsRoot stopped risen old reply new)
+      × RefusesRooted stopped risen old refusal new)
       ⊎ ((first next : S) × Checkpoints old codec.Checkpoint first × answers first reply next
       × (view.same next new ⊎ ((second : Reply) × PutsRoot stopped risen next second new)))
 

@@ -3,6 +3,7 @@
 ghost use Rattle.std.specs.Prelude.{◌≡◌, ◌≢◌, ◌≤◌, ◌⊎◌, ◌++◌, ℕ, List, [], Bool, Result, length, true, IfErr, IfOk, IsErrOf, OnErr, OnOk};
 ghost use Rattle.cell_key.specs.Cells.{Cells};
 ghost use Rattle.row_atomic.specs.Journals.{IsWithin};
+ghost use Rattle.row_atomic.specs.RootLengths.{IsRoomBehind};
 ghost use Rattle.request_codec.specs.Replies.{replied};
 ghost use Rattle.request_codec.specs.declared.answers.Answer.{Answer as CodecAnswer};
 ghost use Rattle.request_codec.specs.declared.answers.Answer.TheVariants.{Said};
@@ -70,6 +71,11 @@ pub(crate) trait Journaled: Handler {
     fn root_name(&self) -> Result<RootName, Refusal>
         ensures name { IfOk result (λ name. IsNameOf name (view.next_root self.now)) }
         ensures refusal { IfErr result (λ refusal. refusal ≡ Refusal.NoMemory) };
+
+    /// The bytes of a root that is put now, and those of the greatest tablet, or the greatest number. Right after a
+    /// checkpoint, a root that is put after a split or a move has no more.
+    fn next_root_bytes(&self) -> usize
+        ensures { IsRoomBehind (view.next_root self.now) result };
 
     /// Puts a root that keeps the state that is shown.
     fn checkpoint_now(&mut self) -> Result<(), Refusal>

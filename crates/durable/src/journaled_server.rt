@@ -57,6 +57,10 @@ impl<F: AtomicPut + Drop, M: MarkStore + Drop> Journaled for Server<F, M> {
         self.root_name()
     }
 
+    fn next_root_bytes(&self) -> usize {
+        self.next_root_bytes()
+    }
+
     fn checkpoint_now(&mut self) -> Result<(), Refusal> {
         shows_reopened();
         root_is_stored::<F>();

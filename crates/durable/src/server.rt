@@ -14,7 +14,7 @@ ghost use Rattle.request_codec.specs.declared.replies.Reply.{Reply as CodecReply
 ghost use Rattle.durable.specs.Due.{IsDueAlike, IsRootDue, tried_at};
 ghost use Rattle.durable.specs.Durability.{GoesOn, IsSettled, Settles};
 ghost use Rattle.server_loop.specs.Commands.{checkpointed};
-ghost use Rattle.durable.specs.Answers.{AnswersDurably, Checkpoints, HasNewRoot, HoldsLogged, HasFailed, IsDurableAnswer, LastsIn, Logs, MovesTablets, NamesItsRoot, NeedsLogRoom, NeedsRoom, ActsOnRoots, PutsRoot, StaysRooted, SweepsAfter, SweepsNow, named, shown_by};
+ghost use Rattle.durable.specs.Answers.{AnswersDurably, Checkpoints, HasNewRoot, HoldsLogged, HasFailed, IsDurableAnswer, LastsIn, Logs, MovesTablets, NamesItsRoot, NeedsLogRoom, NeedsRoom, ActsOnRoots, PutsRoot, RefusesRooted, StaysRooted, SweepsAfter, SweepsNow, named, shown_by};
 ghost use Rattle.durable.specs.Visits.{AsksForFew, visits_of};
 ghost use Rattle.metadata_table.specs.Roots.{RootView};
 ghost use Rattle.server_loop.specs.Runs.{StepsAs};
@@ -117,6 +117,7 @@ fn renew_log<S: Journaled, L: Log>(server: &S, log: &mut L) -> Result<(), Refusa
         → Keeps (L.holds log.old) (L.holds log.new) }
     ensures refusal { IfErr result (λ refusal.
         (refusal ≡ Refusal.Device) ⊎ (refusal ≡ Refusal.NoMemory)) }
+    ensures later { L.faults log.old ≤ L.faults log.new }
 {
     let name = match server.root_name() {
         Ok(name) => name,
@@ -144,6 +145,41 @@ fn reserve_renewal<L: Log>(log: &mut L) -> Result<(), Refusal>
         Ok(()) => Ok(()),
         Err(LogFault::Device) => Err(Refusal::Device),
         Err(_) => Err(Refusal::NoMemory),
+    }
+}
+
+/// Makes room beside a log for so many bytes. The log is unchanged.
+///
+/// # Errors
+///
+/// `Device` or `NoMemory`.
+fn reserve_beside<L: Log>(log: &mut L, len: usize) -> Result<(), Refusal>
+    ensures same { Keeps (L.holds log.old) (L.holds log.new) }
+    ensures refusal { IfErr result (λ refusal.
+        (refusal ≡ Refusal.Device) ⊎ (refusal ≡ Refusal.NoMemory)) }
+    ensures reason { HasReason (L.faults log.old) (L.faults log.new) result }
+{
+    match log.reserve_beside(len) {
+        Ok(()) => Ok(()),
+        Err(LogFault::Device) => Err(Refusal::Device),
+        Err(_) => Err(Refusal::NoMemory),
+    }
+}
+
+/// Makes room for a root of so many bytes, and for the renewal of a log by its name. The log is otherwise unchanged.
+///
+/// # Errors
+///
+/// `Device` or `NoMemory`.
+fn reserve_root<L: Log>(log: &mut L, len: usize) -> Result<(), Refusal>
+    ensures same { Keeps (L.holds log.old) (L.holds log.new) }
+    ensures refusal { IfErr result (λ refusal.
+        (refusal ≡ Refusal.Device) ⊎ (refusal ≡ Refusal.NoMemory)) }
+    ensures reason { HasReason (L.faults log.old) (L.faults log.new) result }
+{
+    match reserve_renewal(log) {
+        Ok(()) => reserve_beside(log, len),
+        Err(refusal) => Err(refusal),
     }
 }
 
@@ -243,6 +279,8 @@ impl<S: Journaled, M: MarkStore, L: Log> DurableServer<S, M, L> {
             → LastsIn S.view L.Log self.new st × Logs S.view L.Log self.new }
         ensures marks { self.new.marks ≡ self.old.marks }
         ensures last { S.view.last self.new.server ≡ S.view.last self.old.server }
+        ensures on { OnOk result (self.new.is_stopped ≡ self.old.is_stopped) }
+        ensures later { L.faults self.old.log ≤ L.faults self.new.log }
         ensures due { IsDueAlike self.old self.new }
     {
         logs_edits();
@@ -289,6 +327,8 @@ impl<S: Journaled, M: MarkStore, L: Log> DurableServer<S, M, L> {
         ensures kept { OnOk result ((now : State) → S.shows self.old.server now
             → Logs S.view L.Log self.old → LastsIn S.view L.Log self.new now
             × (S.view.recording self.new.server ≡ true) × (S.view.waiting self.new.server ≡ [])) }
+        ensures on { OnOk result (self.new.is_stopped ≡ false) }
+        ensures later { L.faults self.old.log ≤ L.faults self.new.log }
         ensures due { IsDueAlike self.old self.new }
     {
         logs_edits();
@@ -311,8 +351,40 @@ impl<S: Journaled, M: MarkStore, L: Log> DurableServer<S, M, L> {
         }
     }
 
-    /// Puts a root after tablets were moved, while no edits wait. If it is refused, the server is stopped; if only the
-    /// allocation for its name in the log fails, the log stays over any root.
+    /// Puts a root, and then makes room for a second one, which is put after a split or a move.
+    ///
+    /// # Errors
+    ///
+    /// Those of `root`. After the first root was put, `Device` or `NoMemory` if there is no room for the second.
+    fn root_with_room(&mut self) -> Result<(), Refusal>
+        ensures step { StepsAs (shown_by S.shows) self.old self.new CheckpointAsked
+            (replied (checkpointed result)) }
+        ensures refusal { IfErr result IsStorageRefusal }
+        ensures settles { Settles (shown_by S.shows) (LastsIn S.view L.Log) (Logs S.view L.Log)
+            self.old self.new }
+        ensures done { OnOk result (Checkpoints S.view S.calls self.old.server CodecReply.Checkpoint
+            self.new.server) }
+        ensures refused { IfErr result (λ refusal. RefusesRooted S.view S.calls
+            (self.new.is_stopped ≡ true) (HasFailed M.MarkStore L.Log self.old self.new)
+            self.old.server refusal self.new.server) }
+        ensures covered { OnOk result (S.view.last self.new.server ≤ self.new.marks.covered) }
+        ensures kept { OnOk result ((now : State) → S.shows self.old.server now
+            → Logs S.view L.Log self.old → LastsIn S.view L.Log self.new now
+            × (S.view.recording self.new.server ≡ true) × (S.view.waiting self.new.server ≡ [])) }
+    {
+        logs_edits();
+        names_roots();
+        match self.root() {
+            Ok(()) => {
+                let len = self.server.next_root_bytes();
+                reserve_root(&mut self.log, len)
+            }
+            Err(refusal) => Err(refusal),
+        }
+    }
+
+    /// Puts a root after tablets were moved, while no edits wait, in the room that was made for it. If it is refused, the
+    /// server is stopped; if only the allocation for its name in the log fails, the log stays over any root.
     fn root_moved(&mut self)
         ensures shown { (st : State) → S.shows self.old.server st → S.shows self.new.server st }
         ensures answered { (reply : CodecReply) × PutsRoot S.view S.calls (self.new.is_stopped ≡
@@ -339,6 +411,7 @@ impl<S: Journaled, M: MarkStore, L: Log> DurableServer<S, M, L> {
             self.is_stopped = true;
             return;
         }
+        self.log.release_beside();
         match self.server.checkpoint_now() {
             Ok(()) => {
                 let _ = self.empty_log();
@@ -435,7 +508,8 @@ impl<S: Journaled, M: MarkStore, L: Log> DurableServer<S, M, L> {
         }
     }
 
-    /// Splits or moves a tablet, and puts a root before and after.
+    /// Splits or moves a tablet, and puts a root before and after. If there is no room for the second root, the request is
+    /// refused after the first, and no tablet is changed.
     fn rearrange(&mut self, request: Request<'_>) -> Reply
         requires { MovesTablets request }
         ensures limits { HoldsWithinLimits (replied result) }
@@ -445,7 +519,7 @@ impl<S: Journaled, M: MarkStore, L: Log> DurableServer<S, M, L> {
         logs_edits();
         names_roots();
         S::journal_laws();
-        match self.root() {
+        match self.root_with_room() {
             Ok(()) => {
                 let reply = self.server.reply_to(request);
                 if !self.is_stopped {

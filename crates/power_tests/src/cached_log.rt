@@ -169,6 +169,12 @@ impl<V: Choice> LogFile for CachedLogFile<V> {
         self.reserve(0)
     }
 
+    fn reserve_beside(&mut self, _len: usize) -> Result<(), LogFault> {
+        self.reserve(0)
+    }
+
+    fn release_beside(&mut self) {}
+
     fn write(&mut self, more: &[u8]) -> Result<(), LogFault> {
         if self.is_stopped {
             self.faults = self.faults.saturating_add(1);

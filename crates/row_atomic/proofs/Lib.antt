@@ -38,6 +38,7 @@ pub mod PlacedTablets
 pub mod Readable
 pub mod RestedClusters
 pub mod RootFlushes
+pub mod RootLengths
 pub mod RootSweeps
 pub mod RowAnswers
 pub mod Scans

@@ -11,6 +11,7 @@ pub mod Open
 pub mod PlaceCaches
 pub mod ReadableLaw
 pub mod Recorded
+pub mod RootLengths
 pub mod RootSweeps
 pub mod Roots
 pub mod Seen

@@ -4,6 +4,7 @@ ghost use Rattle.std.specs.Prelude.{◌≡◌, [], IfErr, IfOk, OnOk};
 ghost use Rattle.row_atomic.specs.Changes.{Holds};
 ghost use Rattle.row_atomic.specs.Clusters.{spots_of};
 ghost use Rattle.row_atomic.specs.Recorded.{Follows, Tracks};
+ghost use Rattle.row_atomic.specs.RootLengths.{IsRoomBehind};
 ghost use Rattle.row_atomic.specs.Roots.{root_sum};
 ghost use Rattle.server_loop.specs.Commands.{checkpointed};
 ghost use Rattle.si_model.specs.Machine.{IsStorageRefusal, State};
@@ -135,6 +136,14 @@ impl<F: Files + Drop, M: MarkStore + Drop> Server<F, M> {
         let floor = self.collectors.greatest_floor();
         let sum = self.rows.cluster.root_sum(top, floor)?;
         Ok(RootName { top, sum })
+    }
+
+    /// The bytes of a root that is put now, and those of the greatest tablet, or the greatest number. Right after an
+    /// accepted checkpoint, a root that is put after a split or a move has no more.
+    pub fn next_root_bytes(&self) -> usize
+        ensures { IsRoomBehind (next_root self.now) result }
+    {
+        self.rows.cluster.next_root_bytes()
     }
 
     /// Puts a root that keeps the state that is shown. The journal is kept.

@@ -314,6 +314,12 @@ impl<L: Log + Drop> Log for Stopping<'_, L> {
         Ok(())
     }
 
+    fn reserve_beside(&mut self, _len: usize) -> Result<(), LogFault> {
+        Ok(())
+    }
+
+    fn release_beside(&mut self) {}
+
     fn append(&mut self, kind: RecordKind, stamp: Stamp, body: &[u8]) -> Result<(), LogFault> {
         let Some((mut log, is_last)) = self.to_write() else {
             return self.log_answer(Err(LogFault::Device), false);

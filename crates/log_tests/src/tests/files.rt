@@ -66,6 +66,12 @@ impl LogFile for FakeFile {
         Ok(())
     }
 
+    fn reserve_beside(&mut self, _len: usize) -> Result<(), LogFault> {
+        Ok(())
+    }
+
+    fn release_beside(&mut self) {}
+
     fn write(&mut self, more: &[u8]) -> Result<(), LogFault> {
         if self.is_stopped {
             return Err(self.fail());

@@ -12,6 +12,9 @@ const FILE: &str = "commit.log";
 
 const CUT: &str = "commit.cut";
 
+/// The name of the file that is room for another file.
+const ROOM: &str = "room.new";
+
 /// The bytes of a file of a folder.
 fn bytes_of(rt: &HostRuntime, folder: &str, name: &str) -> io::Result<Vec<u8>> {
     let path = format!(in rt.alloc(); "{folder}/{name}")?;
@@ -70,12 +73,14 @@ fn are_found(rt: &HostRuntime, folder: &str) -> Result<bool, Fail> {
 }
 
 /// Writes a root's record and one of edits into a new log, and room behind them. The log is renewed twice, with room for
-/// it and without.
+/// it and without. Meanwhile there is room for another file, and then it is given back.
 fn fill_log<L: Log>(log: &mut L) -> Result<(), LogFault> {
     log.append(RecordKind::Edits, 7, b"a")?;
     log.renew(RecordKind::Root, 8, b"\x01\x02\x03\x05")?;
     log.reserve_renewal()?;
+    log.reserve_beside(5_000)?;
     log.renew(RecordKind::Root, 9, b"\x01\x02\x03\x04")?;
+    log.release_beside();
     log.reserve(100)?;
     log.append(RecordKind::Edits, 9, b"b\0\0")
 }
@@ -96,6 +101,18 @@ fn is_made(rt: &HostRuntime, folder: &str) -> Result<bool, Fail> {
     let len = bytes_of(rt, folder, FILE)?.len();
     let found = opened(rt, folder)?;
     Ok(len == 45 + 131_072 && found == (2, 0) && bytes_of(rt, folder, CUT).is_err())
+}
+
+/// Whether a folder's log makes room for another file, which a kill leaves and the next opening removes.
+fn has_room(rt: &HostRuntime, folder: &str) -> Result<bool, Fail> {
+    let Some(mut found) = open_log(rt, folder)? else {
+        return Ok(false);
+    };
+    let was_there = bytes_of(rt, folder, ROOM).is_ok();
+    found.log.reserve_beside(5_000)?;
+    let len = bytes_of(rt, folder, ROOM)?.len();
+    let records = opened(rt, folder)?;
+    Ok(!was_there && len == 5_000 && records == (2, 0) && bytes_of(rt, folder, ROOM).is_err())
 }
 
 /// The first 70 bytes of a log, and zeros up to 200.
@@ -125,7 +142,7 @@ fn logs_in_a_folder(rt: HostRuntime) -> Result<(), Fail> {
     let folder = new_folder(&rt, process::id(rt.process()), "log")?;
     let path = folder.as_str();
     assert!(rt; open_log(&rt, path)?.is_none());
-    assert!(rt; is_made(&rt, path)? && is_cut(&rt, path)?);
+    assert!(rt; is_made(&rt, path)? && has_room(&rt, path)? && is_cut(&rt, path)?);
     assert!(rt; is_lost(&rt, path)? && are_found(&rt, path)?);
     fs::remove_dir_all(&rt, path)?;
     Ok(())

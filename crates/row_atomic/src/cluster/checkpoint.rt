@@ -1,28 +1,48 @@
 //! Checkpoints: every memtable is written to a file, and then a root file that has the lengths of the others.
 
-ghost use Rattle.std.specs.Prelude.{◌≡◌, IfErr, IfOk, IfSome, IsErrOf, OnErr, OnOk, length, replicate, IsOkUnless};
+ghost use Rattle.std.specs.Prelude.{◌≡◌, ◌-◌, ◌^◌, ℕ, min, IfErr, IfOk, IfSome, IsErrOf, OnErr, OnOk, length, replicate, IsOkUnless};
 ghost use Rattle.std.specs.FinMap.{get};
 ghost use Rattle.sorted_file.specs.Source.{IsFaultRefusal};
 ghost use Rattle.cell_key.specs.Faults.{HasReason};
+ghost use Rattle.metadata_table.specs.Places.{view_of};
 ghost use Rattle.metadata_table.specs.Roots.{file_names};
 ghost use Rattle.row_atomic.specs.Changes.{Holds, IsRefusalOf};
 ghost use Rattle.row_atomic.specs.Commands.{TellsFaults, done_of};
 ghost use Rattle.row_atomic.specs.Compactions.{minor as minor_compaction};
 ghost use Rattle.row_atomic.specs.Flushes.{KeepsShown, numbers_of};
+ghost use Rattle.row_atomic.specs.RootLengths.{IsRoomBehind, end_length, place_length};
 ghost use Rattle.row_atomic.specs.Roots.{AreFlushed, AreMeasured, Checkpoints, FlushesEach, PutsRoot, PutsRootOrNone, Rests, StaysOrRests, root_at, root_sum};
 
 use crate::cluster::Cluster;
 use crate::cluster::laws::{root_is_stored, root_outlasts_flushes};
-use cell_key::{Refusal, Stamp};
+use cell_key::{Refusal, Row, Stamp};
 use commit_log::crc32;
 use file_store::Files;
-use metadata_table::MetadataTable;
+use metadata_table::{MetadataTable, Place};
 use sorted_file::refusal_of;
 use std::alloc::Global;
-use tablet::unnamed_may_go;
+use tablet::{Tablet, unnamed_may_go};
 
 /// The name of the root file.
 pub const ROOT_NAME: u64 = 0;
+
+/// The bytes of a root in format 2 without those of its tablets.
+const ROOT_BYTES: usize = 48;
+
+/// The bytes of a tablet in a root without those of its end and of its files.
+const PLACE_BYTES: usize = 10;
+
+/// The bytes of an end's length.
+const END_BYTES: usize = 4;
+
+/// The bytes of a file in a root: its name and its length.
+const FILE_BYTES: usize = 16;
+
+/// The most bytes of a tablet in a root.
+const MOST_PLACE_BYTES: usize = PLACE_BYTES
+    + END_BYTES
+    + Row::MOST_BYTES
+    + Tablet::MOST_FILES * FILE_BYTES;
 
 /// The length of a file in bytes; 0 if it doesn't exist.
 fn length_of<F: Files>(name: u64, files: &mut F) -> Result<u64, Refusal>
@@ -94,6 +114,26 @@ fn zero_lengths(alloc: Global, table: &MetadataTable) -> Result<Vec<u64>, Refusa
     Ok(lengths)
 }
 
+/// The bytes of a tablet's end in a root, without the first one, which tells whether there is one.
+fn end_len(end: &Option<Row>) -> usize
+    ensures { result ≡ end_length end.now }
+{
+    match end {
+        Some(row) => row.as_bytes().len() + END_BYTES,
+        None => 0,
+    }
+}
+
+/// The bytes of a tablet's place in a root, or the greatest number.
+fn place_len(place: &Place) -> usize
+    ensures { result ≡ min (place_length (view_of place.now)) (2 ^ 64 - 1) }
+{
+    let files = place.files.len().saturating_mul(FILE_BYTES);
+    end_len(&place.end)
+        .saturating_add(files)
+        .saturating_add(PLACE_BYTES)
+}
+
 impl<F: Files> Cluster<F> {
     /// The checksum of the root with these stamps and the cluster's places and next name: the CRC-32 of its bytes in
     /// format 2, with each file's length written as 0.
@@ -110,6 +150,20 @@ impl<F: Files> Cluster<F> {
         self.table
             .write_root(top, floor, self.next_name, &lengths, &mut image)?;
         Ok(crc32(&image, &[]))
+    }
+
+    /// The bytes of a root that is put now, and those of the greatest tablet, or the greatest number. If no memtable has
+    /// cells, a root that is put after a split or a move has no more.
+    pub fn next_root_bytes(&self) -> usize
+        ensures { (top floor : ℕ) → IsRoomBehind (root_at top floor self.now) result }
+    {
+        let mut bytes = ROOT_BYTES + MOST_PLACE_BYTES;
+        let mut rest = self.table.places();
+        'places: while let Some((place, after)) = rest.split_first() {
+            bytes = bytes.saturating_add(place_len(place));
+            rest = after;
+        }
+        bytes
     }
 
     /// Compacts every tablet as `minor` does, in the order of their ends, until one is refused.

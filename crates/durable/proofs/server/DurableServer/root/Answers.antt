@@ -231,3 +231,41 @@ returns-in-Err-clause-settles g c =
       logged = λ now reached shown logs. let (root, rooted, log, lasts) = any now shown logs in inr (root, rooted, log);
       lasting = λ now reached shown logs st lasts. inr (any now shown logs).3;
     }
+
+pub returns-in-Ok-clause-on : goal.returns-in-Ok-clause-on
+returns-in-Ok-clause-on g c = ok_through c.empty_log.result (λ same. same ∙ c.log_waiting.ensures.on c.if-not-log_waiting.false) c.empty_log.ensures.on
+
+pub returns-in-Ok-clause-later : goal.returns-in-Ok-clause-later
+returns-in-Ok-clause-later g c =
+    let waiting = c.log_waiting.ensures.later in
+    let room = c.reserve_renewal.ensures.reason.later in
+    let any = c.append.ensures.cause.later in
+    let name = c.empty_log.ensures.later in
+    omega (arith, waiting, room, any, name)
+
+pub returns-in_err-reserve_renewal-clause-later : goal.returns-in_err-reserve_renewal-clause-later
+returns-in_err-reserve_renewal-clause-later g c =
+    let waiting = c.log_waiting.ensures.later in
+    let room = c.in_err-reserve_renewal.ensures.reason.later in
+    omega (arith, waiting, room)
+
+pub returns-then-is_err-clause-later : goal.returns-then-is_err-clause-later
+returns-then-is_err-clause-later g c =
+    let waiting = c.log_waiting.ensures.later in
+    let room = c.reserve_renewal.ensures.reason.later in
+    let any = c.append.ensures.cause.later in
+    omega (arith, waiting, room, any)
+
+pub returns-then-is_err-2-clause-later : goal.returns-then-is_err-2-clause-later
+returns-then-is_err-2-clause-later g c =
+    let waiting = c.log_waiting.ensures.later in
+    let room = c.reserve_renewal.ensures.reason.later in
+    let any = c.append.ensures.cause.later in
+    omega (arith, waiting, room, any)
+
+pub returns-in-Err-clause-later : goal.returns-in-Err-clause-later
+returns-in-Err-clause-later g c =
+    let waiting = c.log_waiting.ensures.later in
+    let room = c.reserve_renewal.ensures.reason.later in
+    let any = c.append.ensures.cause.later in
+    omega (arith, waiting, room, any)

@@ -47,9 +47,9 @@ pub returns-in-Ok-clause-kept : goal.returns-in-Ok-clause-kept
 returns-in-Ok-clause-kept g c = λ before after old shown held none goes covered lasts.
     let p = c.checkpoint_now.ensures in
     let m = c.store.ensures in
-    let gains = λ (records : List (List ℕ)) (held : g.L.Log.holds c.args.self.now.log records). on_ok c.append.result c.is_err-2.result c.is_err-2.ensures.value c.if-is_err-2.false c.append.ensures.ok records (c.reserve_renewal.ensures.same records held) in
+    let gains = λ (records : List (List ℕ)) (held : g.L.Log.holds c.args.self.now.log records). c.release_beside.ensures.same _ (on_ok c.append.result c.is_err-2.result c.is_err-2.ensures.value c.if-is_err-2.false c.append.ensures.ok records (c.reserve_renewal.ensures.same records held)) in
     let stored = on_ok c.store.result c.is_err-3.result c.is_err-3.ensures.value c.if-is_err-3.false m.ok in
-    let new = record c.args.self.now { server = c.checkpoint_now.new.self; log = c.append.new.self; marks = c.store.new.self } in
+    let new = record c.args.self.now { server = c.checkpoint_now.new.self; log = c.release_beside.new.self; marks = c.store.new.self } in
     let within = m.limit in
     let same = p.keeps.stamp in
     let limit : new.marks.stored ≤ most_stamp = omega (arith, stored, m.covered, within) in
@@ -68,9 +68,9 @@ pub returns-in-Err-clause-kept : goal.returns-in-Err-clause-kept
 returns-in-Err-clause-kept g c = λ before after old shown held none goes covered lasts.
     let p = c.checkpoint_now.ensures in
     let m = c.store.ensures in
-    let gains = λ (records : List (List ℕ)) (held : g.L.Log.holds c.args.self.now.log records). on_ok c.append.result c.is_err-2.result c.is_err-2.ensures.value c.if-is_err-2.false c.append.ensures.ok records (c.reserve_renewal.ensures.same records held) in
+    let gains = λ (records : List (List ℕ)) (held : g.L.Log.holds c.args.self.now.log records). c.release_beside.ensures.same _ (on_ok c.append.result c.is_err-2.result c.is_err-2.ensures.value c.if-is_err-2.false c.append.ensures.ok records (c.reserve_renewal.ensures.same records held)) in
     let stored = on_ok c.store.result c.is_err-3.result c.is_err-3.ensures.value c.if-is_err-3.false m.ok in
-    let new = record c.args.self.now { server = c.checkpoint_now.new.self; log = c.append.new.self; marks = c.store.new.self; is_stopped = true } in
+    let new = record c.args.self.now { server = c.checkpoint_now.new.self; log = c.release_beside.new.self; marks = c.store.new.self; is_stopped = true } in
     let within = m.limit in
     let same = p.keeps.stamp in
     let limit : new.marks.stored ≤ most_stamp = omega (arith, stored, m.covered, within) in

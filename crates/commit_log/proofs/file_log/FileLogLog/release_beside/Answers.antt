@@ -1,0 +1,6 @@
+use Rattle.commit_log.proofs.Holding.{keeps}
+use Rattle.commit_log.proofs.file_log.FileLogLog.release_beside.Goals as goal
+
+pub returns-clause-same : goal.returns-clause-same
+returns-clause-same g c =
+    keeps (g.F.LogFile.bytes c.args.self.now.file) (g.F.LogFile.bytes c.release_beside.new.self) (g.F.LogFile.is_stopped c.args.self.now.file) (g.F.LogFile.is_stopped c.release_beside.new.self) c.args.self.now.store c.args.self.now.next c.release_beside.ensures.same c.release_beside.ensures.stays
