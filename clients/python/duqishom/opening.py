@@ -30,6 +30,7 @@ def connect(
     checkpoint_at_close: bool = True,
     record: str | PathLike[str] | None = None,
     log: bool | None = None,
+    collect: int = 10_000,
 ) -> Store:
     """Opens the store of a folder, which is made if it isn't there, or that of the gateway at `unix:PATH`, at the path
     of a socket, or at HOST:PORT; a new one in memory if no address is given. The options are those of `Store`.
@@ -44,7 +45,7 @@ def connect(
     if folder is not None and not os.path.exists(folder):
         os.mkdir(folder)
     return Store(
-        program, patience, words, folder, checkpoint_at_close, timeout, socket, record, log, lock_wait, reconnect
+        program, patience, words, folder, checkpoint_at_close, timeout, socket, record, log, lock_wait, reconnect, collect
     )
 
 

@@ -31,6 +31,7 @@ from duqishom.autocommit import AutoCommit
 from duqishom.batches import Batch, answers_of, request_frame, request_frames
 from duqishom.cells import Cell
 from duqishom.changes import Changes, watch_of
+from duqishom.collection import OwnCollection
 from duqishom.connection import Connection
 from duqishom.copies import NotCopied, copy_checkpoint
 from duqishom.folders import Unsaved, has_log, started
@@ -112,6 +113,7 @@ class Store(AutoCommit):
         log: bool | None = None,
         lock_wait: float | None = None,
         reconnect: float = 10.0,
+        collect: int = 10_000,
     ) -> None:
         """Starts the program, from TABLETD, PATH or the repository if none is named, with these words on its command
         line.
@@ -130,6 +132,9 @@ class Store(AutoCommit):
         or a host and a port.
 
         A lock is waited for `lock_wait` seconds, and then cleaned: 1 s at a gateway, and 0.03 s alone. A patience says more.
+
+        Old versions are collected by itself after `collect` commits, and then again and again, some cells behind a commit; 0
+        is never. At a socket the gateway does it.
 
         With `record`, a folder, all frames sent and received are recorded there for `tablet_audit`: see `Recording`.
         """
@@ -155,6 +160,7 @@ class Store(AutoCommit):
         self._unsaved = Unsaved(self.folder is not None, self.has_log)
         self._tablets = TabletMap(NEW_STORE if self.folder is None else tablets_of(self.folder))
         self._plans = StorePlans(self._patience, None if self._is_remote else self._tablets, lambda: self.has_log)
+        self._collection = OwnCollection(0 if self._is_remote else collect, self._plans)
         OPEN.add(self)
 
     @property
@@ -187,6 +193,8 @@ class Store(AutoCommit):
                 raise ProgramEnded(ended.status, lost) from None
             answers = answers_of(operations, replies, self._is_remote)
             self._unsaved.note_answered(operations, answers, self._plans.stamps.note(operations, answers))
+            if self._collection.note(answers):
+                self._collection.go_on(lambda trip: self._take(trip, None))
             return answers
 
     def _connected(self, wanted: Connection | None) -> Connection:

@@ -572,7 +572,25 @@ class Refusals(StoreTest):
 
 
 class Unasked(unittest.TestCase):
-    """Compactions that the words of the command line ask for."""
+    """Compactions that the words of the command line ask for, and collections that the store makes by itself."""
+
+    def test_old_versions(self) -> None:
+        """Behind the fifth commit a collector is opened, and behind the next it makes its visits; so again and again."""
+        left = {6: [10, 12], 10: [10, 12, 14, 16, 18, 20], 11: [20, 22], 14: [20, 22, 24, 26, 28]}
+        with Store(collect=5) as store:
+            for number in range(1, 15):
+                store.run(lambda t: t.set(b"r", b"c", b"v"))
+                if number in left:
+                    stamps = range(2, 2 * number + 1, 2)
+                    found = [stamp for stamp in stamps if store.raw(b"r", b"c", Qualifier.WRITE, stamp, stamp)]
+                    self.assertEqual(found, left[number])
+
+    def test_old_versions_stay(self) -> None:
+        """If they aren't to be collected."""
+        with Store(collect=0) as store:
+            for _ in range(3):
+                store.run(lambda t: t.set(b"r", b"c", b"v"))
+            self.assertIsNotNone(store.raw(b"r", b"c", Qualifier.WRITE, 2, 2))
 
     def test_full_memtables(self) -> None:
         with Store(words=("--flush", "2")) as store:
