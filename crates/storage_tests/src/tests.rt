@@ -9,6 +9,7 @@ mod memory;
 mod memtables;
 mod pieces;
 mod places;
+mod run_merges;
 mod slow;
 mod slow_roots;
 mod sorted_files;
