@@ -9,7 +9,7 @@ import unittest
 from collections.abc import Callable
 from pathlib import Path
 
-from duqishom import Committed, Device, Qualifier, Store, Value
+from duqishom import Committed, Device, Qualifier, Store, Transaction, Value
 from duqishom.files import log_of
 from duqishom.folders import read_root
 from duqishom.program import default_program
@@ -220,9 +220,14 @@ class FullDisk(FolderTest):
     def test_a_collector_without_room(self) -> None:
         """A step of many visits is refused as long as there is no room for what it may write."""
         rows = [bytes([number]) * 4_000 for number in range(1, 6)]
+
+        def put_all(t: Transaction, number: int) -> None:
+            for row in rows:
+                t.put(row, FAMILY, b"%d" % number)
+
         with self.opened() as store:
             for number in range(130):
-                store.run(lambda t: [t.put(row, FAMILY, b"%d" % number) for row in rows])
+                store.run(lambda t: put_all(t, number))
             collector = store.collect_begin().number
             # There is room for four visits of a megabyte, and not for five
             self.limit(self.log().stat().st_size + 4_600_000)

@@ -138,7 +138,8 @@ class Sessions(Limits):
 
     def test_bytes_of_all_sessions_in_a_folder(self) -> None:
         """The option reaches a store in a folder, and one with a log."""
-        for log in ([], ["--log"]):
+        ways: list[list[str]] = [[], ["--log"]]
+        for log in ways:
             with tempfile.TemporaryDirectory() as folder:
                 self.assert_met(
                     [
