@@ -232,7 +232,7 @@ impl Household {
     }
 
     /// Collects old versions, again and again: once clients have made so many commits since the last collection, or as
-    /// many as that one had visits, if they were more. So a commit pays for one visit at most.
+    /// many as that one had visits, if they were more. So there is no more than a visit for each commit, on the whole.
     pub async fn collect(self: Rc<Self>, after: u64) {
         let (mut due, mut open) = (after, None);
         loop {

@@ -12,14 +12,17 @@ from duqishom.program import ProgramEnded
 from duqishom.refusals import Refused
 from duqishom.several import CommitDone
 
-# The visits of a trip. So a commit takes some milliseconds more at most.
-VISITS = 64
+# The commits after which a store of its own collects for the first time.
+COMMITS = 10_000
+
+# The visits of a trip: few, so that a commit behind which there is one takes not much longer.
+VISITS = 16
 
 
 class OwnCollection:
     """Once so many commits were made since the last collection, or as many as that one had visits, if they were more, a trip
-    of the next one follows each commit until it has ended. So a commit pays for one visit at most. A collection that fails is
-    given up, and nobody is told: the next one is due after as many commits."""
+    of the next one follows each commit until it has ended. So there is no more than a visit for each commit, on the whole. A
+    collection that fails is given up, and nobody is told: the next one is due after as many commits."""
 
     def __init__(self, after: int, plans: StorePlans) -> None:
         """After 0 commits there is none."""

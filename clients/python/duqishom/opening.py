@@ -9,6 +9,7 @@ from functools import wraps
 from os import PathLike, fspath
 from typing import Any, Concatenate, ParamSpec, TypeVar
 
+from duqishom.collection import COMMITS
 from duqishom.plans import Patience
 from duqishom.remote import Address, address_of
 from duqishom.store import Store
@@ -30,7 +31,7 @@ def connect(
     checkpoint_at_close: bool = True,
     record: str | PathLike[str] | None = None,
     log: bool | None = None,
-    collect: int = 10_000,
+    collect: int = COMMITS,
 ) -> Store:
     """Opens the store of a folder, which is made if it isn't there, or that of the gateway at `unix:PATH`, at the path
     of a socket, or at HOST:PORT; a new one in memory if no address is given. The options are those of `Store`.

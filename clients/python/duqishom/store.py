@@ -31,7 +31,7 @@ from duqishom.autocommit import AutoCommit
 from duqishom.batches import Batch, answers_of, request_frame, request_frames
 from duqishom.cells import Cell
 from duqishom.changes import Changes, watch_of
-from duqishom.collection import OwnCollection
+from duqishom.collection import COMMITS, OwnCollection
 from duqishom.connection import Connection
 from duqishom.copies import NotCopied, copy_checkpoint
 from duqishom.folders import Unsaved, has_log, started
@@ -113,7 +113,7 @@ class Store(AutoCommit):
         log: bool | None = None,
         lock_wait: float | None = None,
         reconnect: float = 10.0,
-        collect: int = 10_000,
+        collect: int = COMMITS,
     ) -> None:
         """Starts the program, from TABLETD, PATH or the repository if none is named, with these words on its command
         line.

@@ -83,6 +83,13 @@ class Stores(unittest.TestCase):
         self.assertTrue(until(lambda: not is_there(later[0])))
         self.assertTrue(is_there(newest))
 
+    def test_old_versions_stay(self) -> None:
+        """With 0."""
+        store = self.store(Gateway(self, ["--collect", "0"]))
+        for _ in range(50):
+            store.run(lambda t: t.set(ROW, FAMILY, b"x"))
+        self.assertIsNotNone(store.raw(ROW, FAMILY, Qualifier.WRITE, 0, 4))
+
     def test_the_bytes_of_all_sessions(self) -> None:
         """The program's limit is that of all clients together."""
         gateway = Gateway(self, ["--session-bytes", "1048576"])

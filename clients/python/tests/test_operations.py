@@ -51,6 +51,7 @@ from duqishom import (
     Value,
     Version,
     WrongPhase,
+    connect,
     read_record,
 )
 from duqishom.folders import tuned
@@ -577,7 +578,7 @@ class Unasked(unittest.TestCase):
     def test_old_versions(self) -> None:
         """Behind the fifth commit a collector is opened, and behind the next it makes its visits; so again and again."""
         left = {6: [10, 12], 10: [10, 12, 14, 16, 18, 20], 11: [20, 22], 14: [20, 22, 24, 26, 28]}
-        with Store(collect=5) as store:
+        with connect(collect=5) as store:
             for number in range(1, 15):
                 store.run(lambda t: t.set(b"r", b"c", b"v"))
                 if number in left:
