@@ -49,11 +49,15 @@ abbrev pub ShowsAt : Option Cleaner → ℕ → State → Type 0
 ShowsAt None i st = finmap.get st.cleaners i ≡ None
 ShowsAt (Some cleaner) i st = ShowsCleaner cleaner i st
 
+-- how many cleaners are stored
+abbrev pub cleaner_count : Cleaners → ℕ
+cleaner_count cleaners = btree.btree_map_len cleaners.cleaners
+
 -- the stored cleaners are the open ones, and the next number is the machine's
 pub record ShowsCleaners (cleaners : Cleaners) (st : State) : Type 0 where
   pub next : cleaners.next ≡ st.next_cleaner
   pub each : (i : ℕ) → ShowsAt (btree.get nat_cmp cleaners.cleaners i) i st
-  pub count : finmap.len st.cleaners ≡ btree.btree_map_len cleaners.cleaners
+  pub count : finmap.len st.cleaners ≡ cleaner_count cleaners
 
 -- From each reached state that is shown before, the machine may give this reply, and goes to a state that is shown
 -- after.

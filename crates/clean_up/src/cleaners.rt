@@ -1,7 +1,7 @@
 //! The open cleaners.
 
 ghost use Rattle.std.specs.Prelude.{◌≡◌, ◌+◌, ◌<◌, ◌≤◌, ◌^◌, ◌⊎◌, IfErr, IfOk, IsErrOf, OnErr, is_some};
-ghost use Rattle.std.specs.FinMap.{empty, get};
+ghost use Rattle.std.specs.FinMap.{empty, get, len};
 ghost use Rattle.cell_key.specs.Faults.{HasReason};
 ghost use Rattle.rows.specs.Calls.{KeepsBelow, OnlyReads};
 ghost use Rattle.rows.specs.Room.{HasNoRoom};
@@ -12,7 +12,7 @@ ghost use Rattle.si_model.specs.Replies.{clean_reply, clean_start_reply, result_
 ghost use Rattle.clean_up.specs.Locks.{LacksPlace};
 ghost use Rattle.clean_up.specs.Refusals.{IsBeginRefusal, IsStepRefusal};
 ghost use Rattle.clean_up.specs.Room.{ChangesNext, EditsOfStep, Makes, TakesRoom};
-ghost use Rattle.clean_up.specs.Shows.{ChangesOne, InEachShown, IsUnopened, IsUsedUp, Opens, SameCleaners, ShowsCleaners, Steps, TouchesFor, is_last};
+ghost use Rattle.clean_up.specs.Shows.{ChangesOne, InEachShown, IsUnopened, IsUsedUp, Opens, SameCleaners, ShowsCleaners, Steps, TouchesFor, cleaner_count, is_last};
 ghost use Rattle.clean_up.specs.Told.{BeginsWith, IsNextReadable, MeetsBadRecord, StepMakes};
 
 use crate::cleaner::Cleaner;
@@ -60,6 +60,14 @@ impl Cleaners {
             next: 1,
             cleaners: BTreeMap::new(alloc),
         }
+    }
+
+    /// How many cleaners are open.
+    pub fn len(&self) -> usize
+        ensures count { result ≡ cleaner_count self.now }
+        ensures shown { (st : State) → ShowsCleaners self.now st → result ≡ len st.cleaners }
+    {
+        self.cleaners.len()
     }
 
     /// Whether a cleaner is open.

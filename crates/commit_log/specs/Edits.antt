@@ -1,6 +1,6 @@
 -- Edits of cells as the bytes of records, one after another: in a new record as fields, in one of an earlier program
 -- as entries of a sorted file.
-use Rattle.std.specs.Prelude.{◌≡◌, ◌<◌, ◌^◌, ◌+◌, ℕ, Bool, true, false, List, [], ◌∷◌, ◌++◌, length, is_some, Option, IfSome, Some, None, flat_map, map}
+use Rattle.std.specs.Prelude.{◌≡◌, ◌≢◌, ◌≤◌, ◌<◌, ◌^◌, ◌+◌, ◌⊎◌, ℕ, Bool, true, false, List, [], ◌∷◌, ◌++◌, length, is_some, Option, IfSome, Some, None, flat_map, map}
 use Rattle.std.specs.Int.{to_be_bytes, w16}
 use Rattle.std.specs.List.{AllByRecursion}
 use Rattle.cell_key.specs.Cells.{Cells, IsEditOf, after_edits, edited_key, qualifier_rank, version}
@@ -105,6 +105,23 @@ pub record IsStoredEdit (edit : Edit) : Type 0 where
   pub row : IsRow (edited_key edit).row
   pub family : IsFamily (edited_key edit).family
   pub limits : IsEditOf (edited_key edit).row edit
+
+-- an edit's stamp is at most the mark
+abbrev pub IsStampedUpTo : ℕ → Edit → Type 0
+IsStampedUpTo mark edit = (edited_key edit).stamp ≤ mark
+
+-- a record of format 1 has edits within the limits, which no stamp above the mark is in
+abbrev pub IsMarked : ℕ → List ℕ → Type 0
+IsMarked mark bytes =
+    (edits : List Edit) × (bytes ≡ spelled_entries edits) × AllByRecursion IsStoredEdit edits
+    × AllByRecursion (IsStampedUpTo mark) edits
+
+-- it has no edits within the limits, or one with a stamp above the mark
+abbrev pub IsUnmarked : ℕ → List ℕ → Type 0
+IsUnmarked mark bytes =
+    ((edits : List Edit) → AllByRecursion IsStoredEdit edits → bytes ≢ spelled_entries edits)
+    ⊎ ((edits : List Edit) × (bytes ≡ spelled_entries edits) × AllByRecursion IsStoredEdit edits
+    × ¬ AllByRecursion (IsStampedUpTo mark) edits)
 
 -- a new record of edits
 abbrev pub edits_record : ℕ → List Edit → List ℕ

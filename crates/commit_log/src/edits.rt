@@ -8,11 +8,12 @@ ghost use Rattle.cell_key.specs.Entries.{Entry, lent_entry, spelled};
 ghost use Rattle.cell_key.specs.Keys.{IsStored};
 ghost use Rattle.cell_key.specs.Texts.{escaped};
 ghost use Rattle.cell_key.specs.declared.edits.Edit.{Edit as CellEdit};
-ghost use Rattle.commit_log.specs.Edits.{HasShortParts, HoldEdits, IsStoredEdit, Part, edit_value, form_kind, lent_key, made_in, spelled_as, spelled_edit, spelled_edits, spelled_entries, spelled_entry, spelled_part};
+ghost use Rattle.commit_log.specs.Edits.{HasShortParts, HoldEdits, IsMarked, IsStampedUpTo, IsStoredEdit, IsUnmarked, Part, edit_value, form_kind, lent_key, made_in, spelled_as, spelled_edit, spelled_edits, spelled_entries, spelled_entry, spelled_part};
 ghost use Rattle.commit_log.specs.Frames.{bytes_of};
 ghost use Rattle.commit_log.specs.declared.edits.EditForm.{EditForm as Form};
 ghost use Rattle.commit_log.specs.declared.records.RecordKind.TheVariants.{AnyRoot, Root};
 
+use crate::faults::LogFault;
 use crate::fields::{KeyFields, push_field, push_key, split_field, split_key, split_value};
 use crate::records::{RecordKind, split_record};
 use cell_key::{CellKey, Edit, EntryRef, Family, MOST_STAMP, Refusal, Row, Stamp};
@@ -316,6 +317,32 @@ fn read_edits(
         rest = after;
     }
     Ok(())
+}
+
+/// Whether the stamps of edits are up to a mark.
+fn are_up_to(edits: &[Edit], mark: Stamp) -> bool
+    ensures { IsTrue result ↔ AllByRecursion (IsStampedUpTo mark) edits.now }
+{
+    edits.iter().all(|edit| edited_key(edit).stamp <= mark)
+}
+
+/// Checks that a record of format 1 has edits, and that their stamps are up to a mark.
+///
+/// # Errors
+///
+/// `Damaged` if it has no edits within the limits, or one with a stamp above the mark; `Memory`.
+pub(crate) fn check_marked(alloc: Global, bytes: &[u8], mark: Stamp) -> Result<(), LogFault>
+    ensures ok { OnOk result (IsMarked mark bytes.now) }
+    ensures damaged { IsErrOf result LogFault.Damaged → IsUnmarked mark bytes.now }
+    ensures fault { IfErr result (λ fault. (fault ≡ LogFault.Damaged)
+        ⊎ (fault ≡ LogFault.Memory)) }
+{
+    let mut edits = Vec::new(alloc);
+    match read_edits(alloc, EditForm::Entries, bytes, &mut edits) {
+        Ok(()) if are_up_to(&edits, mark) => Ok(()),
+        Err(Refusal::NoMemory) => Err(LogFault::Memory),
+        _ => Err(LogFault::Damaged),
+    }
 }
 
 /// The form of the edits in a record of a kind, if it holds edits.

@@ -1,6 +1,7 @@
 //! A log in a folder: its file, the sign of its store, and the bytes that were cut.
 
-ghost use Rattle.std.specs.Prelude.{◌≡◌, ◌≢◌, ◌<◌, ◌^◌, Err, IfErr, IfOk, IfSome, IsErr, IsErrOf, IsOk, None, Ok, OnErr, OnOk, Some, true};
+ghost use Rattle.std.specs.Prelude.{◌≡◌, ◌≢◌, ◌<◌, ◌^◌, Err, IfErr, IfOk, IfSome, IsErr, IsErrOf, IsOk, IsSomeAnd, None, Ok, OnErr, OnOk, Some, length, true};
+ghost use Rattle.std.specs.Io.KnownBytes.{Consumes};
 ghost use Rattle.std.specs.IoError.{error_kind};
 ghost use Rattle.commit_log.specs.Faults.{HasFaultCause};
 ghost use Rattle.commit_log.specs.Files.{IsWithoutRoom};
@@ -13,6 +14,7 @@ use crate::files::LogFile;
 use crate::frames::{HEAD, read_log};
 use crate::numbers::number_bytes;
 use crate::store_log::{new_log, read_store_log, upgrade_log};
+use cell_key::Stamp;
 use disk::{
     create_beside, if_there, look_at, open_regular, replace_file, sync_folder, write_synced,
 };
@@ -115,36 +117,47 @@ fn write_zeros<W: Write + Seek + OpenFile>(
     file.sync_data()
 }
 
-/// The first bytes of a file, so many.
-fn read_front<S: Read + Seek>(alloc: Global, file: &mut S, len: usize) -> io::Result<Vec<u8>> {
+/// So many bytes of a file, from where it was moved to. A failure to move it or to read one of them is passed on.
+fn read_front<S: Read>(
+    alloc: Global,
+    file: &mut S,
+    moved: io::Result<u64>,
+    len: usize,
+) -> io::Result<Vec<u8>>
+    ensures length { IfOk result (λ bytes. length bytes.items ≡ len) }
+    ensures read { IfOk result (λ bytes.
+        Consumes (S.remaining file.old) (S.remaining file.new) bytes.items) }
+    ensures failed { IfErr moved (λ error. result ≡ Err error) }
+{
+    moved?;
     let mut bytes = vec![in alloc; 0u8; len]?;
-    file.seek(SeekFrom::Start(0))?;
     file.read_exact(&mut bytes)?;
     Ok(bytes)
 }
 
-/// All bytes of a file.
-fn read_all<S: Read + Seek>(alloc: Global, file: &mut S) -> io::Result<Vec<u8>> {
-    let mut bytes = Vec::new(alloc);
-    file.seek(SeekFrom::Start(0))?;
-    file.read_to_end(&mut bytes)?;
-    Ok(bytes)
-}
-
-/// The bytes of an opened file; `None` if it was not found. Any other error is passed on.
-fn read_opened<S: Read + Seek + Drop>(
+/// All bytes of an opened file; `None` if it was not found. Any other failure is passed on, also that of a later read:
+/// the bytes before it aren't taken for all.
+///
+/// # Errors
+///
+/// The failure to open the file, or to read it.
+pub fn read_opened<S: Read + Drop>(
     alloc: Global,
     opened: io::Result<S>,
 ) -> io::Result<Option<Vec<u8>>>
+    ensures all { IfOk opened (λ file. IfSome (S.remaining file) (λ rest.
+        IfOk result (λ found. IsSomeAnd found (λ bytes. bytes.items ≡ rest)))) }
     ensures missing { IfErr opened (λ error.
         error_kind error ≡ ErrorKind.NotFound → result ≡ Ok None) }
     ensures failed { IfErr opened (λ error.
         error_kind error ≢ ErrorKind.NotFound → result ≡ Err error) }
 {
-    match if_there(opened)? {
-        Some(mut file) => Ok(Some(read_all(alloc, &mut file)?)),
-        None => Ok(None),
-    }
+    let Some(mut file) = if_there(opened)? else {
+        return Ok(None);
+    };
+    let mut bytes = Vec::new(alloc);
+    file.read_to_end(&mut bytes)?;
+    Ok(Some(bytes))
 }
 
 /// The bytes of a file of a folder; `None` if it doesn't exist.
@@ -291,16 +304,17 @@ fn keep_cut<R: Folders + AllocGlobal>(rt: &R, folder: &str, cut: &[u8]) -> Resul
     place_file(rt, folder, CUT, cut).map_err(fault_of)
 }
 
-/// Replaces a log of format 1 by one of format 2 with the same records. Answers the length of its records, and how many
-/// bytes were cut.
+/// Replaces a log of format 1 by one of format 2 with the same records, if no edit has a stamp above the stored mark.
+/// Answers the length of its records, and how many bytes were cut.
 fn upgrade_file<R: Folders + AllocGlobal>(
     rt: &R,
     folder: &str,
     bytes: &[u8],
+    mark: Stamp,
 ) -> Result<(usize, usize), LogFault> {
     let (store, first) = draw_numbers(rt).map_err(fault_of)?;
     let cut = torn(&bytes[read_log(rt.alloc(), bytes)?.end..]);
-    let upgraded = upgrade_log(rt.alloc(), bytes, store, first)?;
+    let upgraded = upgrade_log(rt.alloc(), bytes, mark, store, first)?;
     keep_cut(rt, folder, cut)?;
     place_file(rt, folder, LOG, &upgraded).map_err(fault_of)?;
     keep_sign(rt, folder, store, None)?;
@@ -330,15 +344,17 @@ fn force_records<R: Folders + AllocGlobal>(
 }
 
 /// Opens the log of a folder, if there is one, with all its records on the disk. A log of format 1 is upgraded to
-/// format 2. No other program may use the folder.
+/// format 2, if its edits have stamps up to the stored mark. No other program may use the folder.
 ///
 /// # Errors
 ///
 /// `Damaged` if its file is not a log, a later whole frame follows a broken one, the folder's sign is not this log's,
-/// or the folder has a sign but no log; `Refused` if a record of format 1 is too long; `Device`; `Memory`.
+/// the folder has a sign but no log, or a record of format 1 isn't edits within the limits or has one with a stamp
+/// above the mark; `Refused` if a record of format 1 is too long; `Device`; `Memory`.
 pub fn open_log<R: Folders<File = File> + AllocGlobal + Drop>(
     rt: R,
     folder: &str,
+    mark: Stamp,
 ) -> Result<Option<OpenLog<R>>, LogFault> {
     let sign = read_file(&rt, folder, SIGN)?;
     let Some(bytes) = read_file(&rt, folder, LOG)? else {
@@ -352,7 +368,7 @@ pub fn open_log<R: Folders<File = File> + AllocGlobal + Drop>(
     let (end, cut) = if !bytes.starts_with(&HEAD) {
         force_records(&rt, folder, &bytes, sign)?
     } else if sign.is_none() {
-        upgrade_file(&rt, folder, &bytes)?
+        upgrade_file(&rt, folder, &bytes, mark)?
     } else {
         return Err(LogFault::Damaged);
     };
@@ -510,7 +526,8 @@ impl<R: Folders<File = File> + AllocGlobal + Drop> LogFile for DirFile<R> {
         let called = if self.is_stopped {
             Err(io::Error::from(ErrorKind::Other))
         } else {
-            read_front(alloc, &mut self.file, self.end)
+            let moved = self.file.seek(SeekFrom::Start(0));
+            read_front(alloc, &mut self.file, moved, self.end)
         };
         self.count_fault(called)
     }

@@ -23,7 +23,7 @@ pub use edits::{edited_key, edits_in, entries_len, push_edits};
 pub use faults::LogFault;
 pub use file_log::FileLog;
 pub use files::LogFile;
-pub use folder::{DirFile, DirLog, OpenLog, make_log, open_log};
+pub use folder::{DirFile, DirLog, OpenLog, make_log, open_log, read_opened};
 pub use frames::{HEAD, LONGEST_RECORD, Reading, first_record, frame_of, read_log};
 pub use logs::Log;
 pub use mem_file::MemFile;

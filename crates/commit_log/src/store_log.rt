@@ -2,11 +2,13 @@
 
 ghost use Rattle.std.specs.Prelude.{◌≡◌, ◌≢◌, ◌+◌, ◌*◌, ◌≤◌, ◌<◌, ◌^◌, ◌⊎◌, ◌++◌, ◌∷◌, ◌↔◌, [], ℕ, List, drop, length, take, IfErr, IfNone, IfOk, IfSome, IsErrOf, OnOk};
 ghost use Rattle.std.specs.List.{AllByRecursion};
+ghost use Rattle.commit_log.specs.Edits.{IsMarked, IsUnmarked};
 ghost use Rattle.commit_log.specs.Frames.{IsBody, IsLog, bytes_of, frame, head};
 ghost use Rattle.commit_log.specs.Numbered.{IsShort, IsStoreLog, numbered, store_head, store_log, upgraded};
-ghost use Rattle.commit_log.specs.Records.{any_root, spelled_record};
+ghost use Rattle.commit_log.specs.Records.{HasRecord, any_root, spelled_record};
 ghost use Rattle.commit_log.specs.declared.records.RecordKind.TheVariants.{Entries};
 
+use crate::edits::check_marked;
 use crate::faults::LogFault;
 use crate::frames::{LONGEST_RECORD, read_log};
 use crate::numbered::{NO_NUMBER, first_numbered, numbered_frame, read_numbered};
@@ -126,19 +128,27 @@ pub fn new_log(alloc: Global, store: u64, first: u64) -> Result<Vec<u8>, AllocEr
     log_of_one(alloc, store, first, RecordKind::AnyRoot, 0, &[])
 }
 
-/// The frame of the edits in a record of format 1.
+/// The frame of the edits in a record of format 1, whose stamps are up to a mark.
 ///
 /// # Errors
 ///
-/// `Refused` if they are too long; `Memory`.
-fn upgraded_frame(alloc: Global, number: u64, edits: &[u8]) -> Result<Vec<u8>, LogFault>
+/// `Damaged` if the record isn't edits within the limits, or one has a stamp above the mark; `Refused` if they are too
+/// long; `Memory`.
+fn upgraded_frame(
+    alloc: Global,
+    number: u64,
+    edits: &[u8],
+    mark: Stamp,
+) -> Result<Vec<u8>, LogFault>
     ensures ok { IfOk result (λ bytes.
         bytes.items ≡ frame (numbered number (spelled_record Entries 0 edits.now))) }
     ensures body { OnOk result (IsBody edits.now) }
+    ensures marked { OnOk result (IsMarked mark edits.now) }
+    ensures damaged { IsErrOf result LogFault.Damaged → IsUnmarked mark edits.now }
     ensures refused { IsErrOf result LogFault.Refused → ¬ IsBody edits.now }
-    ensures fault { IfErr result (λ fault. (fault ≡ LogFault.Refused)
-        ⊎ (fault ≡ LogFault.Memory)) }
+    ensures device { ¬ IsErrOf result LogFault.Device }
 {
+    check_marked(alloc, edits, mark)?;
     if edits.len() > LONGEST_BODY {
         return Err(LogFault::Refused);
     }
@@ -146,16 +156,29 @@ fn upgraded_frame(alloc: Global, number: u64, edits: &[u8]) -> Result<Vec<u8>, L
 }
 
 /// Upgrades a log of format 1 to the bytes of a store's log. Each record becomes one of entries, of stamp 0. The record
-/// before them has this number.
+/// before them has this number. A program that wrote format 1 stored the oracle's mark before it answered a stamp: so if
+/// an edit has a stamp above the mark that is stored, the mark was lost.
 ///
 /// # Errors
 ///
-/// `Damaged` if the bytes don't begin with the header of format 1; `Refused` if a record is too long; `Memory`.
-pub fn upgrade_log(alloc: Global, bytes: &[u8], store: u64, first: u64) -> Result<Vec<u8>, LogFault>
+/// `Damaged` if the bytes don't begin with the header of format 1, a record isn't edits within the limits, or an edit's
+/// stamp is above the mark; `Refused` if a record is too long; `Memory`.
+pub fn upgrade_log(
+    alloc: Global,
+    bytes: &[u8],
+    mark: Stamp,
+    store: u64,
+    first: u64,
+) -> Result<Vec<u8>, LogFault>
     requires { first < 2 ^ 63 }
     ensures ok { IfOk result (λ made. (records : List (List ℕ)) (tail : List ℕ)
         → IsLog bytes.now records tail → IsStoreLog store first made.items (upgraded records) []) }
-    ensures damaged { IsErrOf result LogFault.Damaged ↔ (take 8 bytes.now ≢ head) }
+    ensures marked { OnOk result ((records : List (List ℕ)) (tail : List ℕ)
+        → IsLog bytes.now records tail → AllByRecursion (IsMarked mark) records) }
+    ensures headed { take 8 bytes.now ≢ head → IsErrOf result LogFault.Damaged }
+    ensures damaged { IsErrOf result LogFault.Damaged → (take 8 bytes.now ≢ head)
+        ⊎ ((records : List (List ℕ)) (tail : List ℕ) → IsLog bytes.now records tail
+        → (one : List ℕ) × HasRecord records one × IsUnmarked mark one) }
     ensures refused { IsErrOf result LogFault.Refused → (records : List (List ℕ)) (tail : List ℕ)
         → IsLog bytes.now records tail → ¬ AllByRecursion IsBody records }
     ensures device { ¬ IsErrOf result LogFault.Device }
@@ -165,7 +188,7 @@ pub fn upgrade_log(alloc: Global, bytes: &[u8], store: u64, first: u64) -> Resul
     let mut number = first;
     for edits in &found.records {
         number += 1;
-        made.extend_from_slice(&upgraded_frame(alloc, number, edits)?)?;
+        made.extend_from_slice(&upgraded_frame(alloc, number, edits, mark)?)?;
     }
     Ok(made)
 }

@@ -2,11 +2,10 @@
 use Rattle.std.proofs.Common.{◌≡◌, ◌≤◌, ◌<◌, ℕ, Bool, true, false, refl, arith}
 use Rattle.std.specs.Prelude.{if◌then◌else◌, nat_le, nat_lt}
 use Rattle.std.proofs.lemmas.Bool.Decides.{nat_tests}
-use Rattle.cell_key.specs.Refusals.{refusal_number}
 use Rattle.cell_key.specs.declared.refusals.Refusal.{Refusal}
-use Rattle.si_model.specs.Machine.{Acts, Applies, CollectStep, IsAcceptable, IsFirstRefusal, Refuses, Reply, State, Step, accepts, goes_further, has_collected, is_blocked, refuses, tells, most_visits}
+use Rattle.si_model.specs.Machine.{Acts, Applies, CollectStep, Refuses, Reply, State, Step, accepts, goes_further, has_collected, is_blocked, refuses, tells, most_visits}
 use Rattle.si_model.specs.Refusing.{applies_first, collect_many, collect_none, collect_unknown, gives_up}
-use Rattle.si_model.specs.Transactions.{Answer, Goes, One, Said, steps}
+use Rattle.si_model.specs.Transactions.{Answer, Goes, One, steps}
 use Rattle.durable.specs.Visits.{visits_of}
 use Rattle.durable.specs.Durability.{GoesOn}
 

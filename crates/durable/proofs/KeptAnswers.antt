@@ -10,9 +10,9 @@ use Rattle.request_codec.specs.Answers.{answer_of}
 use Rattle.request_codec.specs.Operations.{operation_of}
 use Rattle.request_codec.specs.declared.answers.Answer.{Answer as CodecAnswer}
 use Rattle.request_codec.specs.declared.operations.Operation.{Operation as Lent}
-use Rattle.request_codec.specs.Stream.{frame, frames, BeginsNoFrame, IsPartial}
+use Rattle.request_codec.specs.Stream.{frame, frames, BeginsNoFrame}
 use Rattle.durable.specs.Durability.{FailsToSettle, GoesOn, IsAllWritten, IsSettled, KeepsBeginning, ServesDurably, Settles, SettlesAnswers, StaysSettled}
-use Rattle.server_loop.specs.Batches.{over_at, AnswersAll, Answered, Cuts, Delivers, IsAnswered, ServesOn, SettlesAll}
+use Rattle.server_loop.specs.Batches.{over_at, Cuts, Delivers, IsAnswered, ServesOn, SettlesAll}
 use Rattle.server_loop.specs.Runs.{Taken, Body, Oversize, Answers, RunsAs, RunOver, SaysAll, SaysOf}
 use Rattle.server_loop.specs.Serve.{as_write, written_of, EndsBy, TakesBodies, WritesReplies}
 use Rattle.server_loop.specs.declared.statuses.End.{End}

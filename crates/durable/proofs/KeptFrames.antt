@@ -1,8 +1,8 @@
 -- The states that last after a call of `serve` for several clients.
-use Rattle.std.proofs.Common.{◌≡◌, ◌≢◌, ℕ, suc, ◌+◌, ◌<◌, ◌≤◌, Bool, List, [], ◌∷◌, ◌++◌, length, take, map, Option, Some, Result, Ok, Err, ◌⊎◌, inl, inr, refl, sym, ap, ◌∙◌, subst, arith, append-nil, length-append}
+use Rattle.std.proofs.Common.{◌≡◌, ◌≢◌, ℕ, suc, ◌+◌, ◌≤◌, List, [], ◌∷◌, ◌++◌, length, take, map, Option, Result, Ok, Err, ◌⊎◌, inl, inr, refl, sym, ap, ◌∙◌, subst, arith, length-append}
 use Rattle.std.proofs.Math.Seq.{take-append-add, take-length}
-use Rattle.std.specs.Io.KnownBytes.{Appends, Consumes}
-use Rattle.si_model.specs.Machine.{State, IsReached, Stop, StopDone, Step, refuses as refuses_step, accepts, tells, stops, reopened}
+use Rattle.std.specs.Io.KnownBytes.{Consumes}
+use Rattle.si_model.specs.Machine.{State, IsReached, Stop, StopDone, Step, accepts, tells, stops, reopened}
 use Rattle.si_model.specs.Transactions.{Operation, One, Answer, Said, Goes}
 use Rattle.si_model.proofs.Reached.{stays_reached}
 use Rattle.request_codec.specs.Answers.{answer_of}
@@ -13,10 +13,9 @@ use Rattle.request_codec.specs.declared.operations.Operation.{Operation as Lent}
 use Rattle.ownership.specs.Tables.{Knows, Table, table_of}
 use Rattle.ownership.specs.Turns.{Frame, Exchange, Stops, none, one_more, Handles, HandlesAll}
 use Rattle.ownership.specs.Turns as turned
-use Rattle.ownership.proofs.Turns.{handles_knows, handles_reached, stops_reached}
+use Rattle.ownership.proofs.Turns.{handles_knows, handles_reached}
 use Rattle.durable.specs.Clients.{KeepsFrames, ServesClientsDurably}
-use Rattle.cell_key.specs.Cells.{Cells, after_edits}
-use Rattle.metadata_table.specs.Roots.{RootView}
+use Rattle.cell_key.specs.Cells.{after_edits}
 use Rattle.si_model.specs.Machine.{Place}
 use Rattle.si_model.specs.ShowsCells.{ShowsCells}
 use Rattle.durable.specs.Answers.{LastsIn, StoresUnder}
@@ -24,9 +23,9 @@ use Rattle.durable.specs.StoredMarks.{CoversStamp}
 use Rattle.durable.specs.View.{View}
 use Rattle.commit_log.specs.declared.logs.Log.{Ghosts as Log}
 use Rattle.durable.specs.declared.server.DurableServer.{DurableServer}
-use Rattle.durable.specs.Durability.{FailsToSettle, GoesOn, IsSettled, Settles, SettlesAnswers, StaysSettled, StepsOn}
+use Rattle.durable.specs.Durability.{FailsToSettle, GoesOn, IsSettled, Settles, SettlesAnswers}
 use Rattle.server_loop.specs.Batches.{over_at, AnswersAll, Cuts, Delivers, ServesOn, SettlesAll}
-use Rattle.server_loop.specs.Clients.{AreExchanges, EndsClient, HandlesFrame, HandlesTo, IsAnsweredTo, ServesClients, ServesFrames, SettlesOwned, ShowsOwned, StopsEach, StopsOne, Unchanged, WritesAll, asks, has_no_client, is_malformed, is_too_large, lacks_memory, leaves, refuses}
+use Rattle.server_loop.specs.Clients.{AreExchanges, HandlesFrame, HandlesTo, IsAnsweredTo, ServesClients, ServesFrames, SettlesOwned, ShowsOwned, StopsEach, Unchanged, WritesAll, asks, has_no_client, is_malformed, is_too_large, lacks_memory, leaves, refuses}
 use Rattle.server_loop.specs.Runs.{Taken, Body}
 use Rattle.server_loop.specs.Serve.{as_write, EndsBy, TakesBodies}
 use Rattle.server_loop.specs.declared.client_server.ClientServer.{ClientServer}

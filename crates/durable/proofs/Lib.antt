@@ -4,6 +4,7 @@ mod FromLogs
 mod Kept
 mod KeptAnswers
 mod Logged
+mod NextRoots
 mod OpenedLogs
 mod OpenedRows
 mod OpensLogs

@@ -1,9 +1,8 @@
 -- The edits in a log lead to the state that is shown.
-use Rattle.std.proofs.Common.{◌≡◌, ◌≤◌, ◌⊎◌, ℕ, Bool, true, false, List, [], ◌∷◌, ◌++◌, ◌+◌, length, length-append, inl, inr, sym, ap, ◌∙◌, subst, arith, append-nil}
-use Rattle.std.specs.List.{AllByRecursion, flat_map}
+use Rattle.std.proofs.Common.{◌≡◌, ◌≤◌, ◌⊎◌, ℕ, Bool, true, false, List, [], ◌∷◌, ◌++◌, length, length-append, inl, inr, sym, ap, ◌∙◌, subst, arith, append-nil}
+use Rattle.std.specs.List.{AllByRecursion}
 use Rattle.std.specs.Prelude.{Result, Ok, Err, OnErr, OnOk, is_err}
 use Rattle.std.specs.Int.{to_be_bytes, w32}
-use Rattle.std.proofs.lemmas.List.Concat.{flat_map-append}
 use Rattle.cell_key.specs.Cells.{Cells}
 use Rattle.cell_key.specs.declared.edits.Edit.{Edit}
 use Rattle.commit_log.specs.Edits.{HoldEdits, IsStoredEdit, LogsEdits, spelled_edits, spelled_entries}
@@ -14,7 +13,7 @@ use Rattle.commit_log.specs.declared.records.RecordKind.TheVariants as kind
 use Rattle.metadata_table.specs.Roots.{RootView}
 use Rattle.row_atomic.specs.Roots.{root_sum}
 use Rattle.row_atomic.specs.Journals.{HasRoomFor, IsWithin, empty_journal}
-use Rattle.si_model.specs.Machine.{Place, State, reopened}
+use Rattle.si_model.specs.Machine.{State, reopened}
 use Rattle.si_model.specs.ShowsCells.{ShowsCells}
 use Rattle.durable.specs.Durability.{Settles}
 use Rattle.durable.specs.Devices.{IsOver, most_stamp}
@@ -86,9 +85,9 @@ named_so root top sum bytes same as' is =
 pub same_bytes : (records : List (List ℕ)) (old new : List ℕ) → old ≡ new → HaveBytes records old → HaveBytes records new
 same_bytes records old new same has = record { edits = has.edits; held = has.held; stored = has.stored; spelled = has.spelled ∙ same }
 
--- a record "any root" adds none
-any_adds_none : LogsEdits → (records : List (List ℕ)) (bytes : List ℕ) → HaveBytes records bytes → HaveBytes (records ++ any_root ∷ []) bytes
-any_adds_none laws records bytes has = record { edits = has.edits; held = laws.any records has.edits has.held; stored = has.stored; spelled = has.spelled }
+-- a root's name adds none
+name_adds_none : LogsEdits → (records : List (List ℕ)) (root : RootView) (bytes : List ℕ) → HaveBytes records bytes → HaveBytes (records ++ named root ∷ []) bytes
+name_adds_none laws records root bytes has = record { edits = has.edits; held = laws.named records has.edits root.top (root_sum root) has.held; stored = has.stored; spelled = has.spelled }
 
 -- ---- covered stamps
 
@@ -172,15 +171,15 @@ module _ {S M L : Type 0} (view : View S) (device : Log L) (laws : LogsEdits) (n
   lasts_on old new st stays lasts in_log bytes = lasts_with old new st stays lasts lasts.kept.records in_log lasts.kept.over lasts.kept.stamps
       (elim lasts.kept.top [ inl at ↦ inl (let rises = stays.1 in omega (arith, rises, at)) | inr at ↦ inr at ]) lasts.kept.held bytes
 
-  -- and also with a further record "any root"
-  pub lasts_any : (old new : DurableServer S M L) (st : State) → Stays old new → (lasts : Lasting old st) → device.holds new.log (lasts.kept.records ++ any_root ∷ [])
+  -- and also with a further root's name
+  pub lasts_named : (old new : DurableServer S M L) (st : State) (root : RootView) → root.top ≤ most_stamp → Stays old new → (lasts : Lasting old st) → device.holds new.log (lasts.kept.records ++ named root ∷ [])
       → (new.is_stopped ≡ true) ⊎ HaveBytes lasts.kept.records (view.logged new.server) → Lasting new st
-  lasts_any old new st stays lasts in_log bytes = lasts_with old new st stays lasts (lasts.kept.records ++ any_root ∷ []) in_log
-      (names.any lasts.kept.records lasts.kept.root.top (root_sum lasts.kept.root))
-      (names.up_to lasts.kept.records kind.AnyRoot 0 most_stamp [] lasts.kept.stamps (omega arith))
-      (covers_more names old.marks new.marks lasts.kept.records any_root st.top stays.1 lasts.kept.top)
-      (laws.any lasts.kept.records lasts.kept.edits lasts.kept.held)
-      (elim bytes [ inl stopped ↦ inl stopped | inr has ↦ inr (any_adds_none laws lasts.kept.records (view.logged new.server) has) ])
+  lasts_named old new st root small stays lasts in_log bytes = lasts_with old new st stays lasts (lasts.kept.records ++ named root ∷ []) in_log
+      (names.stays lasts.kept.records (named root) lasts.kept.root.top (root_sum lasts.kept.root) lasts.kept.over)
+      (names.up_to lasts.kept.records kind.Root root.top most_stamp _ lasts.kept.stamps small)
+      (covers_more names old.marks new.marks lasts.kept.records (named root) st.top stays.1 lasts.kept.top)
+      (laws.named lasts.kept.records lasts.kept.edits root.top (root_sum root) lasts.kept.held)
+      (elim bytes [ inl stopped ↦ inl stopped | inr has ↦ inr (name_adds_none laws lasts.kept.records root (view.logged new.server) has) ])
 
   -- a state that is shown lasts if the log holds all edits of the journal, and its stamps are covered
   pub shown_lasts : (old : S) (new : DurableServer S M L) (root : RootView) (st : State) → Follows view old root st → StaysStored view old new.server → root.top ≤ new.marks.stored → (records : List (List ℕ)) → device.holds new.log records → IsOver records root → AreUpTo most_stamp records
@@ -251,23 +250,54 @@ module _ {S M L : Type 0} (view : View S) (device : Log L) (laws : LogsEdits) (n
   pub holds_on : (mid : DurableServer S M L) (next : S) (root : RootView) → HoldsLogged view device mid root → view.logged next ≡ view.logged mid.server → HoldsLogged view device (record mid { server = next }) root
   holds_on mid next root h same = record { records = h.records; in_log = h.in_log; over = h.over; stamps = h.stamps; low = h.low; limit = h.limit; covered = h.covered; edits = h.edits; held = h.held; stored = h.stored; room = h.room; bytes = h.bytes ∙ sym same }
 
-  -- and also over any root that the mark covers, once that record was appended
-  pub holds_any : (mid new : DurableServer S M L) (old root : RootView) → (h : HoldsLogged view device mid old) → view.logged new.server ≡ view.logged mid.server → mid.marks.stored ≤ new.marks.stored → new.marks.stored ≤ most_stamp → new.marks.covered ≡ mid.marks.covered → root.top ≤ new.marks.stored
-      → device.holds new.log (h.records ++ any_root ∷ []) → HoldsLogged view device new root
-  holds_any mid new old root h same rises limit covered low in_log = record {
-    records = h.records ++ any_root ∷ [];
+  -- a server that counts the same edits as logged, and covers the same stamps, and whose mark may have risen
+  pub record IsReadied (mid new : DurableServer S M L) : Type 0 where
+    pub same : view.logged new.server ≡ view.logged mid.server
+    pub rises : mid.marks.stored ≤ new.marks.stored
+    pub limit : new.marks.stored ≤ most_stamp
+    pub covered : new.marks.covered ≡ mid.marks.covered
+
+  -- the log agrees with it
+  pub holds_readied : (mid new : DurableServer S M L) → IsReadied mid new → (root : RootView) → (h : HoldsLogged view device mid root) → device.holds new.log h.records → HoldsLogged view device new root
+  holds_readied mid new ready root h in_log = record {
+    records = h.records;
     in_log = in_log;
-    over = names.any h.records root.top (root_sum root);
-    stamps = names.up_to h.records kind.AnyRoot 0 most_stamp [] h.stamps (omega arith);
-    low = low;
-    limit = limit;
-    covered = subst (λ (n : ℕ). CoversStamp new.marks (h.records ++ any_root ∷ []) n) (sym covered) (covers_more names mid.marks new.marks h.records any_root mid.marks.covered rises h.covered);
+    over = h.over;
+    stamps = h.stamps;
+    low = let low = h.low in let rises = ready.rises in omega (arith, low, rises);
+    limit = ready.limit;
+    covered = subst (λ (n : ℕ). CoversStamp new.marks h.records n) (sym ready.covered) (elim h.covered [ inl at ↦ inl (let rises = ready.rises in omega (arith, rises, at)) | inr at ↦ inr at ]);
     edits = h.edits;
-    held = laws.any h.records h.edits h.held;
+    held = h.held;
     stored = h.stored;
     room = h.room;
-    bytes = h.bytes ∙ sym same;
+    bytes = h.bytes ∙ sym ready.same;
   }
+
+  -- after a root's name was appended the log agrees with it over each root that it is over
+  holds_over : (mid new : DurableServer S M L) → IsReadied mid new → (old root next : RootView) → (h : HoldsLogged view device mid old) → next.top ≤ most_stamp → root.top ≤ new.marks.stored → device.holds new.log (h.records ++ named next ∷ []) → IsOver (h.records ++ named next ∷ []) root → HoldsLogged view device new root
+  holds_over mid new ready old root next h small low in_log over = record {
+    records = h.records ++ named next ∷ [];
+    in_log = in_log;
+    over = over;
+    stamps = names.up_to h.records kind.Root next.top most_stamp _ h.stamps small;
+    low = low;
+    limit = ready.limit;
+    covered = subst (λ (n : ℕ). CoversStamp new.marks (h.records ++ named next ∷ []) n) (sym ready.covered) (covers_more names mid.marks new.marks h.records (named next) mid.marks.covered ready.rises h.covered);
+    edits = h.edits;
+    held = laws.named h.records h.edits next.top (root_sum next) h.held;
+    stored = h.stored;
+    room = h.room;
+    bytes = h.bytes ∙ sym ready.same;
+  }
+
+  -- the old root
+  pub holds_old : (mid new : DurableServer S M L) → IsReadied mid new → (old next : RootView) → (h : HoldsLogged view device mid old) → next.top ≤ most_stamp → device.holds new.log (h.records ++ named next ∷ []) → HoldsLogged view device new old
+  holds_old mid new ready old next h small in_log = holds_over mid new ready old old next h small (let low = h.low in let rises = ready.rises in omega (arith, low, rises)) in_log (names.stays h.records (named next) old.top (root_sum old) h.over)
+
+  -- the new root
+  pub holds_next : (mid new : DurableServer S M L) → IsReadied mid new → (old next : RootView) → (h : HoldsLogged view device mid old) → next.top ≤ new.marks.stored → device.holds new.log (h.records ++ named next ∷ []) → HoldsLogged view device new next
+  holds_next mid new ready old next h low in_log = holds_over mid new ready old next next h (let limit = ready.limit in omega (arith, low, limit)) low in_log (names.more h.records next.top (root_sum next))
 
   pub has_bytes : (new : DurableServer S M L) (root : RootView) → (h : HoldsLogged view device new root) → HaveBytes h.records (view.logged new.server)
   has_bytes new root h = record { edits = h.edits; held = h.held; stored = h.stored; spelled = h.bytes }

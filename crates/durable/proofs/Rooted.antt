@@ -28,7 +28,7 @@ use Rattle.durable.specs.View.{RootCalls, View}
 use Rattle.durable.specs.Visits.{AsksForFew}
 use Rattle.durable.specs.declared.server.DurableServer.{DurableServer}
 use Rattle.durable.proofs.Logged.{no_less}
-use Rattle.durable.specs.Answers.PutsRoot.{answered, failed, roomless, unnamed, unready}
+use Rattle.durable.specs.Answers.PutsRoot.{answered, failed, roomless, unlogged, unnamed, unready}
 
 module _ {S : Type 0} (view : View S) (calls : RootCalls S) (says : S → Operation → Answer → S → Type 0) (stopped risen : Type 0) (before now : ℕ) where
   pub moves_rooted : (old new : S) (request : Request) (reply : Reply) → MovesTablets request → AnswersRooted view calls (λ a r b. says a (lent.One request) (given.Said r) b) stopped risen old reply new → AnswersDurably view calls says stopped risen before now old (lent.One request) (given.Said reply) new
@@ -88,6 +88,7 @@ module _ {S : Type 0} (view : View S) (calls : RootCalls S) {stopped stopped' ri
   puts_still a b reply (unready is risen p) = unready is (rises risen) p
   puts_still a b reply (roomless is p) = roomless is p
   puts_still a b reply (failed is stops p) = failed is (still stops) p
+  puts_still a b reply (unlogged is stops p) = unlogged is (still stops) p
 
 pub sweeps_still : {S : Type 0} {stopped stopped' : Type 0} (calls : RootCalls S) → (stopped → stopped') → (upkeep : Bool) (reply : Reply) (a b : S) → SweepsAfter calls stopped upkeep reply a b → SweepsAfter calls stopped' upkeep reply a b
 sweeps_still calls still true codec.Checkpoint a b (result, inl swept) = (result, inl swept)
@@ -103,6 +104,22 @@ module _ {S : Type 0} (view : View S) (calls : RootCalls S) (stopped risen : Typ
   never_unready old new reply (unready is risen p) = absurd risen
   never_unready old new reply (roomless is p) = roomless is p
   never_unready old new reply (failed is stops p) = failed is stops p
+  never_unready old new reply (unlogged is stops p) = unlogged is stops p
+
+  -- a root after nothing but something that changed the journal alone
+  pub puts_after : ((a b c : S) → view.same a b → view.same b c → view.same a c) → (old mid new : S) (reply : Reply) → view.same old mid → PutsRoot view calls stopped risen mid reply new → PutsRoot view calls stopped risen old reply new
+  puts_after then old mid new reply same (answered (a, b, first, p, last)) = answered (a, b, then old mid a same first, p, last)
+  puts_after then old mid new reply same (unnamed is (a, b, first, p, last)) = unnamed is (a, b, then old mid a same first, p, last)
+  puts_after then old mid new reply same (unready is risen p) = unready is risen (then old mid new same p)
+  puts_after then old mid new reply same (roomless is p) = roomless is (then old mid new same p)
+  puts_after then old mid new reply same (failed is stops (inl p)) = failed is stops (inl (then old mid new same p))
+  puts_after then old mid new reply same (failed is stops (inr (a, b, first, p, last))) = failed is stops (inr (a, b, then old mid a same first, p, last))
+  puts_after then old mid new reply same (unlogged is stops (a, b, first, p, last)) = unlogged is stops (a, b, then old mid a same first, p, last)
+
+-- what holds of a refusal holds of a result that passes it on
+pub passed : (P : Result (Unit {0}) Refusal → Type 0) (r : Result (Unit {0}) Refusal) (e : Refusal) → IsErrAnd r (λ given. given ≡ e) → P (Err e) → P r
+passed P (Ok done) e by p = absurd by
+passed P (Err given) e by p = subst (λ (f : Refusal). P (Err f)) (sym by) p
 
 pub risen_within : (a b c d : ℕ) → a ≤ b → c ≤ d → HasRisen b c → HasRisen a d
 risen_within a b c d low high risen = omega (arith, low, high, risen)

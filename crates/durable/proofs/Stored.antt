@@ -34,10 +34,12 @@ use Rattle.row_atomic.specs.RootSweeps.{RootOutlastsSweeps, SweepsBesideRoot}
 use Rattle.row_atomic.specs.Roots.{HasRoot, RootIsStored, RootOutlastsFlushes, RootOutlastsMerges, Rests, RootStays, root_at, root_name}
 use Rattle.row_atomic.specs.declared.commands.Command.{Command}
 use Rattle.row_atomic.specs.declared.commands.Command.TheVariants as command
+use Rattle.row_atomic.specs.declared.commands.Outcome.{Outcome}
 use Rattle.si_model.specs.Machine as machine
 use Rattle.si_model.specs.Machine.{IsReached, State, reopened}
 use Rattle.si_model.specs.ShowsCells.{ShowsCells}
 use Rattle.server_loop.specs.Answer.{IsAnswer, IsPlainAnswer, KeepsLogged, TendsTablets}
+use Rattle.server_loop.specs.Checkpoints.{ActsAsCheckpoint, FlushesAll}
 use Rattle.server_loop.specs.Commands.{HasOutcome, checkpointed, command_of, outcome_of}
 use Rattle.durable.specs.Answers as lasts
 use Rattle.durable.specs.Answers.{HasNewRoot, KeepsJournal, MovesTablets, ActsOnRoots, StaysRooted, StaysStored, TouchesRoots}
@@ -45,7 +47,7 @@ use Rattle.server_loop.specs.Sessions.{KeepsOracle}
 use Rattle.rows.specs.Storage.{Storage}
 use Rattle.server_loop.specs.Operations.{IsAnswerTo, LeavesOthers}
 use Rattle.server_loop.specs.Server.{Shows, cluster_of, floor_of, forgets, journal_of, last_of, machine_place, machine_places, next_root, rows_of, top_of}
-use Rattle.durable.specs.Stored.{IsClean, IsRooted, StoresCells, view_of}
+use Rattle.durable.specs.Stored.{IsClean, IsRooted, StoresCells, calls_of, view_of}
 use Rattle.server_loop.specs.Tending.{IsTended, MergesWhere}
 use Rattle.server_loop.specs.declared.server.Server.{Server}
 use Rattle.server_loop.proofs.SamePlaces.{KeepsPlaces, keeps_places}
@@ -178,6 +180,7 @@ module _ {F M W : Type 0} (files : Files F W) (marks : MarkStore M) (stored : Ro
   answer_root : (request : Lent) (reply : CodecReply) (old new : Server F M) → request ≢ lent.Checkpoint → command_of request ≢ Some command.Sweep → TendsTablets files request reply old new
       → (root : RootView) (cells : Cells) → HasRoot files.contents root cells (cluster_of old) → HasRoot files.contents root cells (cluster_of new)
   answer_root lent.Checkpoint reply old new first other tends = absurd (first refl)
+  answer_root (lent.Status t) reply old new first other tends = λ root cells has. subst (λ (server : Server F M). HasRoot files.contents root cells (cluster_of server)) (sym tends.0) has
   answer_root request reply old new first other tends = by_has (command_of request) request reply (cluster_of old) (cluster_of new) other tends
 
   reply_leaves : (old new : Server F M) (request : Lent) (reply : CodecReply) → ¬ ActsOnRoots request → IsAnswer files marks old request reply new → (now : State) → IsReached now → Shows files.contents old now
@@ -307,6 +310,32 @@ module _ {F M W : Type 0} (files : Files F W) (marks : MarkStore M) (reopens : (
         | inl stays ↦ inl (stays_rooted files.contents old new (λ root cells. (stays root cells).0) places)
         | inr rests ↦ inr (λ st shown. new_root files.contents reopens old new st rests places last (same_root_next plain) shown)
       ]
+
+-- a checkpoint of the files is one under a log
+module _ {F M W : Type 0} (files : Files F W) (marks : MarkStore M) (reopens : (cells : Cells) (st : State) → ShowsCells cells st → ShowsCells cells (reopened st)) (replaces : files.replaces) (old new : Server F M) where
+  keeps_journal : (journal : journal_of new ≡ journal_of old) → last_of new ≡ last_of old → KeepsJournal (view_of files.contents) old new
+  keeps_journal journal stamp = record {
+    goes_on = ap (λ (j : Option JournalView). is_some j) journal;
+    has = ap (λ (j : Option JournalView). logged_of j) journal;
+    waits = ap (λ (j : Option JournalView). waiting_of j) journal;
+    stamp = stamp;
+  }
+
+  pub acts_so : (result : Result (Unit {0}) Refusal) → ActsAsCheckpoint files marks old result new → lasts.ActsAsCheckpoint (view_of files.contents) (calls_of files marks) (Shows files.contents) old result new
+  acts_so result acts = record {
+    step = λ before reached shown.
+        let (next, step, shows, whole) = acts.plain.step.step before reached shown in
+        (next, step, remembers files.contents new next shows (acts.follows replaces shown.in_order.0 shown.in_order.1), whole);
+    shown = λ st shown. remembers files.contents new st (acts.shown st shown) (acts.follows replaces shown.in_order.0 shown.in_order.1);
+    says = acts.plain;
+    keeps = keeps_journal acts.journal (ap (λ o. o.last) acts.plain.sessions.oracle);
+    done = checkpoint_done files marks reopens old new acts.spots result acts.plain acts.clean;
+    undone = checkpoint_undone files marks reopens old new acts.spots replaces result acts.plain;
+  }
+
+  -- a flush leaves the root
+  pub flush_stays : RootOutlastsFlushes files.contents files.faults → (result : Result (Unit {0}) Refusal) (outcome : Outcome) → ActsAsCheckpoint files marks old result new → FlushesAll files.contents files.faults old outcome new → StaysRooted (view_of files.contents) old new
+  flush_stays outlasts result outcome acts flushed = stays_rooted files.contents old new (λ root cells has. ((outlasts root cells (cluster_of old) (cluster_of new)).1 _ _ flushed.flushes).0 has) (same_machine_places (cluster_of old).places (cluster_of new).places acts.spots)
 
 -- ---- sweeps
 

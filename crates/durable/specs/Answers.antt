@@ -1,5 +1,5 @@
 -- The state that a server with a log keeps over a kill.
-use Rattle.std.specs.Prelude.{◌≡◌, ◌≤◌, ◌+◌, ◌⊎◌, ℕ, List, ◌++◌, length, Bool, Result, Ok, Err, true, ⊤}
+use Rattle.std.specs.Prelude.{◌≡◌, ◌≤◌, ◌+◌, ◌⊎◌, ℕ, List, ◌++◌, length, Bool, Result, Ok, Err, OnErr, OnOk, true, ⊤}
 use Rattle.std.specs.List.{AllByRecursion}
 use Rattle.cell_key.specs.Cells.{Cells, after_edits}
 use Rattle.cell_key.specs.declared.edits.Edit.{Edit}
@@ -15,6 +15,7 @@ use Rattle.row_atomic.specs.Journals.{HasRoomFor, empty_journal}
 use Rattle.row_atomic.specs.Roots.{root_sum}
 use Rattle.request_codec.specs.Answers.{answer_of}
 use Rattle.request_codec.specs.Operations.{operation_of}
+use Rattle.request_codec.specs.Replies.{replied}
 use Rattle.request_codec.specs.declared.answers.Answer.{Answer}
 use Rattle.request_codec.specs.declared.answers.Answer.TheVariants as given
 use Rattle.request_codec.specs.declared.operations.Operation.{Operation}
@@ -23,15 +24,17 @@ use Rattle.request_codec.specs.declared.replies.Reply.{Reply}
 use Rattle.request_codec.specs.declared.replies.Reply.TheVariants as codec
 use Rattle.request_codec.specs.declared.requests.Request.{Request}
 use Rattle.request_codec.specs.declared.requests.Request.TheVariants.{Begin, Step, CleanStep, CollectStep, Split, Move, Sweep, Checkpoint}
-use Rattle.si_model.specs.Machine.{Place, State, reopened}
+use Rattle.si_model.specs.Machine.{Place, State, reopened, Checkpoint as CheckpointAsked}
 use Rattle.si_model.specs.ShowsCells.{ShowsCells}
 use Rattle.durable.specs.Devices.{IsOver, Lasts, most_stamp}
-use Rattle.durable.specs.Due.{IsRootDue, tried_at}
+use Rattle.durable.specs.Due.{IsRootDue, one_more, tried_at}
 use Rattle.durable.specs.Durability.{GoesOn, Settles}
 use Rattle.durable.specs.StoredMarks.{CoversStamp}
 use Rattle.durable.specs.View.{RootCalls, View}
 use Rattle.durable.specs.Visits.{visits_of}
 use Rattle.durable.specs.declared.server.DurableServer.{DurableServer}
+use Rattle.server_loop.specs.Commands.{checkpointed}
+use Rattle.server_loop.specs.Runs.{StepsAs}
 use Rattle.server_loop.specs.declared.upkeep.RootName.{RootName}
 
 -- requests around which roots are put
@@ -114,6 +117,20 @@ pub record KeepsJournal {S : Type 0} (view : View S) (old new : S) : Type 0 wher
   pub has : view.logged new ≡ view.logged old
   pub waits : view.waiting new ≡ view.waiting old
   pub stamp : view.last new ≡ view.last old
+
+-- This was a checkpoint with this result, apart from the journal, which is kept. Once it is done, the new root keeps the
+-- shown cells. A refusal leaves the old root, or the new one was put.
+pub record ActsAsCheckpoint {S : Type 0} (view : View S) (calls : RootCalls S)
+    (shows : S → State → Type 0) (old : S) (result : Result (Unit {0}) Refusal) (new : S)
+    : Type 0 where
+  pub step : StepsAs shows old new CheckpointAsked (replied (checkpointed result))
+  pub shown : (st : State) → shows old st → shows new st
+  pub says : calls.checkpoints old (checkpointed result) new
+  pub keeps : KeepsJournal view old new
+  pub done : OnOk result ((st : State) → shows old st
+      → HasNewRoot view (view.next_root new) new st × view.is_clean new)
+  pub undone : OnErr result (StaysRooted view old new
+      ⊎ ((st : State) → shows old st → HasNewRoot view (view.next_root new) new st))
 
 -- the name of a root in the records of a log
 abbrev pub named : RootView → List ℕ
@@ -202,11 +219,12 @@ module _ {S : Type 0} (view : View S) (calls : RootCalls S) where
       (mid next : S)
       × view.same old mid × calls.checkpoints mid reply next × view.same next new
 
-  -- A checkpoint was answered as the files answered it. Or it was refused before the root was put: with
+  -- A checkpoint was answered as the files answered it. Or it was refused before a tablet was flushed: with
   -- Device, since the mark's file failed or the log got no room for its renewal; or with NoMemory, since
-  -- memory for that room was refused. Or with NoMemory after the root was put: memory to name it in the
-  -- log was refused. Or with Device: the log failed, before that or after, and no reply leaves the server
-  -- any more.
+  -- memory for that room was refused. Or with NoMemory after the root was put: memory to name it alone in
+  -- the log was refused. Or with Device: the log failed, before that or after, or between the flush and the
+  -- put, where the files are as if memory for the root had been refused. Then no reply leaves the server any
+  -- more.
   pub data PutsRoot (stopped risen : Type 0) (old : S) (reply : Reply) (new : S) : Type 0 where
     answered : Checkpoints old reply new → PutsRoot stopped risen old reply new
     unready : reply ≡ codec.Refused Device → risen → view.same old new
@@ -218,6 +236,8 @@ module _ {S : Type 0} (view : View S) (calls : RootCalls S) where
     failed : reply ≡ codec.Refused Device → stopped
         → view.same old new ⊎ Checkpoints old codec.Checkpoint new
         → PutsRoot stopped risen old reply new
+    unlogged : reply ≡ codec.Refused Device → stopped
+        → Checkpoints old (codec.Refused NoMemory) new → PutsRoot stopped risen old reply new
 
   -- A split or a move was refused before a tablet was changed: with the refusal of the checkpoint before
   -- it; or after that checkpoint, since there was no room for a second one: a device failed, or memory
@@ -316,8 +336,8 @@ SweepsAfter calls stopped true codec.Checkpoint old new =
     (result : Result ℕ Refusal) × SweepsNow calls stopped old result new
 SweepsAfter calls stopped upkeep reply old new = new ≡ old
 
--- A root was put, or refused, and the size from which the next try is counted was set. With upkeep, a
--- sweep followed a root that was put.
+-- A root was put, or refused, and the size from which the next try is counted was set, as was the count of
+-- the requests. With upkeep, a sweep followed a root that was put.
 pub record TriesRoot {S M L : Type 0} (view : View S) (calls : RootCalls S) (marks : MarkStore M)
     (log : Log L) (mid : S) (old new : DurableServer S M L) : Type 0 where
   pub reply : Reply
@@ -328,9 +348,10 @@ pub record TriesRoot {S M L : Type 0} (view : View S) (calls : RootCalls S) (mar
   pub swept : SweepsAfter calls (new.is_stopped ≡ true) old.upkeep reply next last
   pub is_same : view.same last new.server
   pub tried : new.tried_bytes ≡ tried_at reply (view.size mid)
+  pub counted : new.answered ≡ 0
 
 -- Upkeep between two answers: that of a server without a log, and then a checkpoint if one is due by the
--- journal's size.
+-- journal's size. Else one more request was answered without a try.
 pub record IsDurablyTended {S M L : Type 0} (view : View S) (calls : RootCalls S)
     (shows : S → State → Type 0) (between : S → S → Type 0) (marks : MarkStore M) (log : Log L)
     (old new : DurableServer S M L) : Type 0 where
@@ -338,7 +359,7 @@ pub record IsDurablyTended {S M L : Type 0} (view : View S) (calls : RootCalls S
   pub tended : between old.server mid
   pub rooted : (IsRootDue old (view.size mid) × TriesRoot view calls marks log mid old new)
       ⊎ ((¬ IsRootDue old (view.size mid)) × view.same mid new.server
-      × (new.tried_bytes ≡ old.tried_bytes))
+      × (new.tried_bytes ≡ old.tried_bytes) × (new.answered ≡ one_more old.answered))
   pub root_bytes : new.root_bytes ≡ old.root_bytes
   pub upkeep : new.upkeep ≡ old.upkeep
   pub settles : Settles (shown_by shows) (LastsIn view log) (Logs view log) old new

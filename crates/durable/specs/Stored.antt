@@ -12,9 +12,11 @@ use Rattle.row_atomic.specs.Journals.{JournalView}
 use Rattle.row_atomic.specs.Recorded.{Tracks, bytes_written, edits_written, entry_bytes_written, logged_of, waiting_of}
 use Rattle.row_atomic.specs.RootSweeps.{SweepsBesideRoot}
 use Rattle.row_atomic.specs.Roots.{HasRoot}
+use Rattle.row_atomic.specs.declared.commands.Outcome.TheVariants as outcome
 use Rattle.si_model.specs.Machine.{Place}
 use Rattle.durable.specs.View.{RootCalls, View}
 use Rattle.server_loop.specs.Answer.{IsPlainAnswer}
+use Rattle.server_loop.specs.Checkpoints.{FlushesAll}
 use Rattle.server_loop.specs.Server.{cluster_of, forgets, journal_of, last_of, machine_places, next_root, rows_of}
 use Rattle.server_loop.specs.declared.server.Server.{Server}
 
@@ -74,6 +76,7 @@ view_of contents = record {
 
 abbrev pub calls_of : {F M W : Type 0} → Files F W → MarkStore M → RootCalls (Server F M)
 calls_of files marks = record {
+  flushes = λ old new. FlushesAll files.contents files.faults old outcome.Done new;
   checkpoints = AnswersCheckpoint files marks;
   sweeps = SweepsFiles files.contents files.faults;
 }

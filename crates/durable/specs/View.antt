@@ -33,6 +33,8 @@ pub record View (S : Type 0) : Type 1 where
 
 -- its calls that put roots or remove files
 pub record RootCalls (S : Type 0) : Type 1 where
+  -- the second is the first after all tablets were flushed
+  pub flushes : S → S → Type 0
   -- a checkpoint may get this reply
   pub checkpoints : S → Reply → S → Type 0
   -- a sweep that leaves the root's files may have this result

@@ -1,10 +1,9 @@
 //! Servers with a journal: the contract of the server under a log.
 
-ghost use Rattle.std.specs.Prelude.{◌≡◌, ◌≢◌, ◌≤◌, ◌⊎◌, ◌++◌, ℕ, List, [], Bool, Result, length, true, IfErr, IfOk, IsErrOf, OnErr, OnOk};
+ghost use Rattle.std.specs.Prelude.{◌≡◌, ◌≢◌, ◌≤◌, ◌⊎◌, ◌++◌, ℕ, List, [], Bool, Err, length, true, IfErr, IfOk, IsErrOf, OnErr, OnOk};
 ghost use Rattle.cell_key.specs.Cells.{Cells};
 ghost use Rattle.row_atomic.specs.Journals.{IsWithin};
 ghost use Rattle.row_atomic.specs.RootLengths.{IsRoomBehind};
-ghost use Rattle.request_codec.specs.Replies.{replied};
 ghost use Rattle.request_codec.specs.declared.answers.Answer.{Answer as CodecAnswer};
 ghost use Rattle.request_codec.specs.declared.answers.Answer.TheVariants.{Said};
 ghost use Rattle.request_codec.specs.declared.operations.Operation.{Operation as LentOperation};
@@ -12,11 +11,9 @@ ghost use Rattle.request_codec.specs.declared.operations.Operation.TheVariants.{
 ghost use Rattle.request_codec.specs.declared.replies.Reply.{Reply as CodecReply};
 ghost use Rattle.request_codec.specs.declared.requests.Request.{Request as Lent};
 ghost use Rattle.metadata_table.specs.Roots.{RootView};
-ghost use Rattle.durable.specs.Answers.{Follows, HasNewRoot, IsNameOf, KeepsJournal, MovesTablets, StaysRooted, StaysStored, TouchesRoots};
+ghost use Rattle.durable.specs.Answers.{ActsAsCheckpoint, Follows, IsNameOf, KeepsJournal, MovesTablets, StaysRooted, StaysStored, TouchesRoots};
 ghost use Rattle.durable.specs.View.{RootCalls, View};
-ghost use Rattle.server_loop.specs.Commands.{checkpointed};
-ghost use Rattle.server_loop.specs.Runs.{StepsAs};
-ghost use Rattle.si_model.specs.Machine.{IsReached, IsStorageRefusal, Place, State, Checkpoint as CheckpointAsked};
+ghost use Rattle.si_model.specs.Machine.{IsReached, IsStorageRefusal, Place, State};
 ghost use Rattle.cell_key.specs.declared.refusals.Refusal.{Refusal};
 
 use cell_key::{Refusal, Stamp};
@@ -67,7 +64,8 @@ pub(crate) trait Journaled: Handler {
     fn last(&self) -> Stamp
         ensures { result ≡ view.last self.now };
 
-    /// The name of the root that would be put now: right after a checkpoint, the root on disk.
+    /// The name of the root that would be put now: right after a flush the next root, and right after a checkpoint the
+    /// root on disk.
     fn root_name(&self) -> Result<RootName, Refusal>
         ensures name { IfOk result (λ name. IsNameOf name (view.next_root self.now)) }
         ensures refusal { IfErr result (λ refusal. refusal ≡ Refusal.NoMemory) };
@@ -77,18 +75,24 @@ pub(crate) trait Journaled: Handler {
     fn next_root_bytes(&self) -> usize
         ensures { IsRoomBehind (view.next_root self.now) result };
 
-    /// Puts a root that keeps the state that is shown.
-    fn checkpoint_now(&mut self) -> Result<(), Refusal>
-        ensures step { StepsAs Self.shows self.old self.new CheckpointAsked
-            (replied (checkpointed result)) }
+    /// Flushes every tablet. No root is put.
+    fn flush_now(&mut self) -> Result<(), Refusal>
+        ensures flushed { OnOk result (calls.flushes self.old self.new) }
+        ensures refused { OnErr result
+            (ActsAsCheckpoint view calls Self.shows self.old result self.new) }
+        ensures rootless { OnOk result
+            (ActsAsCheckpoint view calls Self.shows self.old (Err Refusal.NoMemory) self.new) }
         ensures shown { (st : State) → Self.shows self.old st → Self.shows self.new st }
         ensures refusal { IfErr result IsStorageRefusal }
-        ensures says { calls.checkpoints self.old (checkpointed result) self.new }
         ensures keeps { KeepsJournal view self.old self.new }
-        ensures done { OnOk result ((st : State) → Self.shows self.old st
-            → HasNewRoot view (view.next_root self.new) self.new st × view.is_clean self.new) }
-        ensures undone { OnErr result (StaysRooted view self.old self.new ⊎ ((st : State)
-            → Self.shows self.old st → HasNewRoot view (view.next_root self.new) self.new st)) };
+        ensures stays { StaysRooted view self.old self.new };
+
+    /// Puts the root of a server whose tablets were flushed, by the name that `root_name` gives before it and after it.
+    fn put_root_now(&mut self) -> Result<(), Refusal>
+        ensures checkpoints { (first : Self) → calls.flushes first self.old
+            → ActsAsCheckpoint view calls Self.shows first result self.new }
+        ensures next { view.next_root self.new ≡ view.next_root self.old }
+        ensures refusal { IfErr result IsStorageRefusal };
 
     /// Empties the journal.
     fn emptied(&mut self)
@@ -115,7 +119,8 @@ pub(crate) trait Journaled: Handler {
     /// The journal leads from the root's cells to the state that is shown. There is one root. Answers leave the stored
     /// cells, the root and the logged edits unchanged, except those of Checkpoint, Sweep, Split and Move. A Split or a
     /// Move leaves the stored cells, the journal and the last stamp unchanged. Upkeep between answers leaves the stored
-    /// cells, the root, the logged edits and the state that is shown unchanged.
+    /// cells, the root, the logged edits and the state that is shown unchanged. No stamp of the next root is above the last
+    /// one.
     fn journal_laws()
         ensures follows { (server : Self) (root : RootView) (st : State)
             → view.recording server ≡ true → view.is_rooted server root → Self.shows server st
@@ -131,7 +136,9 @@ pub(crate) trait Journaled: Handler {
             → StaysStored view old new × KeepsJournal view old new }
         ensures tends { (old new : Self) → Self.between old new → StaysRooted view old new
             × (view.logged new ≡ view.logged old) × ((st : State) → Self.shows old st
-            → Self.shows new st) };
+            → Self.shows new st) }
+        ensures low { (server : Self) (st : State) → Self.shows server st
+            → (view.next_root server).top ≤ view.last server };
 
     ghost same_self: { (server : Self) → view.same server server };
 

@@ -61,10 +61,18 @@ impl<F: AtomicPut + Drop, M: MarkStore + Drop> Journaled for Server<F, M> {
         self.next_root_bytes()
     }
 
-    fn checkpoint_now(&mut self) -> Result<(), Refusal> {
+    fn flush_now(&mut self) -> Result<(), Refusal> {
         shows_reopened();
-        root_is_stored::<F>();
-        self.put_root()
+        root_outlasts_flushes::<F>();
+        match self.flush_all() {
+            Ok(()) => Ok(()),
+            Err(refusal) => Err(refusal),
+        }
+    }
+
+    fn put_root_now(&mut self) -> Result<(), Refusal> {
+        shows_reopened();
+        self.put_flushed_root()
     }
 
     fn emptied(&mut self) {

@@ -419,6 +419,7 @@ impl<S: Journaled, M: MarkStore, L: Log> DurableServer<S, M, L> {
             is_stopped: false,
             root_bytes: ROOT_BYTES,
             tried_bytes: 0,
+            answered: 0,
             upkeep: false,
         }
     }

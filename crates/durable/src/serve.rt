@@ -61,7 +61,8 @@ impl<F: AtomicPut + Drop, M: MarkStore + Drop, L: Log + Drop> DurableServer<
 
     /// From now on, after a reply, a root is put and the log is emptied if the journal's size is at least this many
     /// bytes. Its size is its bytes, or 671 for each edit if that is more. A refusal is not reported. The next try
-    /// comes when the size has grown by 8,388,608 bytes, or has fallen.
+    /// comes when the size has grown by 8,388,608 bytes, or has fallen; from 50,331,648 bytes on also once 1,024 requests
+    /// were answered.
     pub fn checkpoint_at(&mut self, bytes: usize)
         ensures { self.new ≡ record self.old { root_bytes = bytes; tried_bytes = 0 } }
     {

@@ -5,7 +5,7 @@ ghost use Rattle.std.specs.Prelude.{◌≡◌, ◌≤◌, ◌<◌, ◌^◌, ◌�
 ghost use Rattle.cell_key.specs.Cells.{Cells};
 ghost use Rattle.cell_key.specs.Faults.{HasReason};
 ghost use Rattle.commit_log.specs.Edits.{LogsEdits};
-ghost use Rattle.commit_log.specs.Held.{Keeps, MayRenew, Renews};
+ghost use Rattle.commit_log.specs.Held.{Gains, Keeps, MayGain, MayRenew, Renews};
 ghost use Rattle.request_codec.specs.Answers.{answer_of, HoldsAnswerWithinLimits};
 ghost use Rattle.request_codec.specs.Operations.{operation_of};
 ghost use Rattle.request_codec.specs.Replies.{replied, HoldsWithinLimits};
@@ -14,7 +14,7 @@ ghost use Rattle.request_codec.specs.declared.replies.Reply.{Reply as CodecReply
 ghost use Rattle.durable.specs.Due.{IsDueAlike, IsRootDue, tried_at};
 ghost use Rattle.durable.specs.Durability.{GoesOn, IsSettled, Settles};
 ghost use Rattle.server_loop.specs.Commands.{checkpointed};
-ghost use Rattle.durable.specs.Answers.{AnswersDurably, Checkpoints, HasNewRoot, HoldsLogged, HasFailed, IsDurableAnswer, LastsIn, Logs, MovesTablets, NamesItsRoot, NeedsLogRoom, NeedsRoom, ActsOnRoots, PutsRoot, RefusesRooted, StaysRooted, SweepsAfter, SweepsNow, named, shown_by};
+ghost use Rattle.durable.specs.Answers.{AnswersDurably, Checkpoints, HasNewRoot, HoldsLogged, HasFailed, IsDurableAnswer, KeepsJournal, LastsIn, Logs, MovesTablets, NamesItsRoot, NeedsLogRoom, NeedsRoom, ActsOnRoots, PutsRoot, RefusesRooted, StaysRooted, SweepsAfter, SweepsNow, named, shown_by};
 ghost use Rattle.durable.specs.Visits.{AsksForFew, visits_of};
 ghost use Rattle.metadata_table.specs.Roots.{RootView};
 ghost use Rattle.server_loop.specs.Runs.{StepsAs};
@@ -36,6 +36,12 @@ use std::alloc::Global;
 /// The growth of the journal, in bytes, after which a refused root is tried again.
 const BETWEEN_TRIES: usize = 8_388_608;
 
+/// The journal's size, in bytes, from which it may have no room to grow so much.
+const NEARLY_FULL: usize = 50_331_648;
+
+/// The number of requests that are answered, with such a journal, before a refused root is tried again.
+const REQUESTS_BETWEEN: usize = 1_024;
+
 /// The upper bound of the bytes of the edits that wait: that of a journal.
 const MOST_WAITING_EDITS: usize = 67_108_864;
 
@@ -48,6 +54,10 @@ const STEP_BYTES: usize = 81_765;
 /// The upper bound of the bytes of the edits that a collector's visit writes: the erasures of 128 records and their
 /// data, with 4,076 bytes each.
 const VISIT_BYTES: usize = 1_043_456;
+
+/// The bytes of two records in the log without the edits of the first: one with edits, and one that names a root, with a
+/// checksum of 4 bytes.
+const RECORD_BYTES: usize = 2 * BEFORE_BODY + 4;
 
 /// A server with a log.
 #[derive(Drop)]
@@ -63,6 +73,8 @@ pub struct DurableServer<S, M: MarkStore, L> {
     pub(crate) root_bytes: usize,
     /// The journal's size when such a root was last refused; 0 after one that was put.
     pub(crate) tried_bytes: usize,
+    /// How many requests were answered since such a root was tried.
+    pub(crate) answered: usize,
     /// Such a root is followed by a sweep.
     pub(crate) upkeep: bool,
 }
@@ -126,6 +138,32 @@ fn renew_log<S: Journaled, L: Log>(server: &S, log: &mut L) -> Result<(), Refusa
     match log.renew(RecordKind::Root, name.top, &root_sum_bytes(name.sum)) {
         Ok(()) => Ok(()),
         Err(LogFault::Memory) => Err(Refusal::NoMemory),
+        Err(_) => Err(Refusal::Device),
+    }
+}
+
+/// Appends the name of the root that would be put now to a log, which is over this root from then on.
+///
+/// # Errors
+///
+/// `NoMemory`; the log is unchanged. `Device` if the log failed.
+fn log_root<S: Journaled, L: Log>(server: &S, log: &mut L) -> Result<(), Refusal>
+    ensures ok { OnOk result (Gains (L.holds log.old) (L.holds log.new) (named (S.view.next_root
+        server.now))) }
+    ensures err { OnErr result (MayGain (L.holds log.old) (L.holds log.new) (named
+        (S.view.next_root server.now))) }
+    ensures unchanged { IsErrOf result Refusal.NoMemory
+        → Keeps (L.holds log.old) (L.holds log.new) }
+    ensures refusal { IfErr result (λ refusal.
+        (refusal ≡ Refusal.Device) ⊎ (refusal ≡ Refusal.NoMemory)) }
+    ensures later { L.faults log.old ≤ L.faults log.new }
+{
+    let name = match server.root_name() {
+        Ok(name) => name,
+        Err(refusal) => return Err(refusal),
+    };
+    match log.append(RecordKind::Root, name.top, &root_sum_bytes(name.sum)) {
+        Ok(()) => Ok(()),
         Err(_) => Err(Refusal::Device),
     }
 }
@@ -299,15 +337,57 @@ impl<S: Journaled, M: MarkStore, L: Log> DurableServer<S, M, L> {
         }
     }
 
-    /// Appends the waiting edits to the log, puts a root that keeps the state that is shown, and drops the edits that
-    /// the root has from the log. Before the root is put, the log gets room for its renewal, a record is appended that
-    /// it is over any root, and the greatest covered stamp is stored as the mark.
+    /// Flushes every tablet, and appends the name of the root that is put next to the log. From then on the log is over
+    /// the old root and over this one.
     ///
     /// # Errors
     ///
-    /// Those of a checkpoint; before the root is put, `Device` or `NoMemory` if the log got no room for its renewal, and
-    /// `Device` if the mark wasn't stored; `NoMemory` also if the allocation for the new root's name in the log failed:
-    /// the log stays over any root. `Device` also if the log failed: the server is stopped.
+    /// Those of a flush, and `NoMemory` if the allocation for the name failed; the log is unchanged. `Device` also if the
+    /// log failed: the server is stopped.
+    fn name_next_root(&mut self) -> Result<(), Refusal>
+        ensures flushed { OnOk result (S.calls.flushes self.old.server self.new.server) }
+        ensures ok { OnOk result (Gains (L.holds self.old.log) (L.holds self.new.log) (named
+            (S.view.next_root self.new.server))) }
+        ensures err { OnErr result (MayGain (L.holds self.old.log) (L.holds self.new.log) (named
+            (S.view.next_root self.new.server))) }
+        ensures unchanged { OnErr result ((self.new.is_stopped ≡ true)
+            ⊎ Keeps (L.holds self.old.log) (L.holds self.new.log)) }
+        ensures answered { OnErr result (PutsRoot S.view S.calls (self.new.is_stopped ≡ true) ⊥
+            self.old.server (checkpointed result) self.new.server) }
+        ensures step { OnErr result (StepsAs S.shows self.old.server self.new.server CheckpointAsked
+            (replied (checkpointed result))) }
+        ensures refusal { IfErr result IsStorageRefusal }
+        ensures shown { (st : State) → S.shows self.old.server st → S.shows self.new.server st }
+        ensures keeps { KeepsJournal S.view self.old.server self.new.server }
+        ensures stays { StaysRooted S.view self.old.server self.new.server }
+        ensures marks { self.new.marks ≡ self.old.marks }
+        ensures on { OnOk result (self.new.is_stopped ≡ self.old.is_stopped) }
+        ensures later { L.faults self.old.log ≤ L.faults self.new.log }
+        ensures due { IsDueAlike self.old self.new }
+    {
+        match self.server.flush_now() {
+            Ok(()) => match log_root(&self.server, &mut self.log) {
+                Ok(()) => Ok(()),
+                Err(Refusal::NoMemory) => Err(Refusal::NoMemory),
+                Err(_) => {
+                    self.is_stopped = true;
+                    Err(Refusal::Device)
+                }
+            },
+            Err(refusal) => Err(refusal),
+        }
+    }
+
+    /// Appends the waiting edits to the log, puts a root that keeps the state that is shown, and drops the edits that
+    /// the root has from the log. Before the root is put, the log gets room for its renewal, the greatest covered stamp
+    /// is stored as the mark, the tablets are flushed, and the root's name is appended to the log.
+    ///
+    /// # Errors
+    ///
+    /// Those of a checkpoint; before a tablet is flushed, `Device` or `NoMemory` if the log got no room for its renewal,
+    /// and `Device` if the mark wasn't stored; `NoMemory` also if an allocation for the root's name failed: if that is
+    /// before the root is put, the log stays over the old root, and else over both. `Device` also if the log failed: the
+    /// server is stopped.
     fn root(&mut self) -> Result<(), Refusal>
         ensures step { StepsAs (shown_by S.shows) self.old self.new CheckpointAsked
             (replied (checkpointed result)) }
@@ -338,14 +418,11 @@ impl<S: Journaled, M: MarkStore, L: Log> DurableServer<S, M, L> {
             return Err(Refusal::Device);
         }
         reserve_renewal(&mut self.log)?;
-        if self.log.append(RecordKind::AnyRoot, 0, &[]).is_err() {
-            self.is_stopped = true;
-            return Err(Refusal::Device);
-        }
         if self.marks.store().is_err() {
             return Err(Refusal::Device);
         }
-        match self.server.checkpoint_now() {
+        self.name_next_root()?;
+        match self.server.put_root_now() {
             Ok(()) => self.empty_log(),
             Err(refusal) => Err(refusal),
         }
@@ -384,7 +461,7 @@ impl<S: Journaled, M: MarkStore, L: Log> DurableServer<S, M, L> {
     }
 
     /// Puts a root after tablets were moved, while no edits wait, in the room that was made for it. If it is refused, the
-    /// server is stopped; if only the allocation for its name in the log fails, the log stays over any root.
+    /// server is stopped; if only the allocation for its name alone in the log fails, the log stays over the old root too.
     fn root_moved(&mut self)
         ensures shown { (st : State) → S.shows self.old.server st → S.shows self.new.server st }
         ensures answered { (reply : CodecReply) × PutsRoot S.view S.calls (self.new.is_stopped ≡
@@ -403,16 +480,16 @@ impl<S: Journaled, M: MarkStore, L: Log> DurableServer<S, M, L> {
             self.is_stopped = true;
             return;
         }
-        if self.log.append(RecordKind::AnyRoot, 0, &[]).is_err() {
-            self.is_stopped = true;
-            return;
-        }
         if self.marks.store().is_err() {
             self.is_stopped = true;
             return;
         }
+        if self.name_next_root().is_err() {
+            self.is_stopped = true;
+            return;
+        }
         self.log.release_beside();
-        match self.server.checkpoint_now() {
+        match self.server.put_root_now() {
             Ok(()) => {
                 let _ = self.empty_log();
             }
@@ -544,14 +621,15 @@ impl<S: Journaled, M: MarkStore, L: Log> DurableServer<S, M, L> {
     }
 
     /// Whether a root is due without a request. A refused one is tried again once the journal has grown by 8,388,608
-    /// bytes, or has shrunk, since then a root was put meanwhile.
+    /// bytes, or has shrunk, since then a root was put meanwhile. From 50,331,648 bytes on, 1,024 requests are enough.
     fn is_root_due(&self, written: usize) -> bool
         ensures { IsTrue result ↔ IsRootDue self.now written }
     {
         written >= self.root_bytes
             && (written < self.tried_bytes
                 || self.tried_bytes == 0
-                || written - self.tried_bytes >= BETWEEN_TRIES)
+                || written - self.tried_bytes >= BETWEEN_TRIES
+                || (written >= NEARLY_FULL && self.answered >= REQUESTS_BETWEEN))
     }
 
     /// Lets the server inside answer a request that needs no root.
@@ -571,14 +649,14 @@ impl<S: Journaled, M: MarkStore, L: Log> DurableServer<S, M, L> {
     }
 
     /// The bytes for which the log must have room before a request that needs room is answered: a record of the edits
-    /// that wait and those of the request, with a mark, and a record that the log is over any root.
+    /// that wait and those of the request, with a mark, and a record that names a root.
     fn bytes_needed(&self, request: Request<'_>) -> usize {
         let edits = self
             .server
             .waiting()
             .len()
             .saturating_add(most_edit_bytes(request));
-        edits.min(MOST_WAITING_EDITS) + 2 * BEFORE_BODY
+        edits.min(MOST_WAITING_EDITS) + RECORD_BYTES
     }
 
     /// Answers a request that may write edits or draw a stamp, if the log has room for what it records.
@@ -624,7 +702,7 @@ impl<S: Journaled, M: MarkStore, L: Log> DurableServer<S, M, L> {
             _ => return None,
         };
         let waiting = self.server.waiting().len().saturating_add(edits);
-        Some(waiting.min(MOST_WAITING_EDITS) + 2 * BEFORE_BODY)
+        Some(waiting.min(MOST_WAITING_EDITS) + RECORD_BYTES)
     }
 
     /// Lets the server inside answer an operation of several cells.
@@ -712,7 +790,10 @@ impl<S: Journaled, M: MarkStore, L: Log> Handler for DurableServer<S, M, L> {
         if self.is_root_due(written) {
             let done = self.root();
             self.tried_bytes = tried_after(&done, written);
+            self.answered = 0;
             self.sweep_after(&done);
+        } else {
+            self.answered = self.answered.saturating_add(1);
         }
     }
 }

@@ -1,19 +1,18 @@
 //! Files in a folder.
 
-ghost use Rattle.std.specs.Prelude.{⊤, ◌≡◌, ◌≢◌, ◌≤◌, ◌<◌, ◌+◌, ◌-◌, ◌^◌, Err, IfOk, IfErr, IsOk, None, Ok, OnOk, length, min};
-ghost use Rattle.std.specs.Io.KnownBytes.{Appends};
+ghost use Rattle.std.specs.Prelude.{⊤, ◌≡◌, ◌≢◌, ◌≤◌, ◌<◌, ◌+◌, ◌-◌, ◌^◌, Err, IfOk, IfErr, IfSome, IsOk, None, Ok, OnOk, length, min, nat_eq};
+ghost use Rattle.std.specs.Io.KnownBytes.{Appends, IsAtEnd};
+ghost use Rattle.std.specs.Map.{lookup};
 ghost use Rattle.std.specs.IoError.{error_kind};
 ghost use Rattle.file_store.specs.Store.{HasFaultCause};
 
 use crate::files::{FileFault, Files};
-use crate::open_files::OpenFiles;
-use disk::{
-    OWNER_ALONE, create_beside, fill, if_there, look_at, open_regular, place_file, sync_folder,
-};
+use crate::open_files::{OpenFiles, read_part};
+use disk::{OWNER_ALONE, create_beside, if_there, look_at, open_regular, place_file, sync_folder};
 use std::alloc::{Allocator, Global};
 use std::collections::BTreeSet;
-use std::fs::{DirEntry, File, Metadata, OpenFile, OpenOptions};
-use std::io::{ErrorKind, Read, Seek, SeekFrom, Write};
+use std::fs::{DirEntry, File, Metadata, OpenFile, OpenOptions, ReadDir};
+use std::io::{ErrorKind, Read, Seek, Write};
 use std::os::unix::fs::OpenOptionsExt;
 use std::rt::Files as Folders;
 use std::{fs, io};
@@ -40,7 +39,7 @@ pub struct DirFiles<R> {
     alloc: Global,
     folder: String,
     _lock: File,
-    open_files: OpenFiles,
+    open_files: OpenFiles<File>,
     /// The names in doubt.
     doubts: BTreeSet<u64>,
     faults: u64,
@@ -151,24 +150,16 @@ fn finish_file<R: Folders>(rt: &R, folder: &str, writing: DirWriting) -> io::Res
     place_file(rt, folder, beside.as_str(), path.as_str(), file.sync_all())
 }
 
-/// Reads from an offset of an open file into a buffer, and answers how many bytes were read.
-fn read_part<S: Read + Seek>(file: &mut S, offset: u64, out: &mut [u8]) -> io::Result<usize>
-    ensures { IfOk result (λ n. n ≤ length out.old) }
-{
-    if offset > i64::MAX as u64 {
-        return Ok(0);
-    }
-    file.seek(SeekFrom::Start(offset))?;
-    fill(file, out)
-}
-
-/// Reads in the same way from a file that was opened, and answers the file too, if it exists.
+/// Reads from an offset of a file that was opened into a buffer, and answers how many bytes were read: fewer than its
+/// length only at the file's end. Answers the file too, if it exists.
 fn read_opened<S: Read + Seek + Drop>(
     opened: io::Result<S>,
     offset: u64,
     out: &mut [u8],
 ) -> io::Result<(usize, Option<S>)>
     ensures within { IfOk result (λ found. found.0 ≤ length out.old) }
+    ensures end { offset < 2 ^ 63 → IfOk result (λ found.
+        found.0 < length out.old → IfSome found.1 (λ file. IsAtEnd (S.remaining file))) }
     ensures failed { IfErr opened (λ error.
         error_kind error ≢ ErrorKind.NotFound → result ≡ Err error) }
 {
@@ -179,20 +170,24 @@ fn read_opened<S: Read + Seek + Drop>(
     Ok((count, Some(file)))
 }
 
-/// Reads in the same way from a file by its name; nothing if it is missing. The file is kept open.
-fn read_from<R: Folders<File = File>>(
+/// Reads in the same way from a file by its name, also if it is kept open; nothing if it is missing. The file is kept
+/// open.
+fn read_from<S: Read + Seek + Drop, R: Folders<File = S>>(
     rt: &R,
     alloc: Global,
     folder: &str,
-    open_files: &mut OpenFiles,
+    open_files: &mut OpenFiles<S>,
     name: u64,
     offset: u64,
     out: &mut [u8],
 ) -> io::Result<usize>
-    ensures { IfOk result (λ n. n ≤ length out.old) }
+    ensures within { IfOk result (λ n. n ≤ length out.old) }
+    ensures end { offset < 2 ^ 63 → IfOk result (λ n. n < length out.old →
+        IfSome (lookup (nat_eq name) open_files.new.files.entries) (λ file.
+        IsAtEnd (S.remaining file))) }
 {
-    if let Some(file) = open_files.get(name) {
-        return read_part(file, offset, out);
+    if let Some(read) = open_files.read(name, offset, out) {
+        return read;
     }
     let path = path_of(alloc, folder, name, "tab")?;
     let (count, file) = read_opened(open_regular(rt, path.as_str()), offset, out)?;
@@ -255,20 +250,31 @@ fn name_listed<R: Folders + Drop, A: Allocator + Drop>(
     }
 }
 
-/// The numbers of a folder's files with this ending, in ascending order.
-fn names_in<R: Folders + AllocGlobal + Clone + Drop>(
-    rt: &R,
-    folder: &str,
+/// The numbers of listed files with this ending, in ascending order. A failure to list them is passed on.
+fn numbers_in<R: Folders + Clone + Drop, A: Allocator + Clone + Drop>(
+    alloc: Global,
+    listed: io::Result<ReadDir<R, A>>,
     ending: &str,
-) -> io::Result<Vec<u64>> {
-    let mut names = Vec::new(rt.alloc());
-    for entry in fs::read_dir(rt, folder)? {
+) -> io::Result<Vec<u64>>
+    ensures failed { IfErr listed (λ error. result ≡ Err error) }
+{
+    let mut names = Vec::new(alloc);
+    for entry in listed? {
         if let Some(name) = name_listed(entry, ending)? {
             names.push(name)?;
         }
     }
     names.sort_unstable();
     Ok(names)
+}
+
+/// The numbers of a folder's files with this ending, in ascending order.
+fn names_in<R: Folders + AllocGlobal + Clone + Drop>(
+    rt: &R,
+    folder: &str,
+    ending: &str,
+) -> io::Result<Vec<u64>> {
+    numbers_in(rt.alloc(), fs::read_dir(rt, folder), ending)
 }
 
 /// Removes all temporary files, which a stopped program left.

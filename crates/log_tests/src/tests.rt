@@ -26,7 +26,12 @@ const RECORDS: [&[u8]; 3] = [
     b"\x01\0\0\0\0\0\0\0\x09\x01\x02\x03\x04",
 ];
 
-/// A log of format 1, of the records `a` and `ab`.
+/// A log of format 1, whose record puts data of stamp 3.
+const PUT: [u8; 48] = *b"TABLOG01\
+\x00\x00\x00\x20\x09\xF1\x71\xFE\
+\0\0\0\x16a\0\0bal\0\0data\0\0\xFF\xFF\xFF\xFF\xFF\xFF\xFF\xFC\x01\0\0\0\x01v";
+
+/// A log of format 1, of the records `a` and `ab`, which are no edits.
 const TWO: [u8; 27] = *b"TABLOG01\
 \x00\x00\x00\x01\xE5\x8C\x97\x92a\
 \x00\x00\x00\x02\x6D\x1C\x2F\x5Fab";

@@ -1,7 +1,7 @@
 -- The state of an oracle, and the ranges from which it serves.
-use Rattle.std.specs.Prelude.{◌≡◌, ℕ, ◌+◌, ◌-◌, ◌^◌, min, ⊤}
-use Rattle.cell_key.specs.declared.refusals.Refusal.{Refusal}
-use Rattle.cell_key.specs.declared.refusals.Refusal.TheVariants.{Exhausted, Device}
+use Rattle.std.specs.Prelude.{◌≡◌, ℕ, ◌+◌, ◌-◌, ◌^◌, min, Option}
+use Rattle.oracle.specs.Marks.{MayHold}
+pub use Rattle.rows.specs.Sources.{IsDrawRefusal}
 
 -- the mark store, the last stamp, and the end of the range from which stamps are served
 pub record OracleState (M : Type 0) : Type 0 where
@@ -18,8 +18,9 @@ pub record SameNumbers {M : Type 0} (old new : OracleState M) : Type 0 where
   pub last : new.last ≡ old.last
   pub range_end : new.range_end ≡ old.range_end
 
--- no more stamps, or a fault of the mark store
-abbrev pub IsDrawRefusal : Refusal → Type 0
-IsDrawRefusal Exhausted = ⊤
-IsDrawRefusal Device = ⊤
-IsDrawRefusal _ = ⊥
+-- A refused draw leaves the last stamp and the range unchanged. The mark is unchanged too, or it is the end of the next
+-- range.
+pub record LeavesNumbers {M : Type 0} (mark_of : M → Option ℕ) (old new : OracleState M)
+    : Type 0 where
+  pub numbers : SameNumbers old new
+  pub mark : MayHold (next_range_end old.range_end) (mark_of old.marks) (mark_of new.marks)

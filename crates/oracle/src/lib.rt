@@ -5,6 +5,7 @@ mod fail;
 mod folder;
 mod marks;
 mod memory;
+mod source;
 mod stamps;
 
 pub use fail::{Fail, FailMarkAt};

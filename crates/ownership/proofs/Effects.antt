@@ -310,6 +310,7 @@ stays_there asks.Sweep step e name = absurd (differ e)
 stays_there asks.OracleRestart step e name = absurd (differ e)
 stays_there (asks.Raw x f low high) step e name = absurd (differ e)
 stays_there asks.Checkpoint step e name = absurd (differ e)
+stays_there (asks.Status k) step e name = absurd (differ e)
 
 and_true : (b : Bool) → (b && not false) ≡ b
 and_true true = refl

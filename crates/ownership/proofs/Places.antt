@@ -1,6 +1,6 @@
 -- Places in a sorted list of what clients have.
-use Rattle.std.proofs.Common.{◌≡◌, ◌≢◌, ℕ, zero, suc, ◌+◌, ◌-◌, ◌++◌, take, ◌<◌, ◌≤◌, Bool, true, false, not, ◌&&◌, ◌||◌, List, [], ◌∷◌, length, get_or, drop, Option, Some, None, refl, sym, ap, subst, ◌∙◌, arith, slice_get, ◌⊎◌, inl, inr, if◌then◌else◌}
-use Rattle.std.specs.Prelude.{nat_eq, nat_le, nat_lt}
+use Rattle.std.proofs.Common.{◌≡◌, ◌≢◌, ℕ, zero, suc, ◌+◌, ◌-◌, ◌++◌, take, ◌<◌, ◌≤◌, Bool, true, false, not, ◌&&◌, ◌||◌, List, [], ◌∷◌, length, get_or, Option, Some, None, refl, sym, ap, subst, ◌∙◌, arith, slice_get, ◌⊎◌, inl, inr, if◌then◌else◌}
+use Rattle.std.specs.Prelude.{nat_eq, nat_le}
 use Rattle.std.specs.List.{AllByRecursion, insert, remove}
 use Rattle.std.proofs.lemmas.Bool.Decides.{nat_tests}
 use Rattle.std.proofs.lemmas.Option.{same_Some}
@@ -236,30 +236,11 @@ is_there c n [] (suc i) it = cc
 is_there c n (x ∷ xs) zero it = omega arith
 is_there c n (x ∷ xs) (suc i) it = let less = is_there c n xs i it in omega (arith, less)
 
--- ---- all of a client's
-
--- from the first of a client's numbers on
-past_client : (c : ℕ) (x y : Holding) → is_before c 0 x ≡ false → nat_eq x.client c ≡ false → is_after x y ≡ true → nat_eq y.client c ≡ false
-past_client c x y here other after = grind (arith, nat_tests)
-
-before_client : (c : ℕ) (x : Holding) → is_before c 0 x ≡ true → nat_eq x.client c ≡ false
-before_client c x before = grind (arith, nat_tests)
+-- ---- how many
 
 cases_true : (b : Bool) → (b ≡ true) ⊎ (b ≡ false)
 cases_true true = inl refl
 cases_true false = inr refl
-
-none_more : (c : ℕ) (x : Holding) (xs : List Holding) → nat_eq x.client c ≡ false → held_by c xs ≡ 0 → held_by c (x ∷ xs) ≡ 0
-none_more c x xs e none = ap (λ (b : Bool). (if b then 1 else 0) + held_by c xs) e ∙ omega (arith, none)
-
-none_held : (c : ℕ) (x : Holding) (xs : List Holding) → is_before c 0 x ≡ false → nat_eq x.client c ≡ false → AreAfter x xs → held_by c xs ≡ 0
-none_held c x [] here other after = refl
-none_held c x (y ∷ xs) here other after = none_more c y xs (past_client c x y here other after.0) (none_held c x xs here other after.1)
-
--- whether it is one of the client's
-abbrev pub is_its : ℕ → Option Holding → Bool
-is_its c None = false
-is_its c (Some x) = nat_eq x.client c
 
 its_more : (c : ℕ) (x : Holding) (xs : List Holding) → nat_eq x.client c ≡ true → held_by c (x ∷ xs) ≡ 1 + held_by c xs
 its_more c x xs e = ap (λ (b : Bool). (if b then 1 else 0) + held_by c xs) e
@@ -267,19 +248,6 @@ its_more c x xs e = ap (λ (b : Bool). (if b then 1 else 0) + held_by c xs) e
 others_more : (c : ℕ) (x : Holding) (xs : List Holding) → nat_eq x.client c ≡ false → held_by c (x ∷ xs) ≡ held_by c xs
 others_more c x xs e = ap (λ (b : Bool). (if b then 1 else 0) + held_by c xs) e ∙ omega arith
 
-below_more : (k n : ℕ) → nat_lt k n ≡ nat_lt (suc k) (1 + n)
-below_more k n = grind (arith, nat_tests)
-
-none_below : (k n : ℕ) → n ≡ 0 → nat_lt k n ≡ false
-none_below k n e = grind (arith, nat_tests)
-
-some_below : (n : ℕ) → nat_lt 0 (1 + n) ≡ true
-some_below n = grind (arith, nat_tests)
-
-abbrev NotBefore : ℕ → List Holding → Type 0
-NotBefore c xs = AllByRecursion (λ (x : Holding). is_before c 0 x ≡ false) xs
-
--- none of a list is a client's
 at_most_all : (c : ℕ) (xs : List Holding) → held_by c xs ≤ length xs
 at_most_all c [] = omega arith
 at_most_all c (x ∷ xs) = either (nat_eq x.client c) refl (at_most_all c xs)
@@ -295,94 +263,11 @@ below_most n m most few short = grind (arith, nat_tests)
 pub too_few : (c most : ℕ) (xs : List Holding) → length xs < most → nat_le most (held_by c xs) ≡ false
 too_few c most xs short = below_most (held_by c xs) (length xs) most (at_most_all c xs) short
 
-none_its : (c : ℕ) (xs : List Holding) (k : ℕ) → held_by c xs ≡ 0 → is_its c (slice_get xs k) ≡ false
-none_its c [] zero e = refl
-none_its c [] (suc k) e = refl
-none_its c (x ∷ xs) zero e = either (nat_eq x.client c) refl
-  where
-    either : (b : Bool) → nat_eq x.client c ≡ b → nat_eq x.client c ≡ false
-    either false is = is
-    either true is = absurd (let n = its_more c x xs is in omega (arith, n, e))
-none_its c (x ∷ xs) (suc k) e = none_its c xs k (omega (arith, e))
-
-first_its : (c : ℕ) (x : Holding) (xs : List Holding) (k : ℕ) → (nat_eq x.client c ≡ true) → ((j : ℕ) → is_its c (slice_get xs j) ≡ nat_lt j (held_by c xs)) → is_its c (slice_get (x ∷ xs) k) ≡ nat_lt k (held_by c (x ∷ xs))
-first_its c x xs zero e more = e ∙ (sym (some_below (held_by c xs)) ∙ ap (nat_lt 0) (sym (its_more c x xs e)))
-first_its c x xs (suc k) e more = more k ∙ (below_more k (held_by c xs) ∙ ap (nat_lt (suc k)) (sym (its_more c x xs e)))
-
-first_anothers : (c : ℕ) (x : Holding) (xs : List Holding) (k : ℕ) → nat_eq x.client c ≡ false → held_by c xs ≡ 0 → is_its c (slice_get (x ∷ xs) k) ≡ nat_lt k (held_by c (x ∷ xs))
-first_anothers c x xs k e none =
-    let all : held_by c (x ∷ xs) ≡ 0 = others_more c x xs e ∙ none in
-    none_its c (x ∷ xs) k all ∙ sym (none_below k (held_by c (x ∷ xs)) all)
-
--- the k-th is the client's if it has more than k
-held_run : (c : ℕ) (xs : List Holding) (k : ℕ) → Rises xs → NotBefore c xs → is_its c (slice_get xs k) ≡ nat_lt k (held_by c xs)
-held_run c [] zero r all = refl
-held_run c [] (suc k) r all = sym (none_below (suc k) 0 refl)
-held_run c (x ∷ xs) k r all = elim (cases_true (nat_eq x.client c)) [
-  | inl e ↦ first_its c x xs k e (λ j. held_run c xs j r.1 all.1)
-  | inr e ↦ first_anothers c x xs k e (none_held c x xs all.0 e r.0)
-]
-
-all_from : (c : ℕ) (xs : List Holding) → Rises xs → IsPlaceOf c 0 xs zero → AllByRecursion (λ (x : Holding). is_before c 0 x ≡ false) xs
-all_from c [] r p = tt
-all_from c (x ∷ xs) r p = (here_place c 0 x xs p, go xs r.0)
-  where
-    go : (ys : List Holding) → AreAfter x ys → AllByRecursion (λ (y : Holding). is_before c 0 y ≡ false) ys
-    go [] after = tt
-    go (y ∷ ys) after = (later_past x y c 0 (here_place c 0 x xs p) after.0, go ys after.1)
-
--- the k-th from the place of the client's first on
-pub held_at : (c : ℕ) (xs : List Holding) (i k : ℕ) → Rises xs → IsPlaceOf c 0 xs i → is_its c (slice_get (drop i xs) k) ≡ nat_lt k (held_by c xs)
-held_at c xs zero k r p = held_run c xs k r (all_from c xs r p)
-held_at c [] (suc i) k r p = absurd (too_far c 0 i p)
-held_at c (x ∷ xs) (suc i) k r p =
-    held_at c xs i k r.1 (next_place c 0 x xs i p)
-    ∙ ap (nat_lt k) (sym (others_more c x xs (before_client c x (passed c 0 x xs i p))))
-
--- and there is a k-th if it has as many
-pub as_many : (k most n : ℕ) → most ≡ k + 1 → nat_lt k n ≡ nat_le most n
-as_many k most n e = grind (arith, nat_tests)
-
-first_at : (c : ℕ) (xs : List Holding) (i : ℕ) → is_its c (slice_get (drop i xs) 0) ≡ is_its c (slice_get xs i)
-first_at c [] zero = refl
-first_at c [] (suc i) = refl
-first_at c (x ∷ xs) zero = refl
-first_at c (x ∷ xs) (suc i) = first_at c xs i
-
--- what it holds is its
-is_held : (c n : ℕ) (x : Holding) → nat_eq x.client c ≡ true → is_of c x.number x ≡ true
-is_held c n x e = grind (arith, nat_tests)
-
-its_some : (c n : ℕ) (x : Holding) (xs : List Holding) → is_of c n x ≡ true → 0 < held_by c (x ∷ xs)
-its_some c n x xs it = let e = its_more c x xs (its_client c n x it) in omega (arith, e)
-
-later_some : (c : ℕ) (x : Holding) (xs : List Holding) → 0 < held_by c xs → 0 < held_by c (x ∷ xs)
-later_some c x xs some = omega (arith, some)
-
-some_held : (c n : ℕ) (xs : List Holding) → holds xs c n ≡ true → 0 < held_by c xs
-some_held c n [] e = cc
-some_held c n (x ∷ xs) e = elim (cases_true (is_of c n x)) [
-  | inl it ↦ its_some c n x xs it
-  | inr fits ↦ later_some c x xs (some_held c n xs (ap (λ (b : Bool). b || holds xs c n) (sym fits) ∙ e))
-]
-
 holds_found : (c n : ℕ) (xs : List Holding) (i : ℕ) (x : Holding) → slice_get xs i ≡ Some x → is_of c n x ≡ true → holds xs c n ≡ true
 holds_found c n [] zero x e it = cc
 holds_found c n [] (suc i) x e it = cc
 holds_found c n (y ∷ xs) zero x e it = ap (λ (b : Bool). b || holds xs c n) (subst (λ (o : Option Holding). is_it c n o ≡ true) (sym e) it)
 holds_found c n (y ∷ xs) (suc i) x e it = ap (λ (b : Bool). is_of c n y || b) (holds_found c n xs i x e it) ∙ or_comm (is_of c n y) true
-
-pub first_found : (c : ℕ) (xs : List Holding) (i : ℕ) (x : Holding) → slice_get xs i ≡ Some x → nat_eq x.client c ≡ true → holds xs c x.number ≡ true
-first_found c xs i x e its = holds_found c x.number xs i x e (is_held c x.number x its)
-
-none_few : (n : ℕ) → nat_lt 0 n ≡ false → 0 < n → ⊥
-none_few n few some = grind (arith, nat_tests)
-
-pub none_found : (c n : ℕ) (xs : List Holding) (i : ℕ) → Rises xs → IsPlaceOf c 0 xs i → is_its c (slice_get xs i) ≡ false → holds xs c n ≡ false
-none_found c n xs i r p none = elim (cases_true (holds xs c n)) [
-  | inl e ↦ absurd (none_few (held_by c xs) (sym (held_at c xs i 0 r p) ∙ (first_at c xs i ∙ none)) (some_held c n xs e))
-  | inr e ↦ e
-]
 
 -- ---- what a slice has
 

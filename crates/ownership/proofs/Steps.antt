@@ -9,7 +9,7 @@ use Rattle.cell_key.specs.declared.refusals.Refusal.TheVariants.{UnknownSession,
 use Rattle.si_model.specs.Machine.{State, Phase, Open, Finishing, Request, Reply, finishing, IsAcceptable}
 use Rattle.si_model.specs.Messages as asks
 use Rattle.si_model.specs.Refusing.{get_unknown, set_unknown, delete_unknown, scan_unknown, advance_unknown, stop_unknown, clean_unknown, collect_unknown}
-use Rattle.si_model.specs.Machine.{Tells, waits, finds_none, is_blocked, goes_further, minors, merges, majors, sweeps, restarts, finds_raw, checkpoints, Acts, tells, begins, reads, scans, sets, deletes, holds, conflicts, draws, loses, commits, finishes, stops, opens, kills, learns, rolls_forward, rolls_back, finds_gone, collects, has_collected, splits, moves_tablet, Step, refuses, accepts}
+use Rattle.si_model.specs.Machine.{Tells, waits, finds_none, is_blocked, goes_further, minors, merges, majors, sweeps, restarts, finds_raw, checkpoints, reports, Acts, tells, begins, reads, scans, sets, deletes, holds, conflicts, draws, loses, commits, finishes, stops, opens, kills, learns, rolls_forward, rolls_back, finds_gone, collects, has_collected, splits, moves_tablet, Step, refuses, accepts}
 use Rattle.si_model.proofs.Tools.{get_same, get_other, get_remains}
 use Rattle.ownership.specs.Names.{request_name as name_of, request_kind, reply_name, is_kind, is_name, is_open, kind_of, same_name}
 use Rattle.ownership.specs.Effects.{StaysAsItWas}
@@ -137,6 +137,7 @@ tells_none sweeps name g = cc
 tells_none restarts name g = cc
 tells_none finds_raw name g = cc
 tells_none checkpoints name g = cc
+tells_none reports name g = cc
 
 given_session : {st next : State} {q : Request} {r : Reply} → Acts st q r next → (k : ℕ) → gives r (Session k) ≡ true → is_some (get next.active k) ≡ true
 given_session {st} (begins {s = s} d) k g = is_there st.active s k Open g
@@ -276,6 +277,7 @@ unknown_acts st next asks.Sweep r ok name e c = none-some name e
 unknown_acts st next asks.OracleRestart r ok name e c = none-some name e
 unknown_acts st next (asks.Raw x f low high) r ok name e c = none-some name e
 unknown_acts st next asks.Checkpoint r ok name e c = none-some name e
+unknown_acts st next (asks.Status k) r ok name e c = none-some name e
 
 unknown : {st next : State} {q : Request} {r : Reply} → Step st q r next → (name : Name) → name_of q ≡ Some name → is_open st name ≡ false → next ≡ st
 unknown (refuses f) name e c = refl

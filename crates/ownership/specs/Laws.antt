@@ -1,15 +1,18 @@
 -- What clients can rely on: each its own.
-use Rattle.std.specs.Prelude.{◌≡◌, ◌≢◌, ◌⊎◌, ℕ, true, false, List, Option, Some}
+use Rattle.std.specs.Prelude.{◌≡◌, ◌≢◌, ◌⊎◌, ⊤, ℕ, Bool, true, false, List, Option, Some}
 use Rattle.std.specs.List.{AllByRecursion}
 use Rattle.cell_key.specs.declared.refusals.Refusal.{Refusal}
-use Rattle.si_model.specs.Machine.{State, IsReached, Refused}
+use Rattle.cell_key.specs.declared.refusals.Refusal.TheVariants.{UnknownSession, UnknownCleaner, UnknownCollector}
+use Rattle.si_model.specs.Machine.{State, Writes, IsReached, Request, Refused, Applies}
 use Rattle.si_model.specs.Sets.{◌∈◌}
-use Rattle.si_model.specs.Transactions.{Operation, Answer, Said}
+use Rattle.si_model.specs.Transactions.{Operation, One, Commit, Read, Answer, Said}
+use Rattle.si_model.specs.declared.replies.Cell.{Cell}
 use Rattle.ownership.specs.Effects.{StaysAsItWas}
 use Rattle.ownership.specs.Names.{gives, is_open, is_session, name_of}
 use Rattle.ownership.specs.Tables.{Knows, Table, heir_of, owns}
 use Rattle.ownership.specs.Turns.{Asks, Leaves, Frame, Exchange, Handles, HandlesAll}
 use Rattle.ownership.specs.declared.names.Name.{Name}
+use Rattle.ownership.specs.declared.names.Name.TheVariants.{Session, Cleaner, Collector}
 
 abbrev pub IsRefused : Answer → Type 0
 IsRefused answer = (refusal : Refusal) × (answer ≡ Said (Refused refusal))
@@ -31,6 +34,22 @@ abbrev pub IsOfAnother : ℕ → Frame → Type 0
 IsOfAnother client (Asks other operation) = other ≢ client
 IsOfAnother client (Leaves other) = other ≢ client
 IsOfAnother client frame = Unit {0}
+
+-- what is refused for the lack of a session, a cleaner or a collector names one
+abbrev pub NamesWhatIsUnknown : Refusal → Option Name → Type 0
+NamesWhatIsUnknown UnknownSession name = (start : ℕ) × (name ≡ Some (Session start))
+NamesWhatIsUnknown UnknownCleaner name = (number : ℕ) × (name ≡ Some (Cleaner number))
+NamesWhatIsUnknown UnknownCollector name = (number : ℕ) × (name ≡ Some (Collector number))
+NamesWhatIsUnknown refusal name = ⊤
+
+-- Named: each operation names what it needs to be open.
+pub record EachNamesWhatItNeeds : Type 0 where
+  pub requests : (st : State) (request : Request) (refusal : Refusal) → Applies st request refusal
+      → NamesWhatIsUnknown refusal (name_of (One request))
+  pub commits : (start : ℕ) (writes : Writes) → start ≢ 0
+      → name_of (Commit start writes) ≡ Some (Session start)
+  pub reads : (start : ℕ) (cells : List Cell) (stays_open : Bool) → start ≢ 0
+      → name_of (Read start cells stays_open) ≡ Some (Session start)
 
 -- Exactly what is open has an owner, after each frame; and the state is reached.
 abbrev pub StaysKnown : Type 0

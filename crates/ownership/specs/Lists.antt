@@ -10,12 +10,12 @@ is_of client number holding = nat_eq holding.client client && nat_eq holding.num
 abbrev pub holds : List Holding → ℕ → ℕ → Bool
 holds list client number = list_any (is_of client number) list
 
--- it comes before this number of this client
+-- it comes before this number of this client: its number is less, or the same, and its client's number is less
 abbrev pub is_before : ℕ → ℕ → Holding → Bool
 is_before client number holding =
-    nat_lt holding.client client || (nat_eq holding.client client && nat_lt holding.number number)
+    nat_lt holding.number number || (nat_eq holding.number number && nat_lt holding.client client)
 
--- the clients rise, and the numbers of each client: so nothing comes twice
+-- each comes before those behind it: so nothing comes twice
 abbrev pub is_after : Holding → Holding → Bool
 is_after first later = is_before later.client later.number first
 

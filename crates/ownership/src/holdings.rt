@@ -12,7 +12,7 @@ pub(crate) struct Holding {
     pub(crate) number: u64,
 }
 
-/// What clients have of one kind, in the order of their numbers, and each client's in the order of its own.
+/// What clients have of one kind, in the order of the numbers that it has.
 #[derive(Drop)]
 pub struct Holdings {
     pub(crate) list: Vec<Holding>,
@@ -24,7 +24,7 @@ pub struct Holdings {
 fn comes_before(holding: &Holding, client: u32, number: u64) -> bool
     ensures { result ≡ is_before client number holding.now }
 {
-    holding.client < client || (holding.client == client && holding.number < number)
+    holding.number < number || (holding.number == number && holding.client < client)
 }
 
 /// Whether this is a number of a client.
@@ -35,16 +35,31 @@ fn is_number_of(holding: &Holding, client: u32, number: u64) -> bool
     holding.client == client && holding.number == number
 }
 
-/// The number, if it is this client's.
-fn number_of(holding: &Holding, client: u32) -> Option<u64>
-    ensures some { IfSome result (λ number. (nat_eq holding.now.client client ≡ true)
-        × (number ≡ holding.now.number)) }
-    ensures none { IfNone result (nat_eq holding.now.client client ≡ false) }
+/// A number of a client in a list, if it has one there.
+fn first_number(list: &[Holding], client: u32) -> Option<u64>
+    ensures some { IfSome result (λ number. holds list.now client number ≡ true) }
+    ensures none { IfNone result ((number : ℕ) → holds list.now client number ≡ false) }
 {
-    if holding.client == client {
-        return Some(holding.number);
+    let mut rest = list;
+    'list: while let Some((holding, after)) = rest.split_first() {
+        if holding.client == client {
+            return Some(holding.number);
+        }
+        rest = after;
     }
     None
+}
+
+/// How many of a list are a client's.
+#[inline(never)]
+fn count_of(list: &[Holding], client: u32) -> usize
+    ensures { result ≡ held_by client list.now }
+{
+    let mut count = 0;
+    for holding in list {
+        count += if holding.client == client { 1 } else { 0 };
+    }
+    count
 }
 
 impl Holdings {
@@ -205,36 +220,18 @@ impl Holdings {
         ensures none { IfNone result ((number : ℕ)
             → holds self.now.list.items client number ≡ false) }
     {
-        let place = self.place(client, 0);
-        match self.list.get(place) {
-            Some(holding) => number_of(holding, client),
-            None => None,
-        }
+        first_number(&self.list, client)
     }
 
-    /// Whether a client has at least so many, by a search. `most` is 1 or more.
-    #[inline(never)]
-    fn has_as_many_within(&self, client: u32, most: u32) -> bool
-        requires { 1 ≤ most }
-        ensures { result ≡ nat_le most (held_by client self.now.list.items) }
-    {
-        let (_, rest) = self.list.split_at(self.place(client, 0));
-        match rest.get(most as usize - 1) {
-            Some(holding) => holding.client == client,
-            None => false,
-        }
-    }
-
-    /// Whether a client has at least so many. `most` is 1 or more.
+    /// Whether a client has at least so many. They are counted only if there are as many in all.
     #[inline(always)]
     pub fn has_as_many(&self, client: u32, most: u32) -> bool
-        requires { 1 ≤ most }
         ensures { result ≡ nat_le most (held_by client self.now.list.items) }
     {
         if self.list.len() < most as usize {
             return false;
         }
-        self.has_as_many_within(client, most)
+        count_of(&self.list, client) >= most as usize
     }
 
     /// What is one client's becomes another's.

@@ -1,11 +1,16 @@
 //! Laws of what has a name, and of clients. Each is the contract of a function that does nothing.
 
 ghost use Rattle.ownership.specs.Effects.{EachTouchesItsOwn};
-ghost use Rattle.ownership.specs.Laws.{EachWasGiven, IsGone, IsLeftAlone, OthersAreRefused, StaysKnown};
+ghost use Rattle.ownership.specs.Laws.{EachNamesWhatItNeeds, EachWasGiven, IsGone, IsLeftAlone, OthersAreRefused, StaysKnown};
 
 /// An operation changes only what it names, and opens only what its answer gives, which is new.
 pub fn touches_its_own()
     ensures { EachTouchesItsOwn }
+{}
+
+/// Each operation names what it needs to be open.
+pub fn names_what_it_needs()
+    ensures { EachNamesWhatItNeeds }
 {}
 
 /// Exactly what is open has an owner, after each frame.

@@ -1,7 +1,7 @@
 -- The lengths of replies' bodies.
 use Rattle.std.proofs.Common.{◌≡◌, ℕ, ◌+◌, ◌≤◌, List, ◌++◌, length, Some, None, arith, length-append}
 use Rattle.std.specs.Int.{to_be_bytes, w32}
-use Rattle.si_model.specs.Messages.{Reply, Answered, Cleaning, Collecting, Blocked, RawFound, Scanned, Begun, Pending, Held, Conflict, Drawn, Committed, Finished, RolledForward, SplitOff, Swept}
+use Rattle.si_model.specs.Messages.{Reply, Answered, Cleaning, Collecting, Blocked, RawFound, Scanned, Begun, Pending, Held, Conflict, Drawn, Committed, Finished, RolledForward, SplitOff, Swept, Reported}
 use Rattle.request_codec.specs.Fields.{number, field, cell_fields}
 use Rattle.request_codec.specs.Replies.{reply_body, HoldsWithinLimits, ReplyBytesFit}
 use Rattle.request_codec.specs.Stream.{frame, longest_reply}
@@ -46,6 +46,7 @@ short_body (SplitOff n) p = omega (arith, length-number 4 n)
 short_body (Swept n) p = omega (arith, length-number 8 n)
 short_body (RawFound None) p = omega arith
 short_body (RawFound (Some found)) p = omega (arith, length-append (number 8 found.0) (field found.1), length-number 8 found.0, length-field found.1)
+short_body (Reported report) p = omega (arith, p)
 short_body other p = omega arith
 
 pub reply_fits : (reply : Reply) → HoldsWithinLimits reply → ReplyBytesFit reply

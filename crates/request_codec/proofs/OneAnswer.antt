@@ -17,8 +17,8 @@ use Rattle.request_codec.proofs.Told.{same_told, length-all_told, told_starts, a
 
 -- ---- replies
 
--- the first byte of a reply is none of these
-pub reply_unlike : (r : Reply) (n : ℕ) → 0xB1 < n → n < 0xFF → first (reply_body r) ≡ n → ⊥
+-- the first byte of a reply is neither a Commit's nor a Read's
+pub reply_unlike : (r : Reply) (n : ℕ) → 0xB1 < n → n < 0xB4 → first (reply_body r) ≡ n → ⊥
 reply_unlike (Begun start) n low high e = omega (arith, low, high, e)
 reply_unlike other n low high e = omega (arith, low, high, e)
 

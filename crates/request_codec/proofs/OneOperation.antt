@@ -1,5 +1,5 @@
 -- A body has one operation.
-use Rattle.std.proofs.Common.{◌≡◌, ◌≢◌, ℕ, ◌<◌, ◌≤◌, ◌^◌, Bool, List, ◌∷◌, ◌++◌, length, refl, sym, ap, subst, ◌∙◌, drop, arith}
+use Rattle.std.proofs.Common.{◌≡◌, ◌≢◌, ℕ, ◌<◌, ◌^◌, Bool, List, ◌∷◌, ◌++◌, length, refl, sym, ap, subst, ◌∙◌, drop, arith}
 use Rattle.std.specs.List.{AllByRecursion, flat_map}
 use Rattle.si_model.specs.declared.replies.Cell.{Cell}
 use Rattle.si_model.specs.Machine.{Writes}
@@ -17,9 +17,10 @@ use Rattle.request_codec.proofs.Scans.{same_flag}
 
 -- ---- requests
 
-pub request_begins : (q : Request) → first (request_body q) ≤ 0x31
-request_begins Begin = omega arith
-request_begins other = omega arith
+-- the first byte of a request is neither a Commit's nor a Read's
+request_unlike : (q : Request) (n : ℕ) → 0x31 < n → n < 0x34 → first (request_body q) ≡ n → ⊥
+request_unlike Begin n low high e = omega (arith, low, high, e)
+request_unlike other n low high e = omega (arith, low, high, e)
 
 pub request_is : (q : Request) (body : List ℕ) → IsRequest q body → IsOperation (One q) body
 request_is q body is = record { numbers = is.numbers; bytes = is.bytes; whole = is.whole }
@@ -47,7 +48,7 @@ pub record AsCommit (o : Operation) (f : List ℕ) : Type 0 where
 pub commit_only : (o : Operation) (f : List ℕ) → IsOperation o (0x32 ∷ f) → AsCommit o f
 commit_only (Commit start writes) f p =
     record { start = start; writes = writes; fits = p.numbers.0; many = p.numbers.1; all_fit = p.bytes; is = refl; fields = ap (drop 1) p.whole }
-commit_only (One q) f p = let e = ap first p.whole in absurd (omega (arith, e, request_begins q))
+commit_only (One q) f p = absurd (request_unlike q 0x32 (omega arith) (omega arith) (sym (ap first p.whole)))
 commit_only (Read start cells stays_open) f p = let e = ap first p.whole in absurd (omega (arith, e))
 
 pub record AsRead (o : Operation) (f : List ℕ) : Type 0 where
@@ -63,7 +64,7 @@ pub record AsRead (o : Operation) (f : List ℕ) : Type 0 where
 pub read_only : (o : Operation) (f : List ℕ) → IsOperation o (0x33 ∷ f) → AsRead o f
 read_only (Read start cells stays_open) f p =
     record { start = start; cells = cells; stays_open = stays_open; fits = p.numbers.0; many = p.numbers.1; all_fit = p.bytes; is = refl; fields = ap (drop 1) p.whole }
-read_only (One q) f p = let e = ap first p.whole in absurd (omega (arith, e, request_begins q))
+read_only (One q) f p = absurd (request_unlike q 0x33 (omega arith) (omega arith) (sym (ap first p.whole)))
 read_only (Commit start writes) f p = let e = ap first p.whole in absurd (omega (arith, e))
 
 -- ---- by their fields
@@ -129,8 +130,8 @@ same_read start cells stays_open b fits many all_fit g =
 
 pub one_operation : (a b : Operation) (body : List ℕ) → IsOperation a body → IsOperation b body → a ≡ b
 one_operation (One q) (One r) body p is = ap (λ x. One x) (one_request q r body (is_request q body p) (is_request r body is))
-one_operation (One q) (Commit start writes) body p is = let e = ap first (sym p.whole ∙ is.whole) in absurd (omega (arith, e, request_begins q))
-one_operation (One q) (Read start cells stays_open) body p is = let e = ap first (sym p.whole ∙ is.whole) in absurd (omega (arith, e, request_begins q))
+one_operation (One q) (Commit start writes) body p is = absurd (request_unlike q 0x32 (omega arith) (omega arith) (ap first (sym p.whole ∙ is.whole)))
+one_operation (One q) (Read start cells stays_open) body p is = absurd (request_unlike q 0x33 (omega arith) (omega arith) (ap first (sym p.whole ∙ is.whole)))
 one_operation (Commit start writes) b body p is =
     same_commit start writes b p.numbers.0 p.numbers.1 p.bytes (commit_only b (commit_fields start writes) (subst (IsOperation b) p.whole is))
 one_operation (Read start cells stays_open) b body p is =

@@ -4,7 +4,7 @@ use Rattle.cell_key.specs.Names.{IsRow, IsFamily}
 use Rattle.cell_key.specs.Refusals.{refusal_number}
 use Rattle.cell_key.specs.declared.refusals.Refusal.{Refusal}
 use Rattle.cell_key.specs.declared.refusals.Refusal.TheVariants.{UnknownSession, WrongPhase, BadRow, BadColumn, BadValue, TooManyWrites, TooManySessions, EmptyCommit, UnknownCleaner, UnknownCollector, UnknownTablet, BadSplit, UnknownServer, BadCount, MemtableFull, TooManyFiles, FileTooLarge, Exhausted, Device, NoMemory, Damaged, BadRequest, FrameTooLarge}
-use Rattle.si_model.specs.Messages.{Item, Reach, Reply, Begun, Answered, Pending, Scanned, SetDone, DeleteDone, Held, Conflict, Drawn, Committed, Lost, Finished, StopDone, NoLock, Cleaning, Decided, RolledForward, RolledBack, Gone, Collecting, More, Blocked, Collected, MinorDone, MergeDone, MajorDone, SplitOff, MoveDone, Swept, RestartDone, RawFound, CheckpointDone, Refused}
+use Rattle.si_model.specs.Messages.{Item, Reach, Reply, Begun, Answered, Pending, Scanned, SetDone, DeleteDone, Held, Conflict, Drawn, Committed, Lost, Finished, StopDone, NoLock, Cleaning, Decided, RolledForward, RolledBack, Gone, Collecting, More, Blocked, Collected, MinorDone, MergeDone, MajorDone, SplitOff, MoveDone, Swept, RestartDone, RawFound, CheckpointDone, Reported, Refused}
 use Rattle.si_model.specs.declared.replies.Cell.{Cell}
 use Rattle.request_codec.specs.Fields.{number, field, cell_fields, FitsField}
 use Rattle.request_codec.specs.Replies.{reply_body, IsReply}
@@ -224,6 +224,11 @@ checkpoint_only : (r : Reply) → IsReply r (reply_body CheckpointDone) → r �
 checkpoint_only CheckpointDone p = refl
 checkpoint_only other p = let e = ap first p.whole in let d = ap second p.whole in absurd (omega (arith, e, d))
 
+-- all bytes behind the number are the report
+reported_only : (r : Reply) (f : List ℕ) → IsReply r (0xB4 ∷ f) → r ≡ Reported f
+reported_only (Reported report) f p = ap (λ t. Reported t) (sym (ap (drop 1) p.whole))
+reported_only other f p = let e = ap first p.whole in absurd (omega (arith, e))
+
 delete_only : (r : Reply) → IsReply r (reply_body DeleteDone) → r ≡ DeleteDone
 delete_only DeleteDone p = refl
 delete_only other p = let e = ap first p.whole in let d = ap second p.whole in absurd (omega (arith, e, d))
@@ -399,3 +404,4 @@ one_reply (RawFound (Some found)) b body p q =
 one_reply RestartDone b body p q = sym (restart_only b (subst (IsReply b) p.whole q))
 one_reply DeleteDone b body p q = sym (delete_only b (subst (IsReply b) p.whole q))
 one_reply CheckpointDone b body p q = sym (checkpoint_only b (subst (IsReply b) p.whole q))
+one_reply (Reported report) b body p q = sym (reported_only b report (subst (IsReply b) p.whole q))

@@ -2,7 +2,7 @@
 use Rattle.std.proofs.Common.{◌≡◌, ℕ, ◌<◌, ◌^◌, Bool, List, [], ◌∷◌, ◌++◌, refl, sym, ap, subst, ◌∙◌, drop, arith}
 use Rattle.cell_key.specs.declared.keys.Qualifier.{Qualifier}
 use Rattle.si_model.specs.declared.replies.Cell.{Cell}
-use Rattle.si_model.specs.Messages.{Range, Request, Begin, Get, ScanFrom, Set, Delete, Advance, Stop, CleanBegin, CleanStep, CollectBegin, CollectStep, Minor, Merge, Major, Split, Move, Sweep, OracleRestart, Raw, Checkpoint}
+use Rattle.si_model.specs.Messages.{Range, Request, Begin, Get, ScanFrom, Set, Delete, Advance, Stop, CleanBegin, CleanStep, CollectBegin, CollectStep, Minor, Merge, Major, Split, Move, Sweep, OracleRestart, Raw, Checkpoint, Status}
 use Rattle.request_codec.specs.Fields.{number, field, cell_fields, qualifier_number, FitsField, FitsCell}
 use Rattle.request_codec.specs.Requests.{request_body, IsRequest}
 use Rattle.request_codec.specs.Scans.{flag_number, range_fields, FitsRange}
@@ -142,6 +142,10 @@ minor_only other f p = let e = ap first p.whole in absurd (omega (arith, e))
 major_only : (r : Request) (f : List ℕ) → IsRequest r (0x0C ∷ f) → AsTablet r (λ tablet. Major tablet) f
 major_only (Major tablet) f p = record { tablet = tablet; fits = p.numbers; is = refl; fields = ap (drop 1) p.whole }
 major_only other f p = let e = ap first p.whole in absurd (omega (arith, e))
+
+status_only : (r : Request) (f : List ℕ) → IsRequest r (0x34 ∷ f) → AsTablet r (λ tablet. Status tablet) f
+status_only (Status tablet) f p = record { tablet = tablet; fits = p.numbers; is = refl; fields = ap (drop 1) p.whole }
+status_only other f p = let e = ap first p.whole in absurd (omega (arith, e))
 
 -- a tablet, and a number of k bytes
 record AsTwo (r : Request) (made : ℕ → ℕ → Request) (k : ℕ) (f : List ℕ) : Type 0 where
@@ -285,3 +289,6 @@ one_request (Move tablet server) b body p q =
 one_request Sweep b body p q = sym (sweep_only b [] (subst (IsRequest b) p.whole q))
 one_request (Raw cell qualifier low high) b body p q = same_raw cell qualifier low high b p.bytes p.numbers.0 p.numbers.1 (subst (IsRequest b) p.whole q)
 one_request Checkpoint b body p q = sym (checkpoint_only b [] (subst (IsRequest b) p.whole q))
+one_request (Status tablet) b body p q =
+    let g = status_only b (number 4 tablet) (subst (IsRequest b) p.whole q) in
+    ap (λ n. Status n) (lone_tablet tablet g.tablet p.numbers g.fits g.fields) ∙ sym g.is

@@ -3,7 +3,7 @@
 use Rattle.std.specs.Prelude.{◌≡◌, ℕ, List, [], ◌∷◌, ◌++◌, ◌<◌, ◌≤◌, ◌^◌, length, Option, Some, None, option_map}
 use Rattle.cell_key.specs.Refusals.{refusal_number}
 use Rattle.cell_key.specs.Versions.{stamped}
-use Rattle.si_model.specs.Messages.{Reply, Begun, Answered, Pending, Scanned, ToEnd, SetDone, DeleteDone, Held, Conflict, Drawn, Committed, Lost, Finished, StopDone, NoLock, Cleaning, Decided, RolledForward, RolledBack, Gone, Collecting, More, Blocked, Collected, MinorDone, MergeDone, MajorDone, SplitOff, MoveDone, Swept, RestartDone, RawFound, CheckpointDone, Refused}
+use Rattle.si_model.specs.Messages.{Reply, Begun, Answered, Pending, Scanned, ToEnd, SetDone, DeleteDone, Held, Conflict, Drawn, Committed, Lost, Finished, StopDone, NoLock, Cleaning, Decided, RolledForward, RolledBack, Gone, Collecting, More, Blocked, Collected, MinorDone, MergeDone, MajorDone, SplitOff, MoveDone, Swept, RestartDone, RawFound, CheckpointDone, Reported, Refused}
 use Rattle.si_model.specs.Replies.{found_reply, progress_reply, clean_start_reply, clean_reply, collect_reply, scan_reply}
 use Rattle.request_codec.specs.Fields.{number, field, cell_fields, FitsField}
 use Rattle.si_model.specs.AnswerLimits.{IsInScanLimits}
@@ -37,6 +37,7 @@ replied (kept.Sweep count) = Swept count
 replied kept.OracleRestart = RestartDone
 replied (kept.Raw found) = RawFound (option_map stamped found)
 replied kept.Checkpoint = CheckpointDone
+replied (kept.Status report) = Reported report.items
 replied (kept.Refused refusal) = Refused refusal
 
 -- the fields of a read's answer
@@ -84,6 +85,7 @@ reply_body (Swept count) = 0x8F ∷ number 8 count
 reply_body RestartDone = 0x90 ∷ []
 reply_body (RawFound found) = 0x91 ∷ raw_fields found
 reply_body CheckpointDone = 0x92 ∷ []
+reply_body (Reported report) = 0xB4 ∷ report
 reply_body (Refused refusal) = 0xFF ∷ refusal_number refusal ∷ []
 
 -- each number fits its field
@@ -125,12 +127,13 @@ pub record IsReply (reply : Reply) (body : List ℕ) : Type 0 where
 abbrev pub IsNoReply : List ℕ → Type 0
 IsNoReply body = (reply : Reply) → IsReply reply body → ⊥
 
--- the contents of the reply are within the limits of rows, families and values
+-- the contents of the reply are within the limits of rows, families, values and reports
 abbrev pub HoldsWithinLimits : Reply → Type 0
 HoldsWithinLimits (Answered (Some value)) = length value ≤ 65536
 HoldsWithinLimits (Scanned items reach) = IsInScanLimits items reach
 HoldsWithinLimits (RawFound (Some found)) = length found.1 ≤ 65536
 HoldsWithinLimits (Blocked cell start) = IsNamed cell
+HoldsWithinLimits (Reported report) = length report ≤ 65536
 HoldsWithinLimits other = Unit {0}
 
 -- the reply has bytes that must be allocated
@@ -140,6 +143,7 @@ HoldsBytes (Scanned [] ToEnd) = ⊥
 HoldsBytes (Scanned items reach) = Unit {0}
 HoldsBytes (Blocked cell start) = Unit {0}
 HoldsBytes (RawFound (Some found)) = Unit {0}
+HoldsBytes (Reported report) = Unit {0}
 HoldsBytes other = ⊥
 
 -- the body is the body of such a reply

@@ -1,6 +1,6 @@
 -- The bodies of requests: an operation's number, and its fields.
 use Rattle.std.specs.Prelude.{◌≡◌, ℕ, List, [], ◌∷◌, ◌++◌, ◌<◌, ◌^◌}
-use Rattle.si_model.specs.Messages.{Request, Begin, Get, ScanFrom, Set, Delete, Advance, Stop, CleanBegin, CleanStep, CollectBegin, CollectStep, Minor, Merge, Major, Split, Move, Sweep, OracleRestart, Raw, Checkpoint}
+use Rattle.si_model.specs.Messages.{Request, Begin, Get, ScanFrom, Set, Delete, Advance, Stop, CleanBegin, CleanStep, CollectBegin, CollectStep, Minor, Merge, Major, Split, Move, Sweep, OracleRestart, Raw, Checkpoint, Status}
 pub use Rattle.request_codec.specs.Fields.{qualifier_number}
 use Rattle.request_codec.specs.Fields.{number, field, cell_fields, FitsField, FitsCell}
 use Rattle.request_codec.specs.Scans.{flag_number, range_fields, FitsRange}
@@ -33,6 +33,7 @@ asked lent.OracleRestart = OracleRestart
 asked (lent.Raw row family qualifier lo hi) =
     Raw (record { row = row.now; family = family.now }) qualifier lo hi
 asked lent.Checkpoint = Checkpoint
+asked (lent.Status tablet) = Status tablet
 
 -- the body of a request
 abbrev pub request_body : Request → List ℕ
@@ -59,6 +60,7 @@ request_body (Raw cell qualifier low high) =
     0x11 ∷ (cell_fields cell
     ++ (number 1 (qualifier_number qualifier) ++ (number 8 low ++ number 8 high)))
 request_body Checkpoint = 0x12 ∷ []
+request_body (Status tablet) = 0x34 ∷ number 4 tablet
 
 -- the requests of sessions, cleaners and collectors
 abbrev pub IsOfClient : Request → Type 0
@@ -90,6 +92,7 @@ NumbersFit (Merge tablet count) = (tablet < 2 ^ 32) × (count < 2 ^ 32)
 NumbersFit (Major tablet) = tablet < 2 ^ 32
 NumbersFit (Move tablet server) = (tablet < 2 ^ 32) × (server < 2 ^ 8)
 NumbersFit (Raw cell qualifier low high) = (low < 2 ^ 64) × (high < 2 ^ 64)
+NumbersFit (Status tablet) = tablet < 2 ^ 32
 NumbersFit other = Unit {0}
 
 -- the length of each field of bytes fits its field

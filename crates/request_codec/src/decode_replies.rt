@@ -16,7 +16,7 @@ use crate::replies::{
     BEGIN, BLOCKED, CHECKPOINT, CLEAN_BEGIN, CLEAN_STEP, CLEANER, COLLECT_BEGIN, COLLECT_STEP,
     COLLECTED, COMMITTED, CONFLICT, DECIDED, DELETE, FINISHED, GET, GONE, HELD, LOST, MAJOR, MERGE,
     MINOR, MORE, MOVE, NO_LOCK, NOTHING, ORACLE_RESTART, PENDING, RAW, REFUSED, ROLLED_BACK,
-    ROLLED_FORWARD, Reply, SCAN, SET, SPLIT, STAMPED, STEP, STOP, SWEEP, VALUE, VERSION,
+    ROLLED_FORWARD, Reply, SCAN, SET, SPLIT, STAMPED, STATUS, STEP, STOP, SWEEP, VALUE, VERSION,
 };
 use cell_key::{Family, Refusal, Row};
 use si_model::{Cell, CleanReply, CleanStart, CollectReply, Found, Progress, ScanReply};
@@ -120,6 +120,14 @@ fn decode_scan(alloc: Global, fields: &[u8]) -> Result<Option<ScanReply>, Refusa
     let reach = own_reach(alloc, reach)?;
     let items = own_items(alloc, rest, count)?;
     Ok(Some(ScanReply { items, reach }))
+}
+
+/// The reply with a report: all bytes behind the number are the report.
+fn decode_status(alloc: Global, fields: &[u8]) -> Result<Reply, AllocError>
+    ensures found { IfOk result (λ reply. IsReply (replied reply) (0xB4 ∷ fields.now)) }
+    ensures needed { OnErr result (NeedsMemory (0xB4 ∷ fields.now)) }
+{
+    Ok(Reply::Status(Vec::from_slice(alloc, fields)?))
 }
 
 /// The result of a session's step, from the fields of its reply.
@@ -264,12 +272,13 @@ fn decode_refusal(fields: &[u8]) -> Option<Refusal>
 }
 
 /// The reply whose body begins with this operation's number; `None` if the body is no reply's. The operation is not a
-/// read, a scan or a collector's step.
+/// read, a scan, a collector's step or a report.
 fn decode_other(operation: u8, fields: &[u8]) -> Option<Reply>
     requires get { operation ≢ 0x82 }
     requires collect { operation ≢ 0x89 }
     requires raw { operation ≢ 0x91 }
     requires scan { operation ≢ 0xB1 }
+    requires status { operation ≢ 0xB4 }
     ensures found { IfSome result (λ reply. IsReply (replied reply) (operation ∷ fields.now)) }
     ensures none { IfNone result (IsNoReply (operation ∷ fields.now)) }
 {
@@ -319,8 +328,8 @@ fn decode_other(operation: u8, fields: &[u8]) -> Option<Reply>
     }
 }
 
-/// The reply with this body; `None` if the body is no reply's. Answers `NoMemory` if a value, the cell that blocks a
-/// collector, or the items or names of a scan cannot be allocated.
+/// The reply with this body; `None` if the body is no reply's. Answers `NoMemory` if a value, a report, the cell that
+/// blocks a collector, or the items or names of a scan cannot be allocated.
 pub fn decode_reply(alloc: Global, body: &[u8]) -> Result<Option<Reply>, Refusal>
     ensures found { IfOk result (λ found.
         IfSome found (λ reply. IsReply (replied reply) body.now)) }
@@ -340,6 +349,7 @@ pub fn decode_reply(alloc: Global, body: &[u8]) -> Result<Option<Reply>, Refusal
             Ok(Some(Reply::Get(found)))
         }
         RAW => Ok(decode_raw(alloc, fields)?),
+        STATUS => Ok(Some(decode_status(alloc, fields)?)),
         SCAN => {
             let Some(reply) = decode_scan(alloc, fields)? else {
                 return Ok(None);

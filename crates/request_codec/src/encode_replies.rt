@@ -1,19 +1,22 @@
 //! Writing the bodies of replies.
 
-ghost use Rattle.std.specs.Prelude.{◌≡◌, ℕ, ◌≤◌, ◌++◌, length, vec_capacity, OnOk, OnErr, IsOk, IsOkUnless, option_map};
+ghost use Rattle.std.specs.Prelude.{◌≡◌, ℕ, ◌≤◌, ◌+◌, ◌∷◌, ◌++◌, length, vec_capacity, OnOk, OnErr, IsOk, IsOkUnless, option_map};
 ghost use Rattle.cell_key.specs.Versions.{stamped};
 ghost use Rattle.request_codec.specs.Buffers.{HasRoomFor, AppendsBytes};
+ghost use Rattle.request_codec.specs.Fields.{number};
 ghost use Rattle.request_codec.specs.Replies.{replied, reply_body, ReplyBytesFit};
-ghost use Rattle.si_model.specs.Messages.{Blocked, RawFound};
+ghost use Rattle.si_model.specs.Messages.{Blocked, RawFound, Reported};
 ghost use Rattle.si_model.specs.Replies.{found_reply, progress_reply, clean_start_reply, clean_reply, collect_reply};
 
 use crate::replies::{
     BEGIN, BLOCKED, CHECKPOINT, CLEAN_BEGIN, CLEAN_STEP, CLEANER, COLLECT_BEGIN, COLLECT_STEP,
     COLLECTED, COMMITTED, CONFLICT, DECIDED, DELETE, FINISHED, GET, GONE, HELD, LOST, MAJOR, MERGE,
     MINOR, MORE, MOVE, NO_LOCK, NOTHING, ORACLE_RESTART, PENDING, RAW, REFUSED, ROLLED_BACK,
-    ROLLED_FORWARD, Reply, SET, SPLIT, STAMPED, STEP, STOP, SWEEP, VALUE, VERSION,
+    ROLLED_FORWARD, Reply, SET, SPLIT, STAMPED, STATUS, STEP, STOP, SWEEP, VALUE, VERSION,
 };
-use crate::write_fields::{push_byte, push_cell, push_field, push_u16, push_u32, push_u64};
+use crate::write_fields::{
+    push_byte, push_bytes, push_cell, push_field, push_u16, push_u32, push_u64,
+};
 use crate::write_scans::{push_scanned, scan_length};
 use cell_key::{Refusal, Stamp};
 use si_model::{Cell, CleanReply, CleanStart, CollectReply, Found, Progress};
@@ -42,6 +45,7 @@ pub fn reply_length(reply: &Reply) -> usize
         Reply::CollectStep(_) => 2,
         Reply::Split(_) => 5,
         Reply::Raw(Some((_, value))) => 14 + value.len(),
+        Reply::Status(report) => 1 + report.len(),
     }
 }
 
@@ -193,6 +197,25 @@ fn push_collect_reply(done: &CollectReply, out: &mut Vec<u8>)
     }
 }
 
+/// Appends the number of an operation and an eight-byte number: a start or a count.
+#[tactic(auto, using(crate::proofs::Fields::lengths))]
+fn push_numbered(out: &mut Vec<u8>, operation: u8, n: u64)
+    requires { HasRoomFor out.old 9 }
+    ensures { AppendsBytes out.old out.new (operation ∷ number 8 n) }
+{
+    push_byte(out, operation);
+    push_u64(out, n);
+}
+
+/// Appends the body of a report.
+fn push_status(report: &[u8], out: &mut Vec<u8>)
+    requires { HasRoomFor out.old (length report.now + 1) }
+    ensures { AppendsBytes out.old out.new (reply_body (Reported report.now)) }
+{
+    push_byte(out, STATUS);
+    push_bytes(out, report);
+}
+
 /// Appends the body of a reply, for which there must be room. Allocates nothing.
 #[tactic(auto, using(crate::proofs::Fields::lengths))]
 pub fn push_reply(reply: &Reply, out: &mut Vec<u8>)
@@ -201,10 +224,7 @@ pub fn push_reply(reply: &Reply, out: &mut Vec<u8>)
     ensures { AppendsBytes out.old out.new (reply_body (replied reply.now)) }
 {
     match reply {
-        Reply::Begin(start) => {
-            push_byte(out, BEGIN);
-            push_u64(out, *start);
-        }
+        Reply::Begin(start) => push_numbered(out, BEGIN, *start),
         Reply::Get(found) => push_found(found, out),
         Reply::Scan(reply) => push_scanned(out, reply),
         Reply::Set => push_byte(out, SET),
@@ -227,13 +247,11 @@ pub fn push_reply(reply: &Reply, out: &mut Vec<u8>)
             push_u32(out, *tablet);
         }
         Reply::Move => push_byte(out, MOVE),
-        Reply::Sweep(count) => {
-            push_byte(out, SWEEP);
-            push_u64(out, *count);
-        }
+        Reply::Sweep(count) => push_numbered(out, SWEEP, *count),
         Reply::OracleRestart => push_byte(out, ORACLE_RESTART),
         Reply::Raw(found) => push_raw(found, out),
         Reply::Checkpoint => push_byte(out, CHECKPOINT),
+        Reply::Status(report) => push_status(report, out),
         Reply::Refused(refusal) => {
             push_byte(out, REFUSED);
             push_byte(out, refusal.number());

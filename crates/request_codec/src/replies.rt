@@ -49,6 +49,8 @@ pub enum Reply {
     Raw(Option<(Stamp, Vec<u8>)>),
     /// The files keep the store, and it can be opened from them.
     Checkpoint,
+    /// How the store and the tablet are: a text of at most 65,536 bytes.
+    Status(Vec<u8>),
     /// The request was refused, for this reason.
     Refused(Refusal),
 }
@@ -140,5 +142,7 @@ pub(crate) const VERSION: u8 = 0x01;
 pub(crate) const CHECKPOINT: u8 = 0x92;
 
 pub(crate) const DELETE: u8 = 0x93;
+
+pub(crate) const STATUS: u8 = 0xB4;
 
 pub(crate) const REFUSED: u8 = 0xFF;

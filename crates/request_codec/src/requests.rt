@@ -111,6 +111,10 @@ pub enum Request<'a> {
     },
     /// Writes everything in memory to files, from which the store can be opened again.
     Checkpoint,
+    /// Tells how the store is, and how a tablet is.
+    Status {
+        tablet: u32,
+    },
 }
 
 const BEGIN: u8 = 0x01;
@@ -152,6 +156,8 @@ const CHECKPOINT: u8 = 0x12;
 const DELETE: u8 = 0x13;
 
 pub(crate) const SCAN: u8 = 0x31;
+
+const STATUS: u8 = 0x34;
 
 /// The request of a session, a cleaner or a collector whose body begins with this operation's number; `None` if the
 /// body is no request's.
@@ -237,6 +243,10 @@ fn decode_upkeep(operation: u8, fields: &[u8]) -> Option<Request<'_>>
         ORACLE_RESTART => fields.is_empty().then_some(Request::OracleRestart),
         RAW => decode_raw(fields),
         CHECKPOINT => fields.is_empty().then_some(Request::Checkpoint),
+        STATUS => {
+            let tablet = whole_u32(fields)?;
+            Some(Request::Status { tablet })
+        }
         _ => None,
     }
 }
@@ -310,7 +320,7 @@ pub(crate) fn request_length(request: &Request<'_>) -> usize
         | Request::CleanStep { .. }
         | Request::Merge { .. } => 9,
         Request::CollectStep { .. } => 13,
-        Request::Minor { .. } | Request::Major { .. } => 5,
+        Request::Minor { .. } | Request::Major { .. } | Request::Status { .. } => 5,
         Request::Split { row } => 5 + row.len(),
         Request::Move { .. } => 6,
         Request::Raw { row, family, .. } => 26 + row.len() + family.len(),
@@ -480,6 +490,7 @@ fn push_upkeep(request: &Request<'_>, out: &mut Vec<u8>)
             hi,
         } => push_raw(out, row, family, qualifier, lo, hi),
         Request::Checkpoint => push_byte(out, CHECKPOINT),
+        Request::Status { tablet } => push_tablet(out, STATUS, tablet),
         _ => unreachable!(),
     }
 }

@@ -17,7 +17,7 @@ pub(crate) fn push_byte(out: &mut Vec<u8>, byte: u8)
 }
 
 /// Appends bytes.
-fn push_bytes(out: &mut Vec<u8>, bytes: &[u8])
+pub(crate) fn push_bytes(out: &mut Vec<u8>, bytes: &[u8])
     requires { HasRoomFor out.old (length bytes.now) }
     ensures { AppendsBytes out.old out.new bytes.now }
 {

@@ -1,5 +1,5 @@
 -- The state that a checkpoint keeps, and the faults that it answers.
-use Rattle.std.proofs.Common.{◌≡◌, ◌≢◌, ◌≤◌, ◌⊎◌, inl, inr, ℕ, List, [], ◌∷◌, Option, Result, Ok, Err, IfErr, IsErrOf, refl, sym, ap, ◌∙◌, subst, arith}
+use Rattle.std.proofs.Common.{◌≡◌, ◌≢◌, ◌≤◌, ◌⊎◌, inl, inr, OnErr, OnOk, ℕ, List, [], ◌∷◌, Option, Result, Ok, Err, IfErr, IsErrOf, refl, sym, ap, ◌∙◌, subst, arith}
 use Rattle.std.specs.Result.{IsErrAnd}
 use Rattle.cell_key.specs.Faults.{HasRisen}
 use Rattle.cell_key.specs.declared.refusals.Refusal.{Refusal}
@@ -11,14 +11,15 @@ use Rattle.row_atomic.specs.Changes.{Holds, IsNumberedRefusal, IsRefusalOf}
 use Rattle.row_atomic.specs.Clusters.{ClusterState, IsMatched}
 use Rattle.row_atomic.specs.Commands.{IsOutcome, TellsFaults, done_of}
 use Rattle.row_atomic.specs.Compactions as compaction
-use Rattle.row_atomic.specs.Flushes.{KeepsShown}
-use Rattle.row_atomic.specs.Roots.{FlushesEach, PutsRoot, root_name}
+use Rattle.file_store.specs.declared.files.Files.{Ghosts as Files}
+use Rattle.row_atomic.specs.Flushes.{KeepsShown, numbers_of}
+use Rattle.row_atomic.specs.Roots.{Checkpoints, FlushesEach, PutsRoot, PutsRootOrNone, Rests, RootIsStored, StaysOrRests, RootOutlastsFlushes, AreFlushed, flushed, root_name}
 use Rattle.row_atomic.specs.declared.commands.Command.TheVariants as command
 use Rattle.row_atomic.specs.declared.commands.Outcome.{Outcome}
 use Rattle.row_atomic.specs.declared.commands.Outcome.TheVariants as outcome
 use Rattle.row_atomic.proofs.Flushes.{keeps_on, keeps_start}
-use Rattle.row_atomic.proofs.RestedClusters.{still_told}
-use Rattle.row_atomic.proofs.RootFlushes.{refused_same}
+use Rattle.row_atomic.proofs.RestedClusters.{are_flushed, rests_after, stays_or_rests, still_told, when_done, when_refused as if_refused}
+use Rattle.row_atomic.proofs.RootFlushes.{checkpointed, not_flushed, refused_same}
 
 -- the state is kept, and faults are answered
 pub record Tells {F : Type 0} (contents : F → Option Contents) (faults : F → ℕ) (result : Outcome) (old new : ClusterState F) : Type 0 where
@@ -122,3 +123,63 @@ module _ {F : Type 0} (contents : F → Option Contents) where
 
     pub done_undamaged : Tells contents faults (done_of r) old new → Holds contents old → ¬ IsErrOf r refused.Damaged
     done_undamaged tells holds is = tells.undamaged holds (ap done_of is)
+
+-- ---- a checkpoint as a flush and a put
+
+-- The effects of a checkpoint with this result: the clauses of its contract.
+pub record IsCheckpoint {F W : Type 0} (files : Files F W) (top floor : ℕ) (old : ClusterState F) (result : Result (Unit {0}) Refusal) (new : ClusterState F) : Type 0 where
+  pub steps : Checkpoints files.contents files.faults top floor old (done_of result) new
+  pub rests : OnOk result (Rests files.contents top floor old new)
+  pub whole : files.replaces → OnErr result (StaysOrRests files.contents top floor old new)
+  pub keeps : KeepsShown files.contents files.faults old new
+  pub refusal : IfErr result (IsRefusalOf compaction.minor)
+  pub undamaged : Holds files.contents old → ¬ IsErrOf result refused.Damaged
+  pub faults : TellsFaults files.faults (done_of result) old new
+
+module _ {F W : Type 0} (files : Files F W) (outlasts : RootOutlastsFlushes files.contents files.faults) (top floor : ℕ) (old new : ClusterState F) where
+  -- a flush that is refused
+  pub flush_refused : (e : Refusal) → FlushesEach files.contents files.faults old (numbers_of old.places) (outcome.Refused e) new → IsRefusalOf compaction.minor e → IsCheckpoint files top floor old (Err e) new
+  flush_refused e flushes refusal =
+      let tells = flushes_tell files.contents files.faults _ _ _ _ flushes in
+      record {
+        steps = not_flushed files.contents files.faults top floor old new (Err e) e refl flushes;
+        rests = tt;
+        whole = λ replaces. inl (λ root cells. (outlasts root cells old new).1 _ _ flushes);
+        keeps = tells.keeps;
+        refusal = refusal;
+        undamaged = done_undamaged files.contents files.faults old new (Err e) tells;
+        faults = tells.telling;
+      }
+
+  -- a flush behind which no root is put
+  pub flush_rootless : FlushesEach files.contents files.faults old (numbers_of old.places) outcome.Done new → IsCheckpoint files top floor old (Err refused.NoMemory) new
+  flush_rootless flushes =
+      let none : TellsFaults files.faults (outcome.Refused refused.NoMemory) new new = record { later = omega arith; device = λ is. absurd cc; told = λ other. refl } in
+      let tells = flushes_tell files.contents files.faults _ _ _ _ flushes in
+      let both = both_tell files.contents files.faults old new new (outcome.Refused refused.NoMemory) tells (record { keeps = keeps_start files.contents files.faults new; telling = none; undamaged = λ holds same. cc }) in
+      record {
+        steps = flushed new (outcome.Refused refused.NoMemory) new.files flushes (inr refl, inl refl) none;
+        rests = tt;
+        whole = λ replaces. inl (λ root cells. (outlasts root cells old new).1 _ _ flushes);
+        keeps = tells.keeps;
+        refusal = tt;
+        undamaged = λ holds is. cc;
+        faults = both.telling;
+      }
+
+module _ {F W : Type 0} (files : Files F W) (stored : RootIsStored files.contents) (outlasts : RootOutlastsFlushes files.contents files.faults) (top floor : ℕ) (old mid new : ClusterState F) where
+  -- a put behind a flush
+  pub put_checkpoints : (r : Result (Unit {0}) Refusal) → FlushesEach files.contents files.faults old (numbers_of old.places) outcome.Done mid
+      → PutsRoot files.contents top floor mid (done_of r) new.files → new ≡ record mid { files = new.files } → OnOk r (AreFlushed mid → Rests files.contents top floor mid new) → (files.replaces → OnErr r (PutsRootOrNone files.contents top floor mid new))
+      → KeepsShown files.contents files.faults mid new → TellsFaults files.faults (done_of r) mid new → IsCheckpoint files top floor old r new
+  put_checkpoints r flushes puts rest rests whole keeps faults =
+      let tells = both_tell files.contents files.faults old mid new (done_of r) (flushes_tell files.contents files.faults _ _ _ _ flushes) (put_tells files.contents files.faults top floor mid new (done_of r) puts keeps faults) in
+      record {
+        steps = checkpointed files.contents files.faults top floor old mid new (done_of r) flushes puts rest faults;
+        rests = when_done r (λ rests. rests_after files.contents files.faults top floor old mid new flushes (rests (are_flushed files.contents files.faults old mid flushes))) rests;
+        whole = λ replaces. if_refused r (stays_or_rests files.contents files.faults stored outlasts top floor old mid new flushes rest) (whole replaces);
+        keeps = tells.keeps;
+        refusal = when_refused files.contents top floor mid new.files r puts;
+        undamaged = done_undamaged files.contents files.faults old new r tells;
+        faults = tells.telling;
+      }

@@ -1,11 +1,12 @@
 //! Clusters of tablets over one store of files: the type. Its calls are in the files of `cluster/`.
 
-ghost use Rattle.std.specs.Prelude.{◌≡◌, ◌≤◌, ◌∷◌, [], IfErr, IfOk, IsSome, IsOkUnless};
+ghost use Rattle.std.specs.Prelude.{◌≡◌, ◌≤◌, ◌∷◌, [], Contains, Some, IfErr, IfNone, IfOk, IfSome, IsSome, IsOkUnless, length};
 ghost use Rattle.std.specs.FinMap.{empty};
+ghost use Rattle.metadata_table.specs.Places.{view_of};
 ghost use Rattle.metadata_table.specs.Table.{HasTablet, first_place};
 ghost use Rattle.sorted_file.specs.Limits.{IsFileLimit};
 ghost use Rattle.row_atomic.specs.Changes.{IsAt};
-ghost use Rattle.row_atomic.specs.Clusters.{InOrder, IsFirstTablet, cells_in};
+ghost use Rattle.row_atomic.specs.Clusters.{InOrder, IsFirstTablet, cells_in, tablet_numbered};
 
 mod caches;
 mod checkpoint;
@@ -23,7 +24,7 @@ use crate::place_cache::PlaceCache;
 use cell_key::Refusal;
 pub use checkpoint::ROOT_NAME;
 use file_store::Files;
-use metadata_table::MetadataTable;
+use metadata_table::{MetadataTable, Place};
 use std::alloc::Global;
 use std::marker::Model;
 use tablet::Tablet;
@@ -128,6 +129,27 @@ impl<F: Files> Cluster<F> {
         ensures { result ≡ self.now.next_name }
     {
         self.next_name
+    }
+
+    /// How many tablets there are: 1 to 1,024. Allocates nothing.
+    pub fn tablet_count(&self) -> usize
+        ensures { result ≡ length self.now.places }
+    {
+        self.table.len()
+    }
+
+    /// The tablet with this number and its place, or `None` if there is no such tablet. Allocates nothing.
+    pub fn tablet(&self, number: u32) -> Option<(&Place, &Tablet)>
+        ensures place { IfSome result (λ found. Contains self.now.places (view_of found.0.now)) }
+        ensures named { IfSome result (λ found. found.0.now.tablet ≡ number) }
+        ensures tablet { IfSome result (λ found.
+            tablet_numbered number self.now.tablets ≡ Some found.1.now) }
+        ensures none { IfNone result (¬ HasTablet number self.now.places) }
+    {
+        match self.table.place(number) {
+            Ok(place) => Some((place, &self.tablets[self.position(number)])),
+            Err(_) => None,
+        }
     }
 
     /// The index of the tablet with a number.

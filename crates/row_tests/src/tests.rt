@@ -4,4 +4,5 @@ mod caches;
 mod clusters;
 mod memory;
 mod recorded;
+mod shared;
 mod stamps;

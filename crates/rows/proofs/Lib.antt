@@ -1,3 +1,4 @@
+pub mod BetweenStamps
 pub mod Calls
 pub mod Firsts
 pub mod Halves
@@ -8,4 +9,3 @@ pub mod Places
 pub mod PushedLists
 pub mod RowsFrom
 pub mod SlotLemmas
-pub mod Stamps

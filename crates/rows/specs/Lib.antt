@@ -7,6 +7,7 @@ pub mod Refusals
 pub mod Room
 pub mod RowEdits
 pub mod Slots
+pub mod Sources
 pub mod Storage
 pub use Rattle.cell_key.specs.Cells
 pub use Rattle.cell_key.specs.Entries

@@ -10,11 +10,16 @@ IsReadRefusal NoMemory = ⊤
 IsReadRefusal Damaged = ⊤
 IsReadRefusal _ = ⊥
 
--- the refusals of an edit of a row
+-- the refusals of edits for want of room or of memory
 abbrev pub IsApplyRefusal : Refusal → Type 0
 IsApplyRefusal MemtableFull = ⊤
 IsApplyRefusal NoMemory = ⊤
 IsApplyRefusal _ = ⊥
+
+-- the refusals of edits of any rows: the same, or a device's fault
+abbrev pub IsEditRefusal : Refusal → Type 0
+IsEditRefusal Device = ⊤
+IsEditRefusal refusal = IsApplyRefusal refusal
 
 -- the refusals of a read: damage only if the rows it reads can't be read
 abbrev pub IsRefusalOfRead : Type 0 → Refusal → Type 0

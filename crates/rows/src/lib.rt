@@ -1,5 +1,6 @@
 //! Rows of cells: the contract of any rows, however they are stored; the batches in which they answer a scan; and the
-//! oldest version in a range, found by their reads. A plain map of rows in memory is the reference in tests.
+//! oldest version in a range, found by their reads. A plain map of rows in memory is the reference in tests. Beside
+//! rows, the contract of any source of stamps.
 #![tactic(auto)]
 
 mod batches;
@@ -10,6 +11,7 @@ mod plain;
 mod row_edits;
 mod rows;
 mod slots;
+mod stamps;
 
 pub use batches::{BatchLimits, CellVersions, VersionBatch};
 pub use cell_version::CellVersion;
@@ -18,3 +20,4 @@ pub use oldest_version::oldest;
 pub use plain::PlainRows;
 pub use row_edits::RowEdits;
 pub use rows::Rows;
+pub use stamps::Stamps;

@@ -10,7 +10,7 @@ ghost use Rattle.cell_key.specs.Versions.{IsVersion, IsVersionIn, stamped};
 ghost use Rattle.rows.specs.Batches.{AreNextVersions, IsFull};
 ghost use Rattle.rows.specs.Reads.{AreNewestFirst, HasVersion};
 ghost use Rattle.rows.specs.Calls.{Applies, AppliesAll, AreReadableFrom, OnlyReads, View};
-ghost use Rattle.rows.specs.Refusals.{IsApplyRefusal, IsRefusalOfRead};
+ghost use Rattle.rows.specs.Refusals.{IsEditRefusal, IsRefusalOfRead};
 ghost use Rattle.rows.specs.Room.{OverfillsOne};
 ghost use Rattle.rows.specs.RowEdits.{AreOfTheirRow};
 
@@ -160,40 +160,40 @@ pub trait Rows {
             (AreReadableFrom seen self.old (option_map place_named after.entry))) }
         ensures reason { HasReason (faults self.old) (faults self.new) result };
 
-    /// Applies edits to one row in order, all of them or none. No device is used, and nothing below the rows in memory
-    /// changes.
+    /// Applies edits to one row in order, all of them or none. Nothing below the rows in memory changes.
     ///
     /// # Errors
     ///
-    /// `MemtableFull` if a limit of the memory would be exceeded, and `NoMemory` if an allocation failed. The cells are
-    /// then unchanged, and edits would exceed a limit only if they would have before.
+    /// `MemtableFull` if a limit of the memory would be exceeded, `NoMemory` if an allocation failed, and `Device` if
+    /// a device failed during the call: rows that others change too refuse edits so if the row has changed since it was
+    /// read. The cells are then unchanged, and edits would exceed a limit only if they would have before.
     fn apply(&mut self, row: &Row, edits: Vec<Edit>) -> Result<(), Refusal>
         requires { AllByRecursion (IsEditOf row.now) edits.items }
         ensures ok { OnOk result (Applies seen row.now edits.items self.old self.new) }
         ensures err { OnErr result (OnlyReads seen self.old self.new) }
-        ensures refusal { IfErr result IsApplyRefusal }
+        ensures refusal { IfErr result IsEditRefusal }
         ensures full { IsErrOf result Refusal.MemtableFull
             → seen.overfills self.old row.now edits.items }
         ensures within { OnOk result (¬ seen.overfills self.old row.now edits.items) }
-        ensures untouched { faults self.new ≡ faults self.old };
+        ensures reason { HasReason (faults self.old) (faults self.new) result };
 
-    /// Applies edits to several rows in order, one row after the other, all of them or none. The rows may repeat. No
-    /// device is used, and nothing below the rows in memory changes.
+    /// Applies edits to several rows in order, one row after the other, all of them or none. The rows may repeat.
+    /// Nothing below the rows in memory changes.
     ///
     /// # Errors
     ///
-    /// `MemtableFull` if all the edits together would exceed a limit of the memory, and `NoMemory` if an allocation
-    /// failed. If both are so, the answer is any of the two. The cells are then unchanged, and edits would exceed a
+    /// `MemtableFull` if all the edits together would exceed a limit of the memory, and `NoMemory` or `Device` as for
+    /// `apply`. If several are so, the answer is any of them. The cells are then unchanged, and edits would exceed a
     /// limit only if they would have before.
     fn apply_all(&mut self, changes: Vec<RowEdits>) -> Result<(), Refusal>
         requires { AllByRecursion AreOfTheirRow changes.items }
         ensures ok { OnOk result (AppliesAll seen changes.items self.old self.new) }
         ensures err { OnErr result (OnlyReads seen self.old self.new) }
-        ensures refusal { IfErr result IsApplyRefusal }
+        ensures refusal { IfErr result IsEditRefusal }
         ensures full { IsErrOf result Refusal.MemtableFull
             → OverfillsOne seen.overfills changes.items self.old }
         ensures within { OnOk result (¬ OverfillsOne seen.overfills changes.items self.old) }
-        ensures untouched { faults self.new ≡ faults self.old };
+        ensures reason { HasReason (faults self.old) (faults self.new) result };
 
     /// How often a device has failed. The count saturates at 2^64 - 1.
     fn faults(&self) -> u64

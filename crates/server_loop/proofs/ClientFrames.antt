@@ -169,7 +169,8 @@ module _ {S : Type 0} (shows : S → State → Type 0) (says : S → Lent → Co
   pub asked_by : (client : ℕ) (operation : Operation) (answer : Answer) (old new : ClientServer S) → refusal_for old.admin (table_of old.owners) client operation ≡ None → NotesAnswer shows says client operation answer old new → (before : State) → IsReached before → ShowsOwned shows old before
       → (after : State) → Goes before operation answer after → shows new.server after → Handles old.admin before (table_of old.owners) (Asks client operation) client answer after (table_of new.owners)
   asked_by client operation answer old new free notes before reached shown after goes shows_after =
-      turned.turns free (turn_of reached shown.1 (in_order new.owners) (λ name e. asked_own old.admin (table_of old.owners) client operation name free e) goes (notes after shows_after))
+      turned.turns free (turn_of reached shown.1 (in_order new.owners) (λ name e. asked_own old.admin (table_of old.owners) client operation name free e) goes
+      (λ other name. notes.noted other name ∙ ap (λ (closed : Bool). (owns (table_of old.owners) other name && not (nat_eq client other && closed)) || (nat_eq client other && gives operation answer name)) (notes.ended after shows_after name)))
 
   -- a client that is gone
   pub ended_by : (client : ℕ) (old new : ClientServer S) (e : EndsClient shows says client old new) (before after : State) → Stops before e.starts after → Handles old.admin before (table_of old.owners) (Leaves client) client (Said StopDone) after (table_of new.owners)

@@ -1,6 +1,7 @@
 mod AtOnce
 mod Causes
 mod CellChanges
+mod Checkpoints
 mod CleanSteps
 pub mod ClientFrames
 mod CollectSteps
@@ -13,6 +14,7 @@ mod MachinePlaces
 pub mod Opened
 mod OperationSteps
 mod OperationsShown
+mod OracleLeft
 mod OthersShown
 mod RawReads
 pub mod ReachedRuns

@@ -74,6 +74,8 @@ spared_same st next lent.OracleRestart r is (refuses n) = refl
 spared_same st next lent.OracleRestart r is (accepts ok (tells told)) = refl
 spared_same st next (lent.Raw row family qualifier lo hi) r is (refuses n) = refl
 spared_same st next (lent.Raw row family qualifier lo hi) r is (accepts ok (tells told)) = refl
+spared_same st next (lent.Status t) r is (refuses n) = refl
+spared_same st next (lent.Status t) r is (accepts ok (tells told)) = refl
 spared_same st next q r is step = absurd is
 
 -- ---- the mark is still told
@@ -107,6 +109,7 @@ module _ {F M W : Type 0} (files : Files F W) (store : MarkStore M) where
   told_spared lent.Sweep reply old new is keeps told = subst (λ (o : OracleState M). IsSome (store.mark o.marks)) (sym keeps) told
   told_spared lent.OracleRestart reply old new is keeps told = subst (λ (o : Option ℕ). IsSome o) (sym keeps.0) told
   told_spared (lent.Raw row family qualifier lo hi) reply old new is keeps told = subst (λ (o : OracleState M). IsSome (store.mark o.marks)) (sym keeps) told
+  told_spared (lent.Status t) reply old new is keeps told = subst (λ (o : OracleState M). IsSome (store.mark o.marks)) (sym keeps) told
   told_spared request reply old new is keeps told = absurd is
 
   -- ---- the files keep the root
@@ -123,6 +126,7 @@ module _ {F M W : Type 0} (files : Files F W) (store : MarkStore M) where
     tends_root : (request : Lent) (e : Refusal) (old new : Server F M) → request ≢ lent.Checkpoint → TendsTablets files request (codec.Refused e) old new
         → KeepsRoot files.contents root cells (cluster_of old) → KeepsRoot files.contents root cells (cluster_of new)
     tends_root lent.Checkpoint e old new other tends keeps = absurd (other refl)
+    tends_root (lent.Status t) e old new other tends keeps = subst (λ (server : Server F M). KeepsRoot files.contents root cells (cluster_of server)) (sym tends.0) keeps
     tends_root request e old new other tends keeps = by_command (command_of request) request e (cluster_of old) (cluster_of new) tends keeps
 
     spared_root : (request : Lent) (reply : CodecReply) (old new : Server F M) → IsSparing request → TendsTablets files request reply old new
@@ -134,6 +138,7 @@ module _ {F M W : Type 0} (files : Files F W) (store : MarkStore M) where
     spared_root lent.OracleRestart reply old new is same keeps = (stored root cells (cluster_of old) (cluster_of new) same).1 keeps
     spared_root (lent.Raw row family qualifier lo hi) reply old new is (inl made) keeps = (stays _ _ root cells (cluster_of old) (cluster_of new) made).1 (λ takes. takes.0) keeps
     spared_root (lent.Raw row family qualifier lo hi) reply old new is (inr none) keeps = subst (λ (state : ClusterState F). KeepsRoot files.contents root cells state) (sym none.1) keeps
+    spared_root (lent.Status t) reply old new is tends keeps = subst (λ (server : Server F M). KeepsRoot files.contents root cells (cluster_of server)) (sym tends.0) keeps
     spared_root request reply old new is tends keeps = absurd is
 
   module _ (old new : Server F M) (within : IsWithinMark (last_of new) (store.mark (marks_of new))) where

@@ -1,6 +1,6 @@
 -- A server's steps, from its sessions' steps.
 use Rattle.std.proofs.Common.{◌≡◌, ℕ, Option, Some, None, Result, Ok, Err, IsErrOf, refl, ap, ◌∙◌, ◌⊎◌, subst, sym, inl, inr}
-use Rattle.std.specs.Prelude.{⊤}
+use Rattle.std.specs.Prelude.{⊤, ◌+◌, IfSome}
 use Rattle.std.specs.FinMap.{empty, get-empty}
 use Rattle.cell_key.specs.Faults.{HasRisen}
 use Rattle.cell_key.specs.Keys.{key_cmp}
@@ -24,9 +24,10 @@ use Rattle.row_atomic.specs.Recorded.{seen_recorded}
 use Rattle.row_atomic.specs.Clusters.{cells_in}
 use Rattle.txn_client.specs.Reads.{IsShort}
 use Rattle.oracle.specs.Ranges.{SameNumbers}
+use Rattle.rows.specs.Sources.{Source}
 use Rattle.txn_client.specs.Refusals.{HasOneReason, IsBeginRefusal}
 use Rattle.txn_client.specs.Shows as clients
-use Rattle.txn_client.specs.Shows.{DrawsNext, top_after}
+use Rattle.txn_client.specs.Shows.{DrawsIn}
 use Rattle.request_codec.specs.Replies.{replied, HoldsWithinLimits}
 use Rattle.request_codec.specs.declared.replies.Reply.{Reply as CodecReply}
 use Rattle.request_codec.specs.declared.replies.Reply.TheVariants as codec
@@ -74,17 +75,16 @@ goes_one shows old new request reply steps_to before reached shown =
 -- nothing was drawn for a begin, by the reason of its refusal
 abbrev pub Undrawn : Refusal → Type 0
 Undrawn refusal =
-    IsErrOf {T = ℕ} (Err refusal) TooManySessions
-    ⊎ (IsErrOf {T = ℕ} (Err refusal) Exhausted ⊎ IsErrOf {T = ℕ} (Err refusal) NoMemory)
+    IsErrOf {T = ℕ} (Err refusal) TooManySessions ⊎ IsErrOf {T = ℕ} (Err refusal) Exhausted
 
 -- the effects of a refused begin on the oracle
 pub begin_leaves_oracle : {F M : Type 0} (mark : M → Option ℕ) (refusal : Refusal) (old new : Server F M) → IsBeginRefusal refusal → (Undrawn refusal → new.oracle ≡ old.oracle)
-    → LeavesMark mark old new × SameNumbers old.oracle new.oracle → LeavesOracle mark refusal old new
-begin_leaves_oracle mark TooManySessions old new is undrawn device = undrawn (inl refl)
-begin_leaves_oracle mark Exhausted old new is undrawn device = undrawn (inr (inl refl))
-begin_leaves_oracle mark NoMemory old new is undrawn device = undrawn (inr (inr refl))
-begin_leaves_oracle mark Device old new is undrawn device = device
-begin_leaves_oracle mark _ old new is undrawn device = absurd is
+    → (IsErrOf {T = ℕ} (Err refusal) NoMemory → new.oracle ≡ old.oracle) → LeavesMark mark old new × SameNumbers old.oracle new.oracle → LeavesOracle mark refusal old new
+begin_leaves_oracle mark TooManySessions old new is undrawn allocated device = undrawn (inl refl)
+begin_leaves_oracle mark Exhausted old new is undrawn allocated device = undrawn (inr refl)
+begin_leaves_oracle mark NoMemory old new is undrawn allocated device = allocated refl
+begin_leaves_oracle mark Device old new is undrawn allocated device = device
+begin_leaves_oracle mark _ old new is undrawn allocated device = absurd is
 
 -- a refusal of another kind isn't Damaged
 pub undamaged : (P : Refusal → Type 0) (refusal : Refusal) → P refusal → (P Damaged → ⊥) → Refused refusal ≡ Refused Damaged → ⊥
@@ -174,14 +174,15 @@ module _ {F M : Type 0} (contents : F → Option Contents) (old new : Server F M
 pub never : (P : Refusal → Type 0) (reply : CodecReply) (refusal : Refusal) → IfRefused P (replied reply) → (P refusal → ⊥) → reply ≡ codec.Refused refusal → ⊥
 never P reply refusal told none is = none (subst (λ (r : CodecReply). IfRefused P (replied r)) is told)
 
--- a step's stamp is the oracle's next one
-pub progress_goes : (progress : Progress) (old new : ℕ) → DrawsNext old progress → new ≡ top_after old progress → StampsGoOn (progress_reply progress) old new
-progress_goes (progresses.Held place count) old new draws last = last
-progress_goes (progresses.Conflict place) old new draws last = last
-progress_goes (progresses.Stamped stamp) old new draws last = (draws, last)
-progress_goes (progresses.Committed stamp) old new draws last = last
-progress_goes progresses.Lost old new draws last = last
-progress_goes (progresses.Finished place count) old new draws last = last
+-- a step's stamp is the next one of a source that knows its last one
+module _ {S : Type 0} (source : Source S) (old new : S) (known : source.known old ≡ Some (source.last old)) where
+  pub progress_goes : (progress : Progress) → DrawsIn source old new progress → StampsGoOn (progress_reply progress) (source.last old) (source.last new)
+  progress_goes (progresses.Held place count) draws = ap source.last draws
+  progress_goes (progresses.Conflict place) draws = ap source.last draws
+  progress_goes (progresses.Stamped stamp) draws = (subst (λ (o : Option ℕ). IfSome o (λ last. stamp ≡ last + 1)) known draws.next, draws.becomes)
+  progress_goes (progresses.Committed stamp) draws = ap source.last draws
+  progress_goes progresses.Lost draws = ap source.last draws
+  progress_goes (progresses.Finished place count) draws = ap source.last draws
 
 -- the result of a read is no refusal and draws no stamp
 pub found_told : (P : Refusal → Type 0) (found : Found) → IfRefused P (found_reply found)
@@ -269,3 +270,7 @@ column_not_device is = cc
 
 pub memory_not_device : NoMemory ≡ Device → ⊥
 memory_not_device is = cc
+
+-- want of memory is no device's fault
+pub memory_only : (e : Refusal) → e ≡ NoMemory → codec.Refused e ≡ codec.Refused Device → ⊥
+memory_only e is same = memory_not_device (sym is ∙ subst (IfTold (λ (r : Refusal). e ≡ r)) same refl)

@@ -6,7 +6,7 @@ use Rattle.cell_key.specs.Refusals.{refusal_number}
 use Rattle.cell_key.specs.declared.keys.Qualifier.{Qualifier}
 use Rattle.cell_key.specs.declared.refusals.Refusal.{Refusal}
 use Rattle.cell_key.specs.declared.refusals.Refusal.TheVariants.{BadRow, BadColumn, UnknownTablet, BadCount}
-use Rattle.si_model.specs.Machine.{State, HasTablet, Minor, Merge, Major, Split, Sweep, Raw, Checkpoint, IsAcceptable}
+use Rattle.si_model.specs.Machine.{State, HasTablet, Minor, Merge, Major, Split, Sweep, Raw, Checkpoint, Status, IsAcceptable}
 use Rattle.si_model.specs.Refusing.{Applies, Refuses, applies_first, merges_too_many, minor_unknown, merge_unknown, merge_few, major_unknown, split_row, split_end, split_full, raw_row, raw_family}
 use Rattle.si_model.specs.declared.replies.Cell.{Cell}
 
@@ -65,6 +65,9 @@ module _ (st : State) where
 
   pub checkpoint_accepted : IsAcceptable st Checkpoint
   checkpoint_accepted m a = elim a [ ]
+
+  pub status_accepted : (k : ℕ) → IsAcceptable st (Status k)
+  status_accepted k m a = elim a [ ]
 
   pub raw_row_first : (x : Cell) (q : Qualifier) (lo hi : ℕ) → ¬ IsRow x.row → Refuses st (Raw x q lo hi) BadRow
   raw_row_first x q lo hi bad = applies_first (record { applies = raw_row bad; first = first })

@@ -15,7 +15,7 @@ use Rattle.row_atomic.specs.Recorded.{Follows}
 use Rattle.rows.specs.Refusals.{IsReadRefusal}
 use Rattle.row_atomic.specs.Compactions as compaction
 use Rattle.tablet.specs.declared.tablet.Tablet.{Tablet}
-use Rattle.si_model.specs.Machine.{State, Request, Reply, Refused, Step, Refuses, Minor, MinorDone, Merge, MergeDone, Major, MajorDone, Split, SplitOff, Move, MoveDone, Sweep, Swept, Raw, RawFound, Checkpoint, CheckpointDone, accepts, tells, minors, merges, majors, sweeps, finds_raw, checkpoints}
+use Rattle.si_model.specs.Machine.{State, Request, Reply, Refused, Step, Refuses, Minor, MinorDone, Merge, MergeDone, Major, MajorDone, Split, SplitOff, Move, MoveDone, Sweep, Swept, Raw, RawFound, Checkpoint, CheckpointDone, Status, Reported, accepts, tells, minors, merges, majors, sweeps, finds_raw, checkpoints, reports}
 use Rattle.si_model.specs.Refusing.{IsStorageRefusal, gives_up}
 use Rattle.si_model.specs.declared.replies.Cell.{Cell}
 use Rattle.txn_client.specs.Shows as clients
@@ -28,7 +28,7 @@ use Rattle.server_loop.specs.Runs.{StepsAs}
 use Rattle.server_loop.specs.Server.{Shows, machine_place, machine_places}
 use Rattle.server_loop.specs.declared.server.Server.{Server}
 use Rattle.server_loop.proofs.MachinePlaces.{has_tablet_so, has_tablet_back, length_so}
-use Rattle.server_loop.proofs.UpkeepRefusals.{minor_unknown_first, minor_accepted, merge_unknown_first, merge_bad, merge_accepted, major_unknown_first, major_accepted, split_row_first, sweep_accepted, checkpoint_accepted, raw_row_first, raw_family_first, raw_accepted}
+use Rattle.server_loop.proofs.UpkeepRefusals.{minor_unknown_first, minor_accepted, merge_unknown_first, merge_bad, merge_accepted, major_unknown_first, major_accepted, split_row_first, sweep_accepted, checkpoint_accepted, status_accepted, raw_row_first, raw_family_first, raw_accepted}
 use Rattle.server_loop.proofs.SplitSteps.{splits_so, split_next, split_barred, moves_step, stays_step, move_unknown, move_far, move_next}
 use Rattle.server_loop.proofs.CellChanges.{unchanged_if}
 use Rattle.server_loop.proofs.OthersShown.{cleaners_stay, collectors_stay, places_not_cleaners, places_not_collectors}
@@ -126,6 +126,12 @@ flush_stores _ u = absurd u
 
 pub checkpoint_done : (st : State) → Step st Checkpoint CheckpointDone st
 checkpoint_done st = accepts (checkpoint_accepted st) (tells checkpoints)
+
+pub status_refuses : (st : State) (k : ℕ) (e : Refusal) → e ≡ NoMemory → Refuses st (Status k) e
+status_refuses st k e is = subst (λ (r : Refusal). Refuses st (Status k) r) (sym is) (gives_up tt)
+
+pub status_done : (st : State) (k : ℕ) (report : List ℕ) → Step st (Status k) (Reported report) st
+status_done st k report = accepts (status_accepted st k) (tells reports)
 
 pub raw_refuses : (st : State) (x : Cell) (q : Qualifier) (lo hi : ℕ) (e : Refusal) → IsReadRefusal e → Refuses st (Raw x q lo hi) e
 raw_refuses st x q lo hi Device u = gives_up tt
@@ -296,6 +302,13 @@ swept_whole n e = cc
 
 pub checkpoint_whole : ¬ (CheckpointDone ≡ Refused Damaged)
 checkpoint_whole e = cc
+
+pub reported_whole : (report : List ℕ) → ¬ (Reported report ≡ Refused Damaged)
+reported_whole report e = cc
+
+-- want of memory is not Damaged
+pub memory_whole : (e : Refusal) → e ≡ NoMemory → ¬ (e ≡ Damaged)
+memory_whole e is same = let both = sym is ∙ same in cc
 
 pub raw_whole : (found : Option (ℕ × List ℕ)) → ¬ (RawFound found ≡ Refused Damaged)
 raw_whole found e = cc

@@ -1,5 +1,5 @@
 -- The contract of an answer to a request, in eight parts.
-use Rattle.std.specs.Prelude.{◌≡◌, ℕ, Option, IfSome, ⊤}
+use Rattle.std.specs.Prelude.{◌≡◌, ℕ, List, Option, IfSome, ⊤}
 use Rattle.cell_key.specs.declared.refusals.Refusal.{Refusal}
 use Rattle.cell_key.specs.declared.refusals.Refusal.TheVariants.{Damaged, Device, Exhausted, MemtableFull}
 use Rattle.file_store.specs.Store.{Contents}
@@ -10,7 +10,7 @@ use Rattle.request_codec.specs.Requests.{asked}
 use Rattle.request_codec.specs.declared.replies.Reply.{Reply}
 use Rattle.request_codec.specs.declared.replies.Reply.TheVariants as codec
 use Rattle.request_codec.specs.declared.requests.Request.{Request}
-use Rattle.request_codec.specs.declared.requests.Request.TheVariants.{Begin, Get, Scan, Step, CleanBegin, CleanStep, CollectBegin, CollectStep, Sweep, Checkpoint, Split, Move}
+use Rattle.request_codec.specs.declared.requests.Request.TheVariants.{Begin, Get, Scan, Step, CleanBegin, CleanStep, CollectBegin, CollectStep, Sweep, Checkpoint, Split, Move, Status}
 use Rattle.row_atomic.specs.Journals.{JournalView}
 use Rattle.row_atomic.specs.Recorded.{OverfillsRecorded, logged_of, seen_recorded}
 use Rattle.rows.specs.Room.{HasNoRoom}
@@ -20,6 +20,7 @@ use Rattle.si_model.specs.Reads.{cell_of}
 use Rattle.si_model.specs.Replies.{range_of}
 use Rattle.server_loop.specs.Commands.{HasOutcome, command_of, outcome_of}
 use Rattle.server_loop.specs.Refusals.{IsRefusalOfRequest}
+use Rattle.server_loop.specs.Reports.{IsReport}
 use Rattle.server_loop.specs.Resting.{KeepsResting}
 use Rattle.server_loop.specs.Runs.{IfRefused, StampsGoOn, StepsAs}
 use Rattle.server_loop.specs.Sessions.{ChangesCells, IsAlwaysTold, KeepsCleaners, KeepsCollectors, KeepsOracle, KeepsSessions, LeavesServerRoom}
@@ -94,9 +95,15 @@ pub record ServesSessions {F M : Type 0} (contents : F → Option Contents) (mar
 
 -- ---- tablets and files
 
--- The effects of a request on tablets and files. A checkpoint writes the sessions' top and the collectors' greatest
--- floor, and once it is accepted, the files keep the tablets' cells. If a put replaces files as a whole, a refused
--- checkpoint leaves in the files the cells that they kept before, or the tablets' cells.
+-- a property of the report of a reply, if it has one
+abbrev pub IfReported : (List ℕ → Type 0) → Reply → Type 0
+IfReported P (codec.Status report) = P report.items
+IfReported P reply = ⊤
+
+-- The effects of a request on tablets and files. A report is true, and nothing at all changes by it. A checkpoint
+-- writes the sessions' top and the collectors' greatest floor, and once it is accepted, the files keep the tablets'
+-- cells. If a put replaces files as a whole, a refused checkpoint leaves in the files the cells that they kept before,
+-- or the tablets' cells.
 abbrev pub TendsTablets : {F M W : Type 0} → Files F W → Request → Reply → Server F M → Server F M
     → Type 0
 TendsTablets files Checkpoint reply old new =
@@ -106,6 +113,8 @@ TendsTablets files Checkpoint reply old new =
     → Rests files.contents (top_of old) (floor_of old) (cluster_of old) (cluster_of new))
     × (files.replaces → (refusal : Refusal) → reply ≡ codec.Refused refusal
     → StaysOrRests files.contents (top_of old) (floor_of old) (cluster_of old) (cluster_of new))
+TendsTablets files (Status tablet) reply old new =
+    (new ≡ old) × IfReported (IsReport files.contents old tablet) reply
 TendsTablets files request reply old new =
     HasOutcome files.contents files.faults
     (command_of request) request reply (cluster_of old) (cluster_of new)

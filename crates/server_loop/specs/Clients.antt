@@ -88,16 +88,19 @@ module _ {S : Type 0} (shows : S → State → Type 0)
 
   -- ---- a frame
 
-  -- What is a client's after an answer, as its table has it: without what the operation named and is open no more,
-  -- and with what the answer gave.
-  abbrev pub NotesAnswer : ℕ → Operation → Answer → ClientServer S → ClientServer S → Type 0
-  NotesAnswer client operation answer old new =
-      (st : State) → shows new.server st → (other : ℕ) (name : Name)
-      → owns (table_of new.owners) other name
-      ≡ ((owns (table_of old.owners) other name && not (nat_eq client other
-      && (may_close operation answer
-      && (is_name (name_of operation) name && not (is_open st name)))))
-      || (nat_eq client other && gives operation answer name))
+  -- What is a client's after an answer, as its table has it: without what was closed, and with what the answer gave.
+  -- Only what the operation named may have been closed, and it was if it is open no more.
+  pub record NotesAnswer (client : ℕ) (operation : Operation) (answer : Answer)
+      (old new : ClientServer S) : Type 0 where
+    pub closed : Option Name
+    pub noted : (other : ℕ) (name : Name) → owns (table_of new.owners) other name
+        ≡ ((owns (table_of old.owners) other name
+        && not (nat_eq client other && is_name closed name))
+        || (nat_eq client other && gives operation answer name))
+    pub named : (name : Name) → is_name closed name ≡ true
+        → (may_close operation answer && is_name (name_of operation) name) ≡ true
+    pub ended : (st : State) → shows new.server st → (name : Name) → is_name closed name
+        ≡ (may_close operation answer && (is_name (name_of operation) name && not (is_open st name)))
 
   -- A frame is answered to a client: by one answer of the server inside, by none, or by the Stops of an end.
   pub data HandlesFrame (old new : ClientServer S) : Frame → ℕ → Answer → Type 0 where

@@ -9,7 +9,9 @@ pub mod Commands
 pub mod Sessions
 pub mod Resting
 pub mod Opening
+pub mod Reports
 pub mod Answer
+pub mod Checkpoints
 pub mod OperationLaws
 pub mod Operations
 pub mod Tending

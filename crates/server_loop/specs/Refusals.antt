@@ -10,7 +10,7 @@ use Rattle.txn_client.specs.Refusals.{IsBeginRefusal, IsDeleteRefusal, IsGetRefu
 use Rattle.clean_up.specs.Refusals as clean_up
 use Rattle.version_collector.specs.Refusals as version_collector
 use Rattle.request_codec.specs.declared.requests.Request.{Request}
-use Rattle.request_codec.specs.declared.requests.Request.TheVariants.{Begin, Get, Set, Delete, Scan, Step, Stop, CleanBegin, CleanStep, CollectBegin, CollectStep, Minor, Merge, Major, Split, Move, Sweep, OracleRestart, Raw, Checkpoint}
+use Rattle.request_codec.specs.declared.requests.Request.TheVariants.{Begin, Get, Set, Delete, Scan, Step, Stop, CleanBegin, CleanStep, CollectBegin, CollectStep, Minor, Merge, Major, Split, Move, Sweep, OracleRestart, Raw, Checkpoint, Status}
 
 -- a split at a row name that may be invalid
 abbrev pub IsCutRefusal : Refusal → Type 0
@@ -48,4 +48,5 @@ IsRefusalOfRequest (Move tablet server) refusal = IsMoveRefusal refusal
 IsRefusalOfRequest Sweep refusal = IsSweepRefusal refusal
 IsRefusalOfRequest OracleRestart refusal = refusal ≡ Device
 IsRefusalOfRequest (Raw row family qualifier lo hi) refusal = IsRawRefusal refusal
+IsRefusalOfRequest (Status tablet) refusal = refusal ≡ NoMemory
 IsRefusalOfRequest Checkpoint refusal = cluster.IsRefusalOf compaction.minor refusal

@@ -8,7 +8,7 @@ use Rattle.metadata_table.specs.Roots.{RootView}
 use Rattle.request_codec.specs.declared.replies.Reply.{Reply}
 use Rattle.request_codec.specs.declared.replies.Reply.TheVariants as codec
 use Rattle.request_codec.specs.declared.requests.Request.{Request}
-use Rattle.request_codec.specs.declared.requests.Request.TheVariants.{Minor, Sweep, OracleRestart, Raw, Checkpoint}
+use Rattle.request_codec.specs.declared.requests.Request.TheVariants.{Minor, Sweep, OracleRestart, Raw, Checkpoint, Status}
 use Rattle.row_atomic.specs.Roots.{HasRoot, KeepsCells, KeepsRoot}
 use Rattle.si_model.specs.Machine.{IsReached, State, reopened}
 use Rattle.si_model.specs.ShowsCells.{ShowsCells}
@@ -62,6 +62,7 @@ IsSparing (Minor tablet) = ⊤
 IsSparing Sweep = ⊤
 IsSparing OracleRestart = ⊤
 IsSparing (Raw row family qualifier lo hi) = ⊤
+IsSparing (Status tablet) = ⊤
 IsSparing request = ⊥
 
 -- The effect of an answer on the state at which a server rests.

@@ -76,7 +76,8 @@ impl<A: Lookup> ClientServer<A> {
 
     /// What was named, if it may have been closed and is open no more.
     fn closed(&self, closes: bool, name: Option<Name>) -> Option<Name>
-        ensures { (st : State) → A.shows self.now.server st → (n : NameOf)
+        ensures named { (n : NameOf) → is_name result n ≡ true → (closes && is_name name n) ≡ true }
+        ensures ended { (st : State) → A.shows self.now.server st → (n : NameOf)
             → is_name result n ≡ (closes && (is_name name n && not (is_open st n))) }
     {
         let name = name?;

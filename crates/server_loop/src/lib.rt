@@ -12,6 +12,7 @@ mod opening;
 mod scans;
 mod server;
 mod sessions;
+mod status;
 mod statuses;
 mod transactions;
 mod upkeep;

@@ -267,6 +267,7 @@ impl<F: Files + Drop, M: MarkStore + Drop> Server<F, M> {
                 hi,
             } => self.raw(row, family, qualifier, lo, hi),
             Request::Checkpoint => self.checkpoint(),
+            Request::Status { tablet } => self.status(tablet),
         }
     }
 

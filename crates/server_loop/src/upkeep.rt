@@ -1,11 +1,13 @@
 //! The server's upkeep of its tablets, and raw reads, one step of the snapshot machine each.
 
-ghost use Rattle.std.specs.Prelude.{◌≡◌, [], IfErr, IfOk, OnOk};
+ghost use Rattle.std.specs.Prelude.{◌≡◌, [], Err, IfErr, IfOk, OnErr, OnOk};
 ghost use Rattle.row_atomic.specs.Changes.{Holds};
 ghost use Rattle.row_atomic.specs.Clusters.{spots_of};
+ghost use Rattle.row_atomic.specs.Commands.{done_of};
 ghost use Rattle.row_atomic.specs.Recorded.{Follows, Tracks};
 ghost use Rattle.row_atomic.specs.RootLengths.{IsRoomBehind};
 ghost use Rattle.row_atomic.specs.Roots.{root_sum};
+ghost use Rattle.row_atomic.specs.declared.commands.Outcome.TheVariants as outcome;
 ghost use Rattle.server_loop.specs.Commands.{checkpointed};
 ghost use Rattle.si_model.specs.Machine.{IsStorageRefusal, State};
 
@@ -14,7 +16,7 @@ use cell_key::{Family, Qualifier, Refusal, Row, Stamp};
 use file_store::Files;
 use oracle::MarkStore;
 use request_codec::{Reply, Request};
-use row_atomic::{Rows, keeps_following, root_is_stored};
+use row_atomic::{Rows, keeps_following, root_is_stored, root_outlasts_flushes};
 
 /// The name of a root: its greatest stamp, and a checksum of its content without the lengths of files.
 #[derive(Clone, Copy, Debug, PartialEq, Eq)]
@@ -27,6 +29,7 @@ pub struct RootName {
 
 impl<F: Files + Drop, M: MarkStore + Drop> Server<F, M> {
     ghost use Rattle.server_loop.specs.Answer.{IsPlainAnswer};
+    ghost use Rattle.server_loop.specs.Checkpoints.{ActsAsCheckpoint, FlushesAll};
     ghost use Rattle.row_atomic.specs.RootSweeps.{SweepsBesideRoot};
     ghost use Rattle.server_loop.specs.Server.{Shows, cluster_of, forgets, journal_of, next_root, rows_of};
 
@@ -169,6 +172,57 @@ impl<F: Files + Drop, M: MarkStore + Drop> Server<F, M> {
         let top = self.clients.top();
         let floor = self.collectors.greatest_floor();
         match self.rows.cluster.checkpoint(top, floor) {
+            Ok(()) => Ok(()),
+            Err(refusal) => Err(refusal),
+        }
+    }
+
+    /// Flushes every tablet. No root is put, and the journal is kept.
+    ///
+    /// # Errors
+    ///
+    /// The same as a checkpoint's. Some of the tablets may be flushed.
+    pub fn flush_all(&mut self) -> Result<(), Refusal>
+        ensures flushes { FlushesAll F.contents F.faults self.old (done_of result) self.new }
+        ensures refused { OnErr result
+            (ActsAsCheckpoint F.Files M.MarkStore self.old result self.new) }
+        // Where no root is put behind it, it is a checkpoint that got no memory for its root.
+        ensures rootless { OnOk result
+            (ActsAsCheckpoint F.Files M.MarkStore self.old (Err Refusal.NoMemory) self.new) }
+        ensures shown { (st : State) → Shows F.contents self.old st
+            → Shows F.contents self.new st }
+    {
+        keeps_following::<F>();
+        root_outlasts_flushes::<F>();
+        match self.rows.cluster.flush_each() {
+            Ok(()) => Ok(()),
+            Err(refusal) => Err(refusal),
+        }
+    }
+
+    /// Puts the root of a server whose tablets were flushed: after `flush_all` it is a checkpoint. The journal is kept.
+    /// Put or refused, the root has the name that `root_name` gives before it and after it.
+    ///
+    /// # Errors
+    ///
+    /// `Device` or `NoMemory`.
+    pub fn put_flushed_root(&mut self) -> Result<(), Refusal>
+        ensures checkpoints { (first : Server F M)
+            → FlushesAll F.contents F.faults first outcome.Done self.old
+            → ActsAsCheckpoint F.Files M.MarkStore first result self.new }
+        ensures shown { (st : State) → Shows F.contents self.old st
+            → Shows F.contents (forgets self.new) st }
+        ensures refusal { IfErr result IsStorageRefusal }
+        ensures spots { spots_of (cluster_of self.new) ≡ spots_of (cluster_of self.old) }
+        ensures journal { journal_of self.new ≡ journal_of self.old }
+        ensures next { next_root self.new ≡ next_root self.old }
+    {
+        keeps_following::<F>();
+        root_is_stored::<F>();
+        root_outlasts_flushes::<F>();
+        let top = self.clients.top();
+        let floor = self.collectors.greatest_floor();
+        match self.rows.cluster.put_root(top, floor) {
             Ok(()) => Ok(()),
             Err(refusal) => Err(refusal),
         }

@@ -1,14 +1,14 @@
 -- The cells change as by the steps of sessions, cleaners and collectors.
-use Rattle.std.proofs.Common.{◌≡◌, ◌∙◌, ℕ, List, Option, inl, inr, Bool, true, false, refl, sym, subst}
+use Rattle.std.proofs.Common.{◌≡◌, ◌∙◌, ℕ, List, inl, inr, Bool, true, false, refl, sym, subst}
 use Rattle.std.specs.Prelude.{Result, Ok, Err, OnErr, IfOk}
 use Rattle.cell_key.specs.Cells.{Cells, after_edits}
 use Rattle.cell_key.specs.declared.edits.Edit.{Edit}
 use Rattle.cell_key.specs.LockEdits.{IsErasing, IsRecording}
 use Rattle.cell_key.specs.declared.columns.WriteKind.{WriteKind}
 use Rattle.cell_key.specs.declared.refusals.Refusal.{Refusal}
-use Rattle.oracle.specs.Ranges.{OracleState}
 use Rattle.rows.specs.Calls.{OnlyReads, View}
 use Rattle.rows.specs.Room.{AreAfter}
+use Rattle.rows.specs.Sources.{Source}
 use Rattle.si_model.specs.Collection.{ChangesCells, Collects, unchanged, locks_cell, records_commit, erases_lock, erases_versions}
 use Rattle.si_model.specs.Machine.{State, Commit, Phase, Open, Holding, Stamped, Finishing, Writes, Cleaner, InPhase, CommittedAt}
 use Rattle.si_model.specs.Servers.{Own, IsPartOf, IsReachedByServers, view}
@@ -92,10 +92,10 @@ module _ (cells cells' : Cells) (st : State) where
 -- ---- by the result of a call
 
 module _ {R : Type 0} (seen : View R) (clients : Clients) (start : ℕ) (old new : R) (holds : seen.holds old) where
-  pub result_changes : {M : Type 0} (mark_of : M → Option ℕ) (o o' : OracleState M) (before now : ℕ) (r : Result Progress Refusal)
-      → OnErr r (StepLeaves seen mark_of old new o o') → IfOk r (λ p. sessions.StepMakes seen clients start p old new before now) → InEachShown (seen.cells old) clients (λ st. ChangesCells (seen.cells old) st (seen.cells new))
-  result_changes mark_of o o' before now (Ok p) left made st reached store shown = step_changes (seen.cells old) (seen.cells new) st start p reached (made.made holds st reached store shown)
-  result_changes mark_of o o' before now (Err n) left made st reached store shown = unchanged_if (seen.cells old) (seen.cells new) st left.same.kept
+  pub result_changes : {S : Type 0} (source : Source S) (stamps stamps' : S) (r : Result Progress Refusal)
+      → OnErr r (StepLeaves seen source old new stamps stamps') → IfOk r (λ p. sessions.StepMakes seen clients start p old new) → InEachShown (seen.cells old) clients (λ st. ChangesCells (seen.cells old) st (seen.cells new))
+  result_changes source stamps stamps' (Ok p) left made st reached store shown = step_changes (seen.cells old) (seen.cells new) st start p reached (made.made holds st reached store shown)
+  result_changes source stamps stamps' (Err n) left made st reached store shown = unchanged_if (seen.cells old) (seen.cells new) st left.same.kept
 
 module _ {R : Type 0} (seen : View R) (kept : Cleaners) (number : ℕ) (old new : R) where
   pub cleaned_changes : (r : Result CleanReply Refusal) → OnErr r (OnlyReads seen old new)

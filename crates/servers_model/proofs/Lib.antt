@@ -2,6 +2,7 @@ mod Added
 mod Below
 mod Beside
 mod Changed
+mod Guarding
 mod Merging
 mod Raised
 mod Turn

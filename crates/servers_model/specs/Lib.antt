@@ -1,3 +1,4 @@
 pub mod Servers
 pub mod Serves
+pub mod Guarded
 pub mod Merged

@@ -10,8 +10,7 @@ ghost use Rattle.si_model.specs.Replies.{clean_reply, clean_start_reply, collect
 
 use cell_key::{Refusal, Stamp};
 use clean_up::Cleaners;
-use oracle::{MarkStore, Oracle};
-use rows::Rows;
+use rows::{Rows, Stamps};
 use si_model::{CleanReply, CleanStart, CollectReply, Found, Progress, ScanRange, ScanReply};
 use std::alloc::Global;
 use txn_client::Clients;
@@ -29,14 +28,12 @@ pub fn start(alloc: Global) -> (Clients, Cleaners, Collectors)
 }
 
 /// A session begins. Refusals: as of `Clients::begin`.
-pub fn serve_begin<M: MarkStore>(
-    clients: &mut Clients,
-    oracle: &mut Oracle<M>,
-) -> Result<Stamp, Refusal>
-    ensures serves { (cells : Cells) → ServesSession cells clients.old oracle.old.last
-        machine.Begin (result_reply machine.Begun result) cells clients.new oracle.new.last }
+pub fn serve_begin<S: Stamps>(clients: &mut Clients, stamps: &mut S) -> Result<Stamp, Refusal>
+    ensures serves { (cells : Cells) → ServesSession
+        cells clients.old (S.source.last stamps.old) machine.Begin
+        (result_reply machine.Begun result) cells clients.new (S.source.last stamps.new) }
 {
-    clients.begin(oracle)
+    clients.begin(stamps)
 }
 
 /// A session reads a cell. Refusals: as of `Clients::get`.
@@ -101,18 +98,18 @@ pub fn serve_delete(
 }
 
 /// A session takes its next step. Refusals: as of `Clients::step`.
-pub fn serve_step<R: Rows, M: MarkStore>(
+pub fn serve_step<R: Rows, S: Stamps>(
     clients: &mut Clients,
     rows: &mut R,
-    oracle: &mut Oracle<M>,
+    stamps: &mut S,
     start: Stamp,
 ) -> Result<Progress, Refusal>
     ensures serves { R.seen.holds rows.old → ServesSession
-        (R.seen.cells rows.old) clients.old oracle.old.last (machine.Advance start)
+        (R.seen.cells rows.old) clients.old (S.source.last stamps.old) (machine.Advance start)
         (result_reply progress_reply result)
-        (R.seen.cells rows.new) clients.new oracle.new.last }
+        (R.seen.cells rows.new) clients.new (S.source.last stamps.new) }
 {
-    clients.step(rows, oracle, start)
+    clients.step(rows, stamps, start)
 }
 
 /// A session ends. Refusals: as of `Clients::stop`.

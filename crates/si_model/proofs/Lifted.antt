@@ -6,7 +6,7 @@ use Rattle.std.proofs.lemmas.Option.{none-some}
 use Rattle.si_model.specs.Scans.{IsScanned, IsSaid, Says, Covers}
 use Rattle.si_model.specs.declared.replies.Cell.{Cell}
 use Rattle.si_model.specs.Machine.{State, Range, Reach, Item, Valued, Locked, Unsent, Phase, Open, Holding, Stamped, Finishing, Request, Reply, CollectBegin, Writes, HasHeld, finishing}
-use Rattle.si_model.specs.Machine.{Acts, tells, waits, finds_none, is_blocked, goes_further, minors, merges, majors, sweeps, restarts, finds_raw, checkpoints, begins, reads, scans, sets, deletes, holds, conflicts, draws, loses, commits, finishes, stops, opens, kills, learns, rolls_forward, rolls_back, finds_gone, collects, has_collected, splits, moves_tablet}
+use Rattle.si_model.specs.Machine.{Acts, tells, waits, finds_none, is_blocked, goes_further, minors, merges, majors, sweeps, restarts, finds_raw, checkpoints, reports, begins, reads, scans, sets, deletes, holds, conflicts, draws, loses, commits, finishes, stops, opens, kills, learns, rolls_forward, rolls_back, finds_gone, collects, has_collected, splits, moves_tablet}
 use Rattle.si_model.specs.Servers.{Sessions, HasSessions, seen_with}
 use Rattle.si_model.specs.ServerLaws.{IsStepOfAll, ViewsLift}
 use Rattle.si_model.proofs.Tools.{get_same, get_other, get_remains, each_insert, each_remove}
@@ -182,6 +182,7 @@ module _ (st : State) (mine : Sessions) (i : Sound st) (part : HasSessions st mi
   lift ne (tells restarts) = aside st refl refl (omega arith) refl (tells restarts)
   lift ne (tells finds_raw) = aside st refl refl (omega arith) refl (tells finds_raw)
   lift ne (tells checkpoints) = aside st refl refl (omega arith) refl (tells checkpoints)
+  lift ne (tells reports) = aside st refl refl (omega arith) refl (tells reports)
   lift ne (begins {s = s} d) = (
     record st { top = s; begun = insert st.begun s []; active = insert st.active s Open },
     record {

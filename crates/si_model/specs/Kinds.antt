@@ -2,7 +2,7 @@
 use Rattle.std.specs.Prelude.{◌≡◌, ◌≢◌}
 use Rattle.si_model.specs.State.{State}
 use Rattle.si_model.specs.Machine.{Step}
-use Rattle.si_model.specs.Messages.{Request, Reply, Begin, Get, Set, Delete, ScanFrom, Advance, Stop, CleanBegin, CleanStep, CollectBegin, CollectStep, Minor, Merge, Major, Split, Move, Sweep, OracleRestart, Raw, Checkpoint}
+use Rattle.si_model.specs.Messages.{Request, Reply, Begin, Get, Set, Delete, ScanFrom, Advance, Stop, CleanBegin, CleanStep, CollectBegin, CollectStep, Minor, Merge, Major, Split, Move, Sweep, OracleRestart, Raw, Checkpoint, Status}
 
 -- the subject of a request: sessions, cleaners, collectors, the places of tablets, or none of these
 pub data Kind : Type 0 where
@@ -33,6 +33,7 @@ kind_of Sweep = OfStorage
 kind_of OracleRestart = OfStorage
 kind_of (Raw cell qualifier low high) = OfStorage
 kind_of Checkpoint = OfStorage
+kind_of (Status tablet) = OfStorage
 
 -- the same stamps, sessions, commits and answers
 pub record SameSessions (st next : State) : Type 0 where

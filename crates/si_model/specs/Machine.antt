@@ -9,7 +9,7 @@ use Rattle.cell_key.specs.declared.refusals.Refusal.{Refusal}
 use Rattle.si_model.specs.Sets.{◌∈◌, IsWithout}
 use Rattle.si_model.specs.declared.replies.Cell.{Cell}
 pub use Rattle.si_model.specs.State.{State, Value, Change, Writes, Phase, Open, Holding, Stamped, Finishing, Commit, Read, Range, Item, Valued, Locked, Unsent, Reach, ToEnd, UpTo, Scan, Cleaner, Place, new_machine, reopened, most_sessions, most_cleaners, most_collectors, most_tablets, most_servers, most_writes, most_value, most_visits, most_scanned, end_of_stamps, InPhase, Wrote, Marked, Puts, Gives, Names, IsDead, CommittedAt, IsCommitted, HasTablet, IsEnd}
-pub use Rattle.si_model.specs.Messages.{Request, Begin, Get, Set, Delete, ScanFrom, Advance, Stop, CleanBegin, CleanStep, CollectBegin, CollectStep, Minor, Merge, Major, Split, Move, Sweep, OracleRestart, Raw, Checkpoint, Reply, Begun, Answered, Pending, SetDone, DeleteDone, Scanned, Held, Conflict, Drawn, Committed, Lost, Finished, StopDone, NoLock, Cleaning, Decided, RolledForward, RolledBack, Gone, Collecting, More, Blocked, Collected, MinorDone, MergeDone, MajorDone, SplitOff, MoveDone, Swept, RestartDone, RawFound, CheckpointDone, Refused}
+pub use Rattle.si_model.specs.Messages.{Request, Begin, Get, Set, Delete, ScanFrom, Advance, Stop, CleanBegin, CleanStep, CollectBegin, CollectStep, Minor, Merge, Major, Split, Move, Sweep, OracleRestart, Raw, Checkpoint, Status, Reply, Begun, Answered, Pending, SetDone, DeleteDone, Scanned, Held, Conflict, Drawn, Committed, Lost, Finished, StopDone, NoLock, Cleaning, Decided, RolledForward, RolledBack, Gone, Collecting, More, Blocked, Collected, MinorDone, MergeDone, MajorDone, SplitOff, MoveDone, Swept, RestartDone, RawFound, CheckpointDone, Reported, Refused}
 pub use Rattle.si_model.specs.Refusing.{Applies, IsFirstRefusal, IsAcceptable, IsStorageRefusal, Refuses}
 pub use Rattle.si_model.specs.Snapshots.{IsSnapshot}
 use Rattle.si_model.specs.Scans.{IsScanned}
@@ -86,6 +86,8 @@ pub data Tells (st : State) : Request → Reply → Type 0 where
   finds_raw : {x : Cell} {q : Qualifier} {low high : ℕ} {found : Option (ℕ × Value)}
       → Tells st (Raw x q low high) (RawFound found)
   checkpoints : Tells st Checkpoint CheckpointDone
+  -- the machine doesn't know how the storage is: any report may be answered
+  reports : {k : ℕ} {report : List ℕ} → Tells st (Status k) (Reported report)
 
 -- An accepted request in st: its reply and the next state.
 pub data Acts (st : State) : Request → Reply → State → Type 0 where

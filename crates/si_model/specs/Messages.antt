@@ -29,6 +29,8 @@ pub data Request : Type 0 where
   OracleRestart : Request
   Raw : (cell : Cell) (qualifier : Qualifier) (low high : ℕ) → Request
   Checkpoint : Request
+  -- tells how the store is, and how this tablet is
+  Status : (tablet : ℕ) → Request
 
 pub data Reply : Type 0 where
   -- Begin
@@ -75,5 +77,7 @@ pub data Reply : Type 0 where
   RestartDone : Reply
   RawFound : (found : Option (ℕ × Value)) → Reply
   CheckpointDone : Reply
+  -- Status: a text of bytes
+  Reported : (report : List ℕ) → Reply
   -- any request
   Refused : (refusal : Refusal) → Reply

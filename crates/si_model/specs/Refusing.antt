@@ -12,7 +12,7 @@ use Rattle.si_model.specs.Scans.{HasRows, HasFamilies}
 use Rattle.si_model.specs.declared.replies.Cell.{Cell}
 
 -- The refusal applies to the request. For each operation, its refusals are in the order in which they are checked,
--- which is the order of their numbers. Sweep, Checkpoint and OracleRestart have none.
+-- which is the order of their numbers. Sweep, Checkpoint, Status and OracleRestart have none.
 pub data Applies (st : State) : Request → Refusal → Type 0 where
   begin_full : most_sessions ≤ len st.active → Applies st Begin TooManySessions
   get_unknown : {s : ℕ} {x : Cell} → get st.active s ≡ None → Applies st (Get s x) UnknownSession

@@ -42,14 +42,14 @@ module _ (m : Contents) (file : SortedFile) (o : IsOpen m file) (n : ℕ) (row :
 
 -- a file with another cache is the same file
 pub same_file : (told : Option Contents) (file : SortedFile) (cache : LruCache ℕ Block) → IfSome told (λ m. IsOpen m file → AreCached file.rows.items cache.entries)
-    → IsSameFile told file (record { alloc = file.alloc; name = file.name; rows = file.rows; count = file.count; bounds = file.bounds; numbers = file.numbers; lock_keys = file.lock_keys; lock_values = file.lock_values; named_locks = file.named_locks; cache = cache })
+    → IsSameFile told file (record { alloc = file.alloc; name = file.name; rows = file.rows; count = file.count; bytes = file.bytes; bounds = file.bounds; numbers = file.numbers; lock_keys = file.lock_keys; lock_values = file.lock_values; named_locks = file.named_locks; cache = cache })
 same_file None file cache h = record { rest = λ c. refl; name = refl; lists = λ m. refl; still = tt }
 same_file (Some m) file cache h = record {
   rest = λ c. refl;
   name = refl;
   lists = λ m. refl;
   still = λ o.
-      record { list = o.list; bounds = o.bounds; bounded = o.bounded; numbered = o.numbered; keyed = o.keyed; locks_kept = o.locks_kept; lasts = o.lasts; counted = o.counted; format = o.format; image = o.image; there = o.there; form = o.form; rows = o.rows; blocks = o.blocks; cached = h o };
+      record { list = o.list; bounds = o.bounds; bounded = o.bounded; numbered = o.numbered; keyed = o.keyed; locks_kept = o.locks_kept; lasts = o.lasts; counted = o.counted; measured = o.measured; format = o.format; image = o.image; there = o.there; form = o.form; rows = o.rows; blocks = o.blocks; cached = h o };
 }
 
 -- after a block was read, a cached block was cached before or is that block

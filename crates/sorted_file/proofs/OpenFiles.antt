@@ -7,7 +7,7 @@ use Rattle.sorted_file.specs.File.{StaysOpen, OneListing, OpenIsThere, WrittenIs
 use Rattle.sorted_file.proofs.EntryParts.{one_list}
 
 pub stays_open : StaysOpen
-stays_open m n file o e = (record { list = o.list; bounds = o.bounds; bounded = o.bounded; numbered = o.numbered; keyed = o.keyed; locks_kept = o.locks_kept; lasts = o.lasts; counted = o.counted; format = o.format; image = o.image; there = e ∙ o.there; form = o.form; rows = o.rows; blocks = o.blocks; cached = o.cached }, refl)
+stays_open m n file o e = (record { list = o.list; bounds = o.bounds; bounded = o.bounded; numbered = o.numbered; keyed = o.keyed; locks_kept = o.locks_kept; lasts = o.lasts; counted = o.counted; measured = o.measured; format = o.format; image = o.image; there = e ∙ o.there; form = o.form; rows = o.rows; blocks = o.blocks; cached = o.cached }, refl)
 
 pub open_is_there : OpenIsThere
 open_is_there m file o = record { format = o.format; entries = _; image = o.image; list = o.list; there = o.there; form = o.form }

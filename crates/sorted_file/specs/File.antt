@@ -30,6 +30,10 @@ name_of file = file.name
 abbrev pub count_of : SortedFile → ℕ
 count_of file = file.count
 
+-- how many bytes its entries take
+abbrev pub bytes_of : SortedFile → ℕ
+bytes_of file = file.bytes
+
 -- under this name there is an entry list's file, in either format
 pub record HasFile (m : Contents) (name : ℕ) : Type 0 where
   pub format : Format
@@ -72,6 +76,7 @@ pub record IsOpen (m : Contents) (file : SortedFile) : Type 0 where
   pub locks_kept : IsTelling file
   pub lasts : AllByRecursion IsLastRow file.rows.items
   pub counted : file.count ≡ length (listed m file)
+  pub measured : file.bytes ≡ length (block_bytes (listed m file))
   pub format : Format
   pub image : List ℕ
   pub there : map.get m (name_of file) ≡ Some image

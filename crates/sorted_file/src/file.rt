@@ -6,6 +6,7 @@ ghost use Rattle.cell_key.specs.Entries.{Entry, entries_from};
 ghost use Rattle.cell_key.specs.Keys.{text};
 ghost use Rattle.file_store.specs.Store.{Contents};
 ghost use Rattle.lru.specs.LruCache.{lru_cache};
+ghost use Rattle.sorted_file.specs.Grammar.{block_bytes};
 ghost use Rattle.sorted_file.specs.Index.{block_of, Tells};
 ghost use Rattle.sorted_file.specs.File.{IsUncached};
 ghost use Rattle.sorted_file.specs.Block.{IsParsed, first_from};
@@ -17,6 +18,7 @@ use crate::bounds::ColumnBounds;
 use crate::cache::{few_blocks, keep, no_blocks, promote, resize};
 use crate::check::{Opening, read_file};
 use crate::cursor::FileCursor;
+use crate::format::HEAD;
 use crate::gathering::Columns;
 use crate::lock_index::LockIndex;
 use crate::lock_values::LockValue;
@@ -38,6 +40,8 @@ pub struct SortedFile {
     rows: Vec<BlockRow>,
     /// How many entries there are.
     count: u64,
+    /// How many bytes the entries take.
+    bytes: u64,
     pub(crate) bounds: ColumnBounds,
     /// A hash of each column that has an entry.
     pub(crate) numbers: Numbers,
@@ -56,7 +60,7 @@ impl SortedFile {
     ghost use Rattle.sorted_file.specs.Cursor.{cursor_lent, cursor_remaining, CursorHolds};
     ghost use Rattle.sorted_file.specs.Newest.{at_stamp, found_bytes, IsNewestEntry, IsOfColumn, IsShortValue};
     ghost use Rattle.sorted_file.specs.Check.{IsOpening, IsWhole};
-    ghost use Rattle.sorted_file.specs.File.{count_of, HasFile, IsCursorOf, IsFoundNow, IsOpen, IsReadFrom, IsReadNow, IsSameFile, KeepsWhatItRead, listed, name_of, MayHaveKey};
+    ghost use Rattle.sorted_file.specs.File.{bytes_of, count_of, HasFile, IsCursorOf, IsFoundNow, IsOpen, IsReadFrom, IsReadNow, IsSameFile, KeepsWhatItRead, listed, name_of, MayHaveKey};
 
     /// Opens a file with a cache of 8 blocks. Answers `Damaged` if the file doesn't exist or is no entry list's file,
     /// `Device` if a device fails, and `NoMemory` if there is no memory.
@@ -127,6 +131,7 @@ impl SortedFile {
         let Opening {
             rows,
             count,
+            end,
             columns,
             ..
         } = opening;
@@ -145,6 +150,7 @@ impl SortedFile {
             name,
             rows,
             count,
+            bytes: end - HEAD,
             bounds,
             numbers,
             lock_keys,
@@ -168,6 +174,16 @@ impl SortedFile {
             → result ≡ length (listed m self.now) }
     {
         self.count as usize
+    }
+
+    /// How many bytes the file's entries take in it, erasures included, without the file's head, index and foot. Allocates
+    /// nothing and reads nothing.
+    pub fn entry_bytes(&self) -> u64
+        ensures count { result ≡ bytes_of self.now }
+        ensures listed { (m : Contents) → IsOpen m self.now
+            → result ≡ length (block_bytes (listed m self.now)) }
+    {
+        self.bytes
     }
 
     /// Whether, by its hashes and bounds, the file may have an entry of the key's column at a stamp from `lo` to the key's.

@@ -1,12 +1,12 @@
 -- Views of tablets: the merged entries of memtable and files, cut to the range (Bigtable, tablet serving).
-use Rattle.std.specs.Prelude.{◌≡◌, ◌<◌, ◌+◌, ◌⊎◌, ℕ, List, [], ◌∷◌, map, Option, None, IfSome, IsSomeAnd, if◌then◌else◌}
+use Rattle.std.specs.Prelude.{◌≡◌, ◌<◌, ◌+◌, ◌⊎◌, ℕ, List, [], ◌∷◌, map, sum_by, Option, None, IfSome, IsSomeAnd, if◌then◌else◌}
 use Rattle.std.specs.List.{AllByRecursion}
 use Rattle.std.specs.FinMap.{get}
 use Rattle.cell_key.specs.Cells.{Cells}
 use Rattle.cell_key.specs.Entries.{Entry, IsEntryList, cells_of, merged}
 use Rattle.cell_key.specs.declared.keys.CellKey.{CellKey}
 use Rattle.file_store.specs.Store.{Contents, KeepsOthers}
-use Rattle.sorted_file.specs.File.{IsOpen, listed, name_of}
+use Rattle.sorted_file.specs.File.{IsOpen, bytes_of, listed, name_of}
 use Rattle.sorted_file.specs.declared.file.SortedFile.{SortedFile}
 use Rattle.tablet.specs.Ranges.{has_row, seen}
 use Rattle.tablet.specs.declared.ranges.RowRange.{RowRange}
@@ -24,6 +24,10 @@ files_of t = t.files
 
 abbrev pub names_of : Tablet → List ℕ
 names_of t = map name_of (files_of t)
+
+-- how many bytes the entries of its files take in them
+abbrev pub file_bytes_of : Tablet → ℕ
+file_bytes_of t = sum_by bytes_of (files_of t)
 
 -- the tablet with these entries in its memtable
 abbrev pub with_memory : Tablet → List Entry → Tablet

@@ -1,6 +1,6 @@
 //! Tablets: the type, and its calls that write no file.
 
-ghost use Rattle.std.specs.Prelude.{◌≡◌, ◌≤◌, ◌<◌, ◌+◌, ◌++◌, ◌∷◌, ◌⊎◌, ◌↔◌, [], None, length, vec_len, vec_capacity, IsTrue, if◌then◌else◌, IsOk, IfErr, IfOk, OnErr, OnOk, IsErrOf, IsOkUnless};
+ghost use Rattle.std.specs.Prelude.{◌≡◌, ◌≤◌, ◌<◌, ◌+◌, ◌-◌, ◌^◌, ◌++◌, ◌∷◌, ◌⊎◌, ◌↔◌, [], None, length, min, vec_len, vec_capacity, IsTrue, if◌then◌else◌, IsOk, IfErr, IfOk, OnErr, OnOk, IsErrOf, IsOkUnless};
 ghost use Rattle.std.specs.List.{AllByRecursion};
 ghost use Rattle.cell_key.specs.Cells.{IsEditOf, after_edits};
 ghost use Rattle.file_store.specs.Store.{Contents};
@@ -29,7 +29,7 @@ pub struct Tablet {
 
 impl Tablet {
     ghost use Rattle.tablet.specs.Ranges.{has_row};
-    ghost use Rattle.tablet.specs.Views.{range_of, memory_of, files_of, names_of, with_memory, cells_at, Holds};
+    ghost use Rattle.tablet.specs.Views.{file_bytes_of, range_of, memory_of, files_of, names_of, with_memory, cells_at, Holds};
 
     /// A tablet with this many files gets no further one: a minor compaction with entries to write is refused with
     /// `TooManyFiles`.
@@ -95,6 +95,17 @@ impl Tablet {
         ensures { result ≡ length (names_of self.now) }
     {
         self.files.len()
+    }
+
+    /// How many bytes the entries of the files take in them; `u64::MAX` if it is more. Allocates and reads nothing.
+    pub fn file_bytes(&self) -> u64
+        ensures { result ≡ min (file_bytes_of self.now) (2 ^ 64 - 1) }
+    {
+        let mut bytes: u64 = 0;
+        for file in self.files.as_slice() {
+            bytes = bytes.saturating_add(file.entry_bytes());
+        }
+        bytes
     }
 
     /// Appends the names of the files, the newest first. `NoMemory` if `out` cannot grow; never if it has the capacity.

@@ -222,6 +222,7 @@ fn write_upkeep_of_tablets<W: fmt::Write>(
         Request::Sweep => write!(f, "Sweep"),
         Request::OracleRestart => write!(f, "OracleRestart"),
         Request::Checkpoint => write!(f, "Checkpoint"),
+        Request::Status { tablet } => write!(f, "Status {tablet}"),
         _ => Ok(()),
     }
 }
@@ -241,6 +242,7 @@ impl fmt::Display for ReplyWords<'_> {
             Reply::CollectStep(done) => write_collecting(done, f),
             Reply::Raw(None) => write!(f, "Raw nothing"),
             Reply::Raw(Some((stamp, value))) => write!(f, "Raw {stamp} {}", Text(value)),
+            Reply::Status(report) => write!(f, "Status {}", Text(report)),
             Reply::Refused(refusal) => write!(f, "{refusal}"),
             _ => write_numbers(self.0, f),
         }

@@ -6,7 +6,7 @@
 
 ghost use Rattle.std.specs.Prelude.{◌≡◌, ◌≤◌, IfErr, IfOk, IfSome, None, OnOk, Some, false, true};
 
-use cell_key::Refusal;
+use cell_key::{Refusal, Stamp};
 use clap::error::ErrorKind;
 use command_line::{Options, options};
 use commit_log::{DirLog, Log, LogFault, OpenLog, make_log, open_log};
@@ -98,24 +98,15 @@ fn log_status(fault: &LogFault) -> (u8, &'static str) {
     }
 }
 
-/// Whether a store lost its root: the files have no root, but there is another file, or the oracle's mark is above 0.
-fn lacks_root<F: Files, M: MarkStore>(
-    alloc: Global,
-    files: &mut F,
-    marks: &mut M,
-) -> Result<bool, LogFault> {
+/// Whether a store with this mark lost its root: the files have no root, but there is another file, or the mark is above
+/// 0.
+fn lacks_root<F: Files>(alloc: Global, files: &mut F, mark: Stamp) -> Result<bool, LogFault> {
     if files.size(ROOT_NAME).map_err(fault_of_files)?.is_some() {
         return Ok(false);
     }
     let mut names = Vec::new(alloc);
     files.list(&mut names).map_err(fault_of_files)?;
-    if !names.is_empty() {
-        return Ok(true);
-    }
-    match marks.load() {
-        Ok(mark) => Ok(mark > 0),
-        Err(_) => Err(LogFault::Device),
-    }
+    Ok(!names.is_empty() || mark > 0)
 }
 
 /// Puts the root again, if there is one: the root that is read may not last if a sync of it failed before a kill. The
@@ -162,16 +153,17 @@ fn log_of<R, F: Files, M: MarkStore>(
 where
     R: AllocGlobal + Eprint + Folders<File = File> + Clone + Drop,
 {
-    let mut found = open_log(rt.clone()?, folder)?;
+    let mark = marks.load().map_err(|_| LogFault::Device)?;
+    let mut found = open_log(rt.clone()?, folder, mark)?;
     if found.is_none() && !makes {
         return Ok(None);
     }
-    if lacks_root(rt.alloc(), files, marks)? {
+    if lacks_root(rt.alloc(), files, mark)? {
         return Err(LogFault::Damaged);
     }
     if found.is_none() {
         make_log(rt, folder)?;
-        found = open_log(rt.clone()?, folder)?;
+        found = open_log(rt.clone()?, folder, mark)?;
     }
     let Some(OpenLog { log, cut }) = found else {
         return Ok(None);

@@ -10,8 +10,7 @@ use Rattle.std.proofs.lemmas.List.{length-map}
 use Rattle.std.proofs.lemmas.Option.{none-some, same_Some, slice_get-map, slice_get_within}
 use Rattle.cell_key.specs.Cells.{Cells}
 use Rattle.cell_key.specs.declared.refusals.Refusal.{Refusal}
-use Rattle.cell_key.specs.declared.refusals.Refusal.TheVariants.{UnknownSession, WrongPhase, TooManySessions, EmptyCommit, MemtableFull, Exhausted, NoMemory}
-use Rattle.rows.specs.Refusals.{IsApplyRefusal}
+use Rattle.cell_key.specs.declared.refusals.Refusal.TheVariants.{UnknownSession, WrongPhase, TooManySessions, EmptyCommit, Exhausted, NoMemory}
 use Rattle.si_model.specs.Machine as machine
 use Rattle.si_model.specs.Machine.{State, Change, Writes, Open, Wrote, Puts, Gives, Clashes, IsStorageRefusal, Refused, StopDone, Step, accepts, stops}
 use Rattle.si_model.specs.PutCells.{all_put_cells}
@@ -306,8 +305,3 @@ none_at P o is h = subst (λ (o : Option _). IfNone o P) is h
 
 pub not_less : (n m : ℕ) → m ≡ n → n ≤ m
 not_less n m same = omega (arith, same)
-
-pub apply_storage : (e : Refusal) → IsApplyRefusal e → IsStorageRefusal e
-apply_storage MemtableFull u = tt
-apply_storage NoMemory u = tt
-apply_storage _ u = absurd u

@@ -6,6 +6,7 @@ pub mod Committed
 pub mod Exact
 pub mod GatheredItems
 pub mod OrderedCells
+pub mod OneReason
 pub mod Passed
 pub mod PutTogether
 pub mod ShownReads

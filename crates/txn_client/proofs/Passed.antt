@@ -7,12 +7,10 @@ use Rattle.std.specs.declared.result.Result.{Result}
 use Rattle.std.specs.declared.result.Result.TheVariants.{Ok, Err}
 use Rattle.cell_key.specs.Cells.{Cells}
 use Rattle.cell_key.specs.declared.keys.CellKey.{CellKey}
-use Rattle.cell_key.specs.Faults.{HasReason}
 use Rattle.cell_key.specs.declared.refusals.Refusal.{Refusal}
 use Rattle.cell_key.specs.declared.refusals.Refusal.TheVariants.{EmptyCommit, MemtableFull, Exhausted, Device, NoMemory, Damaged}
 pub use Rattle.cell_key.proofs.Passed.{as_err, passed_err, passed_kept, passed_none, passed_on}
-use Rattle.cell_key.proofs.Reasons.{reason_kept}
-use Rattle.rows.specs.Refusals.{IsApplyRefusal, IsRefusalOfRead}
+use Rattle.rows.specs.Refusals.{IsEditRefusal, IsRefusalOfRead}
 use Rattle.si_model.specs.ShowsCells.{Touches}
 use Rattle.txn_client.specs.Refusals.{IsAdvanceRefusal, IsCellStepRefusal, IsRowRefusal, IsStepRefusal}
 
@@ -44,16 +42,9 @@ full_not is = cc
 pub device_not : Device ≡ NoMemory → ⊥
 device_not is = cc
 
-pub apply_no_device : {B : Type 0} (r : Result B Refusal) (e : Refusal) → IsErrAnd r (λ f. f ≡ e) → IsApplyRefusal e → IsErrOf r Device → ⊥
-apply_no_device r e = refused_not r e Device IsApplyRefusal (λ u. u)
-
 -- a read is never refused MemtableFull
 pub read_not_full : {B : Type 0} (r : Result B Refusal) (e : Refusal) (Holds : Type 0) → IsErrAnd r (λ f. f ≡ e) → IsRefusalOfRead Holds e → IsErrOf r MemtableFull → ⊥
 read_not_full r e H = refused_not r e MemtableFull (IsRefusalOfRead H) (λ u. u)
-
--- after a call that was answered, a call that touches no device
-pub reason_untouched : {A B : Type 0} (x : A) (r : Result B Refusal) (before now now' : ℕ) → now' ≡ now → (IsErrOf r Device → ⊥) → HasReason before now (Ok x) → HasReason before now' r
-reason_untouched x r before now now' same none had = subst (λ (n : ℕ). HasReason before n r) (sym same) (reason_kept x r before now none had)
 
 -- the refusals of a row transaction
 pub read_row : (Holds : Type 0) (e : Refusal) → IsRefusalOfRead Holds e → IsRowRefusal Holds e
@@ -62,10 +53,11 @@ read_row H NoMemory u = tt
 read_row H Damaged u = u
 read_row H _ u = absurd u
 
-pub apply_row : (Holds : Type 0) (e : Refusal) → IsApplyRefusal e → IsRowRefusal Holds e
-apply_row H MemtableFull u = tt
-apply_row H NoMemory u = tt
-apply_row H _ u = absurd u
+pub edit_row : (Holds : Type 0) (e : Refusal) → IsEditRefusal e → IsRowRefusal Holds e
+edit_row H MemtableFull u = tt
+edit_row H Device u = tt
+edit_row H NoMemory u = tt
+edit_row H _ u = absurd u
 
 pub want_row : (Holds : Type 0) (e : Refusal) → e ≡ NoMemory → IsRowRefusal Holds e
 want_row H e is = subst (IsRowRefusal H) (sym is) tt

@@ -1,13 +1,13 @@
--- Refusals of the store: of rows, of the oracle, and for lack of memory.
+-- Refusals of the store: of rows, of the source of stamps, and for lack of memory.
 use Rattle.std.proofs.Common.{◌≡◌, ◌⊎◌, inl, inr, refl}
 use Rattle.cell_key.specs.declared.refusals.Refusal.{Refusal}
 use Rattle.cell_key.specs.declared.refusals.Refusal.TheVariants.{EmptyCommit, MemtableFull, Exhausted, Device, NoMemory, Damaged}
-use Rattle.oracle.specs.Ranges.{IsDrawRefusal}
 use Rattle.rows.specs.Refusals.{IsReadRefusal}
+use Rattle.rows.specs.Sources.{IsDrawRefusal}
 use Rattle.si_model.specs.Machine.{State, Request, Refused, Step, refuses, IsStorageRefusal}
 use Rattle.si_model.specs.Refusing.Refuses.{gives_up}
 use Rattle.txn_client.specs.Puts.{IsPutRefusal}
-use Rattle.txn_client.specs.Refusals.{IsAdvanceRefusal, IsBeginRefusal}
+use Rattle.txn_client.specs.Refusals.{IsAdvanceRefusal, IsBeginRefusal, IsStartRefusal}
 
 pub refused_storage : {st : State} {q : Request} {n : Refusal} → IsStorageRefusal n → Step st q (Refused n) st
 refused_storage s = refuses (gives_up s)
@@ -23,10 +23,16 @@ draw_storage Exhausted u = tt
 draw_storage Device u = tt
 draw_storage _ u = absurd u
 
-pub draw_begin : (e : Refusal) → IsDrawRefusal e → IsBeginRefusal e
-draw_begin Exhausted u = tt
-draw_begin Device u = tt
-draw_begin _ u = absurd u
+pub draw_start : (e : Refusal) → IsDrawRefusal e → IsStartRefusal e
+draw_start Exhausted u = tt
+draw_start Device u = tt
+draw_start _ u = absurd u
+
+pub start_begin : (e : Refusal) → IsStartRefusal e → IsBeginRefusal e
+start_begin Exhausted u = tt
+start_begin Device u = tt
+start_begin NoMemory u = tt
+start_begin _ u = absurd u
 
 pub advance_storage : (Holds P : Type 0) (e : Refusal) → IsAdvanceRefusal Holds P e → (P × (e ≡ EmptyCommit)) ⊎ IsStorageRefusal e
 advance_storage H P EmptyCommit u = inl (u, refl)

@@ -11,7 +11,7 @@ use Rattle.std.proofs.lemmas.List.{length-map}
 use Rattle.cell_key.specs.Cells.{Cells}
 use Rattle.cell_key.specs.declared.keys.Qualifier.TheVariants.{Lock}
 use Rattle.si_model.specs.Machine as machine
-use Rattle.si_model.specs.Machine.{State, Writes, Step, Wrote, Puts, InPhase, HasHeld}
+use Rattle.si_model.specs.Machine.{State, Step, Puts, InPhase, HasHeld}
 use Rattle.si_model.specs.declared.replies.Cell.{Cell}
 use Rattle.si_model.specs.ShowsCells.{at, kind_of_change, IsThere, ShowsCells, held_cells, recorded_cells}
 use Rattle.txn_client.specs.Reads.{IsTaken, IsFree}
@@ -61,7 +61,7 @@ module _ (cells : Cells) (session : Session) (last : ℕ) where
         low,
       )
 
-  pub advance_drawn : (c : ℕ) → session.phase ≡ Holding (length session.writes) → c ≡ last + 1 → c < 2 ^ 63
+  pub advance_drawn : (c : ℕ) → session.phase ≡ Holding (length session.writes) → last < c → c < 2 ^ 63
       → (last' : ℕ) → last' ≡ c → Advances cells session last (record { progress = progress.Stamped c; ended = false }) cells (record session { phase = Stamped; commit = c }) last'
   advance_drawn c held next limit last' now st reached shown mine low =
       let phase = subst (λ (p : Phase). InPhase st session.start (phase_of p session.commit)) held mine.phase in

@@ -106,8 +106,8 @@ shows_changed st next old new k w h a b shown now t = elim (cases_eq t k) [
 abbrev pub begun_at : State → ℕ → State
 begun_at st start = record st { top = start; begun = finmap.insert st.begun start []; active = finmap.insert st.active start machine.Open }
 
--- a start that follows the oracle's last stamp names no session
-fresh_start : (cells : Cells) (clients : Clients) (last start : ℕ) (st : State) → IsReachedByServers st → Shows cells clients last st → start ≡ last + 1 → finmap.get st.active start ≡ None
+-- a start above the last stamp names no session
+fresh_start : (cells : Cells) (clients : Clients) (last start : ℕ) (st : State) → IsReachedByServers st → Shows cells clients last st → last < start → finmap.get st.active start ≡ None
 fresh_start cells clients last start st reached shown e = by (finmap.get st.active start) refl
   where
     by : (o : Option machine.Phase) → finmap.get st.active start ≡ o → finmap.get st.active start ≡ None
@@ -118,7 +118,7 @@ fresh_start cells clients last start st reached shown e = by (finmap.get st.acti
         let t = shown.top in
         absurd (omega arith)
 
-unused_start : (cells : Cells) (clients : Clients) (last start : ℕ) (st : State) → IsReachedByServers st → Shows cells clients last st → start ≡ last + 1 → btree.get nat_cmp clients.sessions start ≡ None
+unused_start : (cells : Cells) (clients : Clients) (last start : ℕ) (st : State) → IsReachedByServers st → Shows cells clients last st → last < start → btree.get nat_cmp clients.sessions start ≡ None
 unused_start cells clients last start st reached shown e = by (btree.get nat_cmp clients.sessions start) refl
   where
     by : (o : Option Session) → btree.get nat_cmp clients.sessions start ≡ o → btree.get nat_cmp clients.sessions start ≡ None
@@ -126,7 +126,7 @@ unused_start cells clients last start st reached shown e = by (btree.get nat_cmp
     by (Some k) f = let h = subst (λ (o : Option Session). ShowsAt o start st) f (shown.sessions.sessions start) in absurd (none-some _ (sym (fresh_start cells clients last start st reached shown e) ∙ h.phase))
 
 module _ (cells : Cells) (old new : Clients) (last last' start : ℕ) where
-  pub begins_at : btree.btree_map_len old.sessions < 1024 → start ≡ last + 1 → start < 2 ^ 63 → last' ≡ start → new.top ≡ start
+  pub begins_at : btree.btree_map_len old.sessions < 1024 → last < start → start < 2 ^ 63 → last' ≡ start → new.top ≡ start
       → ((q : ℕ) → btree.get nat_cmp new.sessions q ≡ cond (is_eq (nat_cmp start q)) (Some (open_session start)) (btree.get nat_cmp old.sessions q))
       → btree.btree_map_len new.sessions ≡ btree.btree_map_len old.sessions + (if is_some (btree.get nat_cmp old.sessions start) then 0 else 1)
       → Steps cells old last machine.Begin (machine.Begun start) cells new last'

@@ -1,13 +1,14 @@
 -- The refusals of each call, the reasons to refuse a step of a session, and the effects of a refused step.
-use Rattle.std.specs.Prelude.{◌≡◌, ◌⊎◌, ◌^◌, ◌-◌, ⊤, ℕ, IfErr, IsErrOf, Option, Result, Some, slice_get}
+use Rattle.std.specs.Prelude.{◌≡◌, ◌≤◌, ◌⊎◌, ◌^◌, ◌-◌, ⊤, ℕ, IfErr, IfSome, IsErrOf, Option, Result, Some, slice_get}
 use Rattle.std.specs.BTreeMap as btree
 use Rattle.std.specs.Ordering.{nat_cmp}
 use Rattle.cell_key.specs.Faults.{HasReason}
 use Rattle.cell_key.specs.declared.refusals.Refusal.{Refusal}
 use Rattle.cell_key.specs.declared.refusals.Refusal.TheVariants.{UnknownSession, WrongPhase, BadRow, BadColumn, BadValue, TooManyWrites, TooManySessions, EmptyCommit, BadCount, MemtableFull, Exhausted, Device, NoMemory, Damaged}
 use Rattle.oracle.specs.Marks.{MayHold}
-use Rattle.oracle.specs.Ranges.{IsDrawRefusal, OracleState, next_range_end}
+use Rattle.oracle.specs.Ranges.{OracleState, next_range_end}
 use Rattle.rows.specs.Calls.{OnlyReads, View}
+use Rattle.rows.specs.Sources.{IsDrawRefusal, IsLeft, Source}
 use Rattle.si_model.specs.Machine.{State}
 use Rattle.txn_client.specs.Shows.{IsAboutToDraw, IsInactive, IsUnwritten}
 use Rattle.txn_client.specs.declared.session.Phase.{Phase}
@@ -22,6 +23,13 @@ IsBeginRefusal Exhausted = ⊤
 IsBeginRefusal Device = ⊤
 IsBeginRefusal NoMemory = ⊤
 IsBeginRefusal _ = ⊥
+
+-- why a session that may begin doesn't
+abbrev pub IsStartRefusal : Refusal → Type 0
+IsStartRefusal Exhausted = ⊤
+IsStartRefusal Device = ⊤
+IsStartRefusal NoMemory = ⊤
+IsStartRefusal _ = ⊥
 
 abbrev pub IsGetRefusal : Refusal → Type 0
 IsGetRefusal UnknownSession = ⊤
@@ -86,7 +94,7 @@ abbrev pub IsCellStepRefusal : Type 0 → Type 0 → Refusal → Type 0
 IsCellStepRefusal Readable HasNone EmptyCommit = HasNone
 IsCellStepRefusal Readable HasNone refusal = IsRowRefusal Readable refusal
 
--- The refusals of any step of a session: the same, or Exhausted from the oracle.
+-- The refusals of any step of a session: the same, or Exhausted from the source of stamps.
 abbrev pub IsAdvanceRefusal : Type 0 → Type 0 → Refusal → Type 0
 IsAdvanceRefusal Readable HasNone Exhausted = ⊤
 IsAdvanceRefusal Readable HasNone refusal = IsCellStepRefusal Readable HasNone refusal
@@ -117,11 +125,18 @@ HasOneReason before now before' now' result =
     (HasReason before now result × (now' ≡ before'))
     ⊎ (HasReason before' now' result × (now ≡ before))
 
--- ---- a refused step of a session
+-- ---- a refused step of a session, and a refused Read
 
--- It leaves the rows, the last stamp and the range unchanged. The mark is unchanged too, or it is the end of the next
--- range.
-pub record StepLeaves {R M : Type 0} (seen : View R) (mark_of : M → Option ℕ) (old new : R)
+-- It leaves the rows unchanged, and the source of stamps, or as a refused draw leaves it.
+pub record StepLeaves {R S : Type 0} (seen : View R) (source : Source S) (old new : R)
+    (stamps stamps' : S) : Type 0 where
+  pub same : OnlyReads seen old new
+  pub rises : source.last stamps ≤ source.last stamps'
+  pub left : IsLeft source stamps stamps'
+
+-- It leaves the rows, the oracle's last stamp and its range unchanged. The mark is unchanged too, or it is the end of
+-- the next range.
+pub record ReadLeaves {R M : Type 0} (seen : View R) (mark_of : M → Option ℕ) (old new : R)
     (oracle oracle' : OracleState M) : Type 0 where
   pub same : OnlyReads seen old new
   pub stays : oracle'.last ≡ oracle.last
@@ -135,8 +150,10 @@ pub record StepCauses {T : Type 0} (st : State) (t : ℕ) (result : Result T Ref
   pub empty : IsUnwritten st t → IsErrOf result EmptyCommit
   pub drawing : IsAboutToDraw st t → IfErr result IsDrawRefusal
 
--- The greatest stamp has been drawn. Only a step that draws meets this, and it leaves the oracle unchanged.
-pub record HasNoStamp {M : Type 0} (Draws : Type 0) (oracle oracle' : OracleState M) : Type 0 where
-  pub exhausted : oracle.last ≡ 2 ^ 63 - 1
+-- No stamp is left: the last one, if it is known, is the greatest. Only a step that draws meets this, and it leaves the
+-- source unchanged.
+pub record HasNoStamp {S : Type 0} (Draws : Type 0) (source : Source S) (old new : S)
+    : Type 0 where
+  pub exhausted : IfSome (source.known old) (λ last. last ≡ 2 ^ 63 - 1)
   pub draw_only : Draws
-  pub undrawn : oracle' ≡ oracle
+  pub undrawn : new ≡ old

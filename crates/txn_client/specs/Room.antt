@@ -17,7 +17,7 @@ use Rattle.si_model.specs.declared.replies.Cell.{Cell}
 use Rattle.si_model.specs.declared.replies.Progress.{Progress}
 use Rattle.si_model.specs.declared.replies.Progress.TheVariants as progress
 use Rattle.txn_client.specs.Reads.{IsFree, IsTaken}
-use Rattle.txn_client.specs.Shows.{DrawsNext, InEachShown, top_after}
+use Rattle.txn_client.specs.Shows.{InEachShown}
 use Rattle.txn_client.specs.declared.sessions.Clients.{Clients}
 use Rattle.txn_client.specs.declared.session.Phase.{Phase}
 use Rattle.txn_client.specs.declared.session.Phase.TheVariants.{Open, Holding, Stamped, Finishing}
@@ -157,18 +157,15 @@ TakesRoom overfills Changes p old new = TakesNoRoom overfills old new
 -- ---- all effects of an accepted step
 
 -- It makes the edits of the session's next step, or changes nothing. A cell that it names as in conflict isn't free. In
--- each state that is shown, its edits are also the machine's of that step, and it takes their room and no more. A stamp
--- that it draws is the next one, and becomes the last one.
+-- each state that is shown, its edits are also the machine's of that step, and it takes their room and no more.
 pub record StepMakes {R : Type 0} (seen : View R) (clients : Clients) (t : ℕ) (progress : Progress)
-    (old new : R) (before now : ℕ) : Type 0 where
+    (old new : R) : Type 0 where
   pub does : Does seen (EditsOfStep (seen.holds old) (seen.cells old) clients t) progress old new
   pub met : IfConflict (MeetsNext (seen.holds old) (seen.cells old) clients t) progress
   pub made : seen.holds old → InEachShown (seen.cells old) clients (λ st.
       Makes (ChangesNext st t) progress (seen.cells old) (seen.cells new))
   pub room : seen.holds old → InEachShown (seen.cells old) clients (λ st.
       TakesRoom seen.overfills (ChangesNext st t) progress old new)
-  pub draws : DrawsNext before progress
-  pub last : now ≡ top_after before progress
 
 -- The rows have no room for the edits of the session's next step. In each state that is shown, they are also the
 -- machine's of that step.

@@ -1,11 +1,12 @@
 -- When cells and sessions show a state of the snapshot machine.
-use Rattle.std.specs.Prelude.{◌≡◌, ◌≢◌, ℕ, ◌+◌, ◌≤◌, ◌⊎◌, ⊤, cond, [], map, length, Option, Some, None}
+use Rattle.std.specs.Prelude.{◌≡◌, ◌≢◌, ℕ, ◌≤◌, ◌⊎◌, ⊤, cond, [], map, length, Option, Some, None}
 use Rattle.std.specs.Ordering.{nat_cmp}
 use Rattle.std.specs.BTreeMap as btree
 use Rattle.std.specs.FinMap as finmap
 use Rattle.cell_key.specs.Cells.{Cells}
 use Rattle.cell_key.specs.declared.refusals.Refusal.{Refusal}
 use Rattle.cell_key.specs.declared.refusals.Refusal.TheVariants.{UnknownSession, WrongPhase, BadCount}
+use Rattle.rows.specs.Sources.{DrawsStamp, Source}
 use Rattle.si_model.specs.Machine as machine
 use Rattle.si_model.specs.Machine.{State, Request, Reply, Step, InPhase, Wrote, Writes}
 use Rattle.si_model.specs.Reads.{IsNameRefusal}
@@ -50,18 +51,22 @@ ShowsAt (Some session) t st = ShowsSession session t st
 abbrev pub open_session : ℕ → Session
 open_session start = record { start = start; commit = start; phase = Open; writes = [] }
 
+-- how many sessions are stored
+abbrev pub session_count : Clients → ℕ
+session_count clients = btree.btree_map_len clients.sessions
+
 -- The stored sessions are the active ones, and the top is at most the greatest stamp answered: other servers may draw
 -- stamps, too.
 pub record ShowsClients (clients : Clients) (st : State) : Type 0 where
   pub top : clients.top ≤ st.top
   pub sessions : (t : ℕ) → ShowsAt (btree.get nat_cmp clients.sessions t) t st
-  pub count : finmap.len st.active ≡ btree.btree_map_len clients.sessions
+  pub count : finmap.len st.active ≡ session_count clients
 
 -- the top is the greatest stamp answered: no other server has drawn one since
 abbrev pub KnowsTop : Clients → State → Type 0
 KnowsTop clients st = clients.top ≡ st.top
 
--- Cells and sessions show the state, and the oracle's last stamp is not below its top.
+-- Cells and sessions show the state, and the last stamp is not below its top.
 pub record Shows (cells : Cells) (clients : Clients) (last : ℕ) (st : State) : Type 0 where
   pub store : ShowsCells cells st
   pub sessions : ShowsClients clients st
@@ -96,10 +101,15 @@ abbrev pub top_after : ℕ → Progress → ℕ
 top_after top (progress.Stamped c) = c
 top_after top p = top
 
--- a stamp that a step draws is the next one
-abbrev pub DrawsNext : ℕ → Progress → Type 0
-DrawsNext last (progress.Stamped c) = c ≡ last + 1
-DrawsNext last p = ⊤
+-- a step draws no stamp
+abbrev pub DrawsNone : Progress → Type 0
+DrawsNone (progress.Stamped c) = ⊥
+DrawsNone p = ⊤
+
+-- A stamp that a step draws comes from the source. Any other step leaves the source unchanged.
+abbrev pub DrawsIn : {S : Type 0} → Source S → S → S → Progress → Type 0
+DrawsIn source old new (progress.Stamped c) = DrawsStamp source old c new
+DrawsIn source old new p = new ≡ old
 
 -- the same sessions, and the same top, with as many bytes buffered and the same limit
 pub record SameClients (old new : Clients) : Type 0 where

@@ -8,7 +8,7 @@ ghost use Rattle.cell_key.specs.Faults.{HasReason};
 ghost use Rattle.cell_key.specs.Columns.{lock_text};
 ghost use Rattle.cell_key.specs.declared.columns.WriteKind.TheVariants as kind;
 ghost use Rattle.rows.specs.Calls.{AppliesSuch, OnlyReads};
-ghost use Rattle.rows.specs.Refusals.{IsApplyRefusal, IsReadRefusal, IsRefusalOfRead};
+ghost use Rattle.rows.specs.Refusals.{IsEditRefusal, IsReadRefusal, IsRefusalOfRead};
 ghost use Rattle.rows.specs.Room.{HasNoRoom};
 ghost use Rattle.si_model.specs.Edits.{RecordsCell};
 ghost use Rattle.si_model.specs.Reads.{IsGone};
@@ -151,10 +151,10 @@ pub(crate) fn hold<R: Rows>(
     ensures ok { OnOk result (AppliesSuch R.seen
         (HoldsCell write.now.cell start write.now.value first.now.cell) rows.old rows.new) }
     ensures err { OnErr result (OnlyReads R.seen rows.old rows.new) }
-    ensures refusal { IfErr result IsApplyRefusal }
+    ensures refusal { IfErr result IsEditRefusal }
     ensures full { IsErrOf result Refusal.MemtableFull → HasNoRoom
         R.seen.overfills rows.old (HoldsCell write.now.cell start write.now.value first.now.cell) }
-    ensures untouched { R.faults rows.new ≡ R.faults rows.old }
+    ensures reason { HasReason (R.faults rows.old) (R.faults rows.new) result }
 {
     let edits = holding(alloc, write, start, &first.cell)?;
     rows.apply(&write.cell.row, edits)?;

@@ -10,13 +10,14 @@ ghost use Rattle.cell_key.specs.declared.keys.Qualifier.TheVariants as qualifier
 ghost use Rattle.oracle.specs.Marks.{MayHold};
 ghost use Rattle.oracle.specs.Ranges.{next_range_end};
 ghost use Rattle.rows.specs.Calls.{AppliesAll, OnlyReads};
-ghost use Rattle.rows.specs.Refusals.{IsApplyRefusal};
+ghost use Rattle.rows.specs.Refusals.{IsEditRefusal};
 ghost use Rattle.rows.specs.Room.{OverfillsOne};
 ghost use Rattle.rows.specs.RowEdits.{AreOfTheirRow, all_edits};
 ghost use Rattle.si_model.specs.PutCells.{all_put_cells};
 ghost use Rattle.si_model.specs.ShowsCells.{key_of};
 ghost use Rattle.txn_client.specs.Commits.{HasNoRoomToPut, PutsWith};
 ghost use Rattle.txn_client.specs.Puts.{ArePuttings, IsPutting, IsPutRefusal};
+ghost use Rattle.txn_client.specs.Refusals.{HasOneReason};
 ghost use Rattle.txn_client.specs.Writes.{write_of};
 
 use crate::value::Value;
@@ -155,10 +156,10 @@ fn apply_changes<R: Rows>(rows: &mut R, mut changes: Vec<RowEdits>) -> Result<()
     requires { AllByRecursion AreOfTheirRow changes.items }
     ensures ok { OnOk result (AppliesAll R.seen changes.items rows.old rows.new) }
     ensures err { OnErr result (OnlyReads R.seen rows.old rows.new) }
-    ensures refusal { IfErr result IsApplyRefusal }
+    ensures refusal { IfErr result IsEditRefusal }
     ensures full { IsErrOf result Refusal.MemtableFull
         → OverfillsOne R.seen.overfills changes.items rows.old }
-    ensures untouched { R.faults rows.new ≡ R.faults rows.old }
+    ensures reason { HasReason (R.faults rows.old) (R.faults rows.new) result }
 {
     if changes.len() == 1 {
         let RowEdits { row, edits } = changes.pop().unwrap();
@@ -195,8 +196,8 @@ pub(crate) fn put_at_once<R: Rows, M: MarkStore>(
     ensures exhausted { IsErrOf result Refusal.Exhausted → MOST_STAMP < oracle.old.last + count }
     ensures full { IsErrOf result Refusal.MemtableFull → HasNoRoomToPut R.seen
         (map write_of writes.items) start (oracle.old.last + count) rows.old }
-    ensures reason { HasReason (M.faults oracle.old.marks) (M.faults oracle.new.marks) result }
-    ensures untouched { R.faults rows.new ≡ R.faults rows.old }
+    ensures reason { HasOneReason (R.faults rows.old) (R.faults rows.new)
+        (M.faults oracle.old.marks) (M.faults oracle.new.marks) result }
 {
     let commit = Moment::after(oracle.last() + (count - 1))?;
     let changes = putting_all(alloc, writes, start, commit)?;

@@ -1,15 +1,13 @@
 //! The table of active sessions. Its type is named for those who run them: clients (Percolator).
 
-ghost use Rattle.std.specs.Prelude.{◌≡◌, ◌+◌, ◌-◌, ◌<◌, ◌^◌, ◌⊎◌, ℕ, IfErr, IfOk, IsErrOf, IsSome, OnErr, OnOk};
+ghost use Rattle.std.specs.Prelude.{◌≡◌, ◌+◌, ◌-◌, ◌<◌, ◌^◌, ◌⊎◌, ℕ, IfErr, IfOk, IfSome, IsErrOf, IsSome, OnErr, OnOk};
 ghost use Rattle.std.specs.Prelude.{◌≤◌, Some, is_some, if◌then◌else◌, map};
 ghost use Rattle.std.specs.BTreeMap as btree;
 ghost use Rattle.std.specs.BTreeMap.{Updates, btree_map_len};
-ghost use Rattle.std.specs.FinMap.{empty, get};
+ghost use Rattle.std.specs.FinMap.{empty, get, len};
 ghost use Rattle.std.specs.Ordering.{nat_cmp};
 ghost use Rattle.cell_key.specs.Cells.{Cells};
 ghost use Rattle.cell_key.specs.Names.{IsFamily, IsRow};
-ghost use Rattle.oracle.specs.Marks.{MayHold};
-ghost use Rattle.oracle.specs.Ranges.{next_range_end};
 ghost use Rattle.cell_key.specs.Faults.{HasReason};
 ghost use Rattle.si_model.specs.Machine as machine;
 ghost use Rattle.si_model.specs.Machine.{State};
@@ -22,11 +20,12 @@ ghost use Rattle.txn_client.specs.Reads.{IsDamaged, IsFound, IsShort};
 ghost use Rattle.txn_client.specs.Ranges.{range_named};
 ghost use Rattle.si_model.specs.AnswerLimits.{IsInScanLimits};
 ghost use Rattle.txn_client.specs.Scans.{IsScanCount, IsScanDamaged, IsScanFound, IsScanReadable};
-ghost use Rattle.txn_client.specs.Refusals.{HasNoStamp, HasOneReason, IsBeginRefusal, IsDeleteRefusal, IsGetRefusal, IsNextReadable, IsScanRefusal, IsSetRefusal, IsStepRefusal, StepCauses, StepLeaves};
+ghost use Rattle.txn_client.specs.Refusals.{HasNoStamp, HasOneReason, IsBeginRefusal, IsStartRefusal, IsDeleteRefusal, IsGetRefusal, IsNextReadable, IsScanRefusal, IsSetRefusal, IsStepRefusal, StepCauses, StepLeaves};
 ghost use Rattle.txn_client.specs.Buffers.{BeginsEmpty, Buffers, BuffersNone};
 ghost use Rattle.rows.specs.Calls.{KeepsBelow, OnlyReads};
+ghost use Rattle.rows.specs.Sources.{DrawsStamp, IsLeft};
 ghost use Rattle.txn_client.specs.Room.{LacksStepRoom, StepMakes};
-ghost use Rattle.txn_client.specs.Shows.{IsAboutToDraw, IsCellRefusal, IsCrowded, IsInactive, IsOpenSession, IsScanCause, KnowsTop, SameClients, Shows, ShowsClients, Steps, TouchesFor, open_session, top_after};
+ghost use Rattle.txn_client.specs.Shows.{DrawsIn, IsAboutToDraw, IsCellRefusal, IsCrowded, IsInactive, IsOpenSession, IsScanCause, KnowsTop, SameClients, Shows, ShowsClients, Steps, TouchesFor, open_session, session_count, top_after};
 
 use crate::cells;
 use crate::range::Range;
@@ -35,8 +34,7 @@ use crate::session::{Phase, Session};
 use crate::value::Value;
 use crate::writes::{Write, Writes};
 use cell_key::{MOST_STAMP, Moment, Refusal, Stamp};
-use oracle::{MarkStore, Oracle};
-use rows::Rows;
+use rows::{Rows, Stamps};
 use si_model::{Cell, Found, Progress, ScanRange, ScanReply};
 use std::alloc::Global;
 use std::collections::BTreeMap;
@@ -49,9 +47,9 @@ const MOST_SCANNED: u32 = 1000;
 
 /// The active sessions by their starts, and the greatest stamp answered.
 ///
-/// Each call is a step of the snapshot machine: if cells, sessions and oracle show one of its states, the machine may
-/// give the same answer there, and they show its next state afterwards. A refusal changes nothing, and the call may be
-/// repeated.
+/// Each call is a step of the snapshot machine: if cells, sessions and last stamp show one of its states, the machine
+/// may give the same answer there, and they show its next state afterwards. A refusal changes no cell and no session,
+/// and the call may be repeated.
 #[derive(Drop)]
 pub struct Clients {
     pub(crate) alloc: Global,
@@ -110,6 +108,21 @@ impl Clients {
         self.top
     }
 
+    /// How many sessions are active.
+    pub fn len(&self) -> usize
+        ensures count { result ≡ session_count self.now }
+        ensures shown { (st : State) → ShowsClients self.now st → result ≡ len st.active }
+    {
+        self.sessions.len()
+    }
+
+    /// The bytes of the writes that all sessions buffer: their rows, families and values.
+    pub fn buffered(&self) -> u64
+        ensures { result ≡ self.now.buffered }
+    {
+        self.buffered
+    }
+
     /// The smallest start of an active session, or the top plus one. No session has a lower start, and none will get
     /// one. If other servers draw stamps, this holds of this server's sessions.
     pub fn floor(&self) -> Stamp
@@ -124,40 +137,71 @@ impl Clients {
         }
     }
 
-    /// Begins a session (Percolator, the start of a transaction). Returns its start, which is the next stamp of the
-    /// oracle and names the session.
+    /// Begins a session (Percolator, the start of a transaction). Returns its start, which is drawn from the source of
+    /// stamps and names the session.
     ///
     /// # Errors
     ///
-    /// `TooManySessions` if 1,024 are active, `Exhausted` after the greatest stamp, `Device` if the oracle's mark could
-    /// not be stored, `NoMemory`. The session is allocated before its start is drawn.
-    pub fn begin<M: MarkStore>(&mut self, oracle: &mut Oracle<M>) -> Result<Stamp, Refusal>
-        ensures step { (cells : Cells) → Steps cells self.old oracle.old.last
-            machine.Begin (result_reply machine.Begun result) cells self.new oracle.new.last }
-        ensures next { IfOk result (λ start. (start ≡ oracle.old.last + 1)
-            × (oracle.new.last ≡ start)) }
-        ensures stays { OnErr result (oracle.new.last ≡ oracle.old.last) }
-        ensures range { OnErr result (oracle.new.range_end ≡ oracle.old.range_end) }
-        // A refusal leaves the mark unchanged, or at the end of the next range.
-        ensures mark { OnErr result (MayHold (next_range_end oracle.old.range_end)
-            (M.mark oracle.old.marks) (M.mark oracle.new.marks)) }
+    /// `TooManySessions` if 1,024 are active, `Exhausted` after the greatest stamp, `Device` if a draw failed,
+    /// `NoMemory`. If the source knows its last stamp, the session is allocated before its start is drawn. Otherwise it
+    /// is put after its start is drawn: that stamp is told to nobody if there is no memory.
+    pub fn begin<S: Stamps>(&mut self, stamps: &mut S) -> Result<Stamp, Refusal>
+        ensures step { (cells : Cells) → Steps cells self.old (S.source.last stamps.old)
+            machine.Begin (result_reply machine.Begun result) cells self.new
+            (S.source.last stamps.new) }
+        ensures drawn { IfOk result (λ start.
+            DrawsStamp S.source stamps.old start stamps.new) }
+        ensures rises { S.source.last stamps.old ≤ S.source.last stamps.new }
+        // A refusal leaves a source that knows its last stamp unchanged, or as a refused draw leaves it.
+        ensures left { OnErr result (IfSome (S.source.known stamps.old) (λ last.
+            IsLeft S.source stamps.old stamps.new)) }
         ensures refusal { IfErr result IsBeginRefusal }
         ensures crowded { (st : State) → ShowsClients self.old st → IsCrowded st
             → IsErrOf result Refusal.TooManySessions }
         ensures same { OnErr result (SameClients self.old self.new) }
         ensures undrawn { IsErrOf result Refusal.TooManySessions
-            ⊎ (IsErrOf result Refusal.Exhausted ⊎ IsErrOf result Refusal.NoMemory)
-            → oracle.new ≡ oracle.old }
-        ensures exhausted { IsErrOf result Refusal.Exhausted → oracle.old.last ≡ MOST_STAMP }
-        ensures reason { HasReason (M.faults oracle.old.marks) (M.faults oracle.new.marks) result }
+            ⊎ IsErrOf result Refusal.Exhausted → stamps.new ≡ stamps.old }
+        ensures allocated { IfSome (S.source.known stamps.old) (λ last.
+            IsErrOf result Refusal.NoMemory → stamps.new ≡ stamps.old) }
+        ensures exhausted { IfSome (S.source.known stamps.old) (λ last.
+            IsErrOf result Refusal.Exhausted → last ≡ MOST_STAMP) }
+        ensures reason { HasReason (S.faults stamps.old) (S.faults stamps.new) result }
         ensures buffered { IfOk result (BeginsEmpty self.old self.new) }
     {
         if self.sessions.len() >= MOST_SESSIONS {
             return Err(Refusal::TooManySessions);
         }
-        let start = Moment::after(oracle.last())?;
+        match stamps.known() {
+            Some(last) => self.begin_next(stamps, last),
+            None => self.begin_drawn(stamps),
+        }
+    }
+
+    /// Begins a session with the next stamp. It is put before its start is drawn, so that no stamp is lost for want of
+    /// memory. Refusals: Exhausted, Device, NoMemory.
+    fn begin_next<S: Stamps>(&mut self, stamps: &mut S, last: Stamp) -> Result<Stamp, Refusal>
+        requires room { btree_map_len self.old.sessions < 1024 }
+        requires known { S.source.known stamps.old ≡ Some last }
+        requires last { last ≡ S.source.last stamps.old }
+        requires limit { last < 2 ^ 63 }
+        ensures step { (cells : Cells) → Steps cells self.old (S.source.last stamps.old)
+            machine.Begin (result_reply machine.Begun result) cells self.new
+            (S.source.last stamps.new) }
+        ensures drawn { IfOk result (λ start.
+            DrawsStamp S.source stamps.old start stamps.new) }
+        ensures rises { S.source.last stamps.old ≤ S.source.last stamps.new }
+        ensures left { OnErr result (IsLeft S.source stamps.old stamps.new) }
+        ensures refusal { IfErr result IsStartRefusal }
+        ensures same { OnErr result (SameClients self.old self.new) }
+        ensures undrawn { IsErrOf result Refusal.Exhausted ⊎ IsErrOf result Refusal.NoMemory
+            → stamps.new ≡ stamps.old }
+        ensures exhausted { IsErrOf result Refusal.Exhausted → last ≡ MOST_STAMP }
+        ensures reason { HasReason (S.faults stamps.old) (S.faults stamps.new) result }
+        ensures buffered { IfOk result (BeginsEmpty self.old self.new) }
+    {
+        let start = Moment::after(last)?;
         let replaced = self.make_session(start)?;
-        match oracle.draw() {
+        match stamps.draw() {
             Ok(start) => {
                 self.top = start;
                 Ok(start)
@@ -167,6 +211,28 @@ impl Clients {
                 Err(refusal)
             }
         }
+    }
+
+    /// Draws a start, and puts its session. Refusals: Exhausted, Device, NoMemory.
+    fn begin_drawn<S: Stamps>(&mut self, stamps: &mut S) -> Result<Stamp, Refusal>
+        requires room { btree_map_len self.old.sessions < 1024 }
+        ensures step { (cells : Cells) → Steps cells self.old (S.source.last stamps.old)
+            machine.Begin (result_reply machine.Begun result) cells self.new
+            (S.source.last stamps.new) }
+        ensures drawn { IfOk result (λ start.
+            DrawsStamp S.source stamps.old start stamps.new) }
+        ensures rises { S.source.last stamps.old ≤ S.source.last stamps.new }
+        ensures refusal { IfErr result IsStartRefusal }
+        ensures same { OnErr result (SameClients self.old self.new) }
+        ensures undrawn { IsErrOf result Refusal.Exhausted → stamps.new ≡ stamps.old }
+        ensures reason { HasReason (S.faults stamps.old) (S.faults stamps.new) result }
+        ensures buffered { IfOk result (BeginsEmpty self.old self.new) }
+    {
+        let start = stamps.draw()?;
+        let begun = Moment::new(start);
+        let _replaced = self.make_session(begun)?;
+        self.top = start;
+        Ok(start)
     }
 
     /// Puts an open session without writes at its start, and answers what stood there.
@@ -456,28 +522,31 @@ impl Clients {
     /// In this order: `UnknownSession`, `EmptyCommit` if the session has no writes; then `MemtableFull` if the step has
     /// edits to make and the rows have no room for them (a conflict, a loss or a missing lock is answered even when the
     /// rows are full), `Exhausted`, `Device`, `NoMemory`, or `Damaged` if bytes that were read are malformed.
-    pub fn step<R: Rows, M: MarkStore>(
+    pub fn step<R: Rows, S: Stamps>(
         &mut self,
         rows: &mut R,
-        oracle: &mut Oracle<M>,
+        stamps: &mut S,
         start: Stamp,
     ) -> Result<Progress, Refusal>
         ensures step { R.seen.holds rows.old
-            → Steps (R.seen.cells rows.old) self.old oracle.old.last (machine.Advance start)
-            (result_reply progress_reply result) (R.seen.cells rows.new) self.new oracle.new.last }
+            → Steps (R.seen.cells rows.old) self.old (S.source.last stamps.old)
+            (machine.Advance start) (result_reply progress_reply result)
+            (R.seen.cells rows.new) self.new (S.source.last stamps.new) }
         ensures accepted { IfOk result (λ progress. StepMakes R.seen self.old start progress
-            rows.old rows.new oracle.old.last oracle.new.last) }
-        ensures refused { OnErr result (StepLeaves R.seen M.mark
-            rows.old rows.new oracle.old oracle.new) }
+            rows.old rows.new) }
+        // A stamp that it draws becomes the last one; any other step leaves the source.
+        ensures draws { IfOk result (DrawsIn S.source stamps.old stamps.new) }
+        ensures refused { OnErr result (StepLeaves R.seen S.source
+            rows.old rows.new stamps.old stamps.new) }
         ensures err { OnErr result (SameClients self.old self.new) }
         ensures buffered { Buffers self.old self.new start }
         ensures below { KeepsBelow R.seen rows.old rows.new }
         // At most one row changes, and each added key has the session's start or its commit stamp.
         ensures touched { R.seen.holds rows.old → (st : State) → ShowsClients self.old st
             → TouchesFor st start (R.seen.cells rows.old) (R.seen.cells rows.new) }
-        // A step that doesn't draw leaves the oracle unchanged.
+        // A step that doesn't draw leaves the source unchanged.
         ensures aside { (st : State) → ShowsClients self.old st → ¬ IsAboutToDraw st start
-            → oracle.new ≡ oracle.old }
+            → stamps.new ≡ stamps.old }
         // A step that draws doesn't touch the rows.
         ensures drawn { (st : State) → ShowsClients self.old st → IsAboutToDraw st start
             → rows.new ≡ rows.old }
@@ -486,21 +555,21 @@ impl Clients {
         ensures undamaged { IsNextReadable R.seen rows.old self.old start
             → ¬ (IsErrOf result Refusal.Damaged) }
         ensures causes { (st : State) → ShowsClients self.old st → StepCauses st start result }
-        // Exhausted is answered only by a step that draws, after the greatest stamp.
+        // Exhausted is answered only by a step that draws, after the greatest stamp if the last one is known.
         ensures no_stamp { IsErrOf result Refusal.Exhausted
             → HasNoStamp ((st : State) → ShowsClients self.old st → IsAboutToDraw st start)
-            oracle.old oracle.new }
+            S.source stamps.old stamps.new }
         // MemtableFull comes only if the rows have no room for the edits of the session's next step.
         ensures full { IsErrOf result Refusal.MemtableFull
             → LacksStepRoom R.seen self.old start rows.old }
         ensures reason { HasOneReason (R.faults rows.old) (R.faults rows.new)
-            (M.faults oracle.old.marks) (M.faults oracle.new.marks) result }
+            (S.faults stamps.old) (S.faults stamps.new) result }
     {
         let Some(session) = self.sessions.get_mut(&start) else {
             return Err(Refusal::UnknownSession);
         };
         let bytes = session.writes.bytes();
-        let outcome = session.advance(self.alloc, rows, oracle)?;
+        let outcome = session.advance(self.alloc, rows, stamps)?;
         self.top = top_after_step(self.top, outcome.progress);
         if outcome.ended {
             self.sessions.remove(&start);

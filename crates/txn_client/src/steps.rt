@@ -1,13 +1,12 @@
 //! The steps of one session.
 
-ghost use Rattle.std.specs.Prelude.{◌≡◌, ◌≢◌, ◌+◌, ◌≤◌, ℕ, length, IfOk, OnErr, IfErr, IsErrOf};
+ghost use Rattle.std.specs.Prelude.{◌≡◌, ◌≢◌, ◌≤◌, ℕ, length, IfOk, IfSome, OnErr, IfErr, IsErrOf};
 ghost use Rattle.cell_key.specs.Cells.{Cells};
 ghost use Rattle.cell_key.specs.Faults.{HasReason};
-ghost use Rattle.oracle.specs.Marks.{MayHold};
-ghost use Rattle.oracle.specs.Ranges.{IsDrawRefusal, next_range_end};
 ghost use Rattle.rows.specs.Calls.{OnlyReads};
 ghost use Rattle.rows.specs.Room.{HasNoRoom};
-ghost use Rattle.txn_client.specs.Shows.{Advances, DrawsNext, HasHeldSo, HasNoNext, top_after};
+ghost use Rattle.rows.specs.Sources.{IsDrawRefusal};
+ghost use Rattle.txn_client.specs.Shows.{Advances, DrawsIn, DrawsNone, HasHeldSo, HasNoNext};
 ghost use Rattle.txn_client.specs.Room.{Does, EditsOf, HoldsAt, IfConflict, IsStamped, MeetsAt, MeetsIn, RecordsAt};
 ghost use Rattle.txn_client.specs.Refusals.{HasNoStamp, HasOneReason, IsAdvanceRefusal, IsCellStepRefusal, IsReadableAt, StepLeaves, next_cell};
 ghost use Rattle.txn_client.specs.declared.session.Phase.TheVariants as phase;
@@ -15,8 +14,7 @@ ghost use Rattle.txn_client.specs.declared.session.Phase.TheVariants as phase;
 use crate::cells;
 use crate::session::{Outcome, Phase, Session};
 use cell_key::{MOST_STAMP, Moment, Refusal};
-use oracle::{MarkStore, Oracle};
-use rows::Rows;
+use rows::{Rows, Stamps};
 use si_model::Progress;
 use std::alloc::Global;
 
@@ -33,8 +31,7 @@ impl Session {
             → IfOk result (λ outcome. (last : ℕ)
             → Advances (R.seen.cells rows.old) self.old last outcome (R.seen.cells rows.new)
             self.new last) }
-        ensures draws { IfOk result (λ outcome. (last : ℕ)
-            → (DrawsNext last outcome.progress) × (last ≡ top_after last outcome.progress)) }
+        ensures draws { IfOk result (λ outcome. DrawsNone outcome.progress) }
         ensures start { self.new.start ≡ self.old.start }
         ensures writes { self.new.writes ≡ self.old.writes }
         ensures err { OnErr result (self.new ≡ self.old) }
@@ -74,26 +71,26 @@ impl Session {
     }
 
     /// Draws the commit stamp.
-    fn draw_commit<M: MarkStore>(&mut self, oracle: &mut Oracle<M>) -> Result<Outcome, Refusal>
+    fn draw_commit<S: Stamps>(&mut self, stamps: &mut S) -> Result<Outcome, Refusal>
         requires { self.old.phase ≡ phase.Holding (length self.old.writes) }
         ensures step { IfOk result (λ outcome. (cells : Cells)
-            → Advances cells self.old oracle.old.last outcome cells self.new oracle.new.last) }
-        ensures draws { IfOk result (λ outcome. (DrawsNext oracle.old.last outcome.progress)
-            × (oracle.new.last ≡ top_after oracle.old.last outcome.progress)) }
+            → Advances cells self.old (S.source.last stamps.old) outcome cells self.new
+            (S.source.last stamps.new)) }
+        ensures draws { IfOk result (λ outcome.
+            DrawsIn S.source stamps.old stamps.new outcome.progress) }
         ensures stamped { IfOk result (λ outcome. IsStamped outcome.progress) }
         ensures start { self.new.start ≡ self.old.start }
         ensures writes { self.new.writes ≡ self.old.writes }
         ensures err { OnErr result (self.new ≡ self.old) }
-        ensures stays { OnErr result (oracle.new.last ≡ oracle.old.last) }
-        ensures range { OnErr result (oracle.new.range_end ≡ oracle.old.range_end) }
-        ensures mark { OnErr result (MayHold (next_range_end oracle.old.range_end)
-            (M.mark oracle.old.marks) (M.mark oracle.new.marks)) }
+        ensures rises { S.source.last stamps.old ≤ S.source.last stamps.new }
+        ensures left { OnErr result (S.source.leaves stamps.old stamps.new) }
         ensures refusal { IfErr result IsDrawRefusal }
-        ensures reason { HasReason (M.faults oracle.old.marks) (M.faults oracle.new.marks) result }
-        ensures exhausted { IsErrOf result Refusal.Exhausted → oracle.old.last ≡ MOST_STAMP }
-        ensures undrawn { IsErrOf result Refusal.Exhausted → oracle.new ≡ oracle.old }
+        ensures reason { HasReason (S.faults stamps.old) (S.faults stamps.new) result }
+        ensures exhausted { IfSome (S.source.known stamps.old) (λ last.
+            IsErrOf result Refusal.Exhausted → last ≡ MOST_STAMP) }
+        ensures undrawn { IsErrOf result Refusal.Exhausted → stamps.new ≡ stamps.old }
     {
-        let commit = oracle.draw()?;
+        let commit = stamps.draw()?;
         self.commit = Moment::new(commit);
         self.phase = Phase::Stamped;
         Ok(Outcome {
@@ -109,8 +106,7 @@ impl Session {
             → IfOk result (λ outcome. (last : ℕ)
             → Advances (R.seen.cells rows.old) self.old last outcome (R.seen.cells rows.new)
             self.new last) }
-        ensures draws { IfOk result (λ outcome. (last : ℕ)
-            → (DrawsNext last outcome.progress) × (last ≡ top_after last outcome.progress)) }
+        ensures draws { IfOk result (λ outcome. DrawsNone outcome.progress) }
         ensures start { self.new.start ≡ self.old.start }
         ensures writes { self.new.writes ≡ self.old.writes }
         ensures err { OnErr result (self.new ≡ self.old) }
@@ -155,8 +151,7 @@ impl Session {
             → IfOk result (λ outcome. (last : ℕ)
             → Advances (R.seen.cells rows.old) self.old last outcome (R.seen.cells rows.new)
             self.new last) }
-        ensures draws { IfOk result (λ outcome. (last : ℕ)
-            → (DrawsNext last outcome.progress) × (last ≡ top_after last outcome.progress)) }
+        ensures draws { IfOk result (λ outcome. DrawsNone outcome.progress) }
         ensures start { self.new.start ≡ self.old.start }
         ensures writes { self.new.writes ≡ self.old.writes }
         ensures err { OnErr result (self.new ≡ self.old) }
@@ -185,22 +180,23 @@ impl Session {
     }
 
     /// Takes the next step.
-    pub(crate) fn advance<R: Rows, M: MarkStore>(
+    pub(crate) fn advance<R: Rows, S: Stamps>(
         &mut self,
         alloc: Global,
         rows: &mut R,
-        oracle: &mut Oracle<M>,
+        stamps: &mut S,
     ) -> Result<Outcome, Refusal>
         ensures step { R.seen.holds rows.old
             → IfOk result (λ outcome. Advances (R.seen.cells rows.old)
-            self.old oracle.old.last outcome (R.seen.cells rows.new) self.new oracle.new.last) }
-        ensures draws { IfOk result (λ outcome. (DrawsNext oracle.old.last outcome.progress)
-            × (oracle.new.last ≡ top_after oracle.old.last outcome.progress)) }
+            self.old (S.source.last stamps.old) outcome (R.seen.cells rows.new) self.new
+            (S.source.last stamps.new)) }
+        ensures draws { IfOk result (λ outcome.
+            DrawsIn S.source stamps.old stamps.new outcome.progress) }
         ensures start { self.new.start ≡ self.old.start }
         ensures writes { self.new.writes ≡ self.old.writes }
         ensures err { OnErr result (self.new ≡ self.old) }
-        ensures refused { OnErr result (StepLeaves R.seen M.mark
-            rows.old rows.new oracle.old oracle.new) }
+        ensures refused { OnErr result (StepLeaves R.seen S.source
+            rows.old rows.new stamps.old stamps.new) }
         ensures does { IfOk result (λ outcome. Does R.seen (EditsOf
             (R.seen.holds rows.old) (R.seen.cells rows.old) self.old)
             outcome.progress rows.old rows.new) }
@@ -220,17 +216,17 @@ impl Session {
             (EditsOf (R.seen.holds rows.old) (R.seen.cells rows.old) self.old) }
         ensures no_stamp { IsErrOf result Refusal.Exhausted
             → HasNoStamp (self.old.phase ≡ phase.Holding (length self.old.writes))
-            oracle.old oracle.new }
+            S.source stamps.old stamps.new }
         ensures aside { self.old.phase ≢ phase.Holding (length self.old.writes)
-            → oracle.new ≡ oracle.old }
+            → stamps.new ≡ stamps.old }
         ensures reason { HasOneReason (R.faults rows.old) (R.faults rows.new)
-            (M.faults oracle.old.marks) (M.faults oracle.new.marks) result }
+            (S.faults stamps.old) (S.faults stamps.new) result }
     {
         match self.phase {
             Phase::Open => self.hold_next(alloc, rows, 0),
             Phase::Holding(k) => {
                 if k == self.writes.len() {
-                    self.draw_commit(oracle)
+                    self.draw_commit(stamps)
                 } else {
                     self.hold_next(alloc, rows, k)
                 }

@@ -14,7 +14,7 @@ ghost use Rattle.si_model.specs.Transactions.{Commit, IsReadCount, Read};
 ghost use Rattle.txn_client.specs.Buffers.{BuffersNamed};
 ghost use Rattle.txn_client.specs.CellReads.{AreRead};
 ghost use Rattle.txn_client.specs.Commits.{BeganAt, CommitDoes, CommitDraws, CommitLeaves, CommitsIn, EndsAt, HasNoRoomToCommit, IsCopyRefusal, LacksStamps};
-ghost use Rattle.txn_client.specs.Refusals.{HasOneReason, StepLeaves};
+ghost use Rattle.txn_client.specs.Refusals.{HasOneReason, ReadLeaves};
 ghost use Rattle.txn_client.specs.Shows.{SameClients, ShowsClients};
 ghost use Rattle.txn_client.specs.Transactions.{DrawsSession, GoesAs, HasSession, IsCommitRefusal, IsReadRequestRefusal, IsSessionRefusal, SessionCauses};
 
@@ -179,7 +179,7 @@ impl Clients {
         ensures undamaged { AreReadableFrom R.seen rows.old None
             → (st : State) → IsReachedByServers st
             → ShowsCells (R.seen.cells rows.old) st → ¬ (IsErrOf result Refusal.Damaged) }
-        ensures refused { OnErr result (StepLeaves R.seen M.mark
+        ensures refused { OnErr result (ReadLeaves R.seen M.mark
             rows.old rows.new oracle.old oracle.new) }
         ensures same { OnErr result (SameClients self.old self.new) }
         ensures buffered { BuffersNamed self.old self.new start }

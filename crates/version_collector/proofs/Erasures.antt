@@ -18,7 +18,7 @@ use Rattle.cell_key.specs.declared.refusals.Refusal.TheVariants.{Damaged, Device
 use Rattle.cell_key.specs.Columns.{IsRecordText, record_text, start_text}
 use Rattle.cell_key.specs.declared.columns.WriteKind.{WriteKind}
 use Rattle.cell_key.specs.declared.columns.WriteKind.TheVariants as write
-use Rattle.rows.specs.Refusals.{IsApplyRefusal, IsRefusalOfRead}
+use Rattle.rows.specs.Refusals.{IsEditRefusal, IsRefusalOfRead}
 use Rattle.si_model.specs.Collection.{IsNamed, IsTidy}
 use Rattle.si_model.specs.ShowsCells.{IsThere, NamesAt, NamesCommit, at, key_of}
 use Rattle.si_model.specs.declared.replies.Cell.{Cell}
@@ -226,8 +226,9 @@ is_visit_refusal H NoMemory u = tt
 is_visit_refusal H Damaged u = tt
 is_visit_refusal H _ u = absurd u
 
-is_visit_refusal_of_apply : (e : Refusal) → IsApplyRefusal e → IsVisitRefusal e
+is_visit_refusal_of_apply : (e : Refusal) → IsEditRefusal e → IsVisitRefusal e
 is_visit_refusal_of_apply MemtableFull u = tt
+is_visit_refusal_of_apply Device u = tt
 is_visit_refusal_of_apply NoMemory u = tt
 is_visit_refusal_of_apply _ u = absurd u
 
@@ -235,7 +236,7 @@ pub read_refused : {B : Type 0} (Holds : Type 0) (r : Result B Refusal) (e : Ref
 read_refused H (Ok x) e by u = tt
 read_refused H (Err f) e by u = subst IsVisitRefusal (sym by) (is_visit_refusal H e u)
 
-pub apply_refused : {B : Type 0} (r : Result B Refusal) (e : Refusal) → IsErrAnd r (λ f. f ≡ e) → IsApplyRefusal e → IfErr r IsVisitRefusal
+pub apply_refused : {B : Type 0} (r : Result B Refusal) (e : Refusal) → IsErrAnd r (λ f. f ≡ e) → IsEditRefusal e → IfErr r IsVisitRefusal
 apply_refused (Ok x) e by u = tt
 apply_refused (Err f) e by u = subst IsVisitRefusal (sym by) (is_visit_refusal_of_apply e u)
 
@@ -243,6 +244,6 @@ pub not_full : (Holds : Type 0) (e : Refusal) → IsRefusalOfRead Holds e → e 
 not_full H MemtableFull u same = u
 not_full H _ u same = cc
 
-pub apply_undamaged : (e : Refusal) → IsApplyRefusal e → e ≢ Damaged
+pub apply_undamaged : (e : Refusal) → IsEditRefusal e → e ≢ Damaged
 apply_undamaged Damaged u same = u
 apply_undamaged _ u same = cc

@@ -29,13 +29,17 @@ abbrev pub ShowsAt : Cells → Option Collector → ℕ → State → Type 0
 ShowsAt cells None i st = finmap.get st.collectors i ≡ None
 ShowsAt cells (Some c) i st = ShowsCollector cells c i st
 
+-- how many collectors are stored
+abbrev pub collector_count : Collectors → ℕ
+collector_count collectors = btree.btree_map_len collectors.collectors
+
 -- The stored collectors are the open ones, and the next number is the machine's. The greatest floor is at most the
 -- machine's: other servers may begin collectors, too.
 pub record ShowsCollectors (cells : Cells) (collectors : Collectors) (st : State) : Type 0 where
   pub next : collectors.next ≡ st.next_collector
   pub floor : collectors.greatest_floor ≤ st.floor
   pub each : (i : ℕ) → ShowsAt cells (btree.get nat_cmp collectors.collectors i) i st
-  pub count : finmap.len st.collectors ≡ btree.btree_map_len collectors.collectors
+  pub count : finmap.len st.collectors ≡ collector_count collectors
 
 -- the greatest floor is the machine's: no other server has begun a collector with a greater one
 abbrev pub KnowsFloor : Collectors → State → Type 0

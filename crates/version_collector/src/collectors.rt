@@ -1,7 +1,7 @@
 //! The open collectors.
 
 ghost use Rattle.std.specs.Prelude.{◌≡◌, ◌≤◌, ◌⊎◌, IfErr, IfOk, IsErrOf, OnErr, is_some};
-ghost use Rattle.std.specs.FinMap.{empty, get};
+ghost use Rattle.std.specs.FinMap.{empty, get, len};
 ghost use Rattle.cell_key.specs.Cells.{Cells};
 ghost use Rattle.cell_key.specs.Faults.{HasReason};
 ghost use Rattle.rows.specs.Calls.{KeepsBelow};
@@ -13,7 +13,7 @@ ghost use Rattle.si_model.specs.Servers.{IsReachedByServers};
 ghost use Rattle.si_model.specs.ShowsCells.{ShowsCells};
 ghost use Rattle.version_collector.specs.Refusals.{IsBeginRefusal, IsStepRefusal};
 ghost use Rattle.version_collector.specs.Room.{AreOfVisitsIn, TakesRoomOfVisits};
-ghost use Rattle.version_collector.specs.Shows.{Begins, BeginsWith, ChangesOne, InEachShown, IsCount, IsEarlyRefusal, IsStepReadable, IsUnopened, IsUsedUp, KnowsFloor, Opens, SameCollectors, ShowsCollectors, StepLeaves, Steps, TellsAt, VisitsAt, is_last};
+ghost use Rattle.version_collector.specs.Shows.{Begins, BeginsWith, ChangesOne, InEachShown, IsCount, IsEarlyRefusal, IsStepReadable, IsUnopened, IsUsedUp, KnowsFloor, Opens, SameCollectors, ShowsCollectors, StepLeaves, Steps, TellsAt, VisitsAt, collector_count, is_last};
 ghost use Rattle.version_collector.specs.Visits.{Thins};
 ghost use Rattle.si_model.specs.Collection.{Collects};
 
@@ -69,6 +69,15 @@ impl Collectors {
             greatest_floor: floor,
             collectors: BTreeMap::new(alloc),
         }
+    }
+
+    /// How many collectors are open.
+    pub fn len(&self) -> usize
+        ensures count { result ≡ collector_count self.now }
+        ensures shown { (cells : Cells) (st : State) → ShowsCollectors cells self.now st
+            → result ≡ len st.collectors }
+    {
+        self.collectors.len()
     }
 
     /// Whether a collector is open.

@@ -24,7 +24,7 @@ const SCANNED: &[u8] = b"\xB1\x02\0\0\0\x01r\0\0\0\x01c\0\0\0\x03\
 const RAW_FOUND: &[u8] = b"\x91\x01\0\0\0\0\0\0\0\x01\0\0\0\x06m\0\0c\0\0";
 
 /// A request of each kind.
-const REQUESTS: [&[u8]; 24] = [
+const REQUESTS: [&[u8]; 25] = [
     b"\x01",
     GET,
     SET,
@@ -49,10 +49,11 @@ const REQUESTS: [&[u8]; 24] = [
     b"\x31\0\0\0\0\0\0\0\x01\0\x01\0\0\0\0\0\0\0\0\0\0\0\0\0\x01",
     b"\x31\0\0\0\0\0\0\0\x01\0\0\x01\0\0\0\x01z\0\0\0\0\x01",
     b"\x31\0\0\0\0\0\0\0\x01\0\0\0\x01\0\0\0\x01c\xFF\xFF\xFF\xFF",
+    b"\x34\0\0\0\0",
 ];
 
 /// Bodies outside the grammar of requests.
-const NO_REQUESTS: [&[u8]; 34] = [
+const NO_REQUESTS: [&[u8]; 37] = [
     b"",
     b"\0",
     b"\x13",
@@ -87,6 +88,9 @@ const NO_REQUESTS: [&[u8]; 34] = [
     b"\x31\0\0\0\0\0\0\0\x01\0\x01\0\0\0\x01a\0\0\0\0\0\x01",
     b"\x31\0\0\0\0\0\0\0\x01\0\0\x01\0\0\0\x02z\0\0\0\0\x01",
     b"\x32\0\0\0\0\0\0\0\x01\0\0\0\0\0\0\0\x01",
+    b"\x34",
+    b"\x34\0\0\0",
+    b"\x34\0\0\0\0\0",
 ];
 
 /// Whether a body decodes as a request that is encoded with the same bytes.
@@ -111,7 +115,7 @@ fn bodies_of_requests(rt: HostRuntime) -> Result<(), Fail> {
 }
 
 /// A reply of each kind.
-const REPLIES: [&[u8]; 37] = [
+const REPLIES: [&[u8]; 39] = [
     b"\x81\0\0\0\0\0\0\0\x01",
     b"\x82\0",
     b"\x82\x01\0\0\0\x0210",
@@ -148,11 +152,13 @@ const REPLIES: [&[u8]; 37] = [
     b"\xB1\x01\0\0\0\0",
     b"\xB1\x02\0\0\0\x01r\0\0\0\x01c\0\0\0\0",
     SCANNED,
+    b"\xB4",
+    b"\xB4\0\0\0\x02ok",
     b"\xFF\x16",
 ];
 
 /// Bodies outside the grammar of replies.
-const NO_REPLIES: [&[u8]; 35] = [
+const NO_REPLIES: [&[u8]; 36] = [
     b"",
     b"\x01",
     b"\x82",
@@ -185,6 +191,7 @@ const NO_REPLIES: [&[u8]; 35] = [
     b"\xB1\x01\0\0\0\x01\0\0\0\x01r\0\0\0\x01c\x04",
     b"\xB1\x01\0\0\0\x01\0\0\0\x01r\0\0\0\x01:\x03",
     b"\xB1\x01\0\0\0\x01\0\0\0\x01r\0\0\0\x01c\x02\0\0\0\0\0\0\0\x01\0",
+    b"\xB5",
     b"\xFF\0",
     b"\xFF\x18",
     b"\xFF\x16\0",

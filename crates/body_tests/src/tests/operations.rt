@@ -17,7 +17,7 @@ const READ: &[u8] = b"\x33\0\0\0\0\0\0\0\x07\x01\0\0\0\x02\
     \0\0\0\x03Bob\0\0\0\x03bal\
     \0\0\0\x03Joe\0\0\0\x03bal";
 
-const OPERATIONS: [&[u8]; 9] = [
+const OPERATIONS: [&[u8]; 10] = [
     b"\x01",
     b"\x02\0\0\0\0\0\0\0\x01\0\0\0\x01a\0\0\0\x03bal",
     b"\x12",
@@ -27,6 +27,7 @@ const OPERATIONS: [&[u8]; 9] = [
     READ,
     b"\x33\0\0\0\0\0\0\0\0\0\0\0\0\0",
     b"\x33\0\0\0\0\0\0\0\0\0\0\0\0\x01\0\0\0\0\0\0\0\0",
+    b"\x34\xFF\xFF\xFF\xFF",
 ];
 
 /// Bodies outside the grammar of operations.
@@ -133,7 +134,7 @@ const TOLD: &[u8] = b"\xB3\0\0\0\0\0\0\0\x07\0\0\0\x04\
     \x02\0\0\0\0\0\0\0\x03\
     \x03";
 
-const ANSWERS: [&[u8]; 8] = [
+const ANSWERS: [&[u8]; 9] = [
     b"\x83",
     b"\x82\x01\0\0\0\x0210",
     b"\xFF\x16",
@@ -142,6 +143,7 @@ const ANSWERS: [&[u8]; 8] = [
     b"\xB2\x02\xFF\xFF\xFF\xFF\xFF\xFF\xFF\xFF\xFF\xFF",
     b"\xB3\0\0\0\0\0\0\0\x07\0\0\0\0",
     TOLD,
+    b"\xB4ok",
 ];
 
 /// Bodies outside the grammar of answers.

@@ -118,7 +118,7 @@ const WRONG: [Recording; 12] = [
 ];
 
 /// Runs whose last reply is allowed, though this store would give another one.
-const FREE: [Recording; 5] = [
+const FREE: [Recording; 6] = [
     // Begin: 2001
     (COMMITTED, &[], (b"\x01", b"\x81\0\0\0\0\0\0\x07\xD1")),
     // Sweep: 7
@@ -134,6 +134,8 @@ const FREE: [Recording; 5] = [
             b"\x91\x01\0\0\0\0\0\0\0\x03\0\0\0\x017",
         ),
     ),
+    // Status 1: any report
+    (0, &[], (b"\x34\0\0\0\x01", b"\xB4any")),
     // Step 3: refused 19
     (COMMITTED, &[], (b"\x04\0\0\0\0\0\0\0\x03", b"\xFF\x13")),
 ];

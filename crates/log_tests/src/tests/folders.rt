@@ -1,8 +1,9 @@
 //! Logs in a real folder.
 
-use super::{LOG, TWO};
-use commit_log::{Log, LogFault, RecordKind, make_log, open_log};
+use super::{LOG, PUT, TWO};
+use commit_log::{Log, LogFault, RecordKind, make_log, open_log, read_opened};
 use std::alloc::{AllocError, Global};
+use std::io::{ErrorKind, Read};
 use std::test::Fail;
 use std::{fs, io, process};
 use testing::folders::new_folder;
@@ -31,9 +32,9 @@ fn put_file(rt: &HostRuntime, folder: &str, name: &str, bytes: &[u8]) -> io::Res
     Ok(())
 }
 
-/// How many records the log of a folder has, and how many bytes were cut. No records if it is damaged.
-fn opened(rt: &HostRuntime, folder: &str) -> Result<(usize, usize), LogFault> {
-    match open_log(rt, folder) {
+/// How many records the log of a folder has beside this mark, and how many bytes were cut. No records if it is damaged.
+fn opened_by(rt: &HostRuntime, folder: &str, mark: u64) -> Result<(usize, usize), LogFault> {
+    match open_log(rt, folder, mark) {
         Ok(Some(mut found)) => Ok((found.log.records()?.len(), found.cut)),
         Ok(None) => Err(LogFault::Device),
         Err(LogFault::Damaged) => Ok((0, 0)),
@@ -41,31 +42,44 @@ fn opened(rt: &HostRuntime, folder: &str) -> Result<(usize, usize), LogFault> {
     }
 }
 
+/// The same beside the mark 0.
+fn opened(rt: &HostRuntime, folder: &str) -> Result<(usize, usize), LogFault> {
+    opened_by(rt, folder, 0)
+}
+
 /// The sign of the store of `LOG`.
 const SIGN: [u8; 20] = *b"TABSTORE\x01\x02\x03\x04\x05\x06\x07\x08\x9E\x85\xCC\x0B";
 
-/// Logs and signs, with the numbers of records read and of bytes cut; no records if they are damaged.
-const FOUND: [(&[u8], &[u8], (usize, usize)); 8] = [
-    (&LOG, &SIGN, (3, 0)),
-    (&LOG, b"", (3, 0)),
-    (&LOG, b"TABSTORE", (0, 0)),
+/// `PUT`, and a byte behind its frame.
+const TORN_PUT: [u8; 49] = *b"TABLOG01\
+\x00\x00\x00\x20\x09\xF1\x71\xFE\
+\0\0\0\x16a\0\0bal\0\0data\0\0\xFF\xFF\xFF\xFF\xFF\xFF\xFF\xFC\x01\0\0\0\x01vb";
+
+/// Logs, signs and marks, with the numbers of records read and of bytes cut; no records if they are damaged.
+const FOUND: [(&[u8], &[u8], u64, (usize, usize)); 10] = [
+    (&LOG, &SIGN, 0, (3, 0)),
+    (&LOG, b"", 0, (3, 0)),
+    (&LOG, b"TABSTORE", 0, (0, 0)),
     (
         &LOG,
         b"TABSTORE\x01\x02\x03\x04\x05\x06\x07\x09\x9E\x85\xCC\x0B",
+        0,
         (0, 0),
     ),
-    (b"TABLOG02", &SIGN, (0, 0)),
-    (&TWO, b"", (3, 0)),
-    (b"TABLOG01\x00\x00\x00\x01\xE5\x8C\x97\x92ab", b"", (2, 1)),
-    (&TWO, &SIGN, (0, 0)),
+    (b"TABLOG02", &SIGN, 0, (0, 0)),
+    (&PUT, b"", 3, (2, 0)),
+    (&TORN_PUT, b"", 4, (2, 1)),
+    (&PUT, b"", 2, (0, 0)),
+    (&TWO, b"", 9, (0, 0)),
+    (&PUT, &SIGN, 3, (0, 0)),
 ];
 
 /// Whether these logs are found in a folder as they are.
 fn are_found(rt: &HostRuntime, folder: &str) -> Result<bool, Fail> {
-    for (log, sign, wanted) in FOUND {
+    for (log, sign, mark, wanted) in FOUND {
         put_file(rt, folder, FILE, log)?;
         put_file(rt, folder, "commit.id", sign)?;
-        if opened(rt, folder)? != wanted {
+        if opened_by(rt, folder, mark)? != wanted {
             return Ok(false);
         }
     }
@@ -88,7 +102,7 @@ fn fill_log<L: Log>(log: &mut L) -> Result<(), LogFault> {
 /// Makes such a log in a folder.
 fn fill(rt: &HostRuntime, folder: &str) -> Result<(), LogFault> {
     make_log(rt, folder)?;
-    match open_log(rt, folder)? {
+    match open_log(rt, folder, 0)? {
         Some(mut found) => fill_log(&mut found.log),
         None => Err(LogFault::Damaged),
     }
@@ -105,7 +119,7 @@ fn is_made(rt: &HostRuntime, folder: &str) -> Result<bool, Fail> {
 
 /// Whether a folder's log makes room for another file, which a kill leaves and the next opening removes.
 fn has_room(rt: &HostRuntime, folder: &str) -> Result<bool, Fail> {
-    let Some(mut found) = open_log(rt, folder)? else {
+    let Some(mut found) = open_log(rt, folder, 0)? else {
         return Ok(false);
     };
     let was_there = bytes_of(rt, folder, ROOM).is_ok();
@@ -137,11 +151,38 @@ fn is_lost(rt: &HostRuntime, folder: &str) -> Result<bool, Fail> {
     Ok(opened(rt, folder)? == (0, 0))
 }
 
+/// A file whose first read gives a byte, and whose second one fails.
+#[derive(Drop)]
+struct Failing {
+    is_read: bool,
+}
+
+impl Read for Failing {
+    fn read(&mut self, buf: &mut [u8]) -> io::Result<usize> {
+        let Some(first) = buf.first_mut() else {
+            return Ok(0);
+        };
+        if self.is_read {
+            return Err(io::Error::from(ErrorKind::Other));
+        }
+        self.is_read = true;
+        *first = b'T';
+        Ok(1)
+    }
+}
+
+#[test]
+fn a_failed_read_is_passed_on(rt: HostRuntime) -> Result<(), Fail> {
+    let read = read_opened(rt.alloc(), Ok(Failing { is_read: false }));
+    assert!(rt; matches!(&read, Err(error) if error.kind() == ErrorKind::Other));
+    Ok(())
+}
+
 #[test]
 fn logs_in_a_folder(rt: HostRuntime) -> Result<(), Fail> {
     let folder = new_folder(&rt, process::id(rt.process()), "log")?;
     let path = folder.as_str();
-    assert!(rt; open_log(&rt, path)?.is_none());
+    assert!(rt; open_log(&rt, path, 0)?.is_none());
     assert!(rt; is_made(&rt, path)? && has_room(&rt, path)? && is_cut(&rt, path)?);
     assert!(rt; is_lost(&rt, path)? && are_found(&rt, path)?);
     fs::remove_dir_all(&rt, path)?;

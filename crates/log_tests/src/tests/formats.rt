@@ -1,16 +1,16 @@
 //! The bytes of logs: checksums, both formats, torn and damaged logs.
 
 use super::files::opened;
-use super::{FIRST, LOG, STORE, TWO, are_first};
+use super::{FIRST, LOG, PUT, STORE, TWO, are_first};
 use commit_log::{Log, LogFault, crc32, frame_of, read_log, upgrade_log};
 use std::alloc::Global;
 use std::test::Fail;
 
-/// `TWO` in format 2.
-const UPGRADED: [u8; 94] = *b"TABLOG02\x01\x02\x03\x04\x05\x06\x07\x08\
+/// `PUT` in format 2.
+const UPGRADED: [u8; 98] = *b"TABLOG02\x01\x02\x03\x04\x05\x06\x07\x08\
 \x00\x00\x00\x11\x8C\xCB\x45\xF7\x11\x12\x13\x14\x15\x16\x17\x18\x02\0\0\0\0\0\0\0\0\
-\x00\x00\x00\x12\xAD\xCF\x9B\xED\x11\x12\x13\x14\x15\x16\x17\x19\x00\0\0\0\0\0\0\0\0a\
-\x00\x00\x00\x13\xBD\x51\x57\x11\x11\x12\x13\x14\x15\x16\x17\x1A\x00\0\0\0\0\0\0\0\0ab";
+\x00\x00\x00\x31\x9F\x61\xB5\xFE\x11\x12\x13\x14\x15\x16\x17\x19\x00\0\0\0\0\0\0\0\0\
+\0\0\0\x16a\0\0bal\0\0data\0\0\xFF\xFF\xFF\xFF\xFF\xFF\xFF\xFC\x01\0\0\0\x01v";
 
 #[test]
 fn the_check_value_of_the_checksum(rt: HostRuntime) -> Result<(), Fail> {
@@ -60,12 +60,19 @@ fn torn_logs_of_format_1(rt: HostRuntime) -> Result<(), Fail> {
     Ok(())
 }
 
+/// Whether a log is damaged if it is to be upgraded beside this mark: an edit has a stamp above the mark, a record is no
+/// edits, or it isn't a log of format 1.
+fn is_refused(alloc: Global, bytes: &[u8], mark: u64) -> bool {
+    let upgraded = upgrade_log(alloc, bytes, mark, STORE, FIRST);
+    matches!(&upgraded, Err(LogFault::Damaged))
+}
+
 #[test]
 fn an_upgraded_log(rt: HostRuntime) -> Result<(), Fail> {
-    let upgraded = upgrade_log(rt.alloc(), &TWO, STORE, FIRST)?;
+    let upgraded = upgrade_log(rt.alloc(), &PUT, 3, STORE, FIRST)?;
     assert!(rt; upgraded.as_slice() == UPGRADED.as_slice());
-    let upgraded = upgrade_log(rt.alloc(), &LOG, STORE, FIRST);
-    assert!(rt; matches!(&upgraded, Err(LogFault::Damaged)));
+    assert!(rt; is_refused(rt.alloc(), &PUT, 2) && is_refused(rt.alloc(), &TWO, u64::MAX));
+    assert!(rt; is_refused(rt.alloc(), &LOG, u64::MAX));
     Ok(())
 }
 

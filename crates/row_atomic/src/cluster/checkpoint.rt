@@ -166,11 +166,17 @@ impl<F: Files> Cluster<F> {
         bytes
     }
 
-    /// Compacts every tablet as `minor` does, in the order of their ends, until one is refused.
-    fn flush_each(&mut self) -> Result<(), Refusal>
+    /// Compacts every tablet as `minor` does, in the order of their ends, until one is refused. No root is put.
+    ///
+    /// # Errors
+    ///
+    /// The errors of `minor` for a known tablet. Some minor compactions may still have been done.
+    pub fn flush_each(&mut self) -> Result<(), Refusal>
         ensures flushes { FlushesEach F.contents F.faults
             self.old (numbers_of self.old.places) (done_of result) self.new }
         ensures refusal { IfErr result (IsRefusalOf minor_compaction) }
+        // Done or refused, tablets that were in order still are, with the same cells.
+        ensures keeps { KeepsShown F.contents F.faults self.old self.new }
     {
         for index in 0..self.table.len() {
             let tablet = self.number_at(index);
@@ -179,8 +185,14 @@ impl<F: Files> Cluster<F> {
         Ok(())
     }
 
-    /// Puts the root file, with these stamps, the cluster's places and next name, and the lengths of its files.
-    fn put_root(&mut self, top: Stamp, floor: Stamp) -> Result<(), Refusal>
+    /// Puts the root file, with these stamps, the cluster's places and next name, and the lengths of its files. After
+    /// `flush_each` that is a checkpoint.
+    ///
+    /// # Errors
+    ///
+    /// `Device` or `NoMemory`. If the put of the root file failed, the root's bytes are unspecified; if the store replaces
+    /// files atomically, they are the old or the new ones.
+    pub fn put_root(&mut self, top: Stamp, floor: Stamp) -> Result<(), Refusal>
         ensures puts { PutsRoot F.contents top floor self.old (done_of result) self.new.files }
         ensures rest { self.new ≡ record self.old { files = self.new.files } }
         ensures rests { OnOk result (AreFlushed self.old
@@ -189,6 +201,7 @@ impl<F: Files> Cluster<F> {
             (PutsRootOrNone F.contents top floor self.old self.new) }
         ensures keeps { KeepsShown F.contents F.faults self.old self.new }
         ensures faults { TellsFaults F.faults (done_of result) self.old self.new }
+        ensures refusal { IfErr result (IsRefusalOf minor_compaction) }
     {
         unnamed_may_go();
         let lengths = file_lengths(self.alloc, &self.table, &mut self.files)?;

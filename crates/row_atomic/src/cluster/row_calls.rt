@@ -1,7 +1,7 @@
 //! Reads and edits of a cluster's rows: its `Rows`.
 
-ghost use Rattle.std.specs.Prelude.{◌≡◌, ◌≤◌, ◌↔◌, ◌++◌, IfErr, IfOk, IfSome, IsErrOf, IsTrue, None, Some, length, map, option_map, IsOkUnless};
-ghost use Rattle.cell_key.specs.Cells.{IsNewest, version};
+ghost use Rattle.std.specs.Prelude.{◌≡◌, ◌≤◌, ◌↔◌, ◌++◌, IfErr, IfOk, IfSome, IsErrOf, IsTrue, None, OnErr, OnOk, Some, length, map, option_map, IsOkUnless};
+ghost use Rattle.cell_key.specs.Cells.{IsEditOf, IsNewest, version};
 ghost use Rattle.cell_key.specs.Places.{AreNextCells, IsNextCell, place_named};
 ghost use Rattle.cell_key.specs.Versions.{IsVersion, IsVersionIn, stamped};
 ghost use Rattle.file_store.specs.Store.{Contents};
@@ -13,11 +13,13 @@ ghost use Rattle.std.specs.List.{AllByRecursion};
 ghost use Rattle.cell_key.specs.Faults.{HasReason};
 ghost use Rattle.rows.specs.Batches.{AreNextVersions, IsFull};
 ghost use Rattle.rows.specs.Reads.{AreNewestFirst, HasVersion};
-ghost use Rattle.rows.specs.Calls.{AreReadableFrom, OnlyReads};
+ghost use Rattle.rows.specs.Calls.{Applies, AppliesAll, AreReadableFrom, OnlyReads};
+ghost use Rattle.rows.specs.Room.{OverfillsOne};
+ghost use Rattle.rows.specs.RowEdits.{AreOfTheirRow};
 ghost use Rattle.row_atomic.specs.Seen.{seen_of};
 ghost use Rattle.row_atomic.specs.Changes.{IsOutOfOrder, MeetsDamage, OfHolder};
-ghost use Rattle.row_atomic.specs.Commands.{cells_shown};
-ghost use Rattle.rows.specs.Refusals.{IsRefusalOfRead};
+ghost use Rattle.row_atomic.specs.Commands.{OverfillsCluster, cells_shown};
+ghost use Rattle.rows.specs.Refusals.{IsApplyRefusal, IsRefusalOfRead};
 ghost use Rattle.row_atomic.specs.Clusters.{ArePlaced, AreOpenFrom, IsReadable, PrecedesCell, cells_in};
 
 use crate::cluster::Cluster;
@@ -280,14 +282,36 @@ impl<F: Files> Rows for Cluster<F> {
         )
     }
 
-    fn apply(&mut self, row: &Row, edits: Vec<Edit>) -> Result<(), Refusal> {
+    /// It is never refused for a device.
+    fn apply(&mut self, row: &Row, edits: Vec<Edit>) -> Result<(), Refusal>
+        requires { AllByRecursion (IsEditOf row.now) edits.items }
+        ensures ok { OnOk result (Applies (seen_of F.contents)
+            row.now edits.items self.old self.new) }
+        ensures err { OnErr result (OnlyReads (seen_of F.contents) self.old self.new) }
+        ensures refusal { IfErr result IsApplyRefusal }
+        ensures full { IsErrOf result Refusal.MemtableFull
+            → OverfillsCluster self.old row.now edits.items }
+        ensures within { OnOk result (¬ OverfillsCluster self.old row.now edits.items) }
+        ensures untouched { F.faults self.new.files ≡ F.faults self.old.files }
+    {
         let index = index_of(&self.table, &mut self.place_cache, row);
         let done = self.tablets[index].apply(row, edits);
         self.most = self.most.joined(Fill::of(&self.tablets[index]));
         done
     }
 
-    fn apply_all(&mut self, changes: Vec<RowEdits>) -> Result<(), Refusal> {
+    /// It is never refused for a device.
+    fn apply_all(&mut self, changes: Vec<RowEdits>) -> Result<(), Refusal>
+        requires { AllByRecursion AreOfTheirRow changes.items }
+        ensures ok { OnOk result (AppliesAll (seen_of F.contents)
+            changes.items self.old self.new) }
+        ensures err { OnErr result (OnlyReads (seen_of F.contents) self.old self.new) }
+        ensures refusal { IfErr result IsApplyRefusal }
+        ensures full { IsErrOf result Refusal.MemtableFull
+            → OverfillsOne OverfillsCluster changes.items self.old }
+        ensures within { OnOk result (¬ OverfillsOne OverfillsCluster changes.items self.old) }
+        ensures untouched { F.faults self.new.files ≡ F.faults self.old.files }
+    {
         edits_show();
         apply_to(
             self.alloc,

@@ -1,4 +1,3 @@
-use Rattle.std.proofs.Common.{subst, ap, ◌∙◌, sym}
 use Rattle.durable.proofs.KeptFrames.{lasts_again, serves_clients_durably}
 use Rattle.durable.proofs.clients.serve_clients.Goals as goal
 

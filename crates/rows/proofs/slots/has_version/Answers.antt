@@ -8,7 +8,7 @@ use Rattle.cell_key.specs.declared.keys.CellKey.{CellKey}
 use Rattle.cell_key.specs.declared.keys.Qualifier.{Qualifier}
 use Rattle.rows.specs.Reads.{HasVersion}
 use Rattle.rows.specs.Slots.{slot_cells, keyed, IsFirstKey}
-use Rattle.rows.proofs.Stamps.{at_ends, versions_fall, newest_none, newest_some}
+use Rattle.rows.proofs.BetweenStamps.{at_ends, versions_fall, newest_none, newest_some}
 use Rattle.rows.proofs.slots.has_version.Goals as goal
 
 first_there : {Z : Type 0} (row family : List ℕ) (q : Qualifier) (lo hi : ℕ) (cells : Cells) (first : Option (Bor CellKey × Bor (Vec ℕ Z))) (has : Bool) → has ≡ is_some first

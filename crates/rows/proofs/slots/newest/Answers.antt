@@ -2,7 +2,7 @@ use Rattle.std.proofs.Common.{List, ℕ, Some, None, sym, subst, arith}
 use Rattle.std.specs.List.{each_same}
 use Rattle.cell_key.specs.Cells.{version, IsNewest}
 use Rattle.rows.specs.Slots.{slot_cells}
-use Rattle.rows.proofs.Stamps.{at_ends, versions_fall, newest_none, newest_some}
+use Rattle.rows.proofs.BetweenStamps.{at_ends, versions_fall, newest_none, newest_some}
 use Rattle.rows.proofs.slots.newest.Goals as goal
 
 pub first-requires-clause-forward : goal.first-requires-clause-forward

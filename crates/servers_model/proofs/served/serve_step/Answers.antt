@@ -7,7 +7,7 @@ returns g c = record {
   serves = λ holds. record {
     kind = refl;
     steps = c.step.ensures.step holds;
-    changed = result_changes g.R.Rows.seen c.args.clients.now c.args.start c.args.rows.now c.step.new.rows holds g.M.MarkStore.mark c.args.oracle.now c.step.new.oracle c.args.oracle.now.last c.step.new.oracle.last
+    changed = result_changes g.R.Rows.seen c.args.clients.now c.args.start c.args.rows.now c.step.new.rows holds g.S.Stamps.source c.args.stamps.now c.step.new.stamps
         c.step.result c.step.ensures.refused c.step.ensures.accepted;
   };
 }

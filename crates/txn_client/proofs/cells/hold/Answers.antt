@@ -1,8 +1,8 @@
 use Rattle.std.proofs.Common.{refl, sym, subst}
-use Rattle.cell_key.proofs.Reasons.{not_refused}
-use Rattle.rows.specs.Refusals.{IsApplyRefusal}
+use Rattle.cell_key.proofs.Reasons.{not_refused, reason_kept, reason_none, reason_passed}
+use Rattle.rows.specs.Refusals.{IsEditRefusal}
 use Rattle.rows.proofs.Calls.{reads_none}
-use Rattle.txn_client.proofs.Passed.{passed_on, passed_err, passed_kept, passed_kept_not, no_memory_only, full_not}
+use Rattle.txn_client.proofs.Passed.{passed_on, passed_err, passed_kept, passed_kept_not, no_memory_only, device_not, full_not}
 use Rattle.txn_client.proofs.cells.hold.Goals as goal
 
 pub apply-requires : goal.apply-requires
@@ -16,9 +16,9 @@ returns-in_err-edits g c =
     record {
       ok = passed_kept_not r e _ by;
       err = passed_kept r _ reads_none;
-      refusal = passed_err r e _ by (subst IsApplyRefusal (sym c.in_err-edits.ensures.refusal) tt);
+      refusal = passed_err r e _ by (subst IsEditRefusal (sym c.in_err-edits.ensures.refusal) tt);
       full = λ is. absurd (no_memory_only r e _ full_not by c.in_err-edits.ensures.refusal is);
-      untouched = refl;
+      reason = reason_none _ _ (no_memory_only r e _ device_not by c.in_err-edits.ensures.refusal);
     }
 
 pub returns-in_err-apply : goal.returns-in_err-apply
@@ -37,7 +37,7 @@ returns-in_err-apply g c =
         (refl, c.in_ok-edits.ensures.holding),
         at.full (passed_on r _ e _ by refl is),
       );
-      untouched = at.untouched;
+      reason = reason_passed r e _ _ by at.reason;
     }
 
 pub returns : goal.returns
@@ -51,5 +51,5 @@ returns g c = record {
   err = tt;
   refusal = tt;
   full = λ is. absurd (not_refused _ _ is);
-  untouched = c.in_ok-apply.ensures.untouched;
+  reason = reason_kept _ _ _ _ (not_refused _ _) c.in_ok-apply.ensures.reason;
 }

@@ -2,13 +2,13 @@ use Rattle.std.proofs.Common.{◌≡◌, ◌∙◌, ℕ, Bool, true, false, List
 use Rattle.std.specs.Prelude.{is_some}
 use Rattle.cell_key.specs.Cells.{Cells, IsNewest}
 use Rattle.cell_key.specs.declared.keys.Qualifier.TheVariants.{Lock}
-use Rattle.cell_key.proofs.Reasons.{not_refused, reason_kept, reason_passed}
+use Rattle.cell_key.proofs.Reasons.{not_refused, reason_kept, reason_passed, reason_then}
 use Rattle.rows.specs.Reads.{HasVersion}
 use Rattle.rows.proofs.Calls.{applies_after, reads_then}
 use Rattle.si_model.specs.ShowsCells.{IsThere, key_of}
 use Rattle.si_model.specs.declared.replies.Cell.{Cell}
 use Rattle.si_model.specs.Reads.{IsGone}
-use Rattle.txn_client.proofs.Passed.{passed_on, passed_err, passed_none, passed_kept, read_row, apply_row, want_row, read_not_full, reason_untouched, no_memory_only, apply_no_device, full_not, device_not}
+use Rattle.txn_client.proofs.Passed.{passed_on, passed_err, passed_none, passed_kept, read_row, edit_row, want_row, read_not_full, no_memory_only, full_not, device_not}
 use Rattle.txn_client.proofs.cells.record.Goals as goal
 
 module _ (cells : Cells) (x : Cell) (s t : ℕ) (has : Bool) (same : s ≡ t) where
@@ -86,7 +86,7 @@ returns-in_err-apply g c =
       gone = λ held. passed_none r e _ by;
       left = passed_none r e _ by;
       err = passed_kept r _ (reads_then first.reads at.err);
-      refusal = passed_err r e _ by (apply_row _ e at.refusal);
+      refusal = passed_err r e _ by (edit_row _ e at.refusal);
       full = λ is. (
         c.args.cell.now.row,
         c.in_ok-edits.edits.items,
@@ -97,7 +97,7 @@ returns-in_err-apply g c =
         ),
         first.reads.room _ _ (at.full (passed_on r _ e _ by refl is)),
       );
-      reason = reason_untouched _ r _ _ _ at.untouched (apply_no_device r e by at.refusal) first.reason;
+      reason = reason_then r _ _ _ _ first.reason (reason_passed r e _ _ by at.reason);
     }
 
 pub returns : goal.returns
@@ -119,5 +119,5 @@ returns g c =
       err = tt;
       refusal = tt;
       full = λ is. absurd (not_refused _ _ is);
-      reason = reason_untouched _ _ _ _ _ c.in_ok-apply.ensures.untouched (not_refused _ _) first.reason;
+      reason = reason_then _ _ _ _ _ first.reason (reason_kept _ _ _ _ (not_refused _ _) c.in_ok-apply.ensures.reason);
     }

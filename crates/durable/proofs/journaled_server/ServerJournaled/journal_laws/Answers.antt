@@ -1,6 +1,6 @@
 use Rattle.std.proofs.Common.{refl}
 use Rattle.server_loop.specs.Server.{journal_of}
-use Rattle.durable.proofs.Stored.{answer_leaves, answer_moves, follows_in, one_stored, tended_leaves}
+use Rattle.durable.proofs.Stored.{answer_leaves, answer_moves, follows_in, next_low, one_stored, tended_leaves}
 use Rattle.durable.proofs.journaled_server.ServerJournaled.journal_laws.Goals as goal
 
 pub returns-clause-follows : goal.returns-clause-follows
@@ -17,3 +17,6 @@ returns-clause-moves g c = answer_moves g.F.Files g.M.MarkStore c.root_is_stored
 
 pub returns-clause-tends : goal.returns-clause-tends
 returns-clause-tends g c = tended_leaves g.F.Files.contents g.F.Files.faults c.root_outlasts_flushes.ensures c.root_outlasts_merges.ensures
+
+pub returns-clause-low : goal.returns-clause-low
+returns-clause-low g c = next_low g.F.Files.contents

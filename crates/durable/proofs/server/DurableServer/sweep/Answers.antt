@@ -1,4 +1,4 @@
-use Rattle.std.proofs.Common.{◌≡◌, ℕ, Err, IsErrOf, Result, inl, inr, ap, sym}
+use Rattle.std.proofs.Common.{◌≡◌, ℕ, Err, IsErrOf, inl, inr, ap, sym}
 use Rattle.si_model.specs.Machine.{Refused, accepts, refuses, sweeps, tells}
 use Rattle.si_model.specs.Refusing.{gives_up}
 use Rattle.si_model.specs.Transactions.{Said, steps}

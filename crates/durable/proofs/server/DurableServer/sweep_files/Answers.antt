@@ -1,5 +1,5 @@
 -- A sweep leaves the root, the journal and the log.
-use Rattle.std.proofs.Common.{inl, inr, refl}
+use Rattle.std.proofs.Common.{inl, refl}
 use Rattle.durable.proofs.Logged.{lasts_on, logs_on, no_less, still_lasts}
 use Rattle.durable.proofs.server.DurableServer.sweep_files.Goals as goal
 

@@ -21,9 +21,10 @@ returns-then-log_waiting-clause-ok g c = record {
               swept = sweeps_still g.S.Journaled.calls w.still first.upkeep put.reply put.next put.last put.swept;
               is_same = g.met.S.Journaled.same_then put.last _ _ put.is_same w.same;
               tried = w.due.1 ∙ put.tried;
+              counted = w.due.3 ∙ put.counted;
             },
           )
-          | inr (not, same, tried) ↦ inr (not, g.met.S.Journaled.same_then b.mid _ _ same w.same, w.due.1 ∙ tried)
+          | inr (not, same, tried, counted) ↦ inr (not, g.met.S.Journaled.same_then b.mid _ _ same w.same, w.due.1 ∙ tried, w.due.3 ∙ counted)
         ];
         root_bytes = w.due.0 ∙ b.root_bytes;
         upkeep = w.due.2 ∙ b.upkeep;
@@ -56,9 +57,10 @@ returns-else-log_waiting-clause-err g c = record {
               swept = sweeps_still g.S.Journaled.calls w.still first.upkeep put.reply put.next put.last put.swept;
               is_same = g.met.S.Journaled.same_then put.last _ _ put.is_same w.same;
               tried = w.due.1 ∙ put.tried;
+              counted = w.due.3 ∙ put.counted;
             },
           )
-          | inr (not, same, tried) ↦ inr (not, g.met.S.Journaled.same_then b.mid _ _ same w.same, w.due.1 ∙ tried)
+          | inr (not, same, tried, counted) ↦ inr (not, g.met.S.Journaled.same_then b.mid _ _ same w.same, w.due.1 ∙ tried, w.due.3 ∙ counted)
         ];
         root_bytes = w.due.0 ∙ b.root_bytes;
         upkeep = w.due.2 ∙ b.upkeep;

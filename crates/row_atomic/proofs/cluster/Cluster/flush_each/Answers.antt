@@ -1,8 +1,8 @@
 -- The tablets are flushed in the order of their ends.
-use Rattle.std.proofs.Common.{◌<◌, ◌≤◌, length, arith}
+use Rattle.std.proofs.Common.{◌<◌, ◌≤◌, Err, length, refl, arith}
 use Rattle.row_atomic.specs.Changes.{IsRefusalOf}
 use Rattle.row_atomic.specs.Compactions.{minor}
-use Rattle.row_atomic.proofs.Checkpoints.{known_refusal, passed_on}
+use Rattle.row_atomic.proofs.Checkpoints.{flushes_tell, known_refusal, passed_on}
 use Rattle.row_atomic.proofs.RootFlushes.{after_one, at_end, at_refusal, at_start, within_now}
 use Rattle.row_atomic.proofs.cluster.Cluster.flush_each.Goals as goal
 
@@ -36,3 +36,12 @@ pub returns-clause-flushes : goal.returns-clause-flushes
 returns-clause-flushes g c =
     let past : length c.args.self.now.places ≤ c.loop-index.index = let as_many = c.loop-index.invariant.as_many in omega arith in
     at_end g.F.Files.contents g.F.Files.faults c.args.self.now c.loop-index.self c.loop-index.index c.loop-index.invariant.flushing past
+
+pub returns-in_err-minor-clause-keeps : goal.returns-in_err-minor-clause-keeps
+returns-in_err-minor-clause-keeps g c = (flushes_tell g.F.Files.contents g.F.Files.faults _ _ _ _
+    (at_refusal g.F.Files.contents g.F.Files.faults c.args.self.now c.loop-index.self c.loop-index.index c.loop-index.invariant.flushing c.number_at-tablet.result c.number_at-tablet.ensures.at c.minor.new.self c.minor.result (Err c.in_err-minor.field-0.0) c.in_err-minor.field-0.0 refl c.in_err-minor.ensures)).keeps
+
+pub returns-clause-keeps : goal.returns-clause-keeps
+returns-clause-keeps g c =
+    let past : length c.args.self.now.places ≤ c.loop-index.index = let as_many = c.loop-index.invariant.as_many in omega arith in
+    (flushes_tell g.F.Files.contents g.F.Files.faults _ _ _ _ (at_end g.F.Files.contents g.F.Files.faults c.args.self.now c.loop-index.self c.loop-index.index c.loop-index.invariant.flushing past)).keeps

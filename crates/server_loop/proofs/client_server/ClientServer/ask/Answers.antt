@@ -54,17 +54,22 @@ returns-clause-replies g c =
             said = c.answer_to-answer.ensures.says;
             goes = λ before reached shown. let made = said before reached shown in (made.0, made.1, made.2);
           })
-          (λ st shown other name.
-          c.note.ensures other name
-          ∙ ap (λ (p : Bool × (Bool × Bool)). (p.0 && not (nat_eq c.args.client other && p.1.0)) || (nat_eq c.args.client other && p.1.1))
-          (λ i. (
-            ap (λ (t : Table). owns t other name) c.reserve.ensures.same i,
-            (
-              (c.closed-closed.ensures st shown name
-                  ∙ ap (λ (p : Bool × Option Name). p.0 && (is_name p.1 name && not (is_open st name))) (λ j. (closes j, c.named-name.ensures j))) i,
-              ap (λ (k : Option Kind). is_name (answer_name k answer) name) c.given_kind-kind.ensures i,
-            ),
-          )));
+          (record {
+            closed = c.closed-closed.result;
+            noted = λ other name.
+                c.note.ensures other name
+                ∙ ap (λ (p : Bool × Bool). (p.0 && not (nat_eq c.args.client other && is_name c.closed-closed.result name)) || (nat_eq c.args.client other && p.1))
+                (λ i. (
+                  ap (λ (t : Table). owns t other name) c.reserve.ensures.same i,
+                  ap (λ (k : Option Kind). is_name (answer_name k answer) name) c.given_kind-kind.ensures i,
+                ));
+            named = λ name it.
+                sym (ap (λ (p : Bool × Option Name). p.0 && is_name p.1 name) (λ j. (closes j, c.named-name.ensures j)))
+                ∙ c.closed-closed.ensures.named name it;
+            ended = λ st shown name.
+                c.closed-closed.ensures.ended st shown name
+                ∙ ap (λ (p : Bool × Option Name). p.0 && (is_name p.1 name && not (is_open st name))) (λ j. (closes j, c.named-name.ensures j));
+          });
       admin = refl;
       appended = c.push_client_frame.ensures.items;
     }

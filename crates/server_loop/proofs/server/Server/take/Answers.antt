@@ -57,5 +57,8 @@ returns-in-OracleRestart g c = rw c.in-OracleRestart.is c.restart.ensures
 pub returns-in-Raw : goal.returns-in-Raw
 returns-in-Raw g c = rw c.in-Raw.is c.raw.ensures
 
+pub returns-in-Status : goal.returns-in-Status
+returns-in-Status g c = rw c.in-Status.is c.status.ensures
+
 pub returns-in-Checkpoint : goal.returns-in-Checkpoint
 returns-in-Checkpoint g c = rw c.in-Checkpoint.is c.checkpoint.ensures

@@ -1,3 +1,4 @@
+use Rattle.sorted_file.proofs.Growth.{opening_measured}
 use Rattle.sorted_file.proofs.Keeping.{none_kept}
 use Rattle.sorted_file.proofs.Locked.{keyed_on}
 use Rattle.sorted_file.proofs.Numbered.{numbered_on}
@@ -15,6 +16,7 @@ returns-clause-opened c = λ m w.
       locks_kept = o.columns.locks_kept;
       lasts = o.lasts;
       counted = o.counted;
+      measured = opening_measured _ o;
       format = _;
       image = w.image;
       there = w.there;

@@ -1,6 +1,6 @@
-use Rattle.std.proofs.Common.{ℕ, ◌≡◌, ◌≤◌, inl, inr, length, refl, ap, ◌∙◌, subst, sym, IfErr}
+use Rattle.std.proofs.Common.{ℕ, ◌≡◌, ◌≤◌, Some, None, inl, inr, length, refl, ap, ◌∙◌, subst, sym, IfErr, arith}
 use Rattle.std.proofs.lemmas.Result.{IfOk-weaker, on_err_weaker}
-use Rattle.std.specs.Prelude.{Option}
+use Rattle.std.specs.Prelude.{Option, IfSome}
 use Rattle.std.specs.Result.{IsErrOf, OnErr}
 use Rattle.std.specs.declared.result.Result.{Result}
 use Rattle.std.specs.declared.result.Result.TheVariants.{Ok, Err}
@@ -8,11 +8,12 @@ use Rattle.cell_key.specs.Cells.{Cells}
 use Rattle.cell_key.specs.declared.refusals.Refusal.{Refusal}
 use Rattle.cell_key.specs.declared.refusals.Refusal.TheVariants.{EmptyCommit, MemtableFull, Exhausted, Device, NoMemory, Damaged}
 use Rattle.cell_key.proofs.Reasons.{not_refused}
-use Rattle.oracle.specs.Marks.{MayHold}
-use Rattle.oracle.specs.Ranges.{IsDrawRefusal, OracleState, next_range_end}
 use Rattle.rows.specs.Calls.{OnlyReads, View}
+use Rattle.rows.specs.Sources.{IsDrawRefusal, Source}
 use Rattle.rows.proofs.Calls.{reads_none}
-use Rattle.txn_client.specs.Shows.{Advances, DrawsNext, HasNoNext, top_after}
+use Rattle.si_model.specs.declared.replies.Progress.{Progress}
+use Rattle.si_model.specs.declared.replies.Progress.TheVariants as progress
+use Rattle.txn_client.specs.Shows.{Advances, DrawsIn, DrawsNone, HasNoNext}
 use Rattle.txn_client.specs.Refusals.{IsAdvanceRefusal, IsCellStepRefusal, IsReadableAt, StepLeaves, next_cell}
 use Rattle.txn_client.specs.Room.{MeetsIn}
 use Rattle.txn_client.specs.declared.session.Phase.{Phase}
@@ -78,17 +79,33 @@ not_exhausted : {A : Type 0} (r : Result A Refusal) (Readable P : Type 0) → If
 not_exhausted (Ok x) H P h is = not_refused x Exhausted is
 not_exhausted (Err e) H P h is = let same : e ≡ Exhausted = cc in subst (IsCellStepRefusal H P) same h
 
--- the effects of a refused step on a cell, which doesn't reach the oracle
-left_aside : {A R M : Type 0} (seen : View R) (mark_of : M → Option ℕ) (old new : R) (oracle : OracleState M) (r : Result A Refusal)
-    → OnErr r (OnlyReads seen old new) → OnErr r (StepLeaves seen mark_of old new oracle oracle)
-left_aside seen mark_of old new oracle r = on_err_weaker r (λ same. record { same = same; stays = refl; range = refl; mark = inl refl })
+-- a step that draws no stamp leaves the source
+draws_none : {S : Type 0} (source : Source S) (stamps : S) (p : Progress) → DrawsNone p → DrawsIn source stamps stamps p
+draws_none source stamps (progress.Stamped c) none = absurd none
+draws_none source stamps (progress.Held k n) none = refl
+draws_none source stamps (progress.Conflict k) none = refl
+draws_none source stamps (progress.Committed c) none = refl
+draws_none source stamps progress.Lost none = refl
+draws_none source stamps (progress.Finished k n) none = refl
+
+-- the last stamp, if it is known, by the answer
+told_at : {P : Type 0} (known : Option ℕ) (most : ℕ) → P → IfSome known (λ last. P → last ≡ most) → IfSome known (λ last. last ≡ most)
+told_at (Some last) most is told = told is
+told_at None most is told = tt
+
+at_most_itself : (n : ℕ) → n ≤ n
+at_most_itself n = omega arith
+
+-- the effects of a refused step on a cell, which doesn't reach the source
+left_aside : {A R S : Type 0} (seen : View R) (source : Source S) (old new : R) (stamps : S) (r : Result A Refusal)
+    → OnErr r (OnlyReads seen old new) → OnErr r (StepLeaves seen source old new stamps stamps)
+left_aside seen source old new stamps r = on_err_weaker r (λ same. record { same = same; rises = at_most_itself (source.last stamps); left = inl refl })
 
 -- the effects of a refused draw, which doesn't touch the rows
-left_undrawn : {A R M : Type 0} (seen : View R) (mark_of : M → Option ℕ) (rows : R) (old new : OracleState M) (r : Result A Refusal)
-    → OnErr r (new.last ≡ old.last) → OnErr r (new.range_end ≡ old.range_end) → OnErr r (MayHold (next_range_end old.range_end) (mark_of old.marks) (mark_of new.marks))
-    → OnErr r (StepLeaves seen mark_of rows rows old new)
-left_undrawn seen mark_of rows old new (Ok x) stays range mark = tt
-left_undrawn seen mark_of rows old new (Err e) stays range mark = record { same = reads_none; stays = stays; range = range; mark = mark }
+left_undrawn : {A R S : Type 0} (seen : View R) (source : Source S) (rows : R) (old new : S) (r : Result A Refusal)
+    → source.last old ≤ source.last new → OnErr r (source.leaves old new) → OnErr r (StepLeaves seen source rows rows old new)
+left_undrawn seen source rows old new (Ok x) rises left = tt
+left_undrawn seen source rows old new (Err e) rises left = record { same = reads_none; rises = rises; left = inr left }
 
 pub hold_next-requires : goal.hold_next-requires
 hold_next-requires g c = inr (c.in-Open.is, refl)
@@ -114,8 +131,8 @@ returns-in-Open g c =
     let cells = g.R.Rows.seen.cells rows in
     let session = c.args.self.now in
     record {
-      step = λ held. ok_at (λ o (n : ℕ). Advances cells session n o (g.R.Rows.seen.cells c.hold_next.new.rows) c.hold_next.new.self n) r (at.step held) c.args.oracle.now.last;
-      draws = ok_at (λ o (n : ℕ). (DrawsNext n o.progress) × (n ≡ top_after n o.progress)) r at.draws c.args.oracle.now.last;
+      step = λ held. ok_at (λ o (n : ℕ). Advances cells session n o (g.R.Rows.seen.cells c.hold_next.new.rows) c.hold_next.new.self n) r (at.step held) (g.S.Stamps.source.last c.args.stamps.now);
+      draws = IfOk-weaker r _ _ (λ o. draws_none g.S.Stamps.source c.args.stamps.now o.progress) at.draws;
       start = at.start;
       writes = at.writes;
       err = at.err;
@@ -139,12 +156,12 @@ returns-then-k-len g c =
     let rows = c.args.rows.now in
     let all = held_all _ _ _ _ c.in-Holding.is c.if-k-len.true c.len.ensures.len in
     record {
-      step = λ held. ok_at (λ o (cells : Cells). Advances cells c.args.self.now c.args.oracle.now.last o cells c.draw_commit.new.self c.draw_commit.new.oracle.last) r at.step (g.R.Rows.seen.cells rows);
+      step = λ held. ok_at (λ o (cells : Cells). Advances cells c.args.self.now (g.S.Stamps.source.last c.args.stamps.now) o cells c.draw_commit.new.self (g.S.Stamps.source.last c.draw_commit.new.stamps)) r at.step (g.R.Rows.seen.cells rows);
       draws = at.draws;
       start = at.start;
       writes = at.writes;
       err = at.err;
-      refused = left_undrawn _ _ _ _ _ r at.stays at.range at.mark;
+      refused = left_undrawn _ _ _ _ _ r at.rises at.left;
       does = IfOk-weaker r _ _ (λ o. stamped_does g.R.Rows.seen rows _ o.progress) at.stamped;
       met = IfOk-weaker r _ _ (λ o. stamped_met _ o.progress) at.stamped;
       refusal = draw_refused r _ _ at.refusal;
@@ -152,7 +169,7 @@ returns-then-k-len g c =
       drawing = λ is. at.refusal;
       drawn = λ is. refl;
       full = λ is. absurd (draw_not r MemtableFull (λ u. u) at.refusal is);
-      no_stamp = λ is. record { exhausted = at.exhausted is; draw_only = all; undrawn = at.undrawn is };
+      no_stamp = λ is. record { exhausted = told_at _ _ is at.exhausted; draw_only = all; undrawn = at.undrawn is };
       aside = λ other. absurd (other all);
       reason = inr (at.reason, refl);
     }
@@ -166,8 +183,8 @@ returns-else-k-len g c =
     let cells = g.R.Rows.seen.cells rows in
     let session = c.args.self.now in
     record {
-      step = λ held. ok_at (λ o (n : ℕ). Advances cells session n o (g.R.Rows.seen.cells c.hold_next-else-k-len.new.rows) c.hold_next-else-k-len.new.self n) r (at.step held) c.args.oracle.now.last;
-      draws = ok_at (λ o (n : ℕ). (DrawsNext n o.progress) × (n ≡ top_after n o.progress)) r at.draws c.args.oracle.now.last;
+      step = λ held. ok_at (λ o (n : ℕ). Advances cells session n o (g.R.Rows.seen.cells c.hold_next-else-k-len.new.rows) c.hold_next-else-k-len.new.self n) r (at.step held) (g.S.Stamps.source.last c.args.stamps.now);
+      draws = IfOk-weaker r _ _ (λ o. draws_none g.S.Stamps.source c.args.stamps.now o.progress) at.draws;
       start = at.start;
       writes = at.writes;
       err = at.err;
@@ -193,8 +210,8 @@ returns-in-Stamped g c =
     let cells = g.R.Rows.seen.cells rows in
     let session = c.args.self.now in
     record {
-      step = λ held. ok_at (λ o (n : ℕ). Advances cells session n o (g.R.Rows.seen.cells c.commit_first.new.rows) c.commit_first.new.self n) r (at.step held) c.args.oracle.now.last;
-      draws = ok_at (λ o (n : ℕ). (DrawsNext n o.progress) × (n ≡ top_after n o.progress)) r at.draws c.args.oracle.now.last;
+      step = λ held. ok_at (λ o (n : ℕ). Advances cells session n o (g.R.Rows.seen.cells c.commit_first.new.rows) c.commit_first.new.self n) r (at.step held) (g.S.Stamps.source.last c.args.stamps.now);
+      draws = IfOk-weaker r _ _ (λ o. draws_none g.S.Stamps.source c.args.stamps.now o.progress) at.draws;
       start = at.start;
       writes = at.writes;
       err = at.err;
@@ -220,8 +237,8 @@ returns-in-Finishing g c =
     let cells = g.R.Rows.seen.cells rows in
     let session = c.args.self.now in
     record {
-      step = λ held. ok_at (λ o (n : ℕ). Advances cells session n o (g.R.Rows.seen.cells c.finish_next.new.rows) c.finish_next.new.self n) r (at.step held) c.args.oracle.now.last;
-      draws = ok_at (λ o (n : ℕ). (DrawsNext n o.progress) × (n ≡ top_after n o.progress)) r at.draws c.args.oracle.now.last;
+      step = λ held. ok_at (λ o (n : ℕ). Advances cells session n o (g.R.Rows.seen.cells c.finish_next.new.rows) c.finish_next.new.self n) r (at.step held) (g.S.Stamps.source.last c.args.stamps.now);
+      draws = IfOk-weaker r _ _ (λ o. draws_none g.S.Stamps.source c.args.stamps.now o.progress) at.draws;
       start = at.start;
       writes = at.writes;
       err = at.err;

@@ -52,7 +52,7 @@ returns-then-not-branch g c =
       step = λ held last.
           advance_lost (g.R.Rows.seen.cells c.args.rows.now) c.args.self.now last c.in-Some.first.now c.requires c.in-Some.ensures.found
           (rw c.if-not-branch.true at (at.gone held)) (g.R.Rows.seen.cells c.record.new.rows) left.kept;
-      draws = λ last. (tt, refl);
+      draws = tt;
       start = refl;
       writes = refl;
       err = tt;
@@ -75,7 +75,7 @@ returns g c =
       step = λ held last.
           rw c.stamp.ensures.stamp (advance_committed cells session last first (nat_eq 1 c.len.result) c.requires c.in-Some.ensures.found
           (made.such.1 held) (ap (nat_eq 1) c.len.ensures.len) (g.R.Rows.seen.cells c.record.new.rows) (made.applied.made (g.R.Rows.seen.each_readable c.args.rows.now held made.row) ∙ (make_cells cells first.cell session.start made.edits).recorded session.commit (kind_of_change first.value) made.such.2));
-      draws = λ last. (tt, refl);
+      draws = tt;
       start = refl;
       writes = refl;
       err = tt;

@@ -69,7 +69,7 @@ returns g c =
             | inl made ↦ inl (made.such.1 held, made.applied.made (g.R.Rows.seen.each_readable c.args.rows.now held made.row) ∙ (make_cells cells write.cell session.start made.edits).recorded session.commit (kind_of_change write.value) made.such.2)
             | inr left ↦ inr (left.0, left.1.kept)
           ]);
-      draws = λ last. (tt, refl);
+      draws = tt;
       start = refl;
       writes = refl;
       err = tt;

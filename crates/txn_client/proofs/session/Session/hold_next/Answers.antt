@@ -1,11 +1,11 @@
 use Rattle.std.proofs.Common.{◌∙◌, ℕ, refl, ap, subst}
 use Rattle.cell_key.specs.Cells.{Cells, after_edits}
-use Rattle.cell_key.proofs.Reasons.{not_refused, reason_kept, reason_none, reason_passed}
+use Rattle.cell_key.proofs.Reasons.{not_refused, reason_kept, reason_none, reason_passed, reason_then}
 use Rattle.rows.proofs.Calls.{reads_none, reads_then, such_after, such_so}
 use Rattle.txn_client.specs.Reads.{IsTaken, IsFree}
 use Rattle.txn_client.proofs.SessionSteps.{advance_conflict, advance_held}
 use Rattle.txn_client.proofs.Room.{holding_makes}
-use Rattle.txn_client.proofs.Passed.{passed_on, passed_err, passed_none, passed_kept, read_row, apply_row, row_step, read_not_full, reason_untouched, apply_no_device, empty_not_full, empty_no_device, at_most_more, not_past}
+use Rattle.txn_client.proofs.Passed.{passed_on, passed_err, passed_none, passed_kept, read_row, edit_row, row_step, read_not_full, empty_not_full, empty_no_device, at_most_more, not_past}
 use Rattle.txn_client.proofs.session.Session.hold_next.Goals as goal
 
 pub returns-in_default : goal.returns-in_default
@@ -69,7 +69,7 @@ returns-then-branch g c =
       step = λ held last.
           advance_conflict (g.R.Rows.seen.cells c.args.rows.now) c.args.self.now last c.args.k write c.requires c.in-Some.ensures.found
           (subst (λ (n : ℕ). IsTaken (g.R.Rows.seen.cells c.args.rows.now) write.cell n) c.stamp-start.ensures.stamp (rw c.if-branch.true at (at.taken (g.R.Rows.seen.each_readable c.args.rows.now held write.cell.row)))) (g.R.Rows.seen.cells c.is_taken.new.rows) at.reads.kept;
-      draws = λ last. (tt, refl);
+      draws = tt;
       start = refl;
       writes = refl;
       err = tt;
@@ -100,7 +100,7 @@ returns-in_err-hold g c =
       does = passed_none r e _ by;
       met = passed_none r e _ by;
       same = passed_kept r _ (reads_then first.reads at.err);
-      refusal = passed_err r e _ by (row_step _ _ _ e (λ whole. whole c.in-Some.write.now c.in-Some.ensures.found) (apply_row _ e at.refusal));
+      refusal = passed_err r e _ by (row_step _ _ _ e (λ whole. whole c.in-Some.write.now c.in-Some.ensures.found) (edit_row _ e at.refusal));
       empty = λ past. absurd (not_past _ _ c.in-Some.ensures.some past);
       full = λ is.
           let lack = at.full (passed_on r _ e _ by refl is) in (
@@ -116,7 +116,7 @@ returns-in_err-hold g c =
             ),
             first.reads.room _ _ lack.3,
           );
-      reason = reason_untouched _ r _ _ _ at.untouched (apply_no_device r e by at.refusal) first.reason;
+      reason = reason_then r _ _ _ _ first.reason (reason_passed r e _ _ by at.reason);
     }
 
 pub returns : goal.returns
@@ -133,7 +133,7 @@ returns g c =
           (subst (λ (n : ℕ). IsFree cells write.cell n) c.stamp-start.ensures.stamp (rw c.if-branch.false at (first.free (g.R.Rows.seen.each_readable c.args.rows.now held write.cell.row))))
           c.len.ensures.len (g.R.Rows.seen.cells c.hold.new.rows)
           (made.applied.made (first.reads.readable made.row (g.R.Rows.seen.each_readable c.args.rows.now held made.row)) ∙ (ap (λ (cs : Cells). after_edits cs made.edits) first.reads.kept ∙ holding_makes cells write.cell head.cell start write.value made.edits made.such.1));
-      draws = λ last. (tt, refl);
+      draws = tt;
       start = refl;
       writes = refl;
       err = tt;
@@ -150,5 +150,5 @@ returns g c =
       refusal = tt;
       empty = λ past. absurd (not_past _ _ c.in-Some.ensures.some past);
       full = λ is. absurd (not_refused _ _ is);
-      reason = reason_untouched _ _ _ _ _ c.in_ok-hold.ensures.untouched (not_refused _ _) first.reason;
+      reason = reason_then _ _ _ _ _ first.reason (reason_kept _ _ _ _ (not_refused _ _) c.in_ok-hold.ensures.reason);
     }

@@ -1,7 +1,6 @@
-use Rattle.std.proofs.Common.{◌∙◌, ℕ, List, map, length, inr, sym, subst, ap, refl}
+use Rattle.std.proofs.Common.{◌∙◌, ℕ, List, map, length, sym, subst, ap, refl}
 use Rattle.std.specs.declared.result.Result.TheVariants.{Err}
 use Rattle.cell_key.proofs.Passed.{as_err, passed_kept, same_refusal}
-use Rattle.cell_key.proofs.Reasons.{reason_passed}
 use Rattle.rows.proofs.Calls.{reads_then}
 use Rattle.cell_key.specs.Cells.{Cells}
 use Rattle.cell_key.specs.declared.refusals.Refusal.{Refusal}
@@ -18,6 +17,7 @@ use Rattle.txn_client.specs.declared.writes.Write.{Write}
 use Rattle.txn_client.proofs.Buffered.{named_ends, named_itself}
 use Rattle.txn_client.proofs.CommitShown.{commit_at, conflict_at, empty_at, none_at, not_less, session_refused_at, some_at, some_writes, storage_at, taken_none, write_refused_at}
 use Rattle.txn_client.proofs.Committed.{commit_stamp, commits_by, conflicts_by, no_room_by}
+use Rattle.txn_client.proofs.OneReason.{one_reason_kept, one_reason_passed, one_reason_then}
 use Rattle.txn_client.proofs.Passed.{at_most_itself}
 use Rattle.txn_client.proofs.Refused.{draw_storage, put_storage, read_storage}
 use Rattle.txn_client.proofs.sessions.Clients.commit.Goals as goal
@@ -109,10 +109,7 @@ returns-in_err-commit-clause-refused g c =
 pub returns-in_err-commit-clause-reason : goal.returns-in_err-commit-clause-reason
 returns-in_err-commit-clause-reason g c =
     let put = c.in_err-commit.ensures in
-    inr (
-      reason_passed c.from_residual-in_err-commit.result c.in_err-commit.field-0.0 _ _ c.from_residual-in_err-commit.ensures.1 put.reason,
-      put.untouched ∙ c.in_ok-place.ensures.reason.told (λ e. cc),
-    )
+    one_reason_passed c.from_residual-in_err-commit.result c.in_err-commit.field-0.0 _ _ _ _ c.from_residual-in_err-commit.ensures.1 (one_reason_then _ _ _ _ _ _ _ c.in_ok-place.ensures.reason put.reason)
 
 pub returns-in_err-commit-clause-full : goal.returns-in_err-commit-clause-full
 returns-in_err-commit-clause-full g c = λ is.
@@ -144,6 +141,9 @@ returns-clause-step g c = λ held.
     (some_writes ws c.len.result c.len.ensures.len c.if-len-eq0.false)
     (subst (λ (p : ℕ × List Write). AreFree cells p.0 p.1 (length p.1)) (λ j. (c.stamp-session.ensures.stamp j, c.as_slice.ensures.writes j)) free)
     made c.end-2.ensures)
+
+pub returns-clause-reason : goal.returns-clause-reason
+returns-clause-reason g c = one_reason_then _ _ _ _ _ _ _ c.in_ok-place.ensures.reason (one_reason_kept _ _ _ _ _ _ c.in_ok-commit.ensures.reason)
 
 pub returns-clause-does : goal.returns-clause-does
 returns-clause-does g c =

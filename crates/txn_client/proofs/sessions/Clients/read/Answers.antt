@@ -49,7 +49,7 @@ returns-in_err-begin-clause-step g c = λ held.
     let e = c.in_err-begin.field-0.0 in
     rw (as_err c.from_residual-in_err-begin.result e c.from_residual-in_err-begin.ensures.1)
     (begin_refused_at cells (g.R.Rows.seen.cells c.read_all.new.rows) c.args.self.now c.args.oracle.now.last c.args.start c.args.names.now c.args.stays_open c.in_ok-found.ensures.reads.kept
-    (good_count (length c.args.names.now) c.is_empty.result c.is_empty.ensures c.if-is_empty.false c.if-names-gt-MOST_READ.false) c.begin.new.self c.begin.new.oracle.last e c.if-start-eq0.true (c.in_err-begin.ensures.step cells))
+    (good_count (length c.args.names.now) c.is_empty.result c.is_empty.ensures c.if-is_empty.false c.if-names-gt-MOST_READ.false) c.begin.new.self c.begin.new.stamps.last e c.if-start-eq0.true (c.in_err-begin.ensures.step cells))
 
 pub returns-then-stays_open-clause-step : goal.returns-then-stays_open-clause-step
 returns-then-stays_open-clause-step g c = λ held.
@@ -63,7 +63,7 @@ returns-then-stays_open-clause-step g c = λ held.
     let end = ends_open cells s c.if-start-eq0.self c.if-start-eq0.oracle.last c.args.stays_open c.if-stays_open.true in
     elim c.if-start-eq0.branch [
       | then-start-eq0+in_ok-begin w ↦ reads_new_at cells (g.R.Rows.seen.cells c.read_all.new.rows) self last c.args.start c.args.names.now c.args.stays_open c.in_ok-found.ensures.reads.kept few s w.in_ok-begin.field-0 (told_items c.in_ok-found.found.items) read
-          w.if-start-eq0.true w.in_ok-begin.ensures.next.0 has c.if-start-eq0.self c.if-start-eq0.oracle.last (steps_to w.self-is (ap (λ (o : OracleState g.row.M.Denot). o.last) w.oracle-is) (w.in_ok-begin.ensures.step cells)) _ end
+          w.if-start-eq0.true w.in_ok-begin.ensures.drawn.next has c.if-start-eq0.self c.if-start-eq0.oracle.last (steps_to w.self-is (ap (λ (o : OracleState g.row.M.Denot). o.last) w.oracle-is) (w.in_ok-begin.ensures.step cells)) _ end
       | else-start-eq0 w ↦ reads_named_at cells (g.R.Rows.seen.cells c.read_all.new.rows) self last c.args.start c.args.names.now c.args.stays_open c.in_ok-found.ensures.reads.kept few s (told_items c.in_ok-found.found.items) read
           w.if-start-eq0.false has c.if-start-eq0.self c.if-start-eq0.oracle.last w.self-is (ap (λ (o : OracleState g.row.M.Denot). o.last) w.oracle-is) _ end
     ]
@@ -80,7 +80,7 @@ returns-clause-step g c = λ held.
     let end = ends_stopped cells s c.if-start-eq0.self c.stop.new.self c.if-start-eq0.oracle.last c.args.stays_open c.stop.result c.if-stays_open.false c.stop.ensures.refusal (c.stop.ensures.step cells c.if-start-eq0.oracle.last) in
     elim c.if-start-eq0.branch [
       | then-start-eq0+in_ok-begin w ↦ reads_new_at cells (g.R.Rows.seen.cells c.read_all.new.rows) self last c.args.start c.args.names.now c.args.stays_open c.in_ok-found.ensures.reads.kept few s w.in_ok-begin.field-0 (told_items c.in_ok-found.found.items) read
-          w.if-start-eq0.true w.in_ok-begin.ensures.next.0 has c.if-start-eq0.self c.if-start-eq0.oracle.last (steps_to w.self-is (ap (λ (o : OracleState g.row.M.Denot). o.last) w.oracle-is) (w.in_ok-begin.ensures.step cells)) _ end
+          w.if-start-eq0.true w.in_ok-begin.ensures.drawn.next has c.if-start-eq0.self c.if-start-eq0.oracle.last (steps_to w.self-is (ap (λ (o : OracleState g.row.M.Denot). o.last) w.oracle-is) (w.in_ok-begin.ensures.step cells)) _ end
       | else-start-eq0 w ↦ reads_named_at cells (g.R.Rows.seen.cells c.read_all.new.rows) self last c.args.start c.args.names.now c.args.stays_open c.in_ok-found.ensures.reads.kept few s (told_items c.in_ok-found.found.items) read
           w.if-start-eq0.false has c.if-start-eq0.self c.if-start-eq0.oracle.last w.self-is (ap (λ (o : OracleState g.row.M.Denot). o.last) w.oracle-is) _ end
     ]
@@ -109,7 +109,7 @@ returns-clause-buffered g c =
     let stopped = c.stop.ensures.buffered in
     elim c.if-start-eq0.branch [
       | then-start-eq0+in_ok-begin w ↦ unnamed_stopped c.args.self.now _ c.stop.new.self c.args.start w.in_ok-begin.field-0 s w.if-start-eq0.true
-          (w.in_ok-begin.ensures.next.0 ∙ ap (λ n. n + 1) (sym c.last.ensures.last) ∙ sym (c.in_ok-session.ensures.session.is_new w.if-start-eq0.true).0)
+          (w.in_ok-begin.ensures.drawn.next ∙ ap (λ n. n + 1) (sym c.last.ensures.last) ∙ sym (c.in_ok-session.ensures.session.is_new w.if-start-eq0.true).0)
           (subst (λ (k : Clients). BeginsEmpty c.args.self.now k w.in_ok-begin.field-0) (sym w.self-is) w.in_ok-begin.ensures.buffered) stopped
       | else-start-eq0 w ↦ named_stopped c.args.self.now c.stop.new.self c.args.start s w.if-start-eq0.false (c.in_ok-session.ensures.session.is_open w.if-start-eq0.false).0
           (subst (λ (k : Clients). BuffersNone k c.stop.new.self s) w.self-is stopped)

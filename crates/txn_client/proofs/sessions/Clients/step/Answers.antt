@@ -1,30 +1,21 @@
-use Rattle.std.proofs.Common.{◌≡◌, ◌∙◌, sym, ap, subst, refl, Option, Some, None, true, cond, inl, inr, ℕ, ◌-◌, ◌≤◌, arith}
+use Rattle.std.proofs.Common.{◌≡◌, ◌∙◌, sym, ap, subst, refl, Option, Some, None, true, cond, inl, ℕ, ◌-◌}
 use Rattle.std.specs.Prelude.{is_some, IsSome}
 use Rattle.std.specs.Ordering.{nat_cmp, is_eq}
 use Rattle.std.specs.BTreeMap as btree
-use Rattle.std.specs.Result.{IsErrAnd, IsErrOf}
-use Rattle.std.specs.declared.result.Result.{Result}
-use Rattle.std.specs.declared.result.Result.TheVariants.{Ok, Err}
-use Rattle.cell_key.specs.declared.refusals.Refusal.{Refusal}
+use Rattle.std.specs.Result.{IsErrOf}
+use Rattle.std.specs.declared.result.Result.TheVariants.{Err}
 use Rattle.cell_key.specs.declared.refusals.Refusal.TheVariants.{UnknownSession, MemtableFull, Exhausted, Device, Damaged}
-use Rattle.cell_key.proofs.Reasons.{not_refused, reason_kept, reason_none, reason_passed}
+use Rattle.cell_key.proofs.Reasons.{not_refused, reason_none}
 use Rattle.rows.proofs.Calls.{reads_keep, reads_none}
-use Rattle.txn_client.specs.Refusals.{HasOneReason, IsAdvanceRefusal, IsReadableAt, next_cell}
+use Rattle.txn_client.specs.Refusals.{IsAdvanceRefusal, IsReadableAt, next_cell}
 use Rattle.txn_client.specs.declared.session.Session.{Session}
 use Rattle.txn_client.proofs.Room.{changes_shown, does_below, does_make, does_so, does_take, does_touch, draws_shown, edits_touch, met_so, no_room_so, same_touch}
-use Rattle.txn_client.proofs.Passed.{as_err, passed_on, passed_err, passed_none, passed_kept, refused_not, advance_step}
+use Rattle.txn_client.proofs.OneReason.{one_reason_kept, one_reason_passed}
+use Rattle.txn_client.proofs.Passed.{as_err, at_most_itself, passed_on, passed_err, passed_none, passed_kept, refused_not, advance_step}
 use Rattle.txn_client.proofs.Buffered.{buffers_kept, buffers_same, from_none, none_gone}
 use Rattle.txn_client.proofs.Exact.{is_kept, is_there, passes, unwritten_none, unwritten_phase}
 use Rattle.txn_client.proofs.Table.{entries_each, same_each, takes_at, steps_refused, advance_unknown_at, twice, with_none, touches_at, upd_at, draws_next, never_draws}
 use Rattle.txn_client.proofs.sessions.Clients.step.Goals as goal
-
-one_reason_kept : {A B : Type 0} (x : A) (y : B) (before now before' now' : ℕ) → HasOneReason before now before' now' (Ok x) → HasOneReason before now before' now' (Ok y)
-one_reason_kept x y before now before' now' (inl (reason, same)) = inl (reason_kept x (Ok y) _ _ (not_refused y Device) reason, same)
-one_reason_kept x y before now before' now' (inr (reason, same)) = inr (reason_kept x (Ok y) _ _ (not_refused y Device) reason, same)
-
-one_reason_passed : {A B : Type 0} (r : Result B Refusal) (e : Refusal) (before now before' now' : ℕ) → IsErrAnd r (λ f. f ≡ e) → HasOneReason {T = A} before now before' now' (Err e) → HasOneReason before now before' now' r
-one_reason_passed r e before now before' now' by (inl (reason, same)) = inl (reason_passed r e _ _ by reason, same)
-one_reason_passed r e before now before' now' by (inr (reason, same)) = inr (reason_passed r e _ _ by reason, same)
 
 unknown_undamaged : {A : Type 0} → IsErrOf {T = A} (Err UnknownSession) Damaged → ⊥
 unknown_undamaged is = cc
@@ -38,9 +29,6 @@ unknown_not_full is = cc
 unknown_no_device : {A : Type 0} → IsErrOf {T = A} (Err UnknownSession) Device → ⊥
 unknown_no_device is = cc
 
-not_less : (n m : ℕ) → m ≡ n → n ≤ m
-not_less n m same = omega arith
-
 pub returns-then-outcome-clause-step : goal.returns-then-outcome-clause-step
 returns-then-outcome-clause-step g c = λ held.
     let was = sym c.in-Some.ensures.value in
@@ -49,7 +37,7 @@ returns-then-outcome-clause-step g c = λ held.
     let lent = c.get_mut.follows.holds w in
     let set = lent.3 there in
     let found : is_some c.remove.result ≡ true = ap is_some (c.remove.ensures.value ∙ set.1) in
-    takes_at (g.R.Rows.seen.cells c.args.rows.now) (g.R.Rows.seen.cells c.advance.new.rows) c.args.self.now (record c.args.self.now { top = c.top_after_step-self.result; sessions = c.remove.new.self; buffered = c.saturating_sub-self.result }) c.args.oracle.now.last c.advance.new.oracle.last
+    takes_at (g.R.Rows.seen.cells c.args.rows.now) (g.R.Rows.seen.cells c.advance.new.rows) c.args.self.now (record c.args.self.now { top = c.top_after_step-self.result; sessions = c.remove.new.self; buffered = c.saturating_sub-self.result }) (g.S.Stamps.source.last c.args.stamps.now) (g.S.Stamps.source.last c.advance.new.stamps)
     c.in-Some.session.now w c.in_ok-outcome.outcome (c.in_ok-outcome.ensures.step held) c.in_ok-outcome.ensures.start c.in_ok-outcome.ensures.writes c.top_after_step-self.ensures
     (rw c.if-outcome.true ((rw found at c.remove.ensures.len) ∙ lent.2)) c.args.start was
     (λ q. rw c.if-outcome.true (c.remove.ensures.updates.0 q ∙ (ap (λ (o : Option Session). cond (is_eq (nat_cmp c.args.start q)) None o) (set.0 q) ∙ twice (is_eq (nat_cmp c.args.start q)) None (Some w) (btree.get nat_cmp c.args.self.now.sessions q))))
@@ -60,7 +48,7 @@ returns-else-outcome-clause-step g c = λ held.
     let there : IsSome (btree.get nat_cmp c.args.self.now.sessions c.args.start) = subst (λ (o : Option Session). IsSome o) c.in-Some.ensures.value refl in
     let w = c.advance.new.self in
     let lent = c.get_mut.follows.holds w in
-    takes_at (g.R.Rows.seen.cells c.args.rows.now) (g.R.Rows.seen.cells c.advance.new.rows) c.args.self.now (record c.args.self.now { top = c.top_after_step-self.result; sessions = c.get_mut.follows.lender w }) c.args.oracle.now.last c.advance.new.oracle.last
+    takes_at (g.R.Rows.seen.cells c.args.rows.now) (g.R.Rows.seen.cells c.advance.new.rows) c.args.self.now (record c.args.self.now { top = c.top_after_step-self.result; sessions = c.get_mut.follows.lender w }) (g.S.Stamps.source.last c.args.stamps.now) (g.S.Stamps.source.last c.advance.new.stamps)
     c.in-Some.session.now w c.in_ok-outcome.outcome (c.in_ok-outcome.ensures.step held) c.in_ok-outcome.ensures.start c.in_ok-outcome.ensures.writes c.top_after_step-self.ensures
     (rw c.if-outcome.false (with_none (btree.btree_map_len (c.get_mut.follows.lender w)) (btree.btree_map_len c.args.self.now.sessions) lent.2)) c.args.start was (λ q. rw c.if-outcome.false ((lent.3 there).0 q))
 
@@ -71,12 +59,12 @@ returns-in_err-outcome-clause-step g c = λ held.
     let w = c.advance.new.self in
     let lent = c.get_mut.follows.holds w in
     let e = as_err c.from_residual.result c.in_err-outcome.field-0.0 c.from_residual.ensures.1 in
-    rw (e, c.in_err-outcome.ensures.refused.same.kept) (steps_refused _ (g.R.Rows.seen.cells c.args.rows.now) c.args.self.now (record c.args.self.now { sessions = c.get_mut.follows.lender w }) c.args.oracle.now.last c.advance.new.oracle.last c.args.start
-    c.in-Some.session.now w c.in_err-outcome.field-0.0 was c.in_err-outcome.ensures.err refl (lent.3 there).0 lent.2 (not_less _ _ c.in_err-outcome.ensures.refused.stays) c.in_err-outcome.ensures.refusal)
+    rw (e, c.in_err-outcome.ensures.refused.same.kept) (steps_refused _ (g.R.Rows.seen.cells c.args.rows.now) c.args.self.now (record c.args.self.now { sessions = c.get_mut.follows.lender w }) (g.S.Stamps.source.last c.args.stamps.now) (g.S.Stamps.source.last c.advance.new.stamps) c.args.start
+    c.in-Some.session.now w c.in_err-outcome.field-0.0 was c.in_err-outcome.ensures.err refl (lent.3 there).0 lent.2 c.in_err-outcome.ensures.refused.rises c.in_err-outcome.ensures.refusal)
 
 pub returns-in_default-clause-step : goal.returns-in_default-clause-step
 returns-in_default-clause-step g c = λ held.
-    advance_unknown_at (g.R.Rows.seen.cells c.args.rows.now) c.args.self.now (record c.args.self.now { sessions = c.get_mut.follows.lender-at-none }) c.args.oracle.now.last c.args.start refl (sym c.in_default.ensures.value)
+    advance_unknown_at (g.R.Rows.seen.cells c.args.rows.now) c.args.self.now (record c.args.self.now { sessions = c.get_mut.follows.lender-at-none }) (g.S.Stamps.source.last c.args.stamps.now) c.args.start refl (sym c.in_default.ensures.value)
     (ap (λ m. m.entries) c.get_mut.follows.holds-at-none)
 
 pub returns-in_err-outcome-clause-err : goal.returns-in_err-outcome-clause-err
@@ -225,8 +213,6 @@ returns-then-outcome-clause-accepted g c = record {
   room = λ held st reached shown kept.
       does_take g.R.Rows.seen c.args.rows.now c.advance.new.rows _ c.in_ok-outcome.outcome.progress
       (does_so g.R.Rows.seen c.args.rows.now c.advance.new.rows c.in_ok-outcome.outcome.progress (λ row edits is. changes_shown (g.R.Rows.seen.holds c.args.rows.now) (g.R.Rows.seen.cells c.args.rows.now) c.args.self.now c.args.start held st reached shown kept row edits (c.in-Some.session.now, sym c.in-Some.ensures.value, is)) c.in_ok-outcome.ensures.does);
-  draws = c.in_ok-outcome.ensures.draws.0;
-  last = c.in_ok-outcome.ensures.draws.1;
 }
 
 pub returns-then-outcome-clause-refused : goal.returns-then-outcome-clause-refused
@@ -255,8 +241,6 @@ returns-else-outcome-clause-accepted g c = record {
   room = λ held st reached shown kept.
       does_take g.R.Rows.seen c.args.rows.now c.advance.new.rows _ c.in_ok-outcome.outcome.progress
       (does_so g.R.Rows.seen c.args.rows.now c.advance.new.rows c.in_ok-outcome.outcome.progress (λ row edits is. changes_shown (g.R.Rows.seen.holds c.args.rows.now) (g.R.Rows.seen.cells c.args.rows.now) c.args.self.now c.args.start held st reached shown kept row edits (c.in-Some.session.now, sym c.in-Some.ensures.value, is)) c.in_ok-outcome.ensures.does);
-  draws = c.in_ok-outcome.ensures.draws.0;
-  last = c.in_ok-outcome.ensures.draws.1;
 }
 
 pub returns-else-outcome-clause-refused : goal.returns-else-outcome-clause-refused
@@ -300,11 +284,14 @@ returns-in_err-outcome-clause-no_stamp g c = λ is.
       undrawn = none.undrawn;
     }
 
+pub returns-in_err-outcome-clause-draws : goal.returns-in_err-outcome-clause-draws
+returns-in_err-outcome-clause-draws g c = passed_none c.from_residual.result c.in_err-outcome.field-0.0 _ c.from_residual.ensures.1
+
 pub returns-in_default-clause-accepted : goal.returns-in_default-clause-accepted
 returns-in_default-clause-accepted g c = tt
 
 pub returns-in_default-clause-refused : goal.returns-in_default-clause-refused
-returns-in_default-clause-refused g c = record { same = reads_none; stays = refl; range = refl; mark = inl refl }
+returns-in_default-clause-refused g c = record { same = reads_none; rises = at_most_itself _; left = inl refl }
 
 pub returns-in_default-clause-causes : goal.returns-in_default-clause-causes
 returns-in_default-clause-causes g c = λ st shown. record {
