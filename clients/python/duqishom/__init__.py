@@ -73,6 +73,7 @@ from duqishom.refusals import (
     WrongPhase,
 )
 from duqishom.remote import ConnectionLost, Fate
+from duqishom.reports import ServerReport, ServerStatus, TabletReport
 from duqishom.store import ForkedStore, Store
 from duqishom.tablets import Tablet
 from duqishom.transactions import (
@@ -143,11 +144,14 @@ __all__ = [
     "RolledForward",
     "ScanItem",
     "Scanned",
+    "ServerReport",
+    "ServerStatus",
     "Snapshot",
     "Stamped",
     "StillPending",
     "Store",
     "Tablet",
+    "TabletReport",
     "TooManyFiles",
     "TooManySessions",
     "TooManyWrites",

@@ -11,11 +11,12 @@ from contextlib import nullcontext
 from duqishom import backups, dumps, inspection, serving, statistics, watch_command, web
 from duqishom.program import ProgramEnded
 from duqishom.refusals import Refused
+from duqishom.remote import shown_address, socket_at
 from duqishom.store import Store
-from duqishom.tellings import Form, show
+from duqishom.tellings import Form
 from duqishom.terminal import editing, lines
 from duqishom.version import VERSION
-from duqishom.words import LINES, Quit, Words, answer_all, complete, help_of
+from duqishom.words import LINES, Quit, Words, answer_all, complete, help_of, shown
 
 GREETING = "duqishom {version}: {store}. The line help shows all lines; quit or the end of the input ends it."
 
@@ -68,12 +69,18 @@ def parser() -> argparse.ArgumentParser:
     made.add_argument("--program", help="the tabletd to start: that of TABLETD, this package or PATH if none is named")
     place = made.add_mutually_exclusive_group()
     place.add_argument("--dir", help="the folder of the store: a new store in memory if none is named")
-    place.add_argument("--socket", metavar="PATH", help="ask the store that a gateway serves there; no program is started")
+    place.add_argument(
+        "--socket",
+        metavar="PATH",
+        type=socket_at,
+        help="ask the store that a gateway serves there, or at HOST:PORT; no program is started",
+    )
     made.add_argument(
         "--log",
         action=argparse.BooleanOptionalAction,
         help="have the folder get a log, or a new one get none: a new one gets a log if nothing is said",
     )
+    made.add_argument("--new", action="store_true", help="with --no-log: the folder never had a root, whatever files are there")
     made.add_argument("--log-bytes", metavar="L", help="given to the program: bytes of a log before a checkpoint empties it")
     made.add_argument("--flush", metavar="N", help="given to the program: how many entries a memtable has before it is compacted")
     made.add_argument("--flush-bytes", metavar="B", help="given to the program: how many bytes of entries compact a memtable too")
@@ -94,7 +101,7 @@ def parser() -> argparse.ArgumentParser:
 def place_of(options: argparse.Namespace) -> str:
     """The store that is asked, in words."""
     if options.socket:
-        return f"the store that is served at {options.socket}"
+        return f"the store that is served at {shown_address(options.socket)}"
     return f"the store of {options.dir}" if options.dir else "a new store in memory, which ends with this command"
 
 
@@ -135,6 +142,7 @@ def opened(options: argparse.Namespace) -> Store:
         socket=options.socket,
         record=options.record,
         log=options.log,
+        new=options.new,
     )
 
 
@@ -145,8 +153,8 @@ def asked(words: Words, options: argparse.Namespace) -> int:
             is_done, told = words.answer_words(options.words)
         except Quit:
             return 0
-        show(told, options.form)
-        return 0 if is_done else 1
+        is_shown = shown(told, options.form)
+        return 0 if is_done and is_shown else 1
     is_terminal = sys.stdin.isatty()
     by_pages = is_terminal and sys.stdout.isatty()
     if is_terminal:

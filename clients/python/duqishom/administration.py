@@ -3,15 +3,15 @@ store's folder."""
 
 from __future__ import annotations
 
-import json
 import os
 from collections.abc import Mapping
 from contextlib import suppress
 from dataclasses import dataclass
-from typing import Any, ClassVar
+from typing import ClassVar
 
 from duqishom.batches import answers_of, request_frame
 from duqishom.copies import NotCopied
+from duqishom.counted import Counted, Statistics, told_in
 from duqishom.fields import FieldReader, MalformedReply, number
 from duqishom.operations import Answer, Operation
 from duqishom.program import ProgramEnded
@@ -19,33 +19,8 @@ from duqishom.progress import BYTES, Reached, Report, unreported
 from duqishom.refusals import Refused
 from duqishom.remote import Address, Gateway
 
-Number = int | float
-Counted = Number | Mapping[str, "Counted"]
-
 # The seconds between two questions how far a copy is.
 LOOK_PAUSE = 0.5
-
-
-def told_in(fields: FieldReader) -> Any:
-    """What the JSON text of a reply says. MalformedReply if it is none."""
-    try:
-        return json.loads(fields.rest())
-    except ValueError as why:
-        raise MalformedReply(f"this is no JSON: {why}") from None
-
-
-@dataclass(frozen=True)
-class Statistics:
-    """Asks for the counts of a gateway, by their names."""
-
-    code: ClassVar[int] = 0x70
-
-    def fields(self) -> bytes:
-        return b""
-
-    def read(self, fields: FieldReader) -> dict[str, Counted]:
-        told: dict[str, Counted] = told_in(fields)
-        return told
 
 
 @dataclass(frozen=True)

@@ -16,28 +16,32 @@ import asyncio
 import logging
 from collections.abc import AsyncGenerator, AsyncIterator, Awaitable, Callable, Coroutine, Iterable, Sequence
 from contextlib import aclosing, suppress
+from functools import partial
 from os import PathLike, fspath
 from types import TracebackType
 from typing import Any, Concatenate, Literal, ParamSpec, TypeVar, overload
 
-from duqishom.administration import LOOK_PAUSE, Backup, Statistics, answer_in, check_copied, reached_in
+from duqishom.administration import LOOK_PAUSE, Backup, answer_in, check_copied, reached_in
 from duqishom.answers import (
     Cleaned,
     Cleaner,
     Collection,
     Collector,
     Committed,
+    Entry,
     Found,
     Pending,
+    Piece,
     Progress,
     Qualifier,
     Scanned,
     Version,
 )
 from duqishom.autocommit import cell_of, is_of_session
-from duqishom.batches import Batch, answers_of, request_frame, request_frames
+from duqishom.batches import Batch, Whole, answers_of, request_frame, request_frames
 from duqishom.cells import Cell, CellRange, range_of
 from duqishom.changes import watch_of
+from duqishom.counted import Statistics
 from duqishom.fields import MalformedReply
 from duqishom.operations import (
     MOST_CELLS,
@@ -70,6 +74,7 @@ from duqishom.plans import (
     Patience,
     Pause,
     Plan,
+    Reconnects,
     Requests,
     StillPending,
     StorePlans,
@@ -83,9 +88,24 @@ from duqishom.program import ProgramEnded
 from duqishom.progress import Reached, Report, unreported
 from duqishom.refusals import Refused, TooManySessions, UnknownSession
 from duqishom.remote import Address, ConnectionLost, Fate, address_of
-from duqishom.sessions import Entry, RangeScan, Session
-from duqishom.several import NEW, Commit, Read, ReadDone
+from duqishom.reports import ServerStatus
+from duqishom.scans import (
+    FEW_CELLS,
+    GROWTH,
+    RangeScan,
+    Row,
+    cells_of,
+    cells_of_async,
+    checked_limit,
+    first_cells,
+    first_rows,
+    rows_of_async,
+    values_of_row,
+)
+from duqishom.sessions import Session
+from duqishom.several import NEW, Commit, Read, ReadDone, Support
 from duqishom.streams import FrameStream
+from duqishom.tablets import Tablet, tablets_in
 from duqishom.watching import Changes
 
 MOST_VISITS = 1000
@@ -93,10 +113,8 @@ MOST_VISITS = 1000
 # So many sessions a gateway gives a connection, unless it is told otherwise.
 MOST_SESSIONS = 64
 
-# The seconds between two attempts to connect anew.
-RECONNECT_PAUSE = 0.1
-
 Answer = TypeVar("Answer")
+Item = TypeVar("Item")
 Own = TypeVar("Own", bound="Snapshot")
 Result = TypeVar("Result")
 
@@ -192,12 +210,19 @@ class Store:
     ) -> list[Answer | Refused]:
         """Asks for several operations in one trip, and gives the answer to each, or its refusal. They go to the connection that is
         named, or to none."""
-        requests, count = request_frames(operations)
-        async with asyncio.timeout(self._timeout):
-            replies = await (await self._connected(stream)).ask(requests, count)
-        answers = answers_of(operations, replies, is_remote=True)
-        self._plans.stamps.note(operations, answers)
-        return answers
+        stamps = self._plans.stamps
+        stamps.trips += 1
+        try:
+            async with asyncio.timeout(self._timeout):
+                connected = await self._connected(stream)
+                await connected.room()
+                requests, count = request_frames(operations)
+                replies = await connected.ask(requests, count)
+            answers = answers_of(operations, replies, is_remote=True)
+            stamps.note(operations, answers)
+            return answers
+        finally:
+            stamps.trips -= 1
 
     async def _connected(self, wanted: FrameStream | None, link: Link | None = None) -> FrameStream:
         """The connection of a link, the first one if none is named, made anew where the last one is known to be lost.
@@ -268,17 +293,26 @@ class Store:
     async def get_many(self, cells: Iterable[tuple[bytes, bytes]]) -> list[bytes | None]:
         """The values of cells, all as of one moment, as `Store.get_many` of the other twin gives them."""
         wanted = [Cell(*cell) for cell in cells]
-        values: list[bytes | None] | None = None
-        with suppress(ConnectionLost, TooManySessions):
-            values = await self._to_its_end(self._read(wanted))
+        values = await self._at_once(lambda support: self._plans.read(wanted, support))
         return await self.run(lambda t: t.get_many(wanted)) if values is None else values
 
-    async def _read(self, cells: Sequence[Cell]) -> list[bytes | None] | None:
-        """What cells hold as of now: None if one of them is locked."""
+    async def _piece(self, asked: CellRange, keys: bool, cells: int) -> Piece | None:
+        """The first batch of a range as of now, in a session that ends with it: None if it isn't to be had at once."""
+        return await self._at_once(lambda support: self._plans.scan(asked, keys, cells, support))
+
+    async def _at_once(self, plan: Callable[[Support], Plan[Result | None]]) -> Result | None:
+        """What is read in a session that ends at once: None if that doesn't do, the connection is lost, or there are too many
+        sessions."""
+        with suppress(ConnectionLost, TooManySessions):
+            return await self._to_its_end(self._in_place(plan))
+        return None
+
+    async def _in_place(self, plan: Callable[[Support], Plan[Result]]) -> Result:
+        """Does a plan that has a session meanwhile."""
         link = await self._link()
         try:
             stream = await self._connected(None, link)
-            return await self.do(self._plans.read(cells, stream.support), stream)
+            return await self.do(plan(stream.support), stream)
         finally:
             self.left(link)
 
@@ -297,7 +331,27 @@ class Store:
 
     async def row(self, row: bytes) -> dict[bytes, bytes]:
         """The values of a row, by their families."""
-        return await self.run(lambda t: t.row(row))
+        piece = await self._piece(range_of(row, row), False, FEW_CELLS)
+        if piece is None or piece.upto is not None:
+            return await self.run(lambda t: t.row(row))
+        return values_of_row(piece.entries)
+
+    def rows(
+        self,
+        start: bytes | None = None,
+        end: bytes | None = None,
+        *,
+        prefix: bytes | None = None,
+        after: bytes | None = None,
+        before: bytes | None = None,
+        limit: int | None = None,
+    ) -> AsyncIterator[Row]:
+        """The rows of a range, for `async for`, as `Store.rows` of the other twin gives them."""
+        asked, limit = range_of(start, end, prefix, None, after, before), checked_limit(limit)
+        cells = cells_of(limit)
+        if limit is None or cells is None or cells > FEW_CELLS:
+            return rows_of_async(self._all(asked, False, None), limit)
+        return self._first(asked, False, cells, partial(first_rows, limit), lambda found: rows_of_async(found, limit))
 
     async def put(self, row: bytes, family: bytes, value: bytes) -> None:
         """Writes a value to a cell."""
@@ -383,14 +437,34 @@ class Store:
         self, start: bytes | None = None, end: bytes | None = None, *, limit: int | None = None, keys: bool = False, **bounds: Any
     ) -> AsyncIterator[Entry]:
         """The cells of a range. Its bounds are checked at once."""
-        asked = range_of(start, end, **bounds)
+        asked, limit = range_of(start, end, **bounds), checked_limit(limit)
+        if limit is None or limit > FEW_CELLS:
+            return self._all(asked, keys, limit)
+        return self._first(asked, keys, limit, partial(first_cells, limit), partial(cells_of_async, limit=limit))
 
-        async def entries() -> AsyncIterator[Entry]:
-            async with self.snapshot() as snapshot:
-                async for entry in snapshot.entries(asked, keys, limit):
-                    yield entry
+    async def _all(self, asked: CellRange, keys: bool, limit: int | None) -> AsyncGenerator[Entry, None]:
+        """The cells of a range, from a snapshot that is read as the iterator goes on."""
+        async with Snapshot(self, begins_later=True) as snapshot:
+            async for entry in snapshot.entries(asked, keys, limit):
+                yield entry
 
-        return entries()
+    async def _first(
+        self,
+        asked: CellRange,
+        keys: bool,
+        cells: int,
+        taken: Callable[[Piece], list[Item] | None],
+        taken_in: Callable[[AsyncGenerator[Entry, None]], AsyncIterator[Item]],
+    ) -> AsyncIterator[Item]:
+        """What is taken from the first batch of a range, of so many cells, or, if it has too few, from larger ones."""
+
+        async def work(t: Transaction) -> list[Item]:
+            return [each async for each in taken_in(t.entries(asked, keys, None, cells=GROWTH * cells))]
+
+        piece = await self._piece(asked, keys, cells) if cells else Piece([], {}, None)
+        found = None if piece is None else taken(piece)
+        for each in await self.run(work) if found is None else found:
+            yield each
 
     async def count(
         self,
@@ -482,6 +556,14 @@ class Store:
         version."""
         return await self.ask(Raw(row, family, qualifier, lo, hi))
 
+    async def status(self) -> ServerStatus:
+        """The state of the store, and of its tablets in the order of their rows, as `Store.status` of the other twin gives it."""
+        return await self.do(self._plans.status())
+
+    async def tablets(self) -> tuple[Tablet, ...]:
+        """The tablets, in the order of their rows, as of now."""
+        return tablets_in(await self.status())
+
     async def make_room(self) -> None:
         """Writes the memtable of each tablet to a file, and makes a checkpoint, for the log may be what is full. A gateway whose
         administrator has a socket refuses that, and has done it itself."""
@@ -552,10 +634,12 @@ class Store:
         link.sessions -= 1
         self._places.give_back()
 
-    async def run(self, work: Callable[[Transaction], Awaitable[Result]], attempts: int = 10) -> Result:
+    async def run(
+        self, work: Callable[[Transaction], Awaitable[Result]], attempts: int = 10, deadline: float | None = None
+    ) -> Result:
         """Does work in a transaction, and once more in a new one where it conflicts, is lost or stays pending, as `Store.run`
         does. The transaction has no `start` before its first read or its commit."""
-        tried = Attempts(self._patience, attempts)
+        tried = Attempts(self._patience, attempts, deadline)
         while True:
             transaction = Transaction(self, begins_later=True)
             results: list[Result] = []
@@ -566,27 +650,28 @@ class Store:
             except (TransactionConflict, TransactionLost, StillPending) as failure:
                 pause = tried.pause_after(failure)
             except ConnectionLost as lost:
-                if await self._is_done_nonetheless(lost, transaction):
+                if await self._is_done_nonetheless(lost, transaction, min(self._reconnect, tried.left())):
                     if results:
                         return results[0]
                     raise
                 pause = tried.pause_after(lost)
             await asyncio.sleep(pause)
 
-    async def _is_done_nonetheless(self, lost: ConnectionLost, transaction: Transaction) -> bool:
-        """Whether a transaction was committed whose connection was lost. It connects anew first. The loss is raised where that
-        comes to nothing, another store's connection was lost, or it can't be told."""
+    async def _is_done_nonetheless(self, lost: ConnectionLost, transaction: Transaction, seconds: float) -> bool:
+        """Whether a transaction was committed whose connection was lost. It connects anew first, for which there are so many
+        seconds. The loss is raised where that comes to nothing, another store's connection was lost, or it can't be told."""
         if transaction.stream is not None and not self._is_lost(transaction.stream):
             raise lost
-        end = asyncio.get_running_loop().time() + self._reconnect
+        reconnects = Reconnects(seconds)
         while True:
             try:
                 await self._connected(None)
                 return await self._is_committed(lost, transaction)
             except ConnectionLost:
-                if self._is_closed or asyncio.get_running_loop().time() >= end:
+                pause = None if self._is_closed else reconnects.pause()
+                if pause is None:
                     raise
-            await asyncio.sleep(RECONNECT_PAUSE)
+            await asyncio.sleep(pause)
 
     async def _is_committed(self, lost: ConnectionLost, transaction: Transaction) -> bool:
         """Whether a transaction was committed whose connection was lost. The loss is raised where a lock of it stands, and may not
@@ -656,7 +741,7 @@ async def looks(address: Address, asked: Backup, copying: asyncio.Future[bytes])
 
 def begins(operation: object) -> bool:
     """Whether a request begins a session."""
-    return isinstance(operation, Begin) or (isinstance(operation, (Commit, Read)) and operation.start == NEW)
+    return isinstance(operation, (Begin, Whole)) or (isinstance(operation, (Commit, Read)) and operation.start == NEW)
 
 
 class Snapshot:
@@ -696,6 +781,22 @@ class Snapshot:
     async def row(self, row: bytes, own: bool = True) -> dict[bytes, bytes]:
         """The values of a row, by their families."""
         return {family: value async for _, family, value in self.scan(row, row, own=own)}
+
+    def rows(
+        self,
+        start: bytes | None = None,
+        end: bytes | None = None,
+        *,
+        prefix: bytes | None = None,
+        after: bytes | None = None,
+        before: bytes | None = None,
+        own: bool = True,
+        limit: int | None = None,
+    ) -> AsyncIterator[Row]:
+        """The rows of a range that have a value, in order, each with the dictionary that `row` gives, for `async for`: as `rows` of
+        the other twin gives them."""
+        asked, limit = range_of(start, end, prefix, None, after, before), checked_limit(limit)
+        return rows_of_async(self.entries(asked, False, None, own, cells_of(limit)), limit)
 
     @overload
     def scan(
@@ -761,11 +862,13 @@ class Snapshot:
             count += len(piece)
         return count
 
-    def entries(self, asked: CellRange, keys: bool, limit: int | None, own: bool = True) -> AsyncIterator[Entry]:
-        """The cells of a range, as `scan` gives them."""
-        return self._pieces(self.session.scan(asked, keys, own, limit))
+    def entries(
+        self, asked: CellRange, keys: bool, limit: int | None, own: bool = True, cells: int | None = None
+    ) -> AsyncGenerator[Entry, None]:
+        """The cells of a range, as `scan` gives them. The first batch has so many."""
+        return self._pieces(self.session.scan(asked, keys, own, limit, cells))
 
-    async def _pieces(self, scan: RangeScan) -> AsyncIterator[Entry]:
+    async def _pieces(self, scan: RangeScan) -> AsyncGenerator[Entry, None]:
         """The cells of a scan, piece by piece."""
         while piece := await self._do(scan.piece()):
             for entry in piece:

@@ -4,9 +4,16 @@ from __future__ import annotations
 
 from dataclasses import dataclass
 from enum import IntEnum
+from struct import Struct
+from struct import error as StructError
 from typing import NamedTuple
 
 from duqishom.fields import FieldReader, MalformedReply
+
+LENGTH = Struct(">I")
+
+# A row, a family and a value, or None where it isn't sent.
+Entry = tuple[bytes, bytes, bytes | None]
 
 
 class Qualifier(IntEnum):
@@ -58,6 +65,15 @@ class Scanned:
     None if it reached the end of its range. A cell that it visited and doesn't name has no value."""
 
     items: tuple[ScanItem, ...]
+    upto: tuple[bytes, bytes] | None
+
+
+class Piece(NamedTuple):
+    """A scan's result as it is sent: its cells in order, None where a value isn't sent or a lock hides it; the starts of the
+    locks' sessions, by the places of their cells; and the last cell that it visited, as in `Scanned`."""
+
+    entries: list[Entry]
+    locks: dict[int, int]
     upto: tuple[bytes, bytes] | None
 
 
@@ -195,28 +211,54 @@ def read_found(fields: FieldReader) -> Found:
 
 def read_scanned(fields: FieldReader) -> Scanned:
     """The answer to a Scan."""
-    match fields.number(1):
-        case 1:
-            upto = None
-        case 2:
-            upto = (fields.counted(), fields.counted())
-        case tag:
-            raise MalformedReply(f"no answer to a Scan has the tag {tag}")
-    return Scanned(tuple([read_item(fields) for _ in range(fields.number(4))]), upto)
+    piece = read_piece(fields)
+    items = [ScanItem(row, family, Unsent() if value is None else Value(value)) for row, family, value in piece.entries]
+    for place, start in piece.locks.items():
+        items[place] = items[place]._replace(found=Pending(start))
+    return Scanned(tuple(items), piece.upto)
 
 
-def read_item(fields: FieldReader) -> ScanItem:
-    """A cell that a scan names."""
-    row, family = fields.counted(), fields.counted()
-    match fields.number(1):
-        case 1:
-            return ScanItem(row, family, Value(fields.counted()))
-        case 2:
-            return ScanItem(row, family, Pending(fields.number(8)))
-        case 3:
-            return ScanItem(row, family, Unsent())
-        case tag:
-            raise MalformedReply(f"no cell of a scan has the tag {tag}")
+def read_piece(fields: FieldReader) -> Piece:
+    """The answer to a Scan, as it is sent."""
+    tag, upto = fields.number(1), None
+    if tag not in (1, 2):
+        raise MalformedReply(f"no answer to a Scan has the tag {tag}")
+    body, at, length_at = fields.body, fields.at, LENGTH.unpack_from
+    entries, locks = list[Entry](), dict[int, int]()
+    try:
+        if tag == 2:
+            row, family, at = cell_at(body, at)
+            upto = row, family
+        [count] = length_at(body, at)
+        at += 4
+        for place in range(count):
+            begin, at = at + 4, at + 4 + length_at(body, at)[0]
+            row = body[begin:at]
+            begin, at = at + 4, at + 4 + length_at(body, at)[0]
+            family = body[begin:at]
+            tag, at, value = body[at], at + 1, None
+            if tag == 1:
+                begin, at = at + 4, at + 4 + length_at(body, at)[0]
+                value = body[begin:at]
+            elif tag == 2:
+                begin, at = at, at + 8
+                locks[place] = int.from_bytes(body[begin:at], "big")
+            elif tag != 3:
+                raise MalformedReply(f"no cell of a scan has the tag {tag}")
+            entries.append((row, family, value))
+    except (IndexError, StructError):
+        raise fields.cut() from None
+    fields.skip_to(at)
+    return Piece(entries, locks, upto)
+
+
+def cell_at(body: bytes, at: int) -> tuple[bytes, bytes, int]:
+    """The row and the family at a place, and the place behind them."""
+    [row_size] = LENGTH.unpack_from(body, at)
+    middle = at + 4 + row_size
+    [family_size] = LENGTH.unpack_from(body, middle)
+    end = middle + 4 + family_size
+    return body[at + 4 : middle], body[middle + 4 : end], end
 
 
 def read_progress(fields: FieldReader) -> Progress:

@@ -4,15 +4,19 @@ requests."""
 from __future__ import annotations
 
 from collections.abc import Callable, Iterable, Iterator, Mapping, Sequence
+from functools import partial
+from itertools import islice
 from typing import Any, Literal, TypeVar, overload
 
-from duqishom.answers import Found, Scanned
-from duqishom.cells import range_of
+from duqishom import answers
+from duqishom.answers import Entry, Piece, Scanned
+from duqishom.cells import CellRange, range_of
 from duqishom.operations import MOST_CELLS, Delete, Get, Operation, Scan, Set
-from duqishom.sessions import Entry
+from duqishom.scans import FEW_CELLS, GROWTH, Row, cells_of, checked_limit, first_cells, first_rows, rows_of, values_of_row
 from duqishom.transactions import Snapshot, Transaction
 
 Answer = TypeVar("Answer")
+Found = TypeVar("Found")
 Result = TypeVar("Result")
 
 
@@ -33,11 +37,15 @@ class AutoCommit:
         """Asks for an operation, and gives the answer."""
         raise NotImplementedError
 
-    def snapshot(self) -> Snapshot:
-        """The store as of now."""
+    def _snapshot_later(self) -> Snapshot:
+        """The store as of the first read."""
         raise NotImplementedError
 
-    def run(self, work: Callable[[Transaction], Result], attempts: int = 10) -> Result:
+    def _piece(self, asked: CellRange, keys: bool, cells: int) -> Piece | None:
+        """The first batch of a range as of now, in a session that ends with it: None if it isn't to be had at once."""
+        raise NotImplementedError
+
+    def run(self, work: Callable[[Transaction], Result], attempts: int = 10, deadline: float | None = None) -> Result:
         """Does work in a transaction."""
         raise NotImplementedError
 
@@ -45,9 +53,9 @@ class AutoCommit:
     def get(self, row: bytes, family: bytes) -> bytes | None: ...
 
     @overload
-    def get(self, start: int, row: bytes, family: bytes) -> Found: ...
+    def get(self, start: int, row: bytes, family: bytes) -> answers.Found: ...
 
-    def get(self, *given: Any, **named: Any) -> bytes | Found | None:
+    def get(self, *given: Any, **named: Any) -> bytes | answers.Found | None:
         """The value of a cell, or None. With a session's start: reads the cell as of it."""
         if is_of_session(given, named):
             return self.ask(Get(*given, **named))
@@ -60,7 +68,27 @@ class AutoCommit:
 
     def row(self, row: bytes) -> dict[bytes, bytes]:
         """The values of a row, by their families."""
-        return self.run(lambda t: t.row(row))
+        piece = self._piece(range_of(row, row), False, FEW_CELLS)
+        if piece is None or piece.upto is not None:
+            return self.run(lambda t: t.row(row))
+        return values_of_row(piece.entries)
+
+    def rows(
+        self,
+        start: bytes | None = None,
+        end: bytes | None = None,
+        *,
+        prefix: bytes | None = None,
+        after: bytes | None = None,
+        before: bytes | None = None,
+        limit: int | None = None,
+    ) -> Iterator[Row]:
+        """The rows of a range, as a transaction's `rows` gives them, from one snapshot that ends with the iterator."""
+        asked, limit = range_of(start, end, prefix, None, after, before), checked_limit(limit)
+        cells = cells_of(limit)
+        if limit is None or cells is None or cells > FEW_CELLS:
+            return rows_of(self._all(asked, False, None), limit)
+        return self._first(asked, False, cells, partial(first_rows, limit), lambda found: rows_of(found, limit))
 
     def put(self, row: bytes, family: bytes, value: bytes) -> None:
         """Writes a value to a cell."""
@@ -152,13 +180,30 @@ class AutoCommit:
         **bounds: Any,
     ) -> Iterator[Entry]:
         """The cells of a range. Its bounds are checked at once."""
-        asked = range_of(start, end, **bounds)
+        asked, limit = range_of(start, end, **bounds), checked_limit(limit)
+        if limit is None or limit > FEW_CELLS:
+            return self._all(asked, keys, limit)
+        return self._first(asked, keys, limit, partial(first_cells, limit), lambda found: islice(found, limit))
 
-        def entries() -> Iterator[Entry]:
-            with self.snapshot() as snapshot:
-                yield from snapshot.entries(asked, keys, limit)
+    def _all(self, asked: CellRange, keys: bool, limit: int | None) -> Iterator[Entry]:
+        """The cells of a range, from a snapshot that is read as the iterator goes on."""
+        with self._snapshot_later() as snapshot:
+            yield from snapshot.entries(asked, keys, limit)
 
-        return entries()
+    def _first(
+        self,
+        asked: CellRange,
+        keys: bool,
+        cells: int,
+        taken: Callable[[Piece], Iterable[Found] | None],
+        taken_in: Callable[[Iterator[Entry]], Iterable[Found]],
+    ) -> Iterator[Found]:
+        """What is taken from the first batch of a range, of so many cells, or, if it has too few, from larger ones."""
+        piece = self._piece(asked, keys, cells) if cells else Piece([], {}, None)
+        found = None if piece is None else taken(piece)
+        if found is None:
+            found = self.run(lambda t: list(taken_in(t.entries(asked, keys, None, cells=GROWTH * cells))))
+        yield from found
 
     def count(
         self,

@@ -8,13 +8,14 @@ from collections.abc import Iterator, Sequence
 from pathlib import Path
 
 from duqishom.copies import NotCopied, restore
-from duqishom.files import ROOT_FILE, Entry, SortedFile
+from duqishom.files import ROOT_FILE, Entry, SortedFile, length_of
 from duqishom.folders import FolderDamaged, has_log, holder_of
 from duqishom.inspection import Folder, committed, note_state, status_of
 from duqishom.progress import BYTES, CELLS, ProgressLine, Report, Tally, add_progress, tallied, unreported
+from duqishom.sums import SUMS_FILE, check_sums
 
-# The limits of the check of a backup.
-NO_CHECKSUMS = "Sorted files have no checksums: a changed byte inside a value isn't noticed."
+# The limits of the check of a folder.
+NO_CHECKSUMS = f"Only a backup has sums of its files ({SUMS_FILE}): elsewhere a changed byte inside a value isn't noticed."
 
 
 # The bytes of a file that are read between two reports.
@@ -31,7 +32,7 @@ class TalliedFile(SortedFile):
     def entries(self) -> Iterator[Entry]:
         at = told = 0
         for entry in super().entries():
-            at += 5 + len(entry.text) + (0 if entry.value is None else 4 + len(entry.value))
+            at += length_of(*entry)
             if at - told >= REPORTED_BYTES:
                 self._read.add(at - told)
                 told = at
@@ -50,16 +51,18 @@ def check(folder: Folder, progress: Report) -> None:
 
 def whole(path: Path, progress: Report = unreported) -> str:
     """A one-line summary of a folder, after all of it was read. `progress` is told how many bytes of the files are
-    checked, and then how many cells are found. FolderDamaged, or BadForm for a lock or a record, if it isn't intact."""
+    checked, how many are compared with a backup's sums, and then how many cells are found. FolderDamaged, or BadForm for a
+    lock or a record, if it isn't intact."""
     if not (path / ROOT_FILE).exists():
         raise FolderDamaged(path / ROOT_FILE, "there is no root")
     folder = Folder(path)
     check(folder, progress)
+    summed = f", as in {SUMS_FILE}" if check_sums(path, folder.root, progress) else ""
     count = sum(1 for _ in tallied(committed(folder), Tally(progress, None, CELLS)))
     size = sum(file.size for file in folder.files.values())
     sizes = f"{count:,} cells, {len(folder.root.tablets)} tablets, {len(folder.files)} files, {size:,} bytes"
     logged = f", {len(folder.log):,} keys in the log" if has_log(str(path)) else ""
-    return f"{path} is whole: {sizes}{logged}, mark {folder.mark}"
+    return f"{path} is whole: {sizes}{logged}, mark {folder.mark}{summed}"
 
 
 def verify_main(words: Sequence[str]) -> int:

@@ -1,23 +1,35 @@
 """Trips as bytes: the frames of their requests, and the answers in the frames of their replies.
 
-A batch is many requests of one session, which are encoded in one pass. The replies to writes and steps are compared with
-the bytes of a commit that goes well, and read one by one only if they differ.
+A batch is many requests of one session, which are encoded in one pass. The replies to writes, steps and a Commit are
+compared with the bytes of a commit that goes well, and read field by field only if they differ.
 """
 
 from __future__ import annotations
 
-from collections.abc import Iterable, Mapping, Sequence
+from collections.abc import Callable, Iterable, Mapping, Sequence
 from functools import lru_cache
 from itertools import repeat
 from struct import Struct
-from typing import Any, ClassVar
+from typing import Any, ClassVar, NamedTuple
 
 from duqishom.answers import Committed, Pending, Progress
 from duqishom.cells import Cell
 from duqishom.fields import bytes_argument
 from duqishom.frames import LENGTH, LONGEST_BODY, framed
-from duqishom.operations import Answer, Delete, Get, Operation, Set, Step, answer_or_refusal, request_body
+from duqishom.operations import (
+    Answer,
+    Begin,
+    Delete,
+    Get,
+    Operation,
+    Set,
+    Step,
+    Stop,
+    answer_or_refusal,
+    request_body,
+)
 from duqishom.refusals import FrameTooLarge, Refused
+from duqishom.several import Commit, CommitDone
 
 # The first fields of a Get, a Set or a Delete: length of the body, operation, session, and length of the row.
 HEAD = Struct(">IBQI")
@@ -29,9 +41,13 @@ VALUE, NOTHING = 0x8201, 0x8200
 
 # The replies to a Set and a Delete, and the replies to steps, without their last fields.
 SET_DONE, DELETE_DONE = b"\0\0\0\1\x83", b"\0\0\0\1\x93"
+BEGIN, BEGUN, STOPPED = b"\0\0\0\1\1", b"\0\0\0\x09\x81", b"\0\0\0\1\x85"
 PLACED = Struct(">IBBHH")
 STAMPED, COMMITTED = b"\0\0\0\x0a\x84\3", b"\0\0\0\x0a\x84\4"
 HELD, FINISHED = 1, 6
+
+# The reply to a Commit that has committed, without its last fields: the start and the stamp.
+COMMIT_DONE, START_AND_STAMP = b"\0\0\0\x12\xb2\1", Struct(">QQ")
 
 
 class Replies:
@@ -46,6 +62,20 @@ class Replies:
         is_next = self.frames.startswith(expected, self.at)
         self.at += len(expected) if is_next else 0
         return is_next
+
+    def begun(self) -> int | Refused:
+        """The answer to a Begin in the next frame, or the refusal."""
+        if not self.has(BEGUN):
+            return self.answer(Begin())
+        at, self.at = self.at, self.at + 8
+        return int.from_bytes(self.frames[at : self.at], "big")
+
+    def commit_done(self) -> CommitDone | None:
+        """The answer in the next frame, if it is that to a Commit that has committed. Then it is taken."""
+        if not self.has(COMMIT_DONE):
+            return None
+        at, self.at = self.at, self.at + START_AND_STAMP.size
+        return CommitDone(*START_AND_STAMP.unpack_from(self.frames, at))
 
     def answer(self, operation: Operation[Answer]) -> Answer | Refused:
         """The answer in the next frame, or the refusal."""
@@ -153,6 +183,43 @@ class Gets(Batch):
         return found
 
 
+class Whole(Batch):
+    """A session that begins, does one request and stops, all in one trip, if its start can be expected; otherwise its begin
+    alone. The answer is `Begun`, or the refusal to begin."""
+
+    code = Begin.code
+
+    def __init__(self, expected: Callable[[], int | None], request: Callable[[int], Operation[Any]]) -> None:
+        """`expected` is asked as the requests are encoded, and nothing else may be sent between this and them: a Stop of another
+        start would end another session of the same client."""
+        self._expected, self._request = expected, request
+        self._asked: Operation[Any] | None = None
+
+    def frames(self) -> bytes:
+        self.start = self._expected()
+        if self.start is None:
+            self._asked, self.count = None, 1
+            return BEGIN
+        self._asked, self.count = self._request(self.start), 3
+        return b"".join([BEGIN, request_frame(self._asked), STEP.pack(9, Stop.code, self.start)])
+
+    def read(self, replies: Replies) -> Begun | Refused:
+        start, answer = replies.begun(), None
+        if self._asked is not None and self.start is not None:
+            answer = replies.answer(self._asked)
+            if not replies.has(STOPPED):
+                replies.answer(Stop(self.start))
+        return start if isinstance(start, Refused) else Begun(start, answer if start == self.start else None)
+
+
+class Begun(NamedTuple):
+    """A session's start, and the answer to its request or the refusal, behind which it has stopped. None if it has another
+    start than was expected: then it is open."""
+
+    start: int
+    answer: Any | Refused | None
+
+
 def cell_requests(start: int, code: int, cells: Iterable[tuple[tuple[bytes, bytes], bytes | None]]) -> bytearray:
     """The frames of a session's requests at cells: a Set of the value, or the operation with this number if it is None.
     FrameTooLarge if one is too long."""
@@ -195,4 +262,13 @@ def answers_of(operations: Sequence[Operation[Any] | Batch], frames: bytes, is_r
     """The answers in the replies to operations, or their refusals, at a gateway or at a store of one's own. MalformedReply
     where one is none."""
     replies = Replies(frames, is_remote)
-    return [each.read(replies) if isinstance(each, Batch) else replies.answer(each) for each in operations]
+    return [answer_of(each, replies) for each in operations]
+
+
+def answer_of(operation: Operation[Any] | Batch, replies: Replies) -> Any:
+    """The answer in the next replies to an operation, or its refusal."""
+    if isinstance(operation, Batch):
+        return operation.read(replies)
+    if isinstance(operation, Commit) and (done := replies.commit_done()) is not None:
+        return done
+    return replies.answer(operation)

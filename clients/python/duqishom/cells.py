@@ -6,7 +6,6 @@ import re
 from dataclasses import dataclass, replace
 from typing import NamedTuple
 
-from duqishom.answers import Pending, Scanned, Unsent, Value
 from duqishom.fields import bytes_argument
 from duqishom.operations import named
 from duqishom.refusals import BadColumn, BadRow
@@ -46,6 +45,29 @@ class CellRange:
     def behind(self, cell: Cell) -> CellRange:
         """The rest of the range after a cell."""
         return replace(self, after=cell)
+
+    def near(self) -> tuple[Cell | None, bytes | None]:
+        """The cell and the row of a range with shorter bounds that has little more: rows that begin as the greatest one before a
+        range that begins at a row, with some bytes FF, and the first row behind a prefix."""
+        after, end = self.after, self.end
+        if after is not None and (head := head_of_filled(after.row)) is not None:
+            after = Cell(head + SOME_FILL, after.family)
+        if end is not None and (head := head_of_filled(end)) is not None:
+            end = head[:-1] + bytes([head[-1] + 1]) if head else None
+        return after, end
+
+
+# Few rows have so many bytes FF after a prefix.
+SOME_FILL = b"\xff" * 8
+
+
+def head_of_filled(row: bytes) -> bytes | None:
+    """What a row of the greatest length begins with, if all behind it are bytes FF, of which there are some; None if it isn't
+    such a row."""
+    if len(row) < LONGEST_ROW or not row.endswith(SOME_FILL):
+        return None
+    head = row[: row.index(SOME_FILL)]
+    return head if row == head.ljust(LONGEST_ROW, b"\xff") else None
 
 
 # No cell comes behind this one.
@@ -98,18 +120,3 @@ def last_before(row: bytes) -> Cell | None:
         return None
     shorter, last = row[:-1], row[-1]
     return Cell(shorter if last == 0 else (shorter + bytes([last - 1])).ljust(LONGEST_ROW, b"\xff"), LAST_FAMILY)
-
-
-def entries_of(scanned: Scanned, writes: dict[Cell, bytes | None]) -> dict[Cell, Value | Pending | Unsent]:
-    """A scan's cells, in order, as seen by a transaction with these writes in the rest of the range: values that it has
-    set replace the values found, and cells that it has deleted are left out. The writes that the scan has passed are
-    removed from `writes`."""
-    found = {Cell(item.row, item.family): item.found for item in scanned.items}
-    mine = [cell for cell in writes if scanned.upto is None or cell <= scanned.upto]
-    for cell in mine:
-        value = writes.pop(cell)
-        if value is None:
-            found.pop(cell, None)
-        else:
-            found[cell] = Value(value)
-    return {cell: found[cell] for cell in sorted(found)} if mine else found

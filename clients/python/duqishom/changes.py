@@ -14,13 +14,10 @@ from duqishom.cells import Cell, range_of
 from duqishom.connection import Frames, RequestTimedOut, StreamEnded
 from duqishom.fields import FieldReader, MalformedReply, counted_argument
 from duqishom.frames import whole_frames
-from duqishom.operations import answer_or_refusal, optional_arguments
-from duqishom.plans import LOG
+from duqishom.operations import answer_or_refusal, optional_argument
+from duqishom.plans import LOG, Reconnects
 from duqishom.refusals import Refused
 from duqishom.remote import Address, ConnectionLost, connected
-
-# The seconds between two attempts to connect anew.
-RECONNECT_PAUSE = 0.1
 
 # The tags of what a gateway tells of a watch: that it has begun, a commit, and commits that aren't told one by one.
 BEGUN, CHANGED, UNNAMED = 0, 1, 2
@@ -47,7 +44,7 @@ class Watch:
 
     def fields(self) -> bytes:
         prefix = counted_argument("prefix", self.prefix)
-        return prefix + (optional_arguments() if self.family is None else optional_arguments(("family", self.family)))
+        return prefix + optional_argument("family", self.family)
 
     def read(self, fields: FieldReader) -> Change:
         tag, _ = fields.number(1), fields.number(8)
@@ -66,7 +63,7 @@ def watch_of(prefix: bytes, family: bytes | None) -> Watch:
 
 
 class Heard:
-    """What a watch has heard and not given yet, and how long its connection has been lost."""
+    """What a watch has heard and not given yet, and the attempts to make its connection anew."""
 
     def __init__(self, address: Address, watch: Watch, reconnect: float) -> None:
         """Attempts to connect anew are made for `reconnect` seconds."""
@@ -74,7 +71,7 @@ class Heard:
         self.pieces: list[bytes] = []
         self._bodies: list[bytes] = []
         self._reconnect = reconnect
-        self._lost_at: float | None = None
+        self._attempts: Reconnects | None = None
 
     def request(self) -> bytes:
         """The frame of the request, for a new connection."""
@@ -89,21 +86,23 @@ class Heard:
             self.pieces[:] = [data[end:]]
         if not self._bodies:
             return None
-        self._lost_at = None
+        self._attempts = None
         told = answer_or_refusal(self.watch, self._bodies.pop(0), is_remote=True)
         if isinstance(told, Refused):
             raise told
         return told
 
-    def note_lost(self, why: Exception) -> None:
-        """Records that the connection is lost or can't be made. ConnectionLost if it has been so for too long."""
-        now = time.monotonic()
-        if self._lost_at is None:
-            self._lost_at = now
+    def note_lost(self, why: Exception) -> float:
+        """Records that the connection is lost or can't be made, and gives the seconds to wait before it is made anew.
+        ConnectionLost if it has been so for too long."""
+        if self._attempts is None:
+            self._attempts = Reconnects(self._reconnect)
             LOG.warning("the connection of a watch to the gateway at %s was lost", self.address)
-        if now - self._lost_at >= self._reconnect:
-            self._lost_at = None
+        pause = self._attempts.pause()
+        if pause is None:
+            self._attempts = None
             raise ConnectionLost(f"the watch's connection to the gateway was lost, and can't be made anew: {why}") from None
+        return pause
 
 
 class Changes:
@@ -140,11 +139,10 @@ class Changes:
                 return None
             except (StreamEnded, OSError) as why:
                 self.close()
-                self._heard.note_lost(why)
-                pause = left(end)
-                if pause == 0:
+                pause, rest = self._heard.note_lost(why), left(end)
+                if rest == 0:
                     return None
-                time.sleep(RECONNECT_PAUSE if pause is None else min(RECONNECT_PAUSE, pause))
+                time.sleep(pause if rest is None else min(pause, rest))
 
     def _hear(self, timeout: float | None) -> None:
         """Waits for what the gateway tells, after it was asked if this is a new connection."""

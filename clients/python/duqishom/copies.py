@@ -2,6 +2,7 @@
 
 from __future__ import annotations
 
+import hashlib
 import os
 from collections.abc import Mapping
 from io import BytesIO
@@ -11,9 +12,7 @@ from typing import BinaryIO
 from duqishom.files import LOG_FILE, MARK_FILE, ROOT_FILE, SIGN_FILE, file_name, renewed_log, sign_of, spelled_mark
 from duqishom.folders import read_log, read_mark, root_in
 from duqishom.progress import BYTES, Report, Tally, unreported
-
-# The size of a piece that is copied at once, in bytes.
-PIECE = 1 << 20
+from duqishom.sums import PIECE, SUMS_FILE, compare_sums, read_sums, spelled_sums
 
 
 class NotCopied(ValueError):
@@ -29,16 +28,19 @@ def copy_checkpoint(source: str, target: str, progress: Report = unreported) -> 
     is copied, with the files that are missing.
 
     `progress` is told after each piece how many bytes are copied, and may raise an exception to end the copying.
-    NotCopied if the other folder has files.
+    The copy also gets the sums of its files. NotCopied if the other folder has files.
     """
-    place, copy = Path(source), empty_folder(target)
+    place, copy, copied = Path(source), empty_folder(target), dict[str, str]()
     while True:
         data = (place / ROOT_FILE).read_bytes()
         try:
-            return copy_store(place, copy, data, beside_root(place, data), progress)
+            sums = copy_files(place, copy, data, beside_root(place, data), progress, copied)
+            break
         except FileNotFoundError:
             if (place / ROOT_FILE).read_bytes() == data:
                 raise
+    write_synced(copy / SUMS_FILE, BytesIO(spelled_sums(sums)))
+    write_synced(copy / ROOT_FILE, BytesIO(data))
 
 
 def beside_root(place: Path, data: bytes) -> dict[str, bytes]:
@@ -58,11 +60,16 @@ def beside_root(place: Path, data: bytes) -> dict[str, bytes]:
 
 def restore(backup: str, target: str, progress: Report = unreported) -> None:
     """Copies the store of a folder that no program has open, with its log and all edits, into a folder that is empty or
-    is created. `progress` is told how many bytes are copied. NotCopied if the other folder has files."""
+    is created. `progress` is told how many bytes are copied. NotCopied if the other folder has files, and FolderDamaged if
+    the files of a backup don't have its sums."""
     place, copy = Path(backup), empty_folder(target)
     kept = (SIGN_FILE, LOG_FILE, MARK_FILE)
     beside = {name: (place / name).read_bytes() for name in kept if (place / name).exists()}
-    copy_store(place, copy, (place / ROOT_FILE).read_bytes(), beside, progress)
+    data, wanted = (place / ROOT_FILE).read_bytes(), read_sums(place)
+    sums = copy_files(place, copy, data, beside, progress, {})
+    if wanted is not None:
+        compare_sums(place, wanted, sums)
+    write_synced(copy / ROOT_FILE, BytesIO(data))
 
 
 def empty_folder(target: str) -> Path:
@@ -76,43 +83,44 @@ def empty_folder(target: str) -> Path:
     return copy
 
 
-def copy_store(place: Path, copy: Path, data: bytes, beside: Mapping[str, bytes], progress: Report) -> None:
-    """Copies the files that a root of these bytes names, and writes the files in `beside`. A file that the copy has
-    already is the same, since no later file takes the name of one in a root; one that this root doesn't name is removed.
-    The root is written last, so an incomplete copy has no root."""
+def copy_files(
+    place: Path, copy: Path, data: bytes, beside: Mapping[str, bytes], progress: Report, copied: dict[str, str]
+) -> dict[str, str]:
+    """Copies the files that a root of these bytes names, and writes the files in `beside`: the sums of all these and of the
+    root, by their names. The root is to be written last, so an incomplete copy has no root.
+
+    The files in `copied` are there already, with these sums: no later file takes the name of one in a root. Files that are
+    copied are added to them; one that this root doesn't name is removed."""
     root = root_in(place, data)
-    named = {file_name(reference.name) for tablet in root.tablets for reference in tablet.files}
-    names = sorted(named)
+    names = {file_name(reference.name) for tablet in root.tablets for reference in tablet.files}
     size = sum((place / name).stat().st_size for name in names) + sum(map(len, (*beside.values(), data)))
-    copied = Tally(progress, size, BYTES)
-    for name in names:
-        copy_file(place / name, copy / name, copied)
+    done = Tally(progress, size, BYTES)
+    for name in sorted(names):
+        if name in copied:
+            done.add((copy / name).stat().st_size)
+        else:
+            with (place / name).open("rb") as file:
+                copied[name] = write_synced(copy / name, file, done)
     for path in copy.iterdir():
-        if path.name not in named:
+        if path.name not in names:
             path.unlink()
+    sums = {name: copied[name] for name in names}
     for name, said in beside.items():
-        write_synced(copy / name, BytesIO(said), copied)
+        sums[name] = write_synced(copy / name, BytesIO(said), done)
     # Behind the root nothing may end the copying, so it is counted before it is written
-    copied.add(len(data))
-    write_synced(copy / ROOT_FILE, BytesIO(data))
+    done.add(len(data))
+    return sums | {ROOT_FILE: hashlib.sha256(data).hexdigest()}
 
 
-def copy_file(source: Path, target: Path, copied: Tally) -> None:
-    """Copies a file and counts its bytes, unless the copy is there."""
-    if target.exists():
-        copied.add(target.stat().st_size)
-        return
-    with source.open("rb") as file:
-        write_synced(target, file, copied)
-
-
-def write_synced(path: Path, source: BinaryIO, copied: Tally | None = None) -> None:
-    """Writes a new file and counts its bytes, and syncs it and its name to disk. OSError, which names the file, if that
-    fails."""
+def write_synced(path: Path, source: BinaryIO, copied: Tally | None = None) -> str:
+    """Writes a new file and counts its bytes, and syncs it and its name to disk. Returns its sum. OSError, which names the file,
+    if that fails."""
+    digest = hashlib.sha256()
     try:
         with open(path, "xb", opener=open_private) as file:
             while piece := source.read(PIECE):
                 file.write(piece)
+                digest.update(piece)
                 if copied is not None:
                     copied.add(len(piece))
             file.flush()
@@ -121,6 +129,7 @@ def write_synced(path: Path, source: BinaryIO, copied: Tally | None = None) -> N
     except OSError as error:
         error.filename = error.filename or str(path)
         raise
+    return digest.hexdigest()
 
 
 def open_private(path: str, flags: int) -> int:

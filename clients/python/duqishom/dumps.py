@@ -23,6 +23,8 @@ from duqishom.inspection import Folder, committed, drop_output, note_state, stat
 from duqishom.program import ProgramEnded
 from duqishom.progress import CELLS, ProgressLine, Report, Tally, add_progress, tallied, unreported
 from duqishom.refusals import BadColumn, BadRow, BadValue, Refused
+from duqishom.remote import socket_at
+from duqishom.salvage import SalvagedFolder
 from duqishom.store import Store
 from duqishom.texts import bytes_of, text_of
 from duqishom.transactions import MOST_WRITES, Patience, Transaction, TransactionFailed
@@ -106,7 +108,9 @@ def parser_of(command: str, description: str, file: str) -> argparse.ArgumentPar
     parser = argparse.ArgumentParser(prog=f"duqishom {command}", description=description)
     place = parser.add_mutually_exclusive_group(required=True)
     place.add_argument("--dir", metavar="FOLDER", help="the folder of the store")
-    place.add_argument("--socket", metavar="PATH", help="the socket of the gateway that serves the store")
+    place.add_argument(
+        "--socket", metavar="PATH", type=socket_at, help="the socket of the gateway that serves the store, or HOST:PORT"
+    )
     parser.add_argument("file", metavar="FILE", nargs="?", help=file)
     add_progress(parser)
     return parser
@@ -127,14 +131,29 @@ def status(command: str, work: Callable[[], None]) -> int:
     return 0
 
 
-def dump_main(words: Sequence[str]) -> int:
-    """Dumps a store. The status is 0, 1 if a folder isn't intact, and 2 if the store or the file failed."""
-    options = parser_of(
+def dump_options(words: Sequence[str]) -> argparse.Namespace:
+    """The options of a dump."""
+    parser = parser_of(
         "dump",
         "Writes the committed cells of one moment, each as a line of JSON. Of a folder it reads the files alone: the last"
         " checkpoint and the log.",
         "a new file: the standard output where none is named",
-    ).parse_args(words)
+    )
+    parser.add_argument(
+        "--salvage",
+        action="store_true",
+        help="of a damaged folder, write what can be read of each file up to its first wrong byte, and say what is left out: a cell"
+        " may then have an earlier value, or one that was deleted",
+    )
+    options = parser.parse_args(words)
+    if options.salvage and options.dir is None:
+        parser.error("--salvage needs --dir")
+    return options
+
+
+def dump_main(words: Sequence[str]) -> int:
+    """Dumps a store. The status is 0, 1 if a folder isn't intact, and 2 if the store or the file failed."""
+    options = dump_options(words)
 
     def write(cells: Iterable[Entry]) -> None:
         # At one terminal this line and those of the dump would mix
@@ -145,6 +164,10 @@ def dump_main(words: Sequence[str]) -> int:
 
     def read_folder() -> int:
         note_state("dump", options.dir)
+        if options.salvage:
+            salvaged = SalvagedFolder(Path(options.dir))
+            write(salvaged.cells())
+            return told_lost(salvaged.lost)
         folder = Folder(Path(options.dir))
         folder.check()
         write(committed(folder))
@@ -155,6 +178,13 @@ def dump_main(words: Sequence[str]) -> int:
             write(transaction.scan())
 
     return status("dump", read_store) if options.dir is None else status_of("dump", options.dir, read_folder)
+
+
+def told_lost(lost: Sequence[str]) -> int:
+    """The status of a dump of a damaged folder: 1 if something is lost, which the standard error says."""
+    for what in lost:
+        print(f"dump: {what}", file=sys.stderr)
+    return 1 if lost else 0
 
 
 def load_main(words: Sequence[str]) -> int:

@@ -28,30 +28,41 @@ def bytes_argument(name: str, given: bytes) -> bytes:
 
 def counted_argument(name: str, given: bytes) -> bytes:
     """The value given for this argument, after its length."""
-    return counted(bytes_argument(name, given))
+    text = given if isinstance(given, bytes) else bytes_argument(name, given)
+    return len(text).to_bytes(4, "big") + text
 
 
 class FieldReader:
     """Takes the fields of a body from its front."""
 
     def __init__(self, body: bytes) -> None:
-        self._body = body
-        self._at = 0
+        self.body = body
+        self.at = 0
 
     def bytes_of(self, length: int) -> bytes:
         """The next `length` bytes."""
-        taken = self._body[self._at : self._at + length]
+        taken = self.body[self.at : self.at + length]
         if len(taken) < length:
-            raise MalformedReply(f"the body ends inside a field: {self._body.hex(' ')}")
-        self._at += length
+            raise self.cut()
+        self.at += length
         return taken
 
     def number(self, width: int) -> int:
         """The next number, of `width` bytes."""
-        at, self._at = self._at, self._at + width
-        if self._at > len(self._body):
-            raise MalformedReply(f"the body ends inside a field: {self._body.hex(' ')}")
-        return int.from_bytes(self._body[at : self._at], "big")
+        begin, self.at = self.at, self.at + width
+        if self.at > len(self.body):
+            raise self.cut()
+        return int.from_bytes(self.body[begin : self.at], "big")
+
+    def skip_to(self, end: int) -> None:
+        """Goes on behind the fields up to this place, which may be past the end of the body."""
+        if end > len(self.body):
+            raise self.cut()
+        self.at = end
+
+    def cut(self) -> MalformedReply:
+        """What is raised where the body ends inside a field."""
+        return MalformedReply(f"the body ends inside a field: {self.body.hex(' ')}")
 
     def counted(self) -> bytes:
         """The next bytes with a length before them."""
@@ -59,9 +70,9 @@ class FieldReader:
 
     def rest(self) -> bytes:
         """All remaining bytes."""
-        return self.bytes_of(len(self._body) - self._at)
+        return self.bytes_of(len(self.body) - self.at)
 
     def end(self) -> None:
         """MalformedReply if bytes remain."""
-        if self._at < len(self._body):
-            raise MalformedReply(f"the body goes on behind its last field: {self._body.hex(' ')}")
+        if self.at < len(self.body):
+            raise MalformedReply(f"the body goes on behind its last field: {self.body.hex(' ')}")

@@ -7,7 +7,8 @@ from __future__ import annotations
 
 import re
 import struct
-from collections.abc import Iterator
+from collections.abc import Iterable, Iterator
+from contextlib import suppress
 from dataclasses import dataclass
 from enum import IntEnum
 from mmap import mmap
@@ -180,12 +181,10 @@ class SortedFile:
         if said != numbers:
             raise BadForm("the foot's numbers aren't those of the file", self._foot + first_difference(said, numbers))
 
-    def _check_entries(self) -> tuple[list[tuple[int, int, bytes]], int]:
-        """The blocks of the entries, each with its offset, its length and its first key, and the number of entries."""
-        blocks: list[tuple[int, int, bytes]] = []
-        at, count, last = 8, 0, b""
-        for text, value in self.entries():
-            length = 5 + len(text) + (4 + len(value) if value is not None else 0)
+    def checked(self, entries: Iterable[Entry]) -> Iterator[Entry]:
+        """These entries, each after all of it was checked. BadForm at the first wrong byte."""
+        at, last = 8, b""
+        for text, value in entries:
             try:
                 key_of(text)
             except BadForm as bad:
@@ -196,12 +195,39 @@ class SortedFile:
                 raise BadForm("this is no kind of an entry", at + 4 + len(text))
             if value is not None and len(value) > LONGEST_VALUE:
                 raise BadForm("a value has more than 65,536 bytes", at + 5 + len(text))
+            yield Entry(text, value)
+            at, last = at + length_of(text, value), text
+
+    def _check_entries(self) -> tuple[list[tuple[int, int, bytes]], int]:
+        """The blocks of the entries, each with its offset, its length and its first key, and the number of entries."""
+        blocks: list[tuple[int, int, bytes]] = []
+        at, count = 8, 0
+        for text, value in self.checked(self.entries()):
+            length = length_of(text, value)
             if blocks and blocks[-1][1] + length <= LONGEST_BLOCK:
                 blocks[-1] = (blocks[-1][0], blocks[-1][1] + length, blocks[-1][2])
             else:
                 blocks.append((at, length, text))
-            at, count, last = at + length, count + 1, text
+            at, count = at + length, count + 1
         return blocks, count
+
+
+class BrokenFile(SortedFile):
+    """A sorted file of which something is wrong. Its entries are those before the first wrong byte of them, wherever its foot
+    says that they end."""
+
+    def __init__(self, data: Bytes) -> None:
+        self._data = data
+        self.index = self.size = len(data)
+
+    def entries(self) -> Iterator[Entry]:
+        with suppress(BadForm):
+            yield from self.checked(super().entries())
+
+
+def length_of(text: bytes, value: bytes | None) -> int:
+    """The bytes that an entry takes."""
+    return 5 + len(text) + (0 if value is None else 4 + len(value))
 
 
 class FileRef(NamedTuple):

@@ -22,6 +22,7 @@ from duqishom.files import (
     Root,
     SortedFile,
     file_name,
+    key_of,
     log_of,
     mark_of,
     root_of,
@@ -136,11 +137,27 @@ def has_log(folder: str) -> bool:
     return any(os.path.exists(os.path.join(folder, name)) for name in (LOG_FILE, SIGN_FILE))
 
 
-def log_words(folder: str, log: bool | None) -> list[str]:
+def log_words(folder: str, log: bool | None, new: bool = False) -> list[str]:
     """The words that give a folder a log if it has none, or no words if that isn't asked for. If `log` is None, a
-    folder without a root gets one, since its store is new."""
+    folder without a root gets one, since its store is new. NotOpened where no log is wanted, and the folder has files
+    or a mark of a store whose root is gone, unless it is said to be new: with a log the program looks by itself."""
     is_new = not os.path.exists(os.path.join(folder, ROOT_FILE))
+    if is_new and log is False and not new and (why := why_lost(folder)):
+        raise NotOpened(5, why)
     return ["--log"] if log or (log is None and is_new) else []
+
+
+def why_lost(folder: str) -> str:
+    """What a folder without a root has of a store, or an empty text if it has nothing, or a program has it open."""
+    if holder_of(folder) is not None:
+        return ""
+    with suppress(OSError):
+        found = sorted(name for name in os.listdir(folder) if re.fullmatch(r"t[0-9a-f]{16}\.tab", name))
+        with suppress(FolderDamaged):
+            found += [MARK_FILE] if read_mark(Path(folder)) > 0 else []
+        if found:
+            return f"{folder} has {found[0]} of a store and no root, {ROOT_FILE}: say that it is new if it never had one"
+    return ""
 
 
 def started(
@@ -149,11 +166,12 @@ def started(
     words: Sequence[str],
     recording: Recording | None = None,
     log: bool | None = None,
+    new: bool = False,
 ) -> Connection:
     """A program that has opened its store, and whose frames are recorded. NotOpened if it can't."""
     if folder is not None and (why := why_no_folder(folder)):
         raise NotOpened(4, why)
-    placed = [] if folder is None else ["--dir", folder, *log_words(folder, log)]
+    placed = [] if folder is None else ["--dir", folder, *log_words(folder, log, new)]
     running = Program(program, (*placed, *tuned(words, folder is not None)), recording)
     try:
         # An empty body is refused, and changes nothing
@@ -326,6 +344,16 @@ def check_mark(folder: Path, mark: int, root: Root) -> None:
         raise FolderDamaged(folder / MARK_FILE, f"the mark {mark} is below the root's greatest stamp {root.top}")
 
 
+def check_marked(folder: Path, mark: int, log: Log | None) -> None:
+    """Checks that no edit of a log of format 1 has a stamp above the mark in a folder's file of it, which its program
+    stored before it answered a stamp. FolderDamaged if one has."""
+    if log is None or log.format != 1:
+        return
+    top = max((key_of(text).stamp for text, _ in log.edits()), default=0)
+    if mark < top:
+        raise FolderDamaged(folder / MARK_FILE, f"the mark {mark} is below the stamp {top} of an edit in the log")
+
+
 def check_folder(folder: Path) -> Root:
     """Reads everything that a program reads when it opens a folder, and returns the root. FolderDamaged if something is
     malformed."""
@@ -333,6 +361,7 @@ def check_folder(folder: Path) -> Root:
     last_edits(folder, log)
     check_over(folder, log, root)
     check_mark(folder, mark, root)
+    check_marked(folder, mark, log)
     for reference in sorted({reference for tablet in root.tablets for reference in tablet.files}):
         file = folder / file_name(reference.name)
         try:

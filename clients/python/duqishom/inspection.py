@@ -12,7 +12,7 @@ import mmap
 import os
 import sys
 from collections import Counter, defaultdict
-from collections.abc import Callable, Iterator, Sequence
+from collections.abc import Callable, Iterable, Iterator, Mapping, Sequence
 from contextlib import suppress
 from heapq import merge
 from itertools import chain, groupby
@@ -270,20 +270,27 @@ def committed(folder: Folder, prefix: bytes = b"") -> Iterator[tuple[bytes, byte
     """The cells whose rows have this prefix, each as its row, its family and the last committed value."""
     locked = finished(folder)
     for (row, family), group in groupby(folder.versions(), key=lambda found: found.key[:2]):
-        if not row.startswith(prefix):
-            continue
-        data: dict[int, bytes] = {}
-        last = locked.get(Cell(row, family))
-        for _, (_, _, column, stamp), value in group:
-            if column is Qualifier.DATA:
-                data[stamp] = value
-            elif column is Qualifier.WRITE and last is None:
-                last = read_record(value)
-        if last is None or last.kind is not Kind.SET:
-            continue
-        if last.start not in data:
-            raise FolderDamaged(folder.path, f"{Cell(row, family)} has a record of {last.start}, and no data at that stamp")
-        yield row, family, data[last.start]
+        if row.startswith(prefix):
+            value = value_of(folder, Cell(row, family), group, locked)
+            if value is not None:
+                yield row, family, value
+
+
+def value_of(folder: Folder, cell: Cell, versions: Iterable[Found], locked: Mapping[Cell, Record]) -> bytes | None:
+    """The last committed value of a cell with these versions, if it has one: that of the record of a cell that is locked by a
+    session that has committed, or else of the newest record. FolderDamaged if it isn't there."""
+    data: dict[int, bytes] = {}
+    last = locked.get(cell)
+    for _, (_, _, column, stamp), value in versions:
+        if column is Qualifier.DATA:
+            data[stamp] = value
+        elif column is Qualifier.WRITE and last is None:
+            last = read_record(value)
+    if last is None or last.kind is not Kind.SET:
+        return None
+    if last.start not in data:
+        raise FolderDamaged(folder.path, f"{cell} has a record of {last.start}, and no data at that stamp")
+    return data[last.start]
 
 
 def cells(folder: Folder, prefix: bytes = b"") -> Iterator[str]:

@@ -10,7 +10,7 @@ from dataclasses import dataclass
 from typing import Any, NoReturn
 
 from duqishom.answers import Qualifier
-from duqishom.tellings import Told
+from duqishom.tellings import Told, ToldLines
 from duqishom.texts import bytes_of
 from duqishom.transactions import MOST_STAMP
 
@@ -31,7 +31,7 @@ class Line:
 
     usage: str
     help: str
-    do: Callable[..., Told]
+    do: Callable[..., Told | ToldLines]
     add_options: Callable[[argparse.ArgumentParser], None] | None = None
 
     def form(self) -> list[str]:

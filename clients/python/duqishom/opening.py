@@ -3,7 +3,6 @@
 from __future__ import annotations
 
 import os
-import stat
 from collections.abc import Callable, Sequence
 from functools import wraps
 from os import PathLike, fspath
@@ -11,7 +10,8 @@ from typing import Any, Concatenate, ParamSpec, TypeVar
 
 from duqishom.collection import COMMITS
 from duqishom.plans import Patience
-from duqishom.remote import Address, address_of
+from duqishom.remote import gateway_at
+from duqishom.splits import SPLIT_BYTES
 from duqishom.store import Store
 from duqishom.transactions import Transaction
 
@@ -32,6 +32,8 @@ def connect(
     record: str | PathLike[str] | None = None,
     log: bool | None = None,
     collect: int = COMMITS,
+    new: bool = False,
+    split_bytes: int = SPLIT_BYTES,
 ) -> Store:
     """Opens the store of a folder, which is made if it isn't there, or that of the gateway at `unix:PATH`, at the path
     of a socket, or at HOST:PORT; a new one in memory if no address is given. The options are those of `Store`.
@@ -46,17 +48,21 @@ def connect(
     if folder is not None and not os.path.exists(folder):
         os.mkdir(folder)
     return Store(
-        program, patience, words, folder, checkpoint_at_close, timeout, socket, record, log, lock_wait, reconnect, collect
+        program,
+        patience,
+        words,
+        folder,
+        checkpoint_at_close,
+        timeout,
+        socket,
+        record,
+        log,
+        lock_wait,
+        reconnect,
+        collect,
+        new,
+        split_bytes,
     )
-
-
-def gateway_at(text: str) -> Address | None:
-    """The gateway that a text names: None if it is a folder's path."""
-    try:
-        is_socket = stat.S_ISSOCK(os.stat(text).st_mode)
-    except OSError:
-        is_socket = False
-    return text if is_socket else address_of(text)
 
 
 def transactional(

@@ -1,4 +1,4 @@
-"""The twenty operations of one step: the encoding of their requests and the decoding of their answers."""
+"""The operations of one step but Status: the encoding of their requests and the decoding of their answers."""
 
 from __future__ import annotations
 
@@ -11,6 +11,7 @@ from duqishom.answers import (
     Collection,
     Collector,
     Found,
+    Piece,
     Progress,
     Qualifier,
     Scanned,
@@ -19,6 +20,7 @@ from duqishom.answers import (
     read_cleaner,
     read_collection,
     read_found,
+    read_piece,
     read_progress,
     read_scanned,
     read_version,
@@ -306,9 +308,8 @@ class Delete(WithoutAnswer):
 
 
 @dataclass(frozen=True)
-class Scan:
-    """Reads the cells of a range as of the session's start: those after a cell (a row and a family), up to and
-    including a row, of one family or of all. It visits at most `cells` cells, 1 to 1,000."""
+class OfRange:
+    """A request for the cells of a range as of the session's start."""
 
     start: int
     after: tuple[bytes, bytes] | None = None
@@ -319,20 +320,32 @@ class Scan:
     code: ClassVar[int] = 0x31
 
     def fields(self) -> bytes:
-        after = () if self.after is None else (("row", self.after[0]), ("family", self.after[1]))
-        end = () if self.end is None else (("end", self.end),)
-        family = () if self.family is None else (("family", self.family),)
-        bounds = b"".join([optional_arguments(*given) for given in (after, end, family)])
+        after = b"\0"
+        if self.after is not None:
+            row, family = self.after
+            after = b"\1" + counted_argument("row", row) + counted_argument("family", family)
+        bounds = after + optional_argument("end", self.end) + optional_argument("family", self.family)
         return number(8, self.start) + number(1, self.keys_only) + bounds + number(4, self.cells)
+
+
+class Scan(OfRange):
+    """Reads the cells of a range as of the session's start: those after a cell (a row and a family), up to and
+    including a row, of one family or of all. It visits at most `cells` cells, 1 to 1,000."""
 
     def read(self, fields: FieldReader) -> Scanned:
         return read_scanned(fields)
 
 
-def optional_arguments(*given: tuple[str, bytes]) -> bytes:
-    """A byte 00 if nothing was given; otherwise a byte 01 and the values given for these arguments, each after its
-    length."""
-    return number(1, bool(given)) + b"".join([counted_argument(name, each) for name, each in given])
+class Pieces(OfRange):
+    """The same request, whose answer is what is sent."""
+
+    def read(self, fields: FieldReader) -> Piece:
+        return read_piece(fields)
+
+
+def optional_argument(name: str, given: bytes | None) -> bytes:
+    """A byte 00 if nothing was given for this argument; otherwise a byte 01 and the value after its length."""
+    return b"\0" if given is None else b"\1" + counted_argument(name, given)
 
 
 def request_body(operation: Operation[Answer]) -> bytes:

@@ -7,7 +7,9 @@ it sends, reads and waits.
 from __future__ import annotations
 
 import logging
+import math
 import random
+import time
 from collections.abc import Callable, Generator, Iterable, Sequence
 from contextlib import suppress
 from dataclasses import dataclass
@@ -23,14 +25,16 @@ from duqishom.answers import (
     Lost,
     More,
     Pending,
+    Piece,
     Qualifier,
     Stamped,
     Unsent,
     Value,
 )
-from duqishom.batches import Batch, Gets, Steps
-from duqishom.cells import Cell
+from duqishom.batches import Batch, Begun, Gets, Steps, Whole
+from duqishom.cells import Cell, CellRange
 from duqishom.columns import read_lock, read_record
+from duqishom.counted import Statistics
 from duqishom.operations import (
     Begin,
     Checkpoint,
@@ -47,6 +51,8 @@ from duqishom.operations import (
     Sweep,
 )
 from duqishom.refusals import BadRequest, MemtableFull, NoMemory, Refused, TooManyFiles, UnknownTablet
+from duqishom.reports import ServerStatus, whole_status
+from duqishom.scans import piece_within, request_of
 from duqishom.several import MOST_READ, NEW, CommitConflict, CommitDone, Read, ReadDone, Support
 from duqishom.tablets import TabletMap
 
@@ -61,6 +67,9 @@ LOGGED_VISITS = 4
 
 # The longest pause between two attempts, in seconds.
 LONGEST_PAUSE = 1.0
+
+# The longest pauses behind the first attempt to connect anew and behind a late one, in seconds.
+FIRST_RECONNECT_PAUSE, LAST_RECONNECT_PAUSE = 0.1, 2.0
 
 # How long a lock is waited for at a gateway, in seconds: its session may be of a client that still runs.
 GATEWAY_LOCK_WAIT = 1.0
@@ -158,21 +167,44 @@ def patience_of(patience: Patience | None, lock_wait: float | None, is_remote: b
 
 
 class Attempts:
-    """The attempts to do work in a transaction."""
+    """The attempts to do work in a transaction: so many, of which none begins later than `deadline` seconds from now."""
 
-    def __init__(self, patience: Patience, most: int) -> None:
+    def __init__(self, patience: Patience, most: int, deadline: float | None = None) -> None:
         self._patience = patience
         self._most = most
+        self._end = math.inf if deadline is None else time.monotonic() + deadline
         self._made = 0
+
+    def left(self) -> float:
+        """The seconds until the deadline, for ever if there is none."""
+        return self._end - time.monotonic()
 
     def pause_after(self, failure: Exception) -> float:
         """How many seconds to wait behind an attempt that failed. After the last one the failure is raised."""
         self._made += 1
-        if self._made >= self._most:
-            raise failure
         pause = self._patience.between(self._made - 1)
+        if self._made >= self._most or pause > self.left():
+            raise failure
         LOG.info("attempt %d of %d failed: %s; the next one in %.3f s", self._made, self._most, failure, pause)
         return pause
+
+
+class Reconnects:
+    """The attempts to connect anew to a gateway, which are made for so many seconds."""
+
+    def __init__(self, seconds: float) -> None:
+        self._end = time.monotonic() + seconds
+        self._longest = FIRST_RECONNECT_PAUSE
+
+    def pause(self) -> float | None:
+        """How many seconds to wait behind an attempt that failed: None if the time is over. It is by chance at least half of a
+        time that doubles, so that the clients of a gateway don't all come back at once."""
+        left = self._end - time.monotonic()
+        if left <= 0:
+            return None
+        pause = random.uniform(self._longest / 2, self._longest)
+        self._longest = min(LAST_RECONNECT_PAUSE, 2 * self._longest)
+        return min(left, pause)
 
 
 class Stamps:
@@ -182,27 +214,49 @@ class Stamps:
     def __init__(self) -> None:
         self._last = 0
         self._was_next = False
+        # The trips whose answers aren't noted yet
+        self.trips = 0
 
     def note(self, operations: Requests, answers: Sequence[object]) -> int:
         """Notes the stamps in the answers to a trip, and returns the number of commits in them."""
         commits = 0
         for operation, answer in zip(operations, answers):
             if isinstance(operation, Begin) and isinstance(answer, int):
-                self._was_next = answer == self._last + 1
-                self._last = answer
+                self._note_drawn(answer)
+            elif isinstance(answer, Begun):
+                self._note_drawn(answer.start)
             elif isinstance(answer, (CommitDone, CommitConflict, ReadDone)):
-                self._last = max(self._last, answer.start, answer.commit if isinstance(answer, CommitDone) else 0)
-                commits += isinstance(answer, CommitDone)
+                # The session may have begun with an earlier request
+                if answer.start > self._last:
+                    self._note_drawn(answer.start)
+                if isinstance(answer, CommitDone):
+                    self._note_drawn(answer.commit)
+                    commits += 1
             elif isinstance(operation, (Step, Steps)):
                 for each in answer if isinstance(answer, tuple) else (answer,):
                     if isinstance(each, (Stamped, Committed)):
-                        self._last = max(self._last, each.commit)
+                        self._note_drawn(each.commit)
                         commits += isinstance(each, Committed)
         return commits
 
+    def _note_drawn(self, stamp: int) -> None:
+        """Notes a stamp that was drawn. A step may answer it once more, and another connection may have answered later ones."""
+        if stamp != self._last:
+            self._was_next = stamp == self._last + 1
+            self._last = max(self._last, stamp)
+
     def next(self) -> int | None:
-        """The start that the next session will have, if the last one was as expected."""
+        """The start that the next session will have, if the last stamp was as expected."""
         return self._last + 1 if self._was_next else None
+
+    def next_unused(self) -> int | None:
+        """The same, if it can't be the start of a session that this client has: none is answered later, and of no other trip
+        the answers are to come."""
+        return self.next() if self.trips <= 1 else None
+
+
+def no_start() -> None:
+    """That no start can be expected."""
 
 
 class StorePlans:
@@ -241,26 +295,58 @@ class StorePlans:
         raise answer
 
     def _read_one_by_one(self, cells: Sequence[Cell]) -> Plan[list[bytes | None] | None]:
-        """What cells hold as of now, by Gets. It takes one trip if the start is as expected: the reads go behind the
-        Begin that they need, and are asked again if it has another answer."""
-        start = self.stamps.next()
-        begun, *answers = yield [Begin()] if start is None else [Begin(), Gets(start, cells)]
-        if isinstance(begun, Refused):
-            raise begun
+        """What cells hold as of now, by Gets: in one trip if the start is as expected."""
+        begun, found = yield from self.begin_with(lambda start: Gets(start, cells))
         try:
-            if begun != start:
-                answers = yield [Gets(begun, cells)]
+            if found is None:
+                [found] = yield [Gets(begun, cells)]
         except GeneratorExit:
             raise
         except BaseException:
             yield Unwaited(Stop(begun))
             raise
         yield Unwaited(Stop(begun))
-        found: list[Any] = answers[0]
         for each in found:
             if isinstance(each, Refused):
                 raise each
         return None if any(isinstance(each, Pending) for each in found) else found
+
+    def begin_with(self, request: Callable[[int], Operation[Any] | Batch]) -> Plan[tuple[int, Any]]:
+        """Begins a session, and asks for a request of it in the same trip, as far as its start can be expected. The start, and the
+        answer or the refusal: None if the session has another start, so that the request is still to be asked."""
+        expected = self.stamps.next()
+        begun, *answers = yield [Begin()] if expected is None else [Begin(), request(expected)]
+        if isinstance(begun, Refused):
+            raise begun
+        return begun, answers[0] if begun == expected else None
+
+    def scan(self, asked: CellRange, keys: bool, cells: int, support: Support) -> Plan[Piece | None]:
+        """The first batch of a range as of now: None if a lock hides a value, or one isn't sent. It is one trip, if the start is
+        as expected."""
+        request = request_of(asked, keys, cells)
+        is_alone = yield from self._is_alone(support)
+        [begun] = yield [Whole(self.stamps.next_unused if is_alone else no_start, request)]
+        if isinstance(begun, Refused):
+            raise begun
+        answer = begun.answer
+        if answer is None:
+            answer, _ = yield [request(begun.start), Stop(begun.start)]
+        if isinstance(answer, Refused):
+            raise answer
+        piece = piece_within(asked, answer)
+        if piece is None or piece.locks or not (keys or all(value is not None for _, _, value in piece.entries)):
+            return None
+        return piece
+
+    def _is_alone(self, support: Support) -> Plan[bool]:
+        """Whether no other connection has this one's sessions, which a wrong Stop would end. A gateway is asked once, as soon as
+        a start can be expected."""
+        if support.is_alone is None and self.stamps.next() is not None:
+            support.is_alone = False
+            with suppress(Refused):
+                told = yield from ask(Statistics())
+                support.is_alone = told.get("shared") == 0
+        return support.is_alone is True
 
     def make_room(self, row: bytes | None = None) -> Plan[None]:
         """Makes room in the memtable of the tablet that holds a row, or in all, and in the log if there is one. Where a
@@ -386,6 +472,10 @@ class StorePlans:
             else:
                 result: Collection = done
                 return result
+
+    def status(self) -> Plan[ServerStatus]:
+        """The state of the store and of all its tablets."""
+        return (yield from whole_status())
 
     def fate(self, start: int, row: bytes, family: bytes, patience: Patience) -> Plan[Fate]:
         """What became of a session's commit, by its first cell. A record there that names the session says that it has

@@ -68,7 +68,11 @@ class Program:
         frames. OSError if it can't be started."""
         command = [program or default_program(), *words]
         pipe = subprocess.PIPE
-        self._child = subprocess.Popen(command, stdin=pipe, stdout=pipe, bufsize=0, process_group=0)
+        try:
+            self._child = subprocess.Popen(command, stdin=pipe, stdout=pipe, bufsize=0, process_group=0)
+        except OSError as error:
+            why = f"{error.strerror}, as a program to start (a folder or a gateway is opened by connect)"
+            raise OSError(error.errno, why, command[0]) from None
         assert self._child.stdin is not None and self._child.stdout is not None
         self._recording = recording
         self._frames = Frames(self._child.stdout, self._child.stdin, recording)

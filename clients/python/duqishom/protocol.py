@@ -56,6 +56,7 @@ from duqishom.operations import (
     Stop,
     Sweep,
 )
+from duqishom.reports import Reported, ServerReport, Status, TabletReport
 from duqishom.several import Commit, CommitConflict, CommitDone, Read, ReadDone
 
 __all__ = [
@@ -98,17 +99,21 @@ __all__ = [
     "Raw",
     "Read",
     "ReadDone",
+    "Reported",
     "RolledBack",
     "RolledForward",
     "Scan",
     "ScanItem",
     "Scanned",
+    "ServerReport",
     "Set",
     "Split",
     "Stamped",
+    "Status",
     "Step",
     "Stop",
     "Sweep",
+    "TabletReport",
     "Unsent",
     "Value",
     "Version",

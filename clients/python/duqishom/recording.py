@@ -87,7 +87,9 @@ def note_reopened(place: Path, store: str | None) -> None:
     whole_frames((place / "replies").read_bytes(), replies)
     noted = place / ("reopened-at" if mark is None else "recovered-at")
     before = noted.read_text().strip() + "," if noted.exists() else ""
-    noted.write_text(f"{before}{len(replies)}{'' if mark is None else f':{mark}'}\n")
+    with private(noted) as file:
+        file.truncate(0)
+        file.write(f"{before}{len(replies)}{'' if mark is None else f':{mark}'}\n".encode())
 
 
 def logged_mark(store: str | None) -> int | None:

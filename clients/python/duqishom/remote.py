@@ -2,8 +2,10 @@
 
 from __future__ import annotations
 
+import os
 import re
 import socket
+import stat
 from collections.abc import Callable
 from contextlib import suppress
 
@@ -26,6 +28,25 @@ def address_of(text: str) -> Address | None:
     if found := HOST_AND_PORT.fullmatch(text):
         return found["six"] or found["host"], int(found["port"])
     return None
+
+
+def gateway_at(text: str) -> Address | None:
+    """The gateway that a text names, which may also be the path of a socket: None if it is a folder's path."""
+    try:
+        is_socket = stat.S_ISSOCK(os.stat(text).st_mode)
+    except OSError:
+        is_socket = False
+    return text if is_socket else address_of(text)
+
+
+def socket_at(text: str) -> Address:
+    """The gateway that the option --socket names: a path, unless it names another one."""
+    return gateway_at(text) or text
+
+
+def shown_address(address: Address) -> str:
+    """A gateway's address, as it is shown."""
+    return address if isinstance(address, str) else ":".join(map(str, address))
 
 
 class ConnectionLost(ProgramEnded):
@@ -57,8 +78,7 @@ def connected(address: Address) -> socket.socket:
 
 def named_error(error: OSError, address: Address) -> OSError:
     """An error of a connection, with the address at which it was to be."""
-    where = address if isinstance(address, str) else ":".join(map(str, address))
-    return OSError(error.errno, error.strerror or str(error), where)
+    return OSError(error.errno, error.strerror or str(error), shown_address(address))
 
 
 class Gateway:

@@ -14,7 +14,7 @@ import sys
 from collections.abc import Sequence
 from pathlib import Path
 
-from duqishom.folders import log_words, tuned
+from duqishom.folders import NotOpened, log_words, tuned
 from duqishom.program import default_program
 
 # The places of the gateway: in a package that was built with one, and in the repository that this package is in.
@@ -50,10 +50,12 @@ def command_of(words: Sequence[str]) -> list[str]:
     parsing.add_argument("--program")
     parsing.add_argument("--dir")
     parsing.add_argument("--log", action=argparse.BooleanOptionalAction)
+    parsing.add_argument("--new", action="store_true")
     given, others = parsing.parse_known_args(words)
     has_folder = given.dir is not None
     own = ["--program", given.program or default_program(), *tuned([], has_folder)]
-    placed = ["--dir", given.dir, *log_words(given.dir, given.log)] if has_folder else ["--log"] if given.log else []
+    logged = log_words(given.dir, given.log, given.new) if has_folder else ["--log"] if given.log else []
+    placed = ["--dir", given.dir, *logged] if has_folder else logged
     return [*own, *placed, *others]
 
 
@@ -65,6 +67,6 @@ def main(words: Sequence[str]) -> int:
             raise FileNotFoundError(NOT_BUILT)
         os.environ["DUQISHOM_PYTHON"] = sys.executable
         os.execvp(gateway, ["duqishom-gateway", *command_of(words)])
-    except OSError as failure:
+    except (OSError, NotOpened) as failure:
         print(f"duqishom: {failure}", file=sys.stderr)
         return REFUSED

@@ -3,7 +3,7 @@
 from __future__ import annotations
 
 import time
-from collections.abc import Iterable, Mapping, Sequence
+from collections.abc import Callable, Iterable, Mapping, Sequence
 from itertools import repeat
 from typing import Any
 
@@ -20,10 +20,10 @@ from duqishom.answers import (
     Value,
 )
 from duqishom.batches import Gets, Steps, Writes
-from duqishom.cells import FAMILY, LONGEST_ROW, Cell, CellRange, entries_of
+from duqishom.cells import FAMILY, LONGEST_ROW, Cell, CellRange
 from duqishom.fields import bytes_argument
 from duqishom.frames import LONGEST_BODY
-from duqishom.operations import MOST_CELLS, Begin, Scan, Stop, named
+from duqishom.operations import Answer, Begin, Operation, Stop, named
 from duqishom.plans import (
     LOG,
     Pause,
@@ -48,16 +48,11 @@ from duqishom.refusals import (
     UnknownSession,
     WrongPhase,
 )
+from duqishom.scans import RangeScan
 from duqishom.several import NEW, Commit, CommitDone, Read, Support, pieces_of, too_many_for_one
 
 MOST_WRITES = 256
 LONGEST_VALUE = 65_536
-
-# So many values that a scan didn't send are read in one trip.
-MOST_UNSENT = 15
-
-# A row, a family and a value, or None where keys alone were asked for.
-Entry = tuple[bytes, bytes, bytes | None]
 
 
 class Session:
@@ -93,6 +88,19 @@ class Session:
             self._start = yield from ask(Begin())
         return self._start
 
+    def ask(self, request: Callable[[int], Operation[Answer]]) -> Plan[Answer]:
+        """Asks for a request of the session, by its start. It begins with that, if it hasn't begun. A refusal is raised."""
+        answer = None
+        if self._start is None:
+            self._check_active()
+            self._start, answer = yield from self._plans.begin_with(request)
+        if answer is None:
+            [answer] = yield [request(self._start)]
+        if isinstance(answer, Refused):
+            raise answer
+        result: Answer = answer
+        return result
+
     def _check_active(self) -> None:
         """UnknownSession if the session has ended."""
         if not self.is_active:
@@ -108,10 +116,10 @@ class Session:
         wanted = [Cell(*cell) for cell in cells]
         values = {cell: self._writes[cell] for cell in wanted if own and cell in self._writes}
         asked = [cell for cell in dict.fromkeys(wanted) if cell not in values]
-        values.update((yield from self._read(asked, {})))
+        values.update((yield from self.read(asked, {})))
         return [values[cell] for cell in wanted]
 
-    def _read(self, asked: list[Cell], locks: dict[Cell, int]) -> Plan[dict[Cell, bytes | None]]:
+    def read(self, asked: list[Cell], locks: dict[Cell, int]) -> Plan[dict[Cell, bytes | None]]:
         """What cells hold, and others that are locked by sessions of these starts, once their locks are gone."""
         values: dict[Cell, bytes | None] = {}
         tries = 0
@@ -180,10 +188,10 @@ class Session:
         else:
             raise StillPending(*next(iter(locks.items())))
 
-    def scan(self, asked: CellRange, keys: bool, own: bool, limit: int | None) -> RangeScan:
-        """A scan of a range, which shows the writes that were made before it."""
+    def scan(self, asked: CellRange, keys: bool, own: bool, limit: int | None, cells: int | None = None) -> RangeScan:
+        """A scan of a range, which shows the writes that were made before it. Its first batch has so many cells."""
         writes = {cell: value for cell, value in self._writes.items() if asked.has(cell)} if own else {}
-        return RangeScan(self, asked, keys, writes, limit)
+        return RangeScan(self, asked, keys, writes, limit, cells)
 
     def write(self, row: bytes, family: bytes, value: bytes | None) -> None:
         """Keeps a write, in the place of one of the same cell."""
@@ -259,6 +267,8 @@ class Session:
     def _unsent(self) -> Mapping[Cell, bytes | None]:
         """The writes that the store's session doesn't have."""
         sent = self._sent
+        if not sent:
+            return self._writes
         return {cell: value for cell, value in self._writes.items() if cell not in sent or sent[cell] != value}
 
     def _ask_commit(self) -> Plan[Any]:
@@ -376,71 +386,3 @@ class Session:
         self._to_clean = list(self._sent)[:count]
         LOG.debug("session %d came to nothing: %s", self.start, failure)
         return failure
-
-
-class RangeScan:
-    """The cells of a range that have a value, piece by piece."""
-
-    def __init__(
-        self, session: Session, asked: CellRange, keys: bool, writes: dict[Cell, bytes | None], limit: int | None
-    ) -> None:
-        """The writes, all in the range, are shown in place of what is there. With a limit, so many cells are given."""
-        if limit is not None and limit < 0:
-            raise ValueError(f"limit must be 0 or more, and not {limit}")
-        self._session = session
-        self._asked: CellRange | None = None if limit == 0 else asked
-        self._keys = keys
-        self._writes = writes
-        self._limit = limit
-        self._cells = MOST_CELLS if limit is None else min(MOST_CELLS, max(1, limit))
-        self._found: list[tuple[Cell, bytes | Unsent]] = []
-
-    def piece(self) -> Plan[list[Entry]]:
-        """The next cells: none at the end of the range."""
-        while not self._found and self._asked is not None:
-            yield from self._look_on(self._asked)
-        if not self._found or self._keys or not isinstance(self._found[0][1], Unsent):
-            return self._take_sent()
-        return (yield from self._take_unsent())
-
-    def _look_on(self, asked: CellRange) -> Plan[None]:
-        """Asks for the next batch. The locks of a batch are waited for together. If it had too few, the next one is
-        larger."""
-        session = self._session
-        start = yield from session.begin()
-        scanned = yield from ask(Scan(start, asked.after, asked.end, asked.family, self._keys, self._cells))
-        entries = entries_of(scanned, self._writes)
-        locks = {cell: found.start for cell, found in entries.items() if isinstance(found, Pending)}
-        read = yield from session._read([], locks)
-        for cell, found in entries.items():
-            value: bytes | Unsent | None = found if isinstance(found, Unsent) else read.get(cell)
-            if isinstance(found, Value):
-                value = found.value
-            if value is not None:
-                self._found.append((cell, value))
-        self._asked = None if scanned.upto is None else asked.behind(Cell(*scanned.upto))
-        self._cells = min(MOST_CELLS, 2 * self._cells)
-        if self._limit is not None:
-            del self._found[self._limit :]
-            self._limit -= len(self._found)
-            self._asked = self._asked if self._limit else None
-
-    def _take_sent(self) -> list[Entry]:
-        """The cells up to the first one whose value wasn't sent; all if keys alone are asked for."""
-        found, at = self._found, 0
-        while at < len(found) and (self._keys or not isinstance(found[at][1], Unsent)):
-            at += 1
-        self._found = found[at:]
-        values = [None if self._keys or isinstance(value, Unsent) else value for _, value in found[:at]]
-        return [(row, family, value) for ((row, family), _), value in zip(found, values)]
-
-    def _take_unsent(self) -> Plan[list[Entry]]:
-        """The next cells whose values weren't sent, and are read now."""
-        cells: list[Cell] = []
-        for cell, value in self._found[:MOST_UNSENT]:
-            if not isinstance(value, Unsent):
-                break
-            cells.append(cell)
-        self._found = self._found[len(cells) :]
-        values = yield from self._session.get_many(cells, own=False)
-        return [(row, family, value) for (row, family), value in zip(cells, values)]

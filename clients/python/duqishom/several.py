@@ -122,10 +122,12 @@ def too_many_for_one(writes: Mapping[Cell, bytes | None], longest: int) -> int:
 
 
 class Support:
-    """Whether the program behind a connection has Commit and Read. It is taken to, until it answers BadRequest."""
+    """What is behind a connection: whether the program there has Commit and Read, which it is taken to, until it answers
+    BadRequest; and whether no other connection has this one's sessions, which isn't known until a gateway was asked."""
 
-    def __init__(self, is_there: bool = True) -> None:
+    def __init__(self, is_there: bool = True, is_alone: bool | None = None) -> None:
         self.is_there = is_there
+        self.is_alone = is_alone
 
 
 def pieces_of(cells: Iterable[tuple[bytes, bytes]]) -> list[tuple[tuple[bytes, bytes], ...]]:

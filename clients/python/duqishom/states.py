@@ -14,9 +14,13 @@ from duqishom.administration import Client, Listing
 from duqishom.figures import duration
 from duqishom.files import LOG_FILE, ROOT_FILE, file_name
 from duqishom.folders import read_root
-from duqishom.statistics import lines, statistics
+from duqishom.refusals import BadRequest
+from duqishom.remote import Address
+from duqishom.reports import ServerStatus, TabletReport
+from duqishom.statistics import STORE, all_counts, lines
 from duqishom.store import Store
-from duqishom.tellings import Told
+from duqishom.tellings import Told, as_data
+from duqishom.texts import text_of
 from duqishom.version import VERSION
 
 # The columns of the clients.
@@ -50,17 +54,39 @@ def folder_state(folder: Path) -> Iterator[tuple[str, object]]:
     yield "bytes free on the disk", shutil.disk_usage(folder).free
 
 
-def state(store: Store, socket: str | None) -> Told:
-    """The state of a store: its folder's, its gateway's counts, or the number of its tablets."""
+def state(store: Store, socket: Address | None) -> Told:
+    """The state of a store: its folder's, its gateway's counts, and what its program reports, if it has Status."""
     figures: dict[str, object] = {"version": VERSION}
     if socket is not None:
-        counted = statistics(socket)
+        counted = all_counts(socket)
         told: Mapping[str, object] = figures | counted
         happened = (line for line in lines(counted) if not NEVER.fullmatch(line))
         return Told("\n".join([f"version: {VERSION}", *happened]), told)
-    figures.update([("tablets", len(store.tablets()))] if store.folder is None else folder_state(Path(store.folder)))
-    text = (f"{name}: {figure:,}" if isinstance(figure, int) else f"{name}: {figure}" for name, figure in figures.items())
+    figures.update([] if store.folder is None else folder_state(Path(store.folder)))
+    text = [f"{name}: {figure:,}" if isinstance(figure, int) else f"{name}: {figure}" for name, figure in figures.items()]
+    with suppress(BadRequest):
+        reported = {STORE: store.status().counts()}
+        text += [f"{STORE} {name}: {figure:,}" for name, figure in reported[STORE].items()]
+        figures.update(reported)
     return Told("\n".join(text), figures)
+
+
+def tablets(status: ServerStatus) -> Told:
+    """The tablets of a store, a line for each."""
+    text = (
+        f"{each.number} up to {'the last row' if each.end is None else text_of(each.end)}: server {each.server},"
+        f" {each.memtable_entries:,} entries of {each.memtable_bytes:,} bytes in memory,"
+        f" {each.files} files of {each.file_bytes:,} bytes"
+        for each in status.tablets
+    )
+    return Told("\n".join(text), [tablet_data(each) for each in status.tablets])
+
+
+def tablet_data(tablet: TabletReport) -> dict[str, object]:
+    """A tablet, for JSON."""
+    figures = asdict(tablet)
+    end = None if tablet.end is None else as_data(tablet.end)
+    return {"tablet": figures.pop("number"), **figures, "end": end}
 
 
 def clients(listing: Listing) -> Told:

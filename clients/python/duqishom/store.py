@@ -23,13 +23,14 @@ from duqishom.answers import (
     Collector,
     Committed,
     Pending,
+    Piece,
     Progress,
     Qualifier,
     Version,
 )
 from duqishom.autocommit import AutoCommit
 from duqishom.batches import Batch, answers_of, request_frame, request_frames
-from duqishom.cells import Cell
+from duqishom.cells import Cell, CellRange
 from duqishom.changes import Changes, watch_of
 from duqishom.collection import COMMITS, OwnCollection
 from duqishom.connection import Connection
@@ -60,6 +61,7 @@ from duqishom.plans import (
     Patience,
     Pause,
     Plan,
+    Reconnects,
     StillPending,
     StorePlans,
     TransactionConflict,
@@ -73,15 +75,14 @@ from duqishom.progress import Report, unreported
 from duqishom.recording import Recording
 from duqishom.refusals import Refused
 from duqishom.remote import Address, ConnectionLost, Fate, Gateway
+from duqishom.reports import ServerStatus
 from duqishom.sessions import Session
 from duqishom.several import Support
-from duqishom.tablets import NEW_STORE, Tablet, TabletMap, tablets_of
+from duqishom.splits import SPLIT_BYTES, OwnSplits
+from duqishom.tablets import NEW_STORE, Tablet, TabletMap, tablets_in, tablets_of
 from duqishom.transactions import Snapshot, Transaction
 
 MOST_VISITS = 1000
-
-# The seconds between two attempts to connect anew.
-RECONNECT_PAUSE = 0.1
 
 Answer = TypeVar("Answer")
 Result = TypeVar("Result")
@@ -114,6 +115,8 @@ class Store(AutoCommit):
         lock_wait: float | None = None,
         reconnect: float = 10.0,
         collect: int = COMMITS,
+        new: bool = False,
+        split_bytes: int = SPLIT_BYTES,
     ) -> None:
         """Starts the program, from TABLETD, PATH or the repository if none is named, with these words on its command
         line.
@@ -124,7 +127,9 @@ class Store(AutoCommit):
         be opened.
 
         With a log, everything answered is durable, whatever ends the program. A new folder gets a log, unless `log` is
-        false; a folder with a store gets one if `log` is true. A folder that has a log is always opened with it.
+        false; a folder with a store gets one if `log` is true. A folder that has a log is always opened with it. With
+        `log` false a folder without a root is opened only if nothing of a store is there, or `new` is true: a store
+        that never made a checkpoint has lost nothing then.
 
         With a socket, no program is started: the store is the one that a gateway serves there, beside other clients. What of it
         is open when this client ends, the gateway ends. OSError where nobody serves there, and ConnectionLost where the gateway
@@ -135,6 +140,9 @@ class Store(AutoCommit):
 
         Old versions are collected by itself after `collect` commits, and then again and again, some cells behind a commit; 0
         is never. At a socket the gateway does it.
+
+        A tablet of a folder that holds more than `split_bytes` is split in its middle, some time behind a commit; 0 is never. At a
+        socket the gateway does it.
 
         With `record`, a folder, all frames sent and received are recorded there for `tablet_audit`: see `Recording`.
         """
@@ -153,14 +161,15 @@ class Store(AutoCommit):
         if log and folder is None:
             raise ValueError("a log is in a folder, and none is named")
         self._connection: Connection = Gateway(self._socket) if self._socket is not None else started(
-            program, self.folder, words, None if record is None else Recording(record, self.folder), log
+            program, self.folder, words, None if record is None else Recording(record, self.folder), log, new
         )
         self._is_closed = False
-        self._support = Support()
+        self._support = Support(is_alone=None if self._is_remote else True)
         self._unsaved = Unsaved(self.folder is not None, self.has_log)
         self._tablets = TabletMap(NEW_STORE if self.folder is None else tablets_of(self.folder))
         self._plans = StorePlans(self._patience, None if self._is_remote else self._tablets, lambda: self.has_log)
         self._collection = OwnCollection(0 if self._is_remote else collect, self._plans)
+        self._splits = OwnSplits(split_bytes, self.folder, self._tablets)
         OPEN.add(self)
 
     @property
@@ -180,8 +189,8 @@ class Store(AutoCommit):
     ) -> list[Answer | Refused]:
         """Asks for several operations in one trip, and gives the answer to each, or its refusal. All are sent before a reply is
         looked at, so each is done whatever becomes of those before it. They go to the connection that is named, or to none."""
-        requests, count = request_frames(operations)
         with self.alone():
+            requests, count = request_frames(operations)
             self._unsaved.note_asked(operations)
             try:
                 replies = self._connected(connection).ask(requests, count, self._timeout)
@@ -195,6 +204,8 @@ class Store(AutoCommit):
             self._unsaved.note_answered(operations, answers, self._plans.stamps.note(operations, answers))
             if self._collection.note(answers):
                 self._collection.go_on(lambda trip: self._take(trip, None))
+            if self._splits.note(operations, len(requests), answers):
+                self._splits.go_on(lambda trip: self._take(trip, None))
             return answers
 
     def _connected(self, wanted: Connection | None) -> Connection:
@@ -351,11 +362,16 @@ class Store(AutoCommit):
         version."""
         return self.ask(Raw(row, family, qualifier, lo, hi))
 
+    def status(self) -> ServerStatus:
+        """The state of the store, and of its tablets in the order of their rows: what is open, how full memtables and files
+        are, up to which stamp. It is asked for in two trips, and changes nothing. BadRequest if the program has no Status."""
+        return self.do(self._plans.status())
+
     def tablets(self) -> tuple[Tablet, ...]:
-        """The tablets, in the order of their rows. ValueError if a gateway serves the store, since other clients may
-        have split them."""
+        """The tablets, in the order of their rows. If a gateway serves the store, whose other clients may have split them, it is
+        asked, as for `status`."""
         if self._is_remote:
-            raise ValueError("other clients may have split the tablets of a gateway's store")
+            return tablets_in(self.status())
         with self.alone():
             return self._tablets.all()
 
@@ -383,16 +399,28 @@ class Store(AutoCommit):
         """The values of cells, all as of one moment. They are one request if they fit into it and no lock is met; with a program
         without Read one trip, or two where others use the store."""
         wanted = [Cell(*cell) for cell in cells]
-        values: list[bytes | None] | None = None
+        values = self._at_once(lambda support: self._plans.read(wanted, support))
+        return self.run(lambda t: t.get_many(wanted)) if values is None else values
+
+    def _piece(self, asked: CellRange, keys: bool, cells: int) -> Piece | None:
+        """The first batch of a range as of now, in a session that ends with it: None if it isn't to be had at once."""
+        return self._at_once(lambda support: self._plans.scan(asked, keys, cells, support))
+
+    def _at_once(self, plan: Callable[[Support], Plan[Result | None]]) -> Result | None:
+        """What is read in a session that ends at once: None if that doesn't do, or the connection is lost."""
         with suppress(ConnectionLost):
             with self.alone():
                 connection, support = self._connected(None), self._support
-            values = self.do(self._plans.read(wanted, support), connection)
-        return self.run(lambda t: t.get_many(wanted)) if values is None else values
+            return self.do(plan(support), connection)
+        return None
 
     def snapshot(self) -> Snapshot:
         """The store as of now, to be read in a `with`. While it is open, collectors keep what it shows."""
         return Snapshot(self, *self._begun())
+
+    def _snapshot_later(self) -> Snapshot:
+        """The store as of the first read."""
+        return Snapshot(self, *self._session())
 
     def _begun(self) -> tuple[Session, Connection]:
         """A session that has begun, and the connection that has it."""
@@ -406,11 +434,12 @@ class Store(AutoCommit):
             connection = self._connected(None)
             return Session(self._plans, self._support), connection
 
-    def run(self, work: Callable[[Transaction], Result], attempts: int = 10) -> Result:
+    def run(self, work: Callable[[Transaction], Result], attempts: int = 10, deadline: float | None = None) -> Result:
         """Does work in a transaction, and retries in a new one after a conflict, a loss or a lock that stays.
 
         Behind each attempt there is a pause, by chance, up to a time that doubles: first the patience's pause, and at most a
-        second. After the last attempt that failure is raised.
+        second. After the last attempt that failure is raised: there are so many attempts, and none begins after `deadline`
+        seconds.
 
         The transaction begins with its first read, or else with its commit. With a program that has Read and Commit, its reads
         of cells in one call are one request, and so is its commit, before which a gateway is asked for a session.
@@ -418,7 +447,7 @@ class Store(AutoCommit):
         A connection to a gateway that is lost meanwhile is made anew. Where it was lost in the commit, `fate` tells whether there
         is something left to do.
         """
-        tried = Attempts(self._patience, attempts)
+        tried = Attempts(self._patience, attempts, deadline)
         while True:
             transaction: Transaction | None = None
             results: list[Result] = []
@@ -429,29 +458,30 @@ class Store(AutoCommit):
             except (TransactionConflict, TransactionLost, StillPending) as failure:
                 pause = tried.pause_after(failure)
             except ConnectionLost as lost:
-                if self._is_done_nonetheless(lost, transaction):
+                if self._is_done_nonetheless(lost, transaction, min(self._reconnect, tried.left())):
                     if results:
                         return results[0]
                     raise
                 pause = tried.pause_after(lost)
             time.sleep(pause)
 
-    def _is_done_nonetheless(self, lost: ConnectionLost, transaction: Transaction | None) -> bool:
-        """Whether a transaction was committed whose connection was lost. It connects anew first. The loss is raised where that
-        comes to nothing, another store's connection was lost, or it can't be told."""
+    def _is_done_nonetheless(self, lost: ConnectionLost, transaction: Transaction | None, seconds: float) -> bool:
+        """Whether a transaction was committed whose connection was lost. It connects anew first, for which there are so many
+        seconds. The loss is raised where that comes to nothing, another store's connection was lost, or it can't be told."""
         connection = self._connection if transaction is None else transaction._connection
         if connection is self._connection and not is_lost(connection):
             raise lost
-        end = time.monotonic() + self._reconnect
+        reconnects = Reconnects(seconds)
         while True:
             try:
                 with self.alone():
                     self._connected(None)
                 return transaction is not None and self._is_committed(lost, transaction)
             except ConnectionLost:
-                if self._is_closed or time.monotonic() >= end:
+                pause = None if self._is_closed else reconnects.pause()
+                if pause is None:
                     raise
-            time.sleep(RECONNECT_PAUSE)
+            time.sleep(pause)
 
     def _is_committed(self, lost: ConnectionLost, transaction: Transaction) -> bool:
         """Whether a transaction was committed whose connection was lost. The loss is raised where a lock of it stands, and may not

@@ -47,10 +47,14 @@ class FrameStream(asyncio.Protocol):
             raise named_error(error, address) from None
         return stream
 
-    async def ask(self, requests: bytes, count: int) -> bytes:
-        """Sends the frames of so many requests in one piece, and gives the frames of the replies. ConnectionLost if the
-        connection ends instead of a reply."""
+    async def room(self) -> None:
+        """Waits until requests can be sent at once."""
         await self._has_room.wait()
+
+    async def ask(self, requests: bytes, count: int) -> bytes:
+        """Sends the frames of so many requests in one piece, at once if there is room, and gives the frames of the replies.
+        ConnectionLost if the connection ends instead of a reply."""
+        await self.room()
         if not self.is_open:
             self.is_lost = True
             raise ConnectionLost()

@@ -1,5 +1,5 @@
-"""A map from rows to tablets. The store doesn't give one, so the client keeps its own: the tablets in a folder's root
-file, changed by the client's own splits."""
+"""A map from rows to tablets. A client with a store of its own keeps it itself: the tablets in a folder's root file, changed
+by the client's own splits."""
 
 from __future__ import annotations
 
@@ -8,6 +8,7 @@ from dataclasses import dataclass
 from pathlib import Path
 
 from duqishom.folders import FolderDamaged, read_root
+from duqishom.reports import ServerStatus
 
 
 @dataclass(frozen=True)
@@ -29,6 +30,11 @@ def tablets_of(folder: str) -> tuple[Tablet, ...]:
         return tuple(Tablet(tablet.number, tablet.end) for tablet in read_root(Path(folder)).tablets)
     except FolderDamaged:
         return NEW_STORE
+
+
+def tablets_in(status: ServerStatus) -> tuple[Tablet, ...]:
+    """The tablets of a store by its state, in the order of their rows."""
+    return tuple(Tablet(tablet.number, tablet.end) for tablet in status.tablets)
 
 
 class TabletMap:

@@ -4,6 +4,7 @@ from __future__ import annotations
 
 import json
 import sys
+from collections.abc import Iterator
 from contextlib import suppress
 from dataclasses import dataclass
 from enum import Enum
@@ -49,6 +50,24 @@ class Told:
     raw: bytes | None = None
 
 
+@dataclass(frozen=True)
+class ToldLines:
+    """An answer of lines that may still have to come. Each is an answer, and has data and bytes of its own."""
+
+    parts: Iterator[Told]
+
+    def lines(self) -> Iterator[Told]:
+        """The lines, or the one that says that there are none."""
+        yield next(self.parts, Told("nothing", [], b""))
+        yield from self.parts
+
+    def whole(self) -> Told:
+        """All lines as one answer, whose data is a list."""
+        parts = list(self.parts)
+        text = "\n".join(part.text for part in parts) or "nothing"
+        return Told(text, [part.data for part in parts], b"\n".join(part.raw or b"" for part in parts))
+
+
 def said(text: str) -> Told:
     """An answer that is only a text."""
     return Told(text, {"answer": text})
@@ -69,14 +88,20 @@ def cell_data(row: bytes, family: bytes) -> dict[str, object]:
     return {"row": as_data(row), "family": as_data(family)}
 
 
-def show(told: Told, form: Form) -> None:
-    """Prints an answer and the end of a line. For no bytes nothing is printed."""
-    if form is Form.RAW and told.raw is not None:
-        sys.stdout.flush()
-        sys.stdout.buffer.write(told.raw + b"\n" if told.raw else b"")
-        sys.stdout.buffer.flush()
+def show(told: Told | ToldLines, form: Form) -> None:
+    """Prints an answer and the end of a line. Lines are printed as they come, but in JSON they are one. For no bytes nothing is
+    printed."""
+    if isinstance(told, ToldLines):
+        parts = iter([told.whole()]) if form is Form.JSON else told.lines()
     else:
-        print(json.dumps(told.data, ensure_ascii=False) if form is Form.JSON else told.text, flush=True)
+        parts = iter([told])
+    sys.stdout.flush()
+    for part in parts:
+        if form is Form.RAW and part.raw is not None:
+            sys.stdout.buffer.write(part.raw + b"\n" if part.raw else b"")
+        else:
+            print(json.dumps(part.data, ensure_ascii=False) if form is Form.JSON else part.text)
+    sys.stdout.flush()
 
 
 def text_of_found(found: Found) -> str:

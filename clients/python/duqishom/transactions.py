@@ -7,6 +7,7 @@ from contextlib import suppress
 from types import TracebackType
 from typing import TYPE_CHECKING, Literal, TypeVar, overload
 
+from duqishom.answers import Entry
 from duqishom.cells import CellRange, range_of
 from duqishom.connection import Connection, RequestTimedOut
 from duqishom.plans import (
@@ -20,7 +21,8 @@ from duqishom.plans import (
 )
 from duqishom.program import ProgramEnded
 from duqishom.refusals import UnknownSession
-from duqishom.sessions import MOST_WRITES, Entry, RangeScan, Session
+from duqishom.scans import RangeScan, Row, cells_of, checked_limit, rows_of, values_of_row
+from duqishom.sessions import MOST_WRITES, Session
 
 if TYPE_CHECKING:
     from duqishom.store import Store
@@ -75,7 +77,23 @@ class Snapshot:
 
     def row(self, row: bytes, own: bool = True) -> dict[bytes, bytes]:
         """The values of a row, by their families."""
-        return {family: value for _, family, value in self.scan(row, row, own=own)}
+        return values_of_row(self.scan(row, row, own=own))
+
+    def rows(
+        self,
+        start: bytes | None = None,
+        end: bytes | None = None,
+        *,
+        prefix: bytes | None = None,
+        after: bytes | None = None,
+        before: bytes | None = None,
+        own: bool = True,
+        limit: int | None = None,
+    ) -> Iterator[Row]:
+        """The rows of a range that have a value, in order, each with the dictionary that `row` gives. The range is that of `scan`.
+        With a limit, the first so many rows are given."""
+        asked, limit = range_of(start, end, prefix, None, after, before), checked_limit(limit)
+        return rows_of(self.entries(asked, False, None, own, cells_of(limit)), limit)
 
     @overload
     def scan(
@@ -148,9 +166,11 @@ class Snapshot:
         asked = range_of(start, end, prefix, family, after, before)
         return sum(1 for _ in self.entries(asked, True, None, own))
 
-    def entries(self, asked: CellRange, keys: bool, limit: int | None, own: bool = True) -> Iterator[Entry]:
-        """The cells of a range, as `scan` gives them."""
-        return self._pieces(self._session.scan(asked, keys, own, limit))
+    def entries(
+        self, asked: CellRange, keys: bool, limit: int | None, own: bool = True, cells: int | None = None
+    ) -> Iterator[Entry]:
+        """The cells of a range, as `scan` gives them. The first batch has so many."""
+        return self._pieces(self._session.scan(asked, keys, own, limit, cells))
 
     def _pieces(self, scan: RangeScan) -> Iterator[Entry]:
         """The cells of a scan, piece by piece."""

@@ -7,6 +7,7 @@ from collections.abc import Sequence
 
 from duqishom.changes import Change
 from duqishom.dumps import status
+from duqishom.remote import socket_at
 from duqishom.store import Store
 from duqishom.tellings import Form, Told, cell_data, show
 from duqishom.texts import bytes_of
@@ -27,7 +28,7 @@ def main(words: Sequence[str]) -> int:
     """Shows changes until the time is over or a Ctrl-C. The status is 0, and 2 if no gateway answers."""
     what = "Shows the commits to the rows with a prefix, as they come."
     parser = argparse.ArgumentParser(prog="duqishom watch", description=what)
-    parser.add_argument("--socket", metavar="PATH", required=True, help="the gateway's socket")
+    parser.add_argument("--socket", metavar="PATH", type=socket_at, required=True, help="the gateway's socket, or HOST:PORT")
     parser.add_argument("--family", help="of this family alone")
     parser.add_argument("--timeout", metavar="SECONDS", type=float, help="end when none has come for so long")
     parser.add_argument("--json", action="store_true", help="as lines of JSON")

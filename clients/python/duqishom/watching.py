@@ -7,7 +7,7 @@ from collections.abc import AsyncIterator
 from contextlib import suppress
 from types import TracebackType
 
-from duqishom.changes import RECONNECT_PAUSE, Change, Heard, Watch
+from duqishom.changes import Change, Heard, Watch
 from duqishom.connection import PIECE, StreamEnded
 from duqishom.remote import Address, named_error
 
@@ -40,8 +40,7 @@ class Changes:
                 await self._hear()
             except (StreamEnded, OSError) as why:
                 await self.close()
-                self._heard.note_lost(why)
-                await asyncio.sleep(RECONNECT_PAUSE)
+                await asyncio.sleep(self._heard.note_lost(why))
         return change
 
     async def _hear(self) -> None:

@@ -8,6 +8,7 @@ from collections.abc import Iterator
 from itertools import islice
 
 from duqishom.figures import counted, duration, moment, size, speed
+from duqishom.statistics import STORE
 from duqishom.version import VERSION
 from duqishom.web_charts import are_labelled, large_line, range_of, small_line, tablet_bar
 from duqishom.web_folder import FolderState
@@ -33,7 +34,7 @@ FILES = (
 TIMES = {"p50": "half within", "p99": "99% within", "greatest": "longest"}
 
 # The operations that the page itself asks for, and that aren't part of the sum.
-OWN = ("Statistics", "other")
+OWN = ("Statistics", "Status")
 
 
 def page(path: str, view: View, health: Health, folder: FolderState | None) -> str:
@@ -118,6 +119,8 @@ def beside(view: View, last: Sample | None, folder: FolderState | None) -> Itera
     """The parts beside the requests."""
     if last is not None:
         yield section("Clients", pairs(clients(view, last)))
+        if last.group(STORE):
+            yield section("Store", pairs(store_rows(last)))
     if folder is not None:
         yield section("Folder", pairs(folder_rows(folder, last)))
     if last is not None:
@@ -147,7 +150,8 @@ def requests(view: View, last: Sample) -> Iterator[Markup]:
             rows.append((name, speed(recent_rate(view.samples, of)), f"{count:,}", *shown, small_line(points(view, of))))
     yield table(("operation", "a second", "in all", *TIMES.values(), ""), rows, class_="numbers times")
     yield tag("p", "The times are the last minute's, from a request to its reply.", class_="note")
-    yield tag("p", f"This page asks for one of Statistics and one of other every {INTERVAL:g} s.", class_="note")
+    asks = f"This page asks for one of Statistics and, for each tablet, one of Status every {INTERVAL:g} s."
+    yield tag("p", asks, class_="note")
 
 
 def clients(view: View, last: Sample) -> Iterator[tuple[object, object]]:
@@ -163,6 +167,12 @@ def clients(view: View, last: Sample) -> Iterator[tuple[object, object]]:
         yield "open for long", f"{oldest[0]:,} for {duration(oldest[1])}"
     yield "cleaners, collectors", f"{last.number('open', 'cleaners'):,}, {last.number('open', 'collectors'):,}"
     yield "bytes that wait", size(last.number("held", "requests") + last.number("held", "replies"))
+
+
+def store_rows(last: Sample) -> Iterator[tuple[object, object]]:
+    """The figures of the store."""
+    for part, count in last.group(STORE).items():
+        yield spoken(part), size(count) if part.endswith("_bytes") else f"{count:,}"
 
 
 def failures(last: Sample) -> Iterator[tuple[object, object]]:

@@ -1,4 +1,4 @@
-"""Samples of a gateway, one every two seconds: its counts, and how long its program took to answer."""
+"""Samples of a gateway, one every two seconds: its counts, those of its store, and how long its program took to answer."""
 
 from __future__ import annotations
 
@@ -9,16 +9,18 @@ from collections.abc import Callable, Mapping, Sequence
 from contextlib import suppress
 from dataclasses import dataclass, field
 from itertools import dropwhile, pairwise
+from typing import Any
 
-from duqishom.administration import Counted, Number, Statistics
+from duqishom.batches import answers_of, request_frames
 from duqishom.connection import RequestTimedOut
+from duqishom.counted import Counted, Number, Statistics
 from duqishom.figures import duration
-from duqishom.frames import LENGTH, framed
-from duqishom.operations import answer_or_refusal, request_body
+from duqishom.operations import Operation
 from duqishom.program import ProgramEnded
-from duqishom.refusals import Refused
+from duqishom.refusals import BadRequest, NoMemory, Refused
 from duqishom.remote import Gateway
-from duqishom.statistics import prometheus
+from duqishom.reports import Status, status_by
+from duqishom.statistics import STORE, prometheus, store_metrics
 
 # The seconds between two samples, the most samples that are kept, and the seconds after which they aren't.
 INTERVAL = 2.0
@@ -31,14 +33,11 @@ PATIENCE = 10.0
 # The number of intervals over which a rate is shown.
 RECENT = 5
 
-# An empty body is refused by the program, and changes nothing.
-NO_REQUEST = b""
-
 
 @dataclass(frozen=True)
 class Sample:
-    """The counts of a gateway at a moment of the monotonic clock, the same as metrics of Prometheus, and the seconds
-    that its program took to answer."""
+    """The counts of a gateway and of its store at a moment of the monotonic clock, the same as metrics of Prometheus, and the
+    seconds that its program took to answer."""
 
     at: float
     told: Mapping[str, Counted]
@@ -147,25 +146,33 @@ class Sampler:
         self.is_ready.set()
 
     def _sample(self) -> Sample:
-        asked = Statistics()
-        told = answer_or_refusal(asked, self._ask("the gateway", request_body(asked)))
+        [told] = self._ask("the gateway", [Statistics()])
         if isinstance(told, Refused):
             raise told
-        metrics = "".join(f"{line}\n" for line in prometheus(told))
+        metrics = [*prometheus(told)]
         began = time.monotonic()
-        self._ask("the program", NO_REQUEST)
-        return Sample(began, told, metrics, time.monotonic() - began)
+        took = list[float]()
 
-    def _ask(self, who: str, body: bytes) -> bytes:
-        """The reply to a request. NoAnswer if there is none in time."""
+        def ask(trip: list[Status]) -> list[Any]:
+            answers = self._ask("the program", trip)
+            took.append(time.monotonic() - began)
+            return answers
+
+        with suppress(BadRequest, NoMemory):
+            told[STORE] = status_by(ask).counts()
+            metrics += store_metrics(told)
+        return Sample(began, told, "".join(f"{line}\n" for line in metrics), took[0])
+
+    def _ask(self, who: str, operations: Sequence[Operation[Any]]) -> list[Any]:
+        """The answers to requests. NoAnswer if they don't come in time."""
         self._gateway = self._gateway or Gateway(self.path)
         (who, since), self._late = self._late or (who, time.monotonic()), None
         try:
-            reply = self._gateway.ask(framed(body), 1, PATIENCE)
+            replies = self._gateway.ask(*request_frames(operations), PATIENCE)
         except RequestTimedOut:
             self._late = who, since
             raise NoAnswer(f"{who} hasn't answered for {duration(time.monotonic() - since)}") from None
-        return reply[LENGTH.size :]
+        return answers_of(operations, replies, is_remote=True)
 
     def _leave(self) -> None:
         """Closes the connection."""

@@ -3,25 +3,25 @@
 from __future__ import annotations
 
 from collections.abc import Iterable, Iterator, Sequence
-from itertools import islice
-from pathlib import Path
 
 from duqishom import explained, states
 from duqishom.administration import Clients, Kill
-from duqishom.answers import Qualifier
+from duqishom.answers import Committed, Conflict, Entry, Qualifier
 from duqishom.cells import Cell, range_of
 from duqishom.columns import BadForm
 from duqishom.fields import MalformedReply
-from duqishom.files import file_name
-from duqishom.folders import read_root
+from duqishom.inspection import drop_output
 from duqishom.lines import HELP, Line, Misspelled, add_range, add_scan, completions, parsers_of, read_line, split_words
 from duqishom.operations import Answer, Operation
 from duqishom.progress import ProgressLine, add_progress
 from duqishom.refusals import BadRequest, Refused
+from duqishom.remote import Address, ConnectionLost
+from duqishom.several import Commit, CommitDone
 from duqishom.store import Store
 from duqishom.tellings import (
     Form,
     Told,
+    ToldLines,
     as_data,
     cell_data,
     failed,
@@ -55,24 +55,47 @@ def amount_in(transaction: Transaction, row: bytes, family: bytes) -> int:
     return int(value)
 
 
-def text_of_end(end: bytes | None) -> str:
-    """The end of a tablet, in words."""
-    return "the last row" if end is None else text_of(end)
-
-
 def committed(transaction: Transaction) -> Told:
     """The answer to a line that wrote something."""
     return Told(f"committed at {transaction.commit_stamp}", {"commit": transaction.commit_stamp})
 
 
+def told_cells(cells: Iterator[Entry]) -> Iterator[Told]:
+    """The answer for each cell of a scan."""
+    try:
+        for row, family, value in cells:
+            names = (row, family) if value is None else (row, family, value)
+            data = dict(zip(("row", "family", "value"), map(as_data, names)))
+            yield Told(" ".join(map(text_of, names)), data, b"\t".join(names))
+    except ConnectionLost as lost:
+        raise NotDone(str(lost)) from None
+
+
+# What says that a line isn't done, or no further.
+NOT_DONE = (Refused, TransactionFailed, OverflowError, Misspelled, NotDone, OSError, ValueError, BadForm, MalformedReply)
+
+
+def told_why(why: Exception) -> Told:
+    """Why a line isn't done."""
+    match why:
+        case Refused():
+            return failed(str(why))
+        case TransactionFailed():
+            return failed(f"not committed: {why}")
+        case OverflowError():
+            return failed("not done: a number is too large")
+        case _:
+            return failed(f"not done: {why}")
+
+
 class Words:
     """A store that takes requests in words. `socket` is its gateway's, if it has one."""
 
-    def __init__(self, store: Store, socket: str | None = None) -> None:
+    def __init__(self, store: Store, socket: Address | None = None) -> None:
         self._store = store
         self._socket = socket
 
-    def answer(self, text: str) -> tuple[bool, Told | None]:
+    def answer(self, text: str) -> tuple[bool, Told | ToldLines | None]:
         """Whether a line was done, and the answer to show: none for an empty line. Quotes make one word of several or of
         none. Quit if the line ends the command."""
         try:
@@ -81,20 +104,14 @@ class Words:
             return False, failed(f"not done: {why}".lower())
         return self.answer_words(words) if words else (True, None)
 
-    def answer_words(self, words: list[str]) -> tuple[bool, Told]:
+    def answer_words(self, words: list[str]) -> tuple[bool, Told | ToldLines]:
         """Whether a line of these words was done, and the answer to show."""
         try:
             return True, self._do(words)
-        except Refused as refusal:
-            return False, failed(str(refusal))
-        except TransactionFailed as failure:
-            return False, failed(f"not committed: {failure}")
-        except OverflowError:
-            return False, failed("not done: a number is too large")
-        except (Misspelled, NotDone, OSError, ValueError, BadForm, MalformedReply) as why:
-            return False, failed(f"not done: {why}")
+        except NOT_DONE as why:
+            return False, told_why(why)
 
-    def _do(self, words: list[str]) -> Told:
+    def _do(self, words: list[str]) -> Told | ToldLines:
         told = help_of(words)
         if told is not None:
             return said(told)
@@ -141,19 +158,13 @@ class Words:
         family: bytes | None,
         keys: bool,
         limit: int | None,
-    ) -> Told:
-        """Reads the cells of a range, in a transaction: a line for each."""
-
-        def work(transaction: Transaction) -> list[tuple[bytes, ...]]:
-            if keys:
-                named = transaction.scan(start, end, prefix=prefix, family=family, keys=True)
-                return [(row, column) for row, column, _ in islice(named, limit)]
-            return list(islice(transaction.scan(start, end, prefix=prefix, family=family), limit))
-
-        cells = self._store.run(work)
-        text = "\n".join(" ".join(map(text_of, cell)) for cell in cells) or "nothing"
-        data = [dict(zip(("row", "family", "value"), map(as_data, cell))) for cell in cells]
-        return Told(text, data, b"\n".join(map(b"\t".join, cells)))
+    ) -> ToldLines:
+        """Reads the cells of a range, all as of one moment: a line for each."""
+        if keys:
+            found: Iterator[Entry] = self._store.scan(start, end, prefix=prefix, family=family, keys=True, limit=limit)
+        else:
+            found = self._store.scan(start, end, prefix=prefix, family=family, limit=limit)
+        return ToldLines(told_cells(found))
 
     def count(self, start: bytes | None, end: bytes | None, prefix: bytes | None, family: bytes | None) -> Told:
         """The number of cells of a range that have a value."""
@@ -202,6 +213,11 @@ class Words:
     def session_step(self, start: int) -> Told:
         """Takes a session's next step."""
         return said(text_of_progress(self._store.step(start)))
+
+    def session_commit(self, start: int) -> Told:
+        """Commits a session, which ends. Nothing is locked after a conflict."""
+        answer = self._store.ask(Commit(start))
+        return said(text_of_progress(Committed(answer.commit) if isinstance(answer, CommitDone) else Conflict(answer.place)))
 
     def session_stop(self, start: int) -> Told:
         """Ends a session in its current phase."""
@@ -256,21 +272,8 @@ class Words:
         return Told(text_of_version(version, column), data, b"" if version is None else version.value)
 
     def tablets(self) -> Told:
-        """The tablets, in the order of their rows. A folder's have their servers and files at the last checkpoint."""
-        folder = self._store.folder
-        kept = {} if folder is None else {tablet.number: tablet for tablet in read_root(Path(folder)).tablets}
-        lines, data = list[str](), list[dict[str, object]]()
-        for tablet in self._store.tablets():
-            text = f"{tablet.number} up to {text_of_end(tablet.end)}"
-            end = None if tablet.end is None else as_data(tablet.end)
-            figures: dict[str, object] = {"tablet": tablet.number, "end": end}
-            if folder is not None and (place := kept.get(tablet.number)) is not None:
-                sizes = [states.size_of(Path(folder) / file_name(name)) for name, _ in place.files]
-                text += f": server {place.server}, {len(sizes)} files, {sum(sizes):,} bytes"
-                figures |= {"server": place.server, "files": len(sizes), "bytes": sum(sizes)}
-            lines.append(text)
-            data.append(figures)
-        return Told("\n".join(lines), data)
+        """The tablets, in the order of their rows, with their servers, and what their memtables and files have."""
+        return states.tablets(self._store.status())
 
     def split(self, row: bytes) -> Told:
         """Splits the tablet that holds a row behind the row."""
@@ -323,7 +326,7 @@ LINES = (
     Line("set ROW FAMILY VALUE", "sets a cell, in a transaction", Words.set),
     Line("get ROW FAMILY", "reads a cell, in a transaction", Words.get),
     Line("delete ROW FAMILY", "deletes a cell, in a transaction", Words.delete),
-    Line("scan [START [END]] [OPTIONS]", "reads the cells from a row to a row, in a transaction", Words.scan, add_scan),
+    Line("scan [START [END]] [OPTIONS]", "reads the cells from a row to a row, as of now", Words.scan, add_scan),
     Line("count [START [END]] [OPTIONS]", "how many cells such a range has", Words.count, add_range),
     Line("transfer ROW ROW FAMILY AMOUNT", "moves an amount from one row to the other", Words.transfer),
     Line("begin", "begins a session, and names its start", Words.begin),
@@ -331,16 +334,17 @@ LINES = (
     Line("in START delete ROW FAMILY", "buffers a deletion in the session", Words.session_delete),
     Line("in START get ROW FAMILY", "reads a cell as of the start", Words.session_get),
     Line("in START step", "takes the session's next step", Words.session_step),
+    Line("in START commit", "commits the session's writes at once, and ends it", Words.session_commit),
     Line("in START stop", "ends the session in its current phase", Words.session_stop),
     Line("explain ROW FAMILY", "all that a cell has: its value, locks, records and data", Words.explain),
     Line("locks [START [END]] [OPTIONS]", "the locks of such a range, and their sessions' ends", Words.locks, add_range),
-    Line("status", "the state of the store: of its folder, or as its gateway counts", Words.status),
+    Line("status", "the state of the store, of its folder, and as its gateway counts", Words.status),
     Line("clients", "the clients of the gateway, those with the oldest sessions first", Words.clients),
     Line("kill CLIENT", "ends the connection of the client with this number", Words.kill),
     Line("clean ROW FAMILY", "clears the lock of a cell", Words.clean),
     Line("collect", "erases the versions that no session reads", Words.collect),
     Line("raw ROW FAMILY COLUMN LO HI", "the newest version in data, lock or write; HI may be last", Words.raw),
-    Line("tablets", "the tablets, in the order of their rows; of a folder, what the last checkpoint has", Words.tablets),
+    Line("tablets", "the tablets, in the order of their rows: servers, memtables, files", Words.tablets),
     Line("split ROW", "splits the tablet that holds the row behind the row", Words.split),
     Line("move TABLET SERVER", "puts a tablet on a server", Words.move),
     Line("compact TABLET minor", "writes the tablet's memtable as a file", Words.minor),
@@ -375,6 +379,24 @@ def complete(text: str) -> Iterator[str]:
         return iter(())
 
 
+def shown(told: Told | ToldLines, form: Form, by_pages: bool = False) -> bool:
+    """Shows an answer, as far as it comes and is read. Returns whether all of it came."""
+    try:
+        if by_pages and form is Form.TEXT:
+            told = told.whole() if isinstance(told, ToldLines) else told
+            if is_long(told.text):
+                show_pages(told.text)
+                return True
+        show(told, form)
+        return True
+    except BrokenPipeError:
+        drop_output()
+        return True
+    except NOT_DONE as why:
+        show(told_why(why), form)
+        return False
+
+
 def answer_all(words: Words, texts: Iterable[str], form: Form = Form.TEXT, by_pages: bool = False) -> bool:
     """Shows the answer to each line, up to the one that ends the command. Returns whether all were done."""
     is_well = True
@@ -383,9 +405,6 @@ def answer_all(words: Words, texts: Iterable[str], form: Form = Form.TEXT, by_pa
             is_done, told = words.answer(text)
         except Quit:
             break
-        is_well = is_well and is_done
-        if told is not None and by_pages and form is Form.TEXT and is_long(told.text):
-            show_pages(told.text)
-        elif told is not None:
-            show(told, form)
+        is_shown = told is None or shown(told, form, by_pages)
+        is_well = is_well and is_done and is_shown
     return is_well

@@ -85,7 +85,7 @@ def read(start: bytes, *rows: bytes, stays: bytes = b"\0") -> bytes:
 
 
 BEGIN, COLLECT_BEGIN, SWEEP, CHECKPOINT = frame(b"\x01"), frame(b"\x08"), frame(b"\x0f"), frame(b"\x12")
-STATISTICS = frame(b"\x70")
+STATISTICS, CLIENTS = frame(b"\x70"), frame(b"\x72")
 
 # The start by which a Commit or a Read begins a session.
 NEW = bytes(8)
@@ -201,6 +201,13 @@ class Gateway:
         wire.close()
         told: dict[str, Any] = json.loads(reply[1:])
         return told
+
+    def sessions(self) -> list[int]:
+        """How many sessions each client has, the fewest first. The first is of the connection that asks."""
+        wire = self.wire()
+        told = json.loads(wire.ask(CLIENTS)[1:])
+        wire.close()
+        return sorted(int(client["sessions"]) for client in told["clients"])
 
     def program(self) -> int:
         """The process of the program."""

@@ -3,16 +3,19 @@
 from __future__ import annotations
 
 import unittest
+from typing import Any
 
 from duqishom import Committed, Conflict, Finished, Held, MalformedReply, Pending, Refused, Stamped
 from duqishom.batches import Batch, Gets, Steps, Writes, answers_of, request_frames
 from duqishom.cells import Cell
-from duqishom.operations import Begin
+from duqishom.operations import Begin, Operation
 from duqishom.refusals import FrameTooLarge
+from duqishom.several import Commit, CommitConflict, CommitDone
 
 BOB, JOE = Cell(b"Bob", b"bal"), Cell(b"Joe", b"bal")
 WRITES = Writes(1, {BOB: b"10", JOE: None})
 GETS = Gets(1, [BOB, JOE])
+COMMIT = Commit(7, ((*BOB, b"10"),))
 HELD = "00000006 84 01 0001 0002  00000006 84 01 0002 0002"
 STAMPED, COMMITTED = "0000000A 84 03 0000000000000002", "0000000A 84 04 0000000000000002"
 FINISHED = "00000006 84 06 0002 0002"
@@ -33,7 +36,10 @@ REQUESTS = (
     ),
 )
 
-ANSWERS = (
+ANSWERS: tuple[tuple[Operation[object] | Batch, str, object], ...] = (
+    (COMMIT, "00000012 B2 01 0000000000000007 0000000000000009", CommitDone(7, 9)),
+    (COMMIT, "0000000C B2 02 0000000000000007 0001", CommitConflict(7, 1)),
+    (COMMIT, UNKNOWN, "UnknownSession"),
     (WRITES, "00000001 83  00000001 93", None),
     (WRITES, "00000001 83  00000002 FF14", [None, "NoMemory"]),
     (WRITES, "00000002 FF14  00000001 93", ["NoMemory", None]),
@@ -55,7 +61,9 @@ ANSWERS = (
     (GETS, UNKNOWN + UNKNOWN, ["UnknownSession", "UnknownSession"]),
 )
 
-MALFORMED = (
+MALFORMED: tuple[tuple[Operation[object] | Batch, str], ...] = (
+    (COMMIT, "00000013 B2 01 0000000000000007 0000000000000009 00"),
+    (COMMIT, "00000012 B3 01 0000000000000007 0000000000000009"),
     (WRITES, "00000001 83  00000001 83"),
     (WRITES, "00000002 83 00  00000001 93"),
     (Steps(1, 1, 2), "00000006 84 07 0001 0001"),
@@ -85,7 +93,7 @@ class Batches(unittest.TestCase):
         begun = "00000009 81 0000000000000001"
         for batch, replies, answer in ANSWERS:
             with self.subTest(replies=replies):
-                asked: list[Begin | Batch] = [Begin(), batch, Begin()]
+                asked: list[Operation[Any] | Batch] = [Begin(), batch, Begin()]
                 self.assertEqual(shown(answers_of(asked, bytes.fromhex(begun + replies + begun))), [1, answer, 1])
 
     def test_malformed_replies(self) -> None:

@@ -20,6 +20,9 @@ ROWS = [
     ("00000002 02 0000000000000001 00000001 61 00000001 62", "00000002 FF 01"),
     ("00000002 05 0000000000000001", "00000002 FF 01"),
     ("00000002 05 0000000000000009", "00000002 FF 01"),
+    # Nor delete, nor scan in it: the number of cells, 0, isn't looked at first.
+    ("00000002 13 0000000000000001 00000001 61 00000001 62", "00000002 FF 01"),
+    ("00000002 31 0000000000000001 00 00 00 00 00000000", "00000002 FF 01"),
     # Nor commit it, nor read in it together; and the number of cells isn't looked at first.
     ("00000002 32 0000000000000001 00000000", "00000002 FF 01"),
     ("00000002 33 0000000000000001 01 00000000", "00000002 FF 01"),
@@ -100,6 +103,32 @@ class Clients(unittest.TestCase):
         collects = [bytes.fromhex("00000001 08")] * 5 + [bytes.fromhex("00000002 08")]
         _, replies = run(["--clients"], collects)
         self.assertEqual([reply == refused for reply in replies], [False] * 4 + [True, False])
+
+    def test_the_limit_of_cleaners(self) -> None:
+        """Client 1 opens a cleaner at each of 65 locks of client 2, and client 3 one more. At its limit also a cell
+        without a lock, and one whose row is empty, are refused so."""
+        cells = [bytes.fromhex("00000001 %02X 00000001 62" % row) for row in range(65)]
+        session = bytes.fromhex("0000000000000001")
+        sets = [bytes.fromhex("00000002 03") + session + cell + bytes.fromhex("00000001 63") for cell in cells]
+        steps = [bytes.fromhex("00000002 04") + session] * 65
+        cleans = [bytes.fromhex("00000001 06") + cell for cell in cells]
+        free = [bytes.fromhex("00000001 06 00000001 FF 00000001 62"), bytes.fromhex("00000001 06 00000000 00000001 62")]
+        other = [bytes.fromhex("00000003 06") + cells[64]]
+        _, replies = run(["--clients"], [bytes.fromhex("00000002 01"), *sets, *steps, *cleans, *free, *other])
+        found = [reply == bytes.fromhex("00000001 FF 07") for reply in replies[131:]]
+        self.assertEqual(found, [False] * 64 + [True] * 3 + [False])
+        self.assertEqual(replies[-1][:5], bytes.fromhex("00000003 86"))
+
+    def test_upkeep_is_the_administrators(self) -> None:
+        """Nine requests are refused BadRequest to all but client 7."""
+        upkeep = ["0A 00000001", "0B 00000001 00000002", "0C 00000001", "0D 00000001 61", "0E 00000001 00", "0F", "10", "12"]
+        upkeep.append("11 00000001 61 00000001 62 01 0000000000000000 0000000000000001")
+        asked = [bytes.fromhex(f"{client} {body}") for client in ("00000001", "00000000") for body in upkeep]
+        _, replies = run(["--clients", "--admin", "7"], asked)
+        refused = [bytes.fromhex(f"{client} FF 16") for client in ("00000001", "00000000")]
+        self.assertEqual(replies, [refused[0]] * 9 + [refused[1]] * 9)
+        _, replies = run(["--clients", "--admin", "7"], [bytes.fromhex(f"00000007 {body}") for body in upkeep])
+        self.assertNotIn(bytes.fromhex("00000007 FF 16"), replies)
 
     def test_an_end_closes_sixty_four_sessions(self) -> None:
         begin, end = bytes.fromhex("00000001 01"), bytes.fromhex("00000001")

@@ -5,10 +5,12 @@ from __future__ import annotations
 import asyncio
 import os
 import socket
+import subprocess
+import sys
 import time
 import unittest
-from collections.abc import Callable
-from contextlib import AsyncExitStack
+from collections.abc import Callable, Iterator
+from contextlib import AsyncExitStack, contextmanager
 from itertools import product
 from pathlib import Path
 from typing import Any
@@ -36,15 +38,22 @@ from duqishom import (
 from duqishom.connection import Connection
 from duqishom.frames import whole_frames
 from duqishom.operations import Step
+from duqishom.plans import Reconnects
 from duqishom.remote import address_of
 from duqishom.several import Commit, Support
-from tests.gateways import Gateway, folder_of, until
+from tests.gateways import PATIENCE, Gateway, folder_of, free_port, until
 from tests.peer import peer
 from tests.poor import Poor
 
 ANN, BOB, BAL = b"Ann", b"Bob", b"bal"
 THREE = b"\0\0\0\0\0\0\0\x03"
 BEGIN, STOP = (b"\x01", b"\x81" + THREE), (b"\x05" + THREE, b"\x85")
+
+
+def command(words: list[str]) -> subprocess.CompletedProcess[str]:
+    """The command, with an empty input, after its end."""
+    whole = [sys.executable, "-W", "error", "-m", "duqishom", *words]
+    return subprocess.run(whole, capture_output=True, text=True, input="", timeout=60)
 
 
 class Addresses(unittest.TestCase):
@@ -90,6 +99,27 @@ class Addresses(unittest.TestCase):
 
             self.assertEqual(asyncio.run(read()), b"%d" % number)
 
+    def test_the_command_takes_a_host_and_a_port(self) -> None:
+        gateway = Gateway(self, ["--tcp", str(port := free_port())])
+        for place in f"127.0.0.1:{port}", f"unix:{gateway.path}", gateway.path:
+            for words, text in (
+                (["--socket", place, "set", "Ann", "bal", "1"], "committed at "),
+                (["--socket", place, "status"], "requests Commit: "),
+                (["stats", "--socket", place], "requests Commit: "),
+                (["dump", "--socket", place], '{"row": "Ann", "family": "bal", "value": "1"}'),
+                (["load", "--socket", place], "0 cells are set"),
+                (["watch", "--socket", place, "--timeout", "0.1"], "any cell may have changed"),
+            ):
+                with self.subTest(words=words):
+                    ran = command(words)
+                    self.assertEqual((ran.returncode, ran.stderr), (0, ""))
+                    self.assertIn(text, ran.stdout)
+        nobody = f"127.0.0.1:{free_port()}"
+        for words in ["--socket", nobody, "get", "Ann", "bal"], ["stats", "--socket", nobody]:
+            ran = command(words)
+            self.assertEqual((ran.returncode, ran.stdout), (2, ""))
+            self.assertIn(nobody, ran.stderr)
+
     def test_errors_name_what_is_missing(self) -> None:
         path = os.path.join(folder_of(self), "no", "thing")
 
@@ -109,6 +139,8 @@ class Addresses(unittest.TestCase):
             self.assertEqual(caught.exception.filename, path)
         with self.assertRaisesRegex(NotOpened, path):
             Store(folder=path)
+        with self.assertRaisesRegex(FileNotFoundError, f"as a program to start .* is opened by connect.*{path}"):
+            Store(path)
         with socket.create_server(("127.0.0.1", 0)) as free:
             port = free.getsockname()[1]
         with self.assertRaisesRegex(ConnectionRefusedError, f"127.0.0.1:{port}"):
@@ -230,9 +262,17 @@ class Limits(unittest.TestCase):
         exchanges = [
             BEGIN,
             (asked(b"\0\0\0", 1), found(b"a")),
-            (asked(b"\1" + cell(b"a") + b"\0\0", 2), found(b"c")),
-            (asked(b"\1" + cell(b"c") + b"\0\0", 4), found(b"g", b"e", b"f", b"g")),
+            (asked(b"\1" + cell(b"a") + b"\0\0", 4), found(b"c")),
+            (asked(b"\1" + cell(b"c") + b"\0\0", 16), found(b"g", b"e", b"f", b"g")),
             STOP,
+        ]
+        with Store(peer(self, exchanges)) as store, store.snapshot() as snapshot:
+            self.assertEqual(list(snapshot.scan(limit=1)), [(b"e", b"c", b"v")])
+        exchanges[1:4] = [
+            (asked(b"\0\0\0", 1), found(b"a")),
+            STOP,
+            BEGIN,
+            (asked(b"\0\0\0", 4), found(b"g", b"e", b"f", b"g")),
         ]
         with Store(peer(self, exchanges)) as store:
             self.assertEqual(list(store.scan(limit=1)), [(b"e", b"c", b"v")])
@@ -448,6 +488,90 @@ class Losing:
 
 class Losses(unittest.TestCase):
     """Connections that are lost."""
+
+    def test_pauses_that_grow(self) -> None:
+        attempts = Reconnects(60)
+        for most in (0.1, 0.2, 0.4, 0.8, 1.6, 2.0, 2.0):
+            pause = attempts.pause()
+            assert pause is not None
+            self.assertTrue(most / 2 <= pause <= most, (pause, most))
+        self.assertLessEqual(Reconnects(0.01).pause() or 1, 0.01)
+        self.assertIsNone(Reconnects(0).pause())
+
+    @contextmanager
+    def three_attempts(self) -> Iterator[None]:
+        """In the `with` a lost connection is tried to be made anew three times, and isn't."""
+        with patch.object(Reconnects, "pause", side_effect=[0.0, 0.0, None]) as pause, self.assertRaises(ConnectionLost):
+            yield
+        self.assertEqual(pause.call_count, 3)
+
+    def test_pauses_of_all(self) -> None:
+        """A store and its watch pause so, and their twins for `asyncio`."""
+        gateway = Gateway(self)
+
+        async def main() -> None:
+            async with aio.connect(gateway.path) as other:
+                gateway.kill()
+                with self.three_attempts():
+                    await other.put(ANN, BAL, b"1")
+                with self.three_attempts():
+                    await other.watch().wait()
+
+        with Store(socket=gateway.path) as store:
+            asyncio.run(main())
+            with self.three_attempts():
+                store.put(ANN, BAL, b"1")
+            with self.three_attempts():
+                store.watch().wait()
+
+    def test_a_deadline(self) -> None:
+        """No attempt begins after it, and no connection is tried to be made for longer. A late commit is still found out."""
+        gateway = Gateway(self)
+        begun: list[float] = []
+
+        def work(t: Transaction) -> None:
+            begun.append(time.monotonic())
+            t.put(ANN, BAL, t.get(ANN, BAL) or b"")
+            store.put(ANN, BAL, b"other")
+
+        with Store(socket=gateway.path, reconnect=PATIENCE) as store:
+            for deadline in (0.0, 1.0):
+                begun.clear()
+                with self.assertRaises(TransactionConflict):
+                    store.run(work, attempts=1000, deadline=deadline)
+                self.assertLess(begun[-1] - begun[0], deadline + PATIENCE / 2)
+                self.assertEqual(len(begun) == 1, deadline == 0)
+            store._connection = Losing(store._connection, True)
+            store.run(lambda t: t.put(BOB, BAL, b"1"), deadline=0)
+            gateway.kill()
+            end = time.monotonic() + PATIENCE / 2
+            self.assertRaises(ConnectionLost, store.run, lambda t: t.put(ANN, BAL, b"2"), deadline=0.2)
+            self.assertLess(time.monotonic(), end)
+
+    def test_a_deadline_of_a_task(self) -> None:
+        gateway = Gateway(self)
+
+        async def main() -> None:
+            begun: list[float] = []
+
+            async def work(t: aio.Transaction) -> None:
+                begun.append(time.monotonic())
+                t.put(ANN, BAL, await t.get(ANN, BAL) or b"")
+                await store.put(ANN, BAL, b"other")
+
+            async with aio.connect(gateway.path, reconnect=PATIENCE) as store:
+                for deadline in (0.0, 1.0):
+                    begun.clear()
+                    with self.assertRaises(TransactionConflict):
+                        await store.run(work, attempts=1000, deadline=deadline)
+                    self.assertLess(begun[-1] - begun[0], deadline + PATIENCE / 2)
+                    self.assertEqual(len(begun) == 1, deadline == 0)
+                gateway.kill()
+                async with asyncio.timeout(PATIENCE / 2):
+                    with self.assertRaises(ConnectionLost):
+                        await store.run(work, deadline=0.2)
+
+        asyncio.run(main())
 
     def test_another_gateway(self) -> None:
         folder = folder_of(self)

@@ -34,7 +34,7 @@ from duqishom.inspection import Folder, cells, locks
 from duqishom.operations import Checkpoint
 from duqishom.program import default_program
 from tests.folders import FolderTest
-from tests.gateways import Gateway, until
+from tests.gateways import PACKAGE, Gateway, until
 from tests.pages import TOP
 from tests.poor import Poor
 
@@ -56,7 +56,7 @@ class Folders(FolderTest):
 
     def opened(self, *words: str) -> Store:
         """The store of the folder, without a log if it is new. Its end makes no checkpoint."""
-        return Store(folder=self.folder, words=words, checkpoint_at_close=False, log=False)
+        return Store(folder=self.folder, words=words, checkpoint_at_close=False, log=False, new=True)
 
     def counter(self) -> bytes | None:
         """The folder's value of one cell."""
@@ -151,6 +151,22 @@ class Folders(FolderTest):
             self.assertEqual(store.sweep(), 0)
         with Store(folder=folder) as store:
             self.assertEqual(store.run(read), list(cells.values()))
+
+    def test_a_folder_that_lost_its_root_is_not_new(self) -> None:
+        """Neither where files are left, nor where the mark alone is, and no program is started. It is where that is said."""
+        with Store(folder=self.folder, log=False) as store:
+            store.put(ROW, FAMILY, b"1")
+        serve = [sys.executable, "-m", "duqishom", "serve", "--dir", self.folder, "--no-log", "--socket", str(self.path / "socket")]
+        for name in (ROOT, FILE):
+            (Path(self.folder) / name).unlink()
+            with self.assertRaisesRegex(NotOpened, f"status 5.*{FILE if name == ROOT else 'oracle.mark'} of a store and no root"):
+                Store(folder=self.folder, log=False)
+            ran = subprocess.run(serve, cwd=PACKAGE, capture_output=True, text=True, timeout=20)
+            self.assertEqual(ran.returncode, 2)
+            self.assertIn("of a store and no root", ran.stderr)
+            self.assertRaises(NotOpened, Store, folder=self.folder)
+        with Store(folder=self.folder, log=False, new=True) as store:
+            self.assertIsNone(store.get(ROW, FAMILY))
 
     def test_what_is_lost_is_said(self) -> None:
         store = Store(folder=self.folder, log=False)

@@ -12,6 +12,7 @@ import sys
 import threading
 import unittest
 
+from duqishom.fields import number
 from tests.gateways import (
     BEGIN,
     COLLECT_BEGIN,
@@ -220,8 +221,13 @@ class Belongings(unittest.TestCase):
         start = wire.begin()
         self.assertEqual(wire.ask(frame(b"")), BAD_REQUEST)
         self.assertEqual(wire.ask(get(start, b"r")), b"\x82\x00")
-        # Clients find out by raw reads what has become of a commit
+        # Clients find out by raw reads what has become of a commit, and see no data that isn't committed
+        self.assertEqual(wire.ask(set_(start, b"r", b"v")), b"\x83")
+        self.assertEqual(wire.ask(step(start))[:2], b"\x84\x01")
         self.assertEqual(wire.ask(raw(b"r", 3)), NOTHING)
+        self.assertEqual(wire.ask(raw(b"r", 2))[:2], b"\x91\x01")
+        self.assertEqual(wire.ask(raw(b"r", 1)), BAD_REQUEST)
+        self.assertEqual(gateway.wire(gateway.admin).ask(raw(b"r", 1))[-1:], b"v")
 
     def test_room_is_made_where_clients_can_not(self) -> None:
         program = stand_in(
@@ -253,6 +259,8 @@ class Page(unittest.TestCase):
         forms: tuple[tuple[list[str], str], ...] = (
             ([], "requests Step: 3"),
             (["--prometheus"], 'duqishom_requests_total{operation="Step"} 3'),
+            ([], "store last_stamp: 2"),
+            (["--prometheus"], "duqishom_store_last_stamp 2"),
         )
         for words, line in forms:
             ran = subprocess.run([*command, gateway.path, *words], cwd=PACKAGE, capture_output=True, text=True)
@@ -260,6 +268,27 @@ class Page(unittest.TestCase):
             self.assertIn(line, ran.stdout.splitlines())
         ran = subprocess.run([*command, "/no/socket"], cwd=PACKAGE, capture_output=True, text=True)
         self.assertEqual((ran.returncode, ran.stdout), (2, ""))
+
+    def test_statistics_without_a_report(self) -> None:
+        """The program has no Status, or is busy for long. The gateway's counts are told all the same."""
+        for answer in ("bytes((255, 22))", "time.sleep(5) or bytes((0xB4,)) + bytes(72)"):
+            program = stand_in(self, f"return {answer} if body[0] == 0x34 else plain(body)")
+            gateway = Gateway(self, ["--program", program])
+            command = [sys.executable, "-m", "duqishom", "stats", "--socket", gateway.path]
+            told = subprocess.run(command, cwd=PACKAGE, capture_output=True, text=True)
+            self.assertEqual((told.returncode, told.stderr), (0, ""))
+            self.assertIn("requests Statistics: 1", told.stdout.splitlines())
+            self.assertNotIn("store ", told.stdout)
+
+    def test_a_report_is_for_all(self) -> None:
+        """Whoever is the administrator. A body out of form is the program's to refuse."""
+        gateway = Gateway(self, ["--admin", "ADMIN"])
+        wire = gateway.wire()
+        counts = (0, 1, *[0] * 6, 1, *[0] * 5)
+        self.assertEqual(wire.ask(of_tablet(0x34, 1)), b"\xb4" + b"".join(number(8, count) for count in counts))
+        for body in (b"\x34", b"\x34\0\0\0\1\0"):
+            self.assertEqual(wire.ask(frame(body)), b"\xff\x16")
+        self.assertEqual(gateway.statistics()["requests"]["Status"], 3)
 
     def test_words_beside_an_application(self) -> None:
         gateway = Gateway(self)

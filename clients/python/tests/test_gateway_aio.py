@@ -6,7 +6,7 @@ import asyncio
 import unittest
 from collections.abc import Awaitable, Callable
 
-from duqishom import Committed, ConnectionLost, Lost, Patience, Pending, StillPending, TooManySessions, TransactionConflict
+from duqishom import Committed, ConnectionLost, Lost, Patience, Pending, StillPending, Tablet, TooManySessions, TransactionConflict
 from duqishom import Store as PlainStore
 from duqishom.aio import Store, Transaction
 from tests.gateways import BEGIN, Gateway
@@ -40,7 +40,19 @@ class Aio(unittest.TestCase):
 
     def test_names_are_those_of_the_other_twin(self) -> None:
         ours, theirs = ({name for name in vars(store) if not name.startswith("_")} for store in (Store, PlainStore))
-        self.assertLessEqual(theirs - {"alone", "has_log", "kill", "tablets"}, ours)
+        self.assertLessEqual(theirs - {"alone", "has_log", "kill"}, ours)
+
+    def test_status(self) -> None:
+        async def work(store: Store) -> None:
+            await store.split(b"m")
+            await store.run(add_one)
+            async with store.snapshot() as snapshot:
+                status = await store.status()
+                self.assertEqual((status.server.sessions, status.server.floor), (1, snapshot.start))
+            self.assertEqual([(each.number, each.memtable_entries) for each in status.tablets], [(2, 0), (1, 2)])
+            self.assertEqual(await store.tablets(), (Tablet(2, b"m"), Tablet(1, None)))
+
+        self.with_store(work)
 
     def test_tasks_count(self) -> None:
         async def work(store: Store) -> None:

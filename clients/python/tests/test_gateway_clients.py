@@ -13,6 +13,7 @@ from duqishom.administration import clients, kill
 from tests.folders import said
 from tests.gateways import (
     BEGIN,
+    CLIENTS,
     COLLECT_BEGIN,
     NOBODY,
     Gateway,
@@ -31,7 +32,6 @@ from tests.gateways import (
     until,
 )
 
-CLIENTS = frame(b"\x72")
 BAD_REQUEST, UNKNOWN_SESSION, NOTHING, VALUE = b"\xff\x16", b"\xff\x01", b"\x91\x00", b"\x82\x01\0\0\0\x01v"
 ENDED = (EOFError, ConnectionError)
 KILLED, NOT_THERE = b"\xf3\x01", b"\xf3\x00"

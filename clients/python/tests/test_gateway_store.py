@@ -18,10 +18,12 @@ from duqishom import (
     Pending,
     Qualifier,
     Store,
+    Tablet,
     TransactionConflict,
     UnknownSession,
     Value,
 )
+from duqishom.protocol import Reported, Status
 from tests.gateways import PACKAGE, Gateway, folder_of, stand_in, until
 
 ROW, OTHER, FAMILY = b"r", b"s", b"c"
@@ -52,7 +54,16 @@ class Stores(unittest.TestCase):
         self.assertEqual(one.collect(), one.begin() - 1)
         self.assertEqual(one.split(b"m"), 2)
         two.make_room(ROW)
-        self.assertRaises(ValueError, two.tablets)
+        self.assertEqual(two.tablets(), (Tablet(2, b"m"), Tablet(1, None)))
+        self.assertEqual(two.status().server.tablets, 2)
+
+    def test_more_reports_than_have_room(self) -> None:
+        """All are asked for in one trip, and have more than the 4 MiB of replies that a client may have to come."""
+        store = self.store(Gateway(self))
+        store.split(b"r" * 4000)
+        reports = store.ask_each([Status(1 + number % 2) for number in range(1200)])
+        ends = [report.tablet and report.tablet.end for report in reports if isinstance(report, Reported)]
+        self.assertEqual(ends, 600 * [None, b"r" * 4000])
 
     def test_old_versions_go_by_themselves(self) -> None:
         """After so many commits, and again after as many more: all but those that a session may read."""

@@ -21,6 +21,7 @@ from tests.gateways import (
     free_port,
     get,
     raw,
+    stop,
     until,
 )
 
@@ -134,43 +135,75 @@ class Shares(unittest.TestCase):
 
     def test_limits_of_a_user(self) -> None:
         gateway = self.gateway("--user-clients", "2", "--user-sessions", "3", "--admin", "ADMIN")
+        # The second client of a user at its limit gets a session of the first
         cases: tuple[tuple[str | int, int, int], ...] = ((gateway.path, 2, 3), (self.port, 2, 3), (gateway.admin, 4, 16))
         for address, clients, sessions in cases:
             wires = [gateway.wire(address) for _ in range(4)]
-            self.assertEqual([wire.ask(raw(b"r", 1)) for wire in wires].count(NOTHING), clients)
+            self.assertEqual([wire.ask(raw(b"r", 3)) for wire in wires].count(NOTHING), clients)
             replies = [wire.ask(BEGIN) for wire in wires[:clients] for _ in range(4)]
-            self.assertEqual([reply[0] for reply in replies].count(0x81), sessions)
+            self.assertEqual([reply[0] for reply in replies].count(0x81), sessions + (clients == 2))
             wires[0].close()
-            self.assertTrue(until(lambda: gateway.wire(address).ask(raw(b"r", 1)) == NOTHING))
+            self.assertTrue(until(lambda: gateway.wire(address).ask(raw(b"r", 3)) == NOTHING))
 
     def test_sessions(self) -> None:
-        """A user who has all gives some to another, the longest idle ones first, until both have as many."""
+        """A user who has all gives some to another, the longest idle ones first, until both have as many. Then the ninth
+        client takes from those of its own user."""
         gateway = self.gateway()
-        hogs = self.fill(lambda: gateway.wire(self.port), 17)
+        hogs = self.fill(lambda: gateway.wire(self.port), 16)
         self.assertEqual(self.had(hogs), 1024)
         wire, replies = hogs[0]
         used = replies[0][1:]
         self.assertEqual(wire.ask(get(used, b"r")), b"\x82\x00")
         others = self.fill(gateway.wire, 9)
-        self.assertEqual(self.had(others), 512)
-        self.assertEqual(hogs[16][0].ask(BEGIN), TOO_MANY)
+        had = self.had(others)
+        self.assertGreaterEqual(had, 512)
         self.assertEqual(wire.ask(get(used, b"r")), b"\x82\x00")
         self.assertEqual(wire.ask(get(replies[1][1:], b"r")), UNKNOWN_SESSION)
         told = gateway.statistics()
-        self.assertEqual((told["open"]["sessions"], told["ended"]["taken_sessions"]), (1024, 512))
+        self.assertEqual((told["open"]["sessions"], told["ended"]["taken_sessions"]), (1024, had))
         self.assertEqual(told["user_sessions"], {"tcp": 512, str(os.geteuid()): 512})
+
+    def test_sessions_of_one_user(self) -> None:
+        """Clients that hang, and have all sessions, give some to the next ones of their user, the longest idle first."""
+        gateway = self.gateway()
+        hung = self.fill(gateway.wire, 16)
+        self.assertEqual(self.had(hung), 1024)
+        wire, replies = hung[15]
+        used = replies[0][1:]
+        self.assertEqual(wire.ask(get(used, b"r")), b"\x82\x00")
+        others = [gateway.wire() for _ in range(4)]
+        begun = [other.ask(BEGIN) for _ in range(60) for other in others]
+        self.assertEqual(self.had([(wire, begun)]), 204)
+        self.assertEqual(gateway.sessions(), [0] + 16 * [51] + 4 * [52])
+        self.assertEqual(wire.ask(get(used, b"r")), b"\x82\x00")
+        self.assertEqual(wire.ask(get(replies[1][1:], b"r")), UNKNOWN_SESSION)
+
+    def test_equal_clients(self) -> None:
+        """Of clients that have as many sessions, or one more, none loses any, however often they ask for more."""
+        gateway = self.gateway("--user-sessions", "9")
+        wires = [gateway.wire() for _ in range(2)]
+        begun = [[wire.ask(BEGIN)[1:] for _ in range(4)] for wire in wires]
+        begun[0].append(wires[0].ask(BEGIN)[1:])
+        for _ in range(50):
+            self.assertEqual({wire.ask(BEGIN) for wire in wires}, {TOO_MANY})
+            for wire, starts in zip(wires, begun, strict=True):
+                self.assertEqual(wire.ask(stop(starts.pop(0))), b"\x85")
+                starts.append(wire.begin())
+        for wire, starts in zip(wires, begun, strict=True):
+            self.assertEqual({wire.ask(get(start, b"r")) for start in starts}, {b"\x82\x00"})
+        self.assertEqual(gateway.statistics()["ended"]["taken_sessions"], 0)
 
     def test_connections(self) -> None:
         gateway = self.gateway("--clients", "6")
         hogs = [gateway.wire(self.port) for _ in range(6)]
         # The first has asked last
         for wire in (*hogs, hogs[0]):
-            self.assertEqual(wire.ask(raw(b"r", 1)), NOTHING)
+            self.assertEqual(wire.ask(raw(b"r", 3)), NOTHING)
         others = [gateway.wire() for _ in range(4)]
-        self.assertEqual([wire.ask(raw(b"r", 1)) for wire in others], 3 * [NOTHING] + [TOO_MANY])
+        self.assertEqual([wire.ask(raw(b"r", 3)) for wire in others], 3 * [NOTHING] + [TOO_MANY])
         for wire in hogs[1:4]:
             self.assertRaises(ENDED, wire.reply)
-        self.assertEqual([wire.ask(raw(b"r", 1)) for wire in (hogs[0], *hogs[4:])], 3 * [NOTHING])
+        self.assertEqual([wire.ask(raw(b"r", 3)) for wire in (hogs[0], *hogs[4:])], 3 * [NOTHING])
         self.assertEqual(gateway.wire(self.port).ask(BEGIN), TOO_MANY)
 
     def test_collectors(self) -> None:
@@ -184,7 +217,7 @@ class Shares(unittest.TestCase):
         """It has places of its own, and then takes others', whatever a crowd does. Its connections are one client."""
         gateway = Gateway(self, ["--admin", "ADMIN", "--clients", "20"])
         crowd = self.fill(gateway.wire, 20)
-        self.assertEqual(self.had(crowd), 960)
+        self.assertGreaterEqual(self.had(crowd), 960)
         self.assertEqual(crowd[0][0].ask(COLLECT_BEGIN)[0], 0x88)
         self.assertEqual(gateway.wire().ask(BEGIN), TOO_MANY)
         # Sixteen connections, and two more, for which places are taken from the crowd
@@ -200,7 +233,7 @@ class Shares(unittest.TestCase):
         self.assertEqual(gateway.first, "duqishom: 200 open files are the limit: at most 56 clients get a place")
         self.assertEqual(gateway.line(), "duqishom: ready")
         wires = [gateway.wire() for _ in range(150)]
-        self.assertEqual([wire.ask(raw(b"r", 1)) for wire in wires[:56]], 56 * [NOTHING])
+        self.assertEqual([wire.ask(raw(b"r", 3)) for wire in wires[:56]], 56 * [NOTHING])
         self.assertEqual({wire.ask(STATISTICS)[0] for wire in (gateway.wire(gateway.admin) for _ in range(20))}, {0xF0})
 
 

@@ -30,6 +30,8 @@ from tests.gateways import Gateway, folder_of, until
 # The number of kills of the program of eight clients.
 KILLS = int(os.environ.get("LOG_KILLS", "20"))
 CLIENTS, ACCOUNTS, FIRST = 8, 12, 100
+# The calls of an opening that change a folder.
+UPGRADE_CALLS = ("write", "fsync", "rename", "fdatasync", "ftruncate")
 ROW, FAMILY = b"counter", b"c"
 ROOT, LOG, SIGN, CUT, MARK = "t0000000000000000.tab", "commit.log", "commit.id", "commit.cut", "oracle.mark"
 
@@ -339,7 +341,8 @@ class Logs(FolderTest):
             store.kill()
         return start
 
-    def test_a_log_of_format_1_is_upgraded(self) -> None:
+    def log_of_format_1(self) -> bytes:
+        """Two commits in a folder whose log is of format 1. Returns the log."""
         with self.opened() as store:
             put(store, b"1")
             put(store, b"2")
@@ -351,6 +354,11 @@ class Logs(FolderTest):
         # A program that writes format 1 stores the mark before it answers a stamp
         (self.path / MARK).write_bytes(spelled_mark(log_of(log.read_bytes()).mark()))
         (self.path / SIGN).unlink()
+        log.write_bytes(old)
+        return old
+
+    def test_a_log_of_format_1_is_upgraded(self) -> None:
+        log, old = self.path / LOG, self.log_of_format_1()
         for tail in (b"", b"\1" * 9):
             log.write_bytes(old + tail)
             (self.path / SIGN).unlink(missing_ok=True)
@@ -359,6 +367,33 @@ class Logs(FolderTest):
             found = log_of(log.read_bytes())
             self.assertEqual((found.format, found.is_over_any(), (self.path / SIGN).exists()), (2, False, True))
         self.assertEqual((self.path / CUT).read_bytes(), tail)
+
+    def test_a_log_of_format_1_above_the_mark(self) -> None:
+        """Its program stored the mark before it answered a stamp, so the mark is lost. The log is left as it is."""
+        log, old = self.path / LOG, self.log_of_format_1()
+        (self.path / MARK).write_bytes(spelled_mark(1))
+        with self.assertRaisesRegex(NotOpened, f"{MARK}: the mark 1 is below the stamp [0-9]+ of an edit in the log") as caught:
+            self.opened()
+        self.assertEqual((caught.exception.status, log.read_bytes(), (self.path / SIGN).exists()), (5, old, False))
+
+    @unittest.skipUnless(shutil.which("strace"), "strace isn't here; Debian has it in the package strace")
+    def test_an_upgrade_that_is_killed_loses_nothing(self) -> None:
+        """The program is killed at each call of these kinds that it makes until it has opened the folder."""
+        self.log_of_format_1()
+        killed = Counter[str]()
+        for call in UPGRADE_CALLS:
+            for number in range(1, 100):
+                with tempfile.TemporaryDirectory() as beside:
+                    folder = shutil.copytree(self.folder, Path(beside) / "store")
+                    inject = f"-e trace={call} -e inject={call}:signal=SIGKILL:when={number}"
+                    opening = f"strace -f -qq -o /dev/null {inject} {default_program()} --dir {folder}"
+                    # An empty body is refused once the folder is open
+                    if subprocess.run(opening.split(), input=bytes(4), capture_output=True, timeout=20).stdout:
+                        break
+                    killed[call] += 1
+                    with Store(folder=folder, checkpoint_at_close=False) as store:
+                        self.assertEqual(store.get(ROW, FAMILY), b"2", f"{call} {number}")
+        self.assertEqual(set(killed), set(UPGRADE_CALLS))
 
     @unittest.skipUnless(shutil.which("strace"), "strace isn't here; Debian has it in the package strace")
     def test_a_log_that_failed_ends_the_program(self) -> None:

@@ -10,7 +10,7 @@ from collections.abc import Callable, Iterator
 from functools import cache
 from pathlib import Path, PurePosixPath
 
-from duqishom import operations
+from duqishom import operations, reports
 from tests.pages import TOP
 
 # Folders that builds and runs leave, and git's own.
@@ -24,6 +24,8 @@ FOREIGN = {
     "plant": "a command of rt",
     "--only": "an option of rt",
     "ssh": "a program",
+    "journalctl": "a program",
+    "asyncio.to_thread": "a function of Python",
     "PWD/clients/python": "PWD is the shell's",
     "/health": "a path of the web page",
     "/metrics": "a path of the web page",
@@ -185,7 +187,8 @@ def edits() -> Counter[str]:
 @cache
 def counts() -> dict[str, tuple[re.Pattern[str], int]]:
     """The pattern in which pages state each count, and its value."""
-    kinds = [kind for kind in vars(operations).values() if isinstance(kind, type) and isinstance(vars(kind).get("code"), int)]
+    every = [kind for module in (operations, reports) for kind in vars(module).values()]
+    kinds = [kind for kind in every if isinstance(kind, type) and isinstance(vars(kind).get("code"), int)]
     tests = (path.read_text(encoding="utf-8") for path in Path(__file__).parent.glob("test_*.py"))
     test_count = sum(len(re.findall(r"^    (?:async )?def test_", text, re.MULTILINE)) for text in tests)
     clients = r"(?:Python\s+)?clients?(?:'s|')?"

@@ -2,6 +2,7 @@
 
 from __future__ import annotations
 
+import tempfile
 import unittest
 from collections.abc import Callable
 from functools import partial
@@ -10,6 +11,7 @@ from typing import Any
 from duqishom import (
     BadColumn,
     BadCount,
+    BadRequest,
     BadRow,
     BadSplit,
     BadValue,
@@ -40,6 +42,7 @@ from duqishom import (
     RolledForward,
     Stamped,
     Store,
+    Tablet,
     TooManyFiles,
     TooManySessions,
     TooManyWrites,
@@ -54,9 +57,12 @@ from duqishom import (
     connect,
     read_record,
 )
+from duqishom.fields import MalformedReply
 from duqishom.folders import tuned
-from duqishom.operations import CollectStep
+from duqishom.operations import CollectStep, answer_or_refusal, request_body
 from duqishom.refusals import BY_NUMBER
+from duqishom.reports import Reported, ServerReport, Status, TabletReport, whole_status
+from tests.peer import peer
 from tests.poor import Poor
 
 BOB, JOE, BAL = b"Bob", b"Joe", b"bal"
@@ -277,6 +283,106 @@ class Operations(StoreTest):
         self.store.checkpoint()
         self.assertEqual(self.store.sweep(), 0)
         self.assertEqual(self.store.get(self.store.begin(), BOB, BAL), Value(b"10"))
+
+
+class Reports(StoreTest):
+    """The state of a store, as its program reports it."""
+
+    def test_status(self) -> None:
+        """Each count of the store, and each of a tablet; and the tablets in the order of their rows."""
+        store = self.store
+        new = ServerReport(0, 1, 0, 0, 0, 0, 0, 0, 1)
+        self.assertEqual(store.ask(Status(1)), Reported(new, TabletReport(1, None, 0, 0, 0, 0, 0)))
+        for number in (0, 2, 2**32 - 1):
+            self.assertEqual(store.ask(Status(number)), Reported(new, None))
+        self.commit(BOB, b"10")
+        store.minor(1)
+        reader = store.begin()
+        store.set(reader, JOE, BAL, b"1234")
+        self.commit(JOE, b"2")
+        self.assertEqual(store.collect_begin(), Collector(1, reader))
+        writer = store.begin()
+        store.set(writer, BOB, BAL, b"1")
+        store.step(writer)
+        store.clean_begin(BOB, BAL)
+        left = store.split(BOB)
+        store.move(left, 3)
+        status = store.status()
+        self.assertEqual(status.server, ServerReport(writer, reader, reader, 2, 1, 1, 17, 0, 2))
+        first, last = status.tablets
+        self.assertEqual((first.number, first.end, first.server), (left, BOB, 3))
+        self.assertEqual((last.number, last.end, last.server), (1, None, 0))
+        self.assertEqual([(each.memtable_entries, each.files) for each in status.tablets], [(0, 2)] * 2)
+        self.assertGreater(first.file_bytes, 0)
+        self.assertEqual(status, store.status())
+        store.stop(reader)
+        self.assertEqual(store.status().server.floor, writer)
+        self.assertEqual(store.status().server.buffered_bytes, 7)
+
+    def test_entries(self) -> None:
+        """A commit of a cell leaves three entries, of as many bytes as docs/PROTOCOL.md says. A Major drops the erasure."""
+        self.commit(BOB, b"10")
+        [tablet] = self.store.status().tablets
+        key = len(BOB) + len(BAL) + 14
+        sizes = (9 + 2 + key + len("data"), 5 + key + len("lock"), 9 + 9 + key + len("write"))
+        self.assertEqual((tablet.memtable_entries, tablet.memtable_bytes, tablet.files), (3, sum(sizes), 0))
+        self.store.minor(1)
+        [tablet] = self.store.status().tablets
+        self.assertEqual(tablet, TabletReport(1, None, 0, 0, 0, 1, sum(sizes)))
+        self.store.major(1)
+        [tablet] = self.store.status().tablets
+        self.assertEqual(tablet, TabletReport(1, None, 0, 0, 0, 1, sizes[0] + sizes[2]))
+
+    def test_many_tablets(self) -> None:
+        """All 1,024, one with the longest end."""
+        ends = [*(number.to_bytes(2, "big") for number in range(1, 1023)), b"z" * 4000]
+        for end in ends:
+            self.store.split(end)
+        status = self.store.status()
+        self.assertEqual([tablet.end for tablet in status.tablets], [*ends, None])
+        self.assertEqual(sorted(tablet.number for tablet in status.tablets), list(range(1, 1025)))
+        self.assertEqual(self.store.tablets(), tuple(Tablet(tablet.number, tablet.end) for tablet in status.tablets))
+        self.assertEqual(status.counts()["tablets"], 1024)
+
+    def test_tablets_that_are_split_meanwhile(self) -> None:
+        """Between the trips another one splits: the new tablets are asked for too."""
+        asks = whole_status()
+        trip = next(asks)
+        with self.assertRaises(StopIteration) as done:
+            for row in (b"m", b"c", b"x"):
+                self.store.split(row)
+                trip = asks.send(self.store.ask_each(trip))
+            asks.send(self.store.ask_each(trip))
+        self.assertEqual([tablet.number for tablet in done.exception.value.tablets], [3, 2, 4, 1])
+
+    def test_reports_of_a_log(self) -> None:
+        with tempfile.TemporaryDirectory() as folder, Store(folder=folder) as store:
+            before = store.status().server
+            store.put(BOB, BAL, b"10")
+            after = store.status().server
+            self.assertGreater(after.journal_bytes, before.journal_bytes)
+            store.checkpoint()
+            self.assertLess(store.status().server.journal_bytes, after.journal_bytes)
+
+    def test_bytes(self) -> None:
+        """Reports of other lengths are malformed."""
+        self.assertEqual(request_body(Status(258)), b"\x34\0\0\1\2")
+        numbers = [number.to_bytes(8, "big") for number in range(14)]
+        server, tablet = b"\xb4" + b"".join(numbers[:9]), b"".join(numbers[9:])
+        told = ServerReport(*range(9))
+        self.assertEqual(answer_or_refusal(Status(7), server), Reported(told, None))
+        for end in (b"", b"r", b"\0" * 4000):
+            wanted = TabletReport(7, end or None, *range(9, 14))
+            self.assertEqual(answer_or_refusal(Status(7), server + tablet + end), Reported(told, wanted))
+        for body in (server[:-1], server + b"\0", server + tablet[:-1], server + tablet + bytes(4001), b"\xb4"):
+            with self.assertRaises(MalformedReply):
+                answer_or_refusal(Status(7), body)
+
+    def test_older_program(self) -> None:
+        """It has no Status."""
+        store = Store(peer(self, [(b"\x34\0\0\0\1", b"\xff\x16")]))
+        self.addCleanup(store.close)
+        self.assertRaises(BadRequest, store.status)
 
 
 class Deletions(StoreTest):

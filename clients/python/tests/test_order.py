@@ -1,5 +1,5 @@
-"""The order of a program's calls over a folder with a log: the state that a reply shows is synced before the reply is
-sent."""
+"""The order of a program's calls over a folder: with a log the state that a reply shows is synced before the reply is
+sent, without one what a checkpoint puts."""
 
 from __future__ import annotations
 
@@ -115,9 +115,10 @@ class Order(FolderTest):
 
     @unittest.skipUnless(shutil.which("strace"), "strace isn't here; Debian has it in the package strace")
     def test_what_a_reply_says_is_synced_before_it_leaves(self) -> None:
-        disk = judged(self.folder, self.traced(self.all_kinds))
-        self.assertEqual(disk.wrong, [])
-        self.assertGreater(disk.replies, 5)
+        for log in (False, True):
+            disk = judged(self.folder, self.traced(self.all_kinds, log))
+            self.assertEqual(disk.wrong, [])
+            self.assertGreater(disk.replies, 5)
 
     @unittest.skipUnless(shutil.which("strace"), "strace isn't here; Debian has it in the package strace")
     def test_log_root_and_mark_are_written_anew_before_the_first_reply_after_a_kill(self) -> None:
@@ -176,13 +177,13 @@ class Order(FolderTest):
         store.restart_oracle()
         self.commit(store)
 
-    def traced(self, script: Callable[[Store], None]) -> list[str]:
-        """The calls of a program that answers a script over the folder and is killed then."""
+    def traced(self, script: Callable[[Store], None], log: bool = True) -> list[str]:
+        """The calls of a program that answers a script over the folder, which gets a log or none, and is killed then."""
         with tempfile.TemporaryDirectory() as beside:
             trace, wrapped = Path(beside) / "trace", Path(beside) / "wrapped"
             wrapped.write_text(f'#!/bin/sh\nexec strace -f -qq -y -o {trace} -e trace={CALLS} {default_program()} "$@"\n')
             wrapped.chmod(0o755)
-            with Store(str(wrapped), folder=self.folder, checkpoint_at_close=False, log=True) as store:
+            with Store(str(wrapped), folder=self.folder, checkpoint_at_close=False, log=log) as store:
                 script(store)
                 store.kill()
             return trace.read_text().splitlines()

@@ -16,6 +16,7 @@ from zipfile import ZipFile
 
 from duqishom.program import default_program
 from duqishom.version import VERSION
+from tests.gateways import Gateway, folder_of
 from tests.pages import TOP, fenced
 
 PROGRAM = os.environ.get("TABLETD", "")
@@ -162,6 +163,14 @@ class Service(unittest.TestCase):
             command = ["systemd-analyze", "security", "--offline=true", f"--threshold={most}", f"{TOP}/packaging/{name}.service"]
             exposed = subprocess.run(command, capture_output=True, text=True)
             self.assertEqual(exposed.returncode, 0, exposed.stdout)
+
+    def test_words(self) -> None:
+        """A gateway starts with the words of the service, and stops idle sessions."""
+        unit = (TOP / "packaging" / "duqishom.service").read_text(encoding="utf-8").replace("\\\n", " ")
+        [words] = re.findall(r"^ExecStart=/usr/bin/duqishom serve --dir /var/lib/duqishom (.*)$", unit, re.MULTILINE)
+        gateway = Gateway(self, ["--dir", folder_of(self), *words.split()])
+        self.assertEqual((gateway.first, gateway.stop()), ("duqishom: ready", 0))
+        self.assertIn("--idle-session", words)
 
 
 class Versions(unittest.TestCase):

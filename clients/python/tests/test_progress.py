@@ -21,6 +21,7 @@ from duqishom.copies import restore
 from duqishom.dumps import dump, line_of, load
 from duqishom.files import ROOT_FILE
 from duqishom.progress import BYTES, CELLS, Reached, Report, Tally, tallied
+from duqishom.sums import SUMS_FILE
 from tests.folders import FolderTest, said
 from tests.gateways import PACKAGE, PATIENCE, STATISTICS, Gateway, stand_in, until
 from tests.test_gateway_backups import FILE, ROOT
@@ -78,12 +79,12 @@ class Functions(FolderTest):
             store.major(1)
             self.assertRaises(Stopped, store.backup, self.path / "stopped", stop)
             [(part, done)] = self.told(lambda told: store.backup(copies[0], told)).items()
-        whole_copy = sum(file.stat().st_size for file in copies[0].iterdir())
+        whole_copy = sum(file.stat().st_size for file in copies[0].iterdir() if file.name != SUMS_FILE)
         self.assertEqual((part, done), ((BYTES, whole_copy), whole_copy))
         self.assertFalse((self.path / "stopped" / ROOT_FILE).exists())
         size = self.size(copies[0])
         parts = self.told(lambda told: whole(copies[0], told))
-        self.assertEqual(parts, {(BYTES, size): size, (CELLS, None): count})
+        self.assertEqual(parts, {(BYTES, size): size, (BYTES, whole_copy): whole_copy, (CELLS, None): count})
         parts = self.told(lambda told: restore(str(copies[0]), str(copies[1]), told))
         self.assertEqual(parts, {(BYTES, whole_copy): whole_copy})
         self.assertRaises(Stopped, whole, copies[0], stop)

@@ -12,7 +12,7 @@ from pathlib import Path
 
 from duqishom import Store
 from duqishom.frames import whole_frames
-from tests.gateways import Gateway, folder_of
+from tests.gateways import Gateway, clean_begin, folder_of, raw, set_, step, until
 from tests.pages import TOP
 from tests.test_clients import ROWS
 
@@ -67,9 +67,12 @@ class Recordings(unittest.TestCase):
         self.assertLessEqual({0x32, 0x33}, {body[0] for body in bodies(self.place / "requests") if body})
 
     def test_its_owner_alone_may_read_it(self) -> None:
-        Store(record=self.place).close()
-        modes = [stat.S_IMODE(path.stat().st_mode) for path in (self.place, self.place / "requests", self.place / "replies")]
-        self.assertEqual(modes, [0o700, 0o600, 0o600])
+        with tempfile.TemporaryDirectory() as folder:
+            for _ in range(2):
+                self.record(folder)
+        files = [self.place / name for name in ("requests", "replies", "recovered-at")]
+        modes = [stat.S_IMODE(path.stat().st_mode) for path in (self.place, *files)]
+        self.assertEqual(modes, [0o700, 0o600, 0o600, 0o600])
 
     def test_no_link_is_followed_and_no_pipe_is_written(self) -> None:
         for name in ("requests", "replies"):
@@ -146,6 +149,15 @@ class WrittenRecordings(unittest.TestCase):
                 code, line = judged(place)
                 self.assertEqual(code, status)
                 self.assertIn(words if status else "2 replies", line)
+
+
+    def test_a_reply_is_missing(self) -> None:
+        place = Path(folder_of(self))
+        (place / "requests").write_bytes(framed([SET, SET]))
+        (place / "replies").write_bytes(framed([COMMITTED + number(1) + number(2)]))
+        self.assertEqual(judged(place), (2, "reply 2 is missing\n"))
+        (place / "requests").write_bytes(b"")
+        self.assertEqual(judged(place), (2, "request 1 is missing\n"))
 
 
 # A client's request and its reply, as the hexadecimal bodies of two frames.
@@ -225,3 +237,21 @@ class RecordedGateways(unittest.TestCase):
         self.assertEqual(gateway.stop(), 0)
         self.assertEqual(bodies(place / "requests")[:2], [b"\xff\xff\xff\xff\0", b"\0\0\0\1\1"])
         self.assertEqual([body[:4] for body in bodies(place / "replies")], [body[:4] for body in bodies(place / "requests")])
+
+    @unittest.skipUnless(os.access(AUDIT, os.X_OK), "tablet_audit isn't built")
+    def test_what_a_client_leaves_is_the_gateways(self) -> None:
+        """The gateway runs the cleaner of a client that is gone to its end, as the administrator of its program."""
+        place = Path(folder_of(self)) / "recording"
+        gateway = Gateway(self, ["--record", str(place)])
+        first, second = gateway.wire(), gateway.wire()
+        start = first.begin()
+        first.ask(set_(start, b"r", b"v"))
+        self.assertEqual(first.ask(step(start))[:2], b"\x84\x01")
+        self.assertEqual(second.ask(clean_begin(b"r"))[:2], b"\x86\x01")
+        second.close()
+        # The lock is gone once its cleaner has ended
+        self.assertTrue(until(lambda: first.ask(raw(b"r", 2)) == b"\x91\x00"))
+        self.assertEqual([first.ask(step(start))[:2] for _ in range(2)], [b"\x84\x03", b"\x84\x05"])
+        self.assertEqual(gateway.stop(), 0)
+        self.assertEqual(judged(place, "--clients", "--admin", "4294967295")[0], 0)
+        self.assertEqual(judged(place, "--clients")[0], 1)

@@ -7,6 +7,7 @@ import unittest
 from collections.abc import Callable
 from pathlib import Path
 from typing import Any
+from unittest.mock import patch
 
 from duqishom import (
     BadColumn,
@@ -290,6 +291,39 @@ class Trips(unittest.TestCase):
             self.assertEqual(snapshot.get_many([(ANN, BAL), (BOB, BAL)]), [b"1", None])
         self.assertEqual(trips, [[1], [2], [0x33], [0x32], [1], [0x33], [-5]])
 
+    def test_scans(self) -> None:
+        """A scan of its own begins with its first batch, in one trip if nobody else draws stamps. If it is of few cells, it ends
+        with it too."""
+        store, trips = self.heard()
+        store.put(ANN, BAL, b"1")
+        store.put(BOB, BAL, b"2")
+        goes_on, ends = [[1, 0x31], [-5]], [[1, 0x31, 5]]
+        works: tuple[tuple[Callable[[], object], list[list[int]]], ...] = (
+            (lambda: list(store.scan(limit=1)), ends),
+            (lambda: next(store.scan()), goes_on),
+            (lambda: store.row(ANN), ends),
+            (lambda: list(store.rows(limit=2)), ends),
+            (lambda: list(store.rows()), goes_on),
+            (lambda: store.count(), goes_on),
+        )
+        for asked, wanted in works:
+            trips.clear()
+            self.assertTrue(asked())
+            self.assertEqual(trips, wanted)
+        self.assertEqual((list(store.scan(limit=0)), list(store.rows(limit=0))), ([], []))
+        self.assertEqual(trips, goes_on)
+
+    def test_scans_beside_others(self) -> None:
+        gateway = Gateway(self)
+        with Store(socket=gateway.path) as store, Store(socket=gateway.path) as other:
+            store.put(ANN, BAL, b"1")
+            other.put(BOB, BAL, b"2")
+            store._connection = heard = Heard(store._connection)
+            for _ in range(3):
+                self.assertEqual(list(store.scan(limit=2)), [(ANN, BAL, b"1"), (BOB, BAL, b"2")])
+            self.assertEqual(heard.trips, [[0x70], [1, 0x31, 5], [0x31, 5], [1], [0x31, 5], [1, 0x31, 5]])
+        self.assertTrue(until(lambda: gateway.statistics()["open"]["sessions"] == 0))
+
     def test_a_start_that_is_asked_for(self) -> None:
         store, trips = self.heard()
         starts = store.run(lambda t: [t.start, t.start])
@@ -538,6 +572,28 @@ class Tasks(unittest.TestCase):
         asked = {name: count for name, count in told["requests"].items() if count}
         self.assertEqual(asked, {"Begin": 2, "Commit": 3, "Read": 3, "Statistics": 1})
         self.assertEqual(told["open"]["sessions"], 0)
+
+    def test_scans(self) -> None:
+        gateway = Gateway(self)
+
+        async def main() -> None:
+            async with aio.connect(gateway.path) as store:
+                await store.put(ANN, BAL, b"1")
+                trips, ask = list[list[int]](), store._stream.ask
+
+                async def heard(requests: bytes, count: int) -> bytes:
+                    bodies: list[bytes] = []
+                    whole_frames(requests, bodies)
+                    trips.append([body[0] for body in bodies])
+                    return await ask(requests, count)
+
+                with patch.object(store._stream, "ask", heard):
+                    self.assertEqual([entry async for entry in store.scan(limit=1)], [(ANN, BAL, b"1")])
+                    self.assertEqual((await store.row(ANN), await store.count()), ({BAL: b"1"}, 1))
+                self.assertEqual(trips, [[0x70], [1, 0x31, 5], [1, 0x31, 5], [1, 0x31]])
+
+        asyncio.run(main())
+        self.assertTrue(until(lambda: gateway.statistics()["open"]["sessions"] == 0))
 
     def test_a_cancelled_read_leaves_no_session(self) -> None:
         gateway = Gateway(self)

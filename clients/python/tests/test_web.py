@@ -19,7 +19,7 @@ from io import StringIO
 from pathlib import Path
 
 from duqishom.__main__ import main
-from duqishom.administration import Counted
+from duqishom.counted import Counted
 from duqishom.fields import counted
 from duqishom.version import VERSION
 from duqishom.web_charts import Points, small_line, tablet_bar, widths
@@ -37,10 +37,10 @@ EVIL = b"<script>alert('1')</script>&\""
 
 # The numbers of metrics that move by themselves, or by being asked for.
 NAMES = r"duqishom_(?:\w+_seconds(?:_total)?|bytes_total|held|(?:user_)?clients(?:_total)?|\w+_memory_bytes)"
-MOVING = re.compile(rf"(?m)^({NAMES}(?:{{.*}})?|.*\"(?:Statistics|other)\"}}) .*$")
+MOVING = re.compile(rf"(?m)^({NAMES}(?:{{.*}})?|.*\"(?:Statistics|Status)\"}}) .*$")
 
 # The times of requests that are only there once the page has asked.
-LATE = re.compile(r"(?m)^duqishom_request_seconds_.*\"other\".*\n")
+LATE = re.compile(r"(?m)^duqishom_request_seconds_.*\"Status\".*\n")
 
 # The elements that have no end.
 VOID = {"meta"}
@@ -152,6 +152,8 @@ class Pages(unittest.TestCase):
         self.assertEqual(shown.texts[at : at + 3], ["Step", "0", "13"])
         for time in shown.texts[at + 3 : at + 6]:
             self.assertRegex(time, r"^[\d.]+ m?s$")
+        at = shown.texts.index("most files")
+        self.assertEqual(shown.texts[at + 1], "1")
         at = shown.texts.index("Conflict")
         self.assertEqual(shown.texts[at : at + 4], ["Conflict", "1", "BadRow", "1"])
         at = shown.texts.index("on request")
@@ -170,6 +172,7 @@ class Pages(unittest.TestCase):
         self.assertEqual(first, other)
         self.assertIn('duqishom_requests_total{operation="Step"} 3\n', text)
         self.assertIn('duqishom_requests_total{operation="Statistics"}', text)
+        self.assertIn("duqishom_store_memtable_entries 3\n", text)
 
     def test_a_gateway_ends_and_comes_back(self) -> None:
         gateway = Gateway(self)

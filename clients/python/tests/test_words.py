@@ -12,9 +12,13 @@ import tempfile
 import unittest
 from pathlib import Path
 
+from duqishom import Store
 from duqishom.texts import bytes_of, text_of
 from duqishom.version import VERSION
-from tests.gateways import Gateway, set_, step
+from tests.gateways import PATIENCE, Gateway, folder_of, set_, step
+from tests.peer import peer
+from tests.poor import NO_MEMORY
+from tests.test_scans import ALL, BEGIN, MOST, STOP, THREE
 
 FOLDER = Path(__file__).resolve().parents[1]
 
@@ -64,6 +68,17 @@ class Words(unittest.TestCase):
             ("in 3 get Joe bal", "2"),
             ("in 3 stop", "stopped"),
             ("checkpoint", "written"),
+            ("begin", "session 4"),
+            ("in 4 set Bob bal 11", "set"),
+            ("in 4 delete Joe bal", "set to be deleted"),
+            ("in 4 commit", "committed at 5"),
+            ("get Bob bal", "11"),
+            ("begin", "session 7"),
+            ("in 7 set Joe bal 1", "set"),
+            ("in 7 set Bob bal 1", "set"),
+            ("set Bob bal 12", "committed at 9"),
+            ("in 7 commit", "conflict at 2"),
+            ("get Joe bal", "nothing"),
         ]
         self.assert_answered(table, 0)
 
@@ -77,7 +92,9 @@ class Words(unittest.TestCase):
             ("compact 1 major", "compacted"),
             ("sweep", "3 files removed"),
             ("split Jim", "tablet 2 ends with Jim"),
-            ("tablets", "2 up to Jim\n1 up to the last row"),
+            ("move 2 5", "moved"),
+            ("tablets", "2 up to Jim: server 5, 0 entries of 0 bytes in memory, 1 files of 155 bytes"),
+            ("", "1 up to the last row: server 0, 0 entries of 0 bytes in memory, 1 files of 155 bytes"),
             ("move 2 3", "moved"),
             ("set Joe bal 3", "committed at 6"),
             ("collect", "collected up to 7"),
@@ -106,6 +123,7 @@ class Words(unittest.TestCase):
                 "refused 11: UnknownTablet: tablet 2: tablets have the numbers from 1 to as many as there are",
             ),
             ("in 9 step", "refused 1: UnknownSession: session 9: it has ended, or never began"),
+            ("in 9 commit", "refused 1: UnknownSession: session 9: it has ended, or never began"),
             ("backup /tmp", "not done: a store in memory has no folder to copy"),
         ]
         self.assert_answered(table, 1)
@@ -142,7 +160,7 @@ class Words(unittest.TestCase):
 
     def test_help(self) -> None:
         status, lines = answers("help\nquit\nfoo\n")
-        self.assertEqual((status, len(lines)), (0, 32))
+        self.assertEqual((status, len(lines)), (0, 33))
 
     def test_deletions(self) -> None:
         table = [
@@ -182,6 +200,36 @@ class Words(unittest.TestCase):
         lines = "\n".join(line for line, _ in table)
         self.assertEqual(answers(lines), (1, "\n".join(answer for _, answer in table).splitlines()))
 
+    def test_scans_come_line_by_line(self) -> None:
+        """No more cells are asked for than the limit. Lines before a refusal are shown, but no part of a list of JSON."""
+        first = b"\xb1\2\0\0\0\1a\0\0\0\1c\0\0\0\1\0\0\0\1a\0\0\0\1c\1\0\0\0\1v"
+        program = peer(self, [BEGIN, (ALL + b"\0\0\0\1", first), STOP])
+        self.assertEqual(answers("", "--program", program, "scan", "--limit", "1"), (0, ["a c v"]))
+        on = b"\x31" + THREE + b"\0\1\0\0\0\1a\0\0\0\1c\0\0" + MOST
+        program = peer(self, [BEGIN, (ALL + MOST, first), (on, NO_MEMORY), STOP])
+        refused = "refused 20: NoMemory"
+        for form, told in (
+            ((), ["a c v", refused]),
+            (("--raw",), ["a\tc\tv", refused]),
+            (("--json",), [json.dumps({"error": refused})]),
+        ):
+            self.assertEqual(answers("", "--program", program, *form, "scan"), (1, told))
+
+    def test_nobody_reads_on(self) -> None:
+        """A pipe that is closed ends a scan, as it ends a dump."""
+        with Store(folder=folder_of(self)) as store:
+            folder = store.folder
+            with store.transaction() as t:
+                for number in range(100):
+                    t.put(b"%d" % number, b"c", bytes(10_000))
+        for form in ("--raw", "--no-checkpoint"):
+            command = [sys.executable, "-m", "duqishom", "--dir", str(folder), form, "scan"]
+            with subprocess.Popen(command, cwd=FOLDER, stdout=subprocess.PIPE, stderr=subprocess.PIPE) as child:
+                assert child.stdout is not None and child.stderr is not None
+                self.assertEqual(child.stdout.read(4), b"0\tc\t" if form == "--raw" else b"0 c ")
+                child.stdout.close()
+                self.assertEqual((child.stderr.read(), child.wait(PATIENCE)), (b"", 0))
+
     def test_explain(self) -> None:
         told = "; its first cell is Bob bal; it"
         table = [
@@ -214,6 +262,7 @@ class Words(unittest.TestCase):
             self.assertEqual(answers("locks", "--dir", folder), (0, [f"Joe bal: {told}"]))
             status, lines = answers("status", "--dir", folder)
             self.assertEqual((status, lines[1:3]), (0, ["tablets: 1", "files: 1"]))
+            self.assertLessEqual({"store tablets: 1", "store files: 1", "store sessions: 0"}, set(lines))
 
     def test_gateway(self) -> None:
         """Another client holds a cell. Its lock is shown, and the client is first of all."""
@@ -221,13 +270,14 @@ class Words(unittest.TestCase):
         wire = gateway.wire()
         wire.ask(set_(start := wire.begin(), b"Bob", b"3"))
         wire.ask(step(start))
-        status, lines = answers("locks\nclients\nstatus\ntablets", "--socket", gateway.path)
+        status, lines = answers("locks\nclients\nstatus\nsplit m\ntablets", "--socket", gateway.path)
         held = "Bob c: session 1 sets it; its first cell is Bob c; it hasn't committed"
-        self.assertEqual((status, lines[0], lines[1].split()[0]), (1, held, "client"))
+        self.assertEqual((status, lines[0], lines[1].split()[0]), (0, held, "client"))
         self.assertRegex(lines[2], rf"^ +1 +{os.getpid()} +{os.geteuid()} +\d+ s +1 +\d+ s +3 +0$")
-        self.assertLessEqual({f"version: {VERSION}", "requests Step: 1", "open sessions: 1"}, set(lines))
+        told = {f"version: {VERSION}", "requests Step: 1", "open sessions: 1", "store sessions: 1", "store memtable_entries: 2"}
+        self.assertLessEqual(told, set(lines))
         self.assertNotIn("requests Major: 0", lines)
-        self.assertEqual(lines[-1], "not done: other clients may have split the tablets of a gateway's store")
+        self.assertEqual([line.partition(":")[0] for line in lines[-2:]], ["2 up to m", "1 up to the last row"])
 
     def test_forms(self) -> None:
         words = "set Bob bal 'a \\x00'\nget Bob bal\nget Joe bal\nscan --keys\ncount\nexplain Bob bal\nfoo\n"
@@ -282,7 +332,7 @@ class Words(unittest.TestCase):
                 self.assertEqual(child.wait(60), 1)
             told += os.read(ours, 65_536)
             os.close(ours)
-            for part in (rb"\|status \r\n", rb"\ntablets: 1\r\n", rb"\nstep +stop +\r\n", rb"\nSET ROW FAMILY VALUE  "):
+            for part in (rb"\|status \r\n", rb"\nSTORE TABLETS: 1\r\n", rb"\nstep +stop +\r\n", rb"\nSET ROW FAMILY VALUE  "):
                 self.assertRegex(told, part)
             history = Path(folder) / "duqishom" / "history"
             self.assertEqual(history.read_text().split(), ["status", "in", "1", "st", "help", "quit"])

@@ -1,1 +1,1 @@
-"""What is built on cells alone: `tuples` for rows, and an `index` by values."""
+"""What is built on cells alone: `tuples` for rows, an `index` by values, `counters`, and `large` values."""

@@ -15,6 +15,7 @@ from typing import Protocol
 
 from duqishom import aio
 from duqishom.layers.tuples import pack, unpack
+from duqishom.store import Store
 from duqishom.transactions import Snapshot, Transaction
 
 # The family of the index's own cells.
@@ -56,13 +57,13 @@ class Index:
         """The same for `asyncio`."""
         await self.put_async(t, row, dict.fromkeys(await t.row(row)))
 
-    def rows(self, t: Snapshot, *values: bytes, limit: int | None = None) -> Iterator[bytes]:
+    def rows(self, t: Snapshot | Store, *values: bytes, limit: int | None = None) -> Iterator[bytes]:
         """The rows that have these values in the first families, in the order of the values of the others, and then of
-        rows."""
+        rows: of a transaction, or of a store as of now."""
         for entry, _, _ in t.scan(prefix=pack((self._name, *values)), keys=True, limit=limit):
             yield unpack(entry)[-1]
 
-    async def rows_async(self, t: aio.Snapshot, *values: bytes, limit: int | None = None) -> AsyncIterator[bytes]:
+    async def rows_async(self, t: aio.Snapshot | aio.Store, *values: bytes, limit: int | None = None) -> AsyncIterator[bytes]:
         """The same for `asyncio`."""
         async for entry, _, _ in t.scan(prefix=pack((self._name, *values)), keys=True, limit=limit):
             yield unpack(entry)[-1]
