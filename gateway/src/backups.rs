@@ -134,8 +134,7 @@ impl Gateway {
     fn copied(&mut self, copy: usize, why: &str) {
         let Copy { place, number, .. } = self.backups.0.remove(copy);
         self.answer_backup(place, number, why);
-        let places: Vec<usize> = self.connected().map(|(place, _)| place).collect();
-        places.into_iter().for_each(|place| self.queue(place));
+        self.places().into_iter().for_each(|place| self.queue(place));
     }
 
     fn answer_backup(&mut self, place: usize, number: u64, why: &str) {

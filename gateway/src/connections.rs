@@ -57,7 +57,7 @@ impl Gateway {
             self.counts.not_allowed += 1;
             return self.turn_away(stream, BAD_REQUEST);
         }
-        if !self.allow(user, CONNECTION) || self.counts.connections >= u64::from(ADMINISTRATOR) - 1 {
+        if !self.may_connect(user) || self.counts.connections >= u64::from(ADMINISTRATOR) - 1 {
             self.counts.turned_away += 1;
             return self.turn_away(stream, TOO_MANY);
         }
@@ -76,35 +76,45 @@ impl Gateway {
         }
     }
 
-    /// Whether a user may have one more of a kind, which may be taken from another user for that.
-    pub fn allow(&mut self, user: usize, kind: usize) -> bool {
-        match self.shares.of(user, kind) {
-            Share::Left => true,
-            Share::None => false,
-            Share::TakenFrom(other) if kind == CONNECTION => {
-                let clients = self.connected().filter(|(_, client)| client.user == other);
-                let idlest =
-                    clients.min_by_key(|(_, client)| (client.in_flight > 0, client.heard)).map(|(place, _)| place);
-                idlest.into_iter().for_each(|place| self.cut(place));
-                self.counts.taken_clients += u64::from(idlest.is_some());
-                idlest.is_some()
+    /// Whether a user may have one more connection. One of another user may be closed for that.
+    fn may_connect(&mut self, user: usize) -> bool {
+        let other = match self.shares.of(user, CONNECTION) {
+            Share::Left => return true,
+            Share::TakenFrom(other) => other,
+            Share::None => return false,
+        };
+        let clients = self.connected().filter(|(_, client)| client.user == other);
+        let idlest = clients.min_by_key(|(_, client)| (client.in_flight > 0, client.heard)).map(|(place, _)| place);
+        idlest.into_iter().for_each(|place| self.cut(place));
+        self.counts.taken_clients += u64::from(idlest.is_some());
+        idlest.is_some()
+    }
+
+    /// Whether a client may have one more of a kind. If no session is left for its user, the idlest of a user that has
+    /// more is stopped for that, or else the idlest of the one of its own user's connections that has most, which must
+    /// have at least two more than this one.
+    pub fn may_open(&mut self, place: usize, kind: Kind) -> bool {
+        let client = &self.clients[place];
+        let (user, has) = (client.user, client.counts[kind as usize]);
+        let idlest = match self.shares.of(user, kind as usize) {
+            Share::Left => return true,
+            Share::TakenFrom(other) => self.things.idlest_session(|session| session.user == other),
+            Share::None if kind == Kind::Session => {
+                let richest = self.things.richest(user).filter(|(_, most)| *most >= has + 2);
+                richest.and_then(|(number, _)| self.things.idlest_session(|session| session.client == number))
             }
-            Share::TakenFrom(other) => {
-                let sessions =
-                    self.things.by_name.iter().filter(|each| each.0 .0 == Kind::Session && each.1.user == other);
-                let idlest = sessions.min_by_key(|each| (each.1.asked, each.1.order)).map(|each| *each.0);
-                idlest.into_iter().for_each(|key| self.stop(key));
-                self.counts.taken_sessions += u64::from(idlest.is_some());
-                idlest.is_some()
-            }
-        }
+            Share::None => None,
+        };
+        idlest.into_iter().for_each(|key| self.stop(key));
+        self.counts.taken_sessions += u64::from(idlest.is_some());
+        idlest.is_some()
     }
 
     /// Stops a session of a client, which the program stops before all that is still to be sent.
     pub fn stop(&mut self, key: (Kind, u64)) {
         if let Some(number) = self.close(key) {
             let body = body_of(STOP, &key.1.to_be_bytes());
-            let run = Run::new(Asker::Own(Rc::default()), number, &Request::of(&body), self.now);
+            let run = Run::new(Asker::Own(Rc::default()), number, Request::of(&body), self.now);
             self.program.send(&body, run);
         }
     }
@@ -122,7 +132,7 @@ impl Gateway {
     pub fn take_from_client(&mut self, place: usize, event: &Readiness) {
         let Some(client) = self.clients.get_mut(place) else { return };
         if event.is_writable() && !client.output.is_empty() {
-            self.outs.push(place);
+            self.queues.outs.push(place);
         }
         if event.is_readable() || event.is_read_closed() || event.is_error() {
             client.may_read(event.is_read_closed() || event.is_error());
@@ -157,7 +167,7 @@ impl Gateway {
             Err(_) => self.cut(place),
         }
         if self.clients.get(place).is_some_and(Client::is_to_be_read) {
-            self.again.push(place);
+            self.queues.again.push(place);
         }
     }
 
@@ -193,7 +203,7 @@ impl Gateway {
     pub fn queue(&mut self, place: usize) {
         if let Some(client) = self.clients.get_mut(place).filter(|client| !client.is_queued) {
             client.is_queued = true;
-            self.turns.push_back(Some(place));
+            self.queues.turns.push_back(Some(place));
         }
     }
 
@@ -226,7 +236,7 @@ impl Gateway {
             client.put(reply);
             self.replies_held += HEAD + reply.len();
             if !std::mem::replace(&mut client.is_written, true) {
-                self.outs.push(place);
+                self.queues.outs.push(place);
             }
         }
     }
@@ -253,7 +263,7 @@ impl Gateway {
     /// Gives a client no more than the replies that are being written to it, for the time of grace.
     pub fn kill(&mut self, place: usize) {
         self.leave(place, Phase::Leaving);
-        self.outs.push(place);
+        self.queues.outs.push(place);
         let (own, number, grace) = (self.own.clone(), self.clients[place].number, self.options.grace);
         self.tasks.begin(async move {
             own.sleep(grace).await;
@@ -282,7 +292,7 @@ impl Gateway {
         if !self.options.leave {
             self.clients[place].awaits_end = true;
             self.endings += 1;
-            let run = Run::new(Asker::End(place), name, &Request::of(&[]), self.now);
+            let run = Run::new(Asker::End(place), name, Request::of(&[]), self.now);
             self.program.send(&[], run);
         }
     }

@@ -65,10 +65,11 @@ pub fn operation(code: u8) -> Option<&'static str> {
         "Checkpoint",
         "Delete",
     ];
-    const OTHERS: [(u8, &str); 8] = [
+    const OTHERS: [(u8, &str); 9] = [
         (SCAN, "Scan"),
         (COMMIT, "Commit"),
         (READ, "Read"),
+        (STATUS, "Status"),
         (STATISTICS, "Statistics"),
         (BACKUP, "Backup"),
         (CLIENTS, "Clients"),
@@ -79,23 +80,16 @@ pub fn operation(code: u8) -> Option<&'static str> {
     NAMES.get((code as usize).wrapping_sub(1)).copied().or_else(other)
 }
 
-/// A count of each byte.
-pub struct ByByte(pub [u64; 256]);
-
-impl Default for ByByte {
-    fn default() -> ByByte {
-        ByByte([0; 256])
-    }
-}
-
-/// Requests of clients by their operations, refusals by their numbers, and the rest by the names in the statistics.
+/// Requests of clients by the bytes of their operations, refusals by their numbers, and the rest by the names in the
+/// statistics.
 #[derive(Default)]
 pub struct Counts {
-    pub requests: ByByte,
-    refusals: ByByte,
+    pub requests: Vec<u64>,
+    refusals: Vec<u64>,
     conflicts: u64,
     lost: u64,
     pub checkpoints: u64,
+    pub splits: u64,
     pub bytes_in: u64,
     pub bytes_out: u64,
     pub connections: u64,
@@ -110,10 +104,14 @@ pub struct Counts {
 }
 
 impl Counts {
+    pub fn new() -> Counts {
+        Counts { requests: vec![0; 256], refusals: vec![0; 256], ..Counts::default() }
+    }
+
     /// Counts a reply to a client, if it is a refusal, or says that a commit comes to nothing.
     pub fn note(&mut self, reply: &[u8]) {
         match reply {
-            [REFUSED, number] => self.refusals.0[*number as usize] += 1,
+            [REFUSED, number] => self.refusals[*number as usize] += 1,
             [0x84 | 0xB2, 2, ..] => self.conflicts += 1,
             [0x84, 5, ..] => self.lost += 1,
             _ => {}
@@ -124,7 +122,7 @@ impl Counts {
     fn requests(&self) -> Map<String, Value> {
         let mut told = Map::new();
         let mut others = 0;
-        for (code, count) in (0..=255).zip(self.requests.0) {
+        for (code, count) in (0..=255).zip(self.requests.iter().copied()) {
             match operation(code) {
                 Some(name) => drop(told.insert(name.into(), count.into())),
                 None => others += count,
@@ -135,7 +133,7 @@ impl Counts {
     }
 
     fn refusals(&self) -> Map<String, Value> {
-        REFUSALS.iter().zip(&self.refusals.0[1..]).map(|(name, count)| (name.to_string(), (*count).into())).collect()
+        REFUSALS.iter().zip(&self.refusals[1..]).map(|(name, count)| (name.to_string(), (*count).into())).collect()
     }
 }
 
@@ -155,12 +153,12 @@ fn seconds(since: Instant, now: Instant) -> f64 {
 }
 
 impl Gateway {
-    /// The statistics. Users, processes and copies are only told if the asker is trusted.
-    pub fn statistics(&mut self, is_trusted: bool) -> Vec<u8> {
+    /// The statistics for the client in this place. Users, processes and copies are only told if it is trusted.
+    pub fn statistics(&mut self, place: usize) -> Vec<u8> {
         self.latencies.look(self.now);
-        let counts = &self.counts;
+        let (counts, client) = (&self.counts, &self.clients[place]);
+        let is_trusted = client.is_trusted();
         let [sessions, cleaners, collectors] = self.things.counts;
-        let oldest = self.things.oldest_session().map_or(0.0, |began| seconds(began, self.now));
         let mut told = json!({
             "seconds": seconds(self.began, self.now),
             "requests": counts.requests(),
@@ -180,14 +178,16 @@ impl Gateway {
                 "killed_clients": counts.killed_clients,
             },
             "watches": {"open": self.watches.len(), "changes": self.watches.changes, "unnamed": self.watches.unnamed},
+            "shared": u8::from(client.is_admin || self.options.shared),
             "open": {"sessions": sessions, "cleaners": cleaners, "collectors": collectors},
-            "oldest_session_seconds": oldest,
+            "oldest_session_seconds": self.things.oldest_session().map_or(0.0, |began| seconds(began, self.now)),
             "held": {"requests": self.requests_held, "replies": self.replies_held, "asked": self.program.runs.len()},
             "latency_seconds": self.latencies.lately(),
             "request_seconds": self.latencies.buckets(),
             "refusals": counts.refusals(),
             "conflicts": {"Conflict": counts.conflicts, "Lost": counts.lost},
             "checkpoints": counts.checkpoints,
+            "splits": counts.splits,
             "program": process(self.program.process()),
             "gateway": process(std::process::id()),
         });

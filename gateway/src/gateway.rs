@@ -1,7 +1,7 @@
 //! The gateway's core: the clients, the program, and the traffic between them.
 
 use std::collections::{HashMap, VecDeque};
-use std::io::ErrorKind;
+use std::io::{self, ErrorKind};
 use std::rc::Rc;
 use std::time::{Duration, Instant};
 
@@ -43,15 +43,9 @@ const PART: usize = (1 << 32) - 1;
 /// The pause of the loop while everything ends.
 pub const PAUSE: Duration = Duration::from_millis(10);
 
-pub struct Gateway {
-    // The connections are closed first, and the program ends last.
-    pub clients: Slab<Client>,
-    pub turned_away: VecDeque<TurnedAway>,
-    pub listeners: Vec<Listener>,
-    pub poll: Poll,
-    pub options: Options,
-    pub has_admin: bool,
-    pub now: Instant,
+/// What is to be done, in this round or in the next ones.
+#[derive(Default)]
+pub struct Queues {
     /// The places of the clients that wait for a turn, and None for the gateway itself, if it does; and whether the first
     /// of them waits until the program is idle.
     pub turns: VecDeque<Option<usize>>,
@@ -61,6 +55,18 @@ pub struct Gateway {
     pub outs: Vec<usize>,
     pub again: Vec<usize>,
     pub later: Vec<usize>,
+}
+
+pub struct Gateway {
+    // The connections are closed first, and the program ends last.
+    pub clients: Slab<Client>,
+    pub turned_away: VecDeque<TurnedAway>,
+    pub listeners: Vec<Listener>,
+    pub poll: Poll,
+    pub options: Options,
+    pub has_admin: bool,
+    pub now: Instant,
+    pub queues: Queues,
     /// How many clients have each of the program's numbers, if several may.
     pub names: HashMap<u32, usize>,
     pub things: Things,
@@ -92,12 +98,7 @@ pub struct Gateway {
 }
 
 impl Gateway {
-    pub fn new(
-        options: Options,
-        clients: usize,
-        listeners: Vec<Listener>,
-        program: Program,
-    ) -> std::io::Result<Gateway> {
+    pub fn new(options: Options, clients: usize, listeners: Vec<Listener>, program: Program) -> io::Result<Gateway> {
         let has_admin = listeners.iter().any(|listener| listener.is_admin);
         let now = Instant::now();
         Ok(Gateway {
@@ -107,16 +108,11 @@ impl Gateway {
             poll: Poll::new()?,
             has_admin,
             now,
-            turns: VecDeque::new(),
-            waits_for_idle: false,
-            own_is_queued: false,
-            outs: Vec::new(),
-            again: Vec::new(),
-            later: Vec::new(),
+            queues: Queues::default(),
             names: HashMap::new(),
             things: Things::default(),
             shares: Shares::new(&options, clients, has_admin),
-            counts: Counts::default(),
+            counts: Counts::new(),
             began: now,
             latencies: Latencies::new(now),
             slow: Slow::new(options.slow, now),
@@ -181,6 +177,9 @@ impl Gateway {
         if self.options.collect > 0 {
             self.tasks.begin(self.own.clone().collect(self.options.collect));
         }
+        if let (Some(folder), 1..) = (&self.options.dir, self.options.split_bytes) {
+            self.tasks.begin(self.own.clone().split(folder.clone(), self.options.split_bytes));
+        }
         let (own, pause) = (self.own.clone(), self.idle.pause);
         if !pause.is_zero() {
             self.tasks.begin(async move {
@@ -194,8 +193,8 @@ impl Gateway {
 
     /// How long nothing is to be done if nothing comes.
     fn time_to_wait(&self) -> Option<Duration> {
-        let is_due = !self.again.is_empty() || !self.later.is_empty() || !self.outs.is_empty();
-        if is_due || (!self.turns.is_empty() && self.may_give()) {
+        let is_due = !self.queues.again.is_empty() || !self.queues.later.is_empty() || !self.queues.outs.is_empty();
+        if is_due || (!self.queues.turns.is_empty() && self.may_give()) {
             return Some(Duration::ZERO);
         }
         let times = self.own.next_time().into_iter().chain(self.turned_away.iter().map(|each| each.due));
@@ -223,10 +222,10 @@ impl Gateway {
 
     /// What follows from all that has come: reads, tasks, turns, writes.
     fn go_on(&mut self) -> Result<(), Failure> {
-        for place in std::mem::take(&mut self.again) {
+        for place in std::mem::take(&mut self.queues.again) {
             self.read(place);
         }
-        for place in std::mem::take(&mut self.later) {
+        for place in std::mem::take(&mut self.queues.later) {
             self.queue(place);
         }
         self.look_at_turned_away();
@@ -238,7 +237,7 @@ impl Gateway {
         }
         self.give();
         self.program.flush()?;
-        for place in std::mem::take(&mut self.outs) {
+        for place in std::mem::take(&mut self.queues.outs) {
             self.write(place);
         }
         // Clients may have ended

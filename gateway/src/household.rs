@@ -1,4 +1,5 @@
 //! The gateway's own requests, and the tasks that make them: room, checkpoints, and the ends of what the dead had open.
+//! `splits` has one more.
 //!
 //! A task is a future that waits for replies, for times and for what the gateway reaches. It is tried again after each
 //! of them.
@@ -13,10 +14,11 @@ use std::time::{Duration, Instant};
 
 use crate::failure::tell;
 use crate::protocol::*;
+use crate::splits::Writes;
 use crate::things::opened;
 
 /// The most tablets of a store, which are numbered from 1.
-const MOST_TABLETS: u32 = 1024;
+pub const MOST_TABLETS: u32 = 1024;
 
 /// The visits of a collector in one request: few, so that no client waits long. With a log the program makes no more than
 /// the second.
@@ -80,6 +82,7 @@ pub struct Household {
     pub has_log: Cell<bool>,
     /// How many commits of clients the program has answered.
     pub commits: Cell<u64>,
+    pub writes: Writes,
     pub state: Cell<State>,
     pub events: RefCell<Vec<Event>>,
     waiting: RefCell<VecDeque<(Vec<u8>, Reply)>>,
@@ -122,7 +125,7 @@ impl Household {
     }
 
     /// Asks in a turn, and returns the reply.
-    async fn ask(&self, body: Vec<u8>) -> Vec<u8> {
+    pub async fn ask(&self, body: Vec<u8>) -> Vec<u8> {
         let reply = Reply::default();
         self.waiting.borrow_mut().push_back((body, reply.clone()));
         poll_fn(|_| taken(&reply)).await
@@ -183,9 +186,7 @@ impl Household {
         if reply == TOO_MANY_FILES {
             self.join_files().await;
             if self.ask(vec![CHECKPOINT]).await == CHECKPOINT_MADE && self.state.get().copies == 0 {
-                let swept = (self.ask_next(SWEEP), self.ask_next(CHECKPOINT));
-                swept.0.await;
-                swept.1.await;
+                self.sweep_behind_checkpoint().await;
             }
             reply = self.ask(vec![CHECKPOINT]).await;
         }
@@ -195,14 +196,19 @@ impl Household {
         reply == CHECKPOINT_MADE
     }
 
-    /// Makes a Sweep for a client of a folder without a log, right behind a checkpoint, and another one right behind
-    /// it, since the program may merge files after the first. Returns its reply, or that of the checkpoint if it is
-    /// refused: the sweep might remove files that the last root names.
+    /// Makes a Sweep for a client of a folder without a log, right behind a checkpoint. Returns its reply, or that of the
+    /// checkpoint if it is refused: the sweep might remove files that the last root names.
     pub async fn sweep(&self) -> Vec<u8> {
         let reply = self.ask_next(CHECKPOINT).await;
-        if reply != CHECKPOINT_MADE {
-            return reply;
+        if reply == CHECKPOINT_MADE {
+            self.sweep_behind_checkpoint().await
+        } else {
+            reply
         }
+    }
+
+    /// Makes a Sweep, and a checkpoint right behind it, since the program may merge files after the one before.
+    async fn sweep_behind_checkpoint(&self) -> Vec<u8> {
         let (swept, checkpoint) = (self.ask_next(SWEEP), self.ask_next(CHECKPOINT));
         let reply = swept.await;
         checkpoint.await;
@@ -282,10 +288,9 @@ impl Household {
 
     /// Clears the cell at which a collector is blocked.
     async fn unblock(&self, fields: &[u8]) {
-        let (row, family) = Fields(fields).cell().expect("the cell at which a collector is blocked");
+        let cell = Fields(fields).cell().expect("the cell at which a collector is blocked");
         let mut body = vec![CLEAN_BEGIN];
-        put_counted(&mut body, &row);
-        put_counted(&mut body, &family);
+        put_cell(&mut body, &cell);
         let reply = self.ask(body).await;
         match reply[..2] {
             [REFUSED, _] => self.sleep(PAUSE).await,

@@ -22,6 +22,7 @@ mod replies;
 mod shares;
 mod slow;
 mod sockets;
+mod splits;
 mod standby;
 mod things;
 mod turned_away;

@@ -71,6 +71,9 @@ pub struct Options {
     /// collect old versions after so many commits, and again after as many as that took visits (10000; 0: never)
     #[arg(long, value_name = "COMMITS", default_value = "10000", hide_default_value = true)]
     pub collect: u64,
+    /// split a tablet of a folder that holds more bytes (268435456; 0: never)
+    #[arg(long, value_name = "BYTES", default_value = "268435456", hide_default_value = true)]
+    pub split_bytes: u64,
     /// leave what a dead client had open as it is
     #[arg(long)]
     pub leave: bool,

@@ -43,23 +43,20 @@ pub enum Asker {
 pub struct Run {
     pub asker: Asker,
     pub number: u32,
-    pub code: u8,
-    pub weight: u32,
-    pub room: usize,
-    pub names: Option<(Kind, u64)>,
-    /// What the request opens, if that stays open.
-    pub opens: Option<Kind>,
-    pub ends: bool,
+    pub request: Request,
     pub since: Instant,
     /// The body of a Commit.
     pub commit: Option<Box<[u8]>>,
 }
 
 impl Run {
-    pub fn new(asker: Asker, number: u32, request: &Request, since: Instant) -> Run {
-        let Request { code, weight, room, names, opens, stays, ends } = *request;
-        let opens = opens.filter(|_| stays);
-        Run { asker, number, code, weight, room, names, opens, ends, since, commit: None }
+    pub fn new(asker: Asker, number: u32, request: Request, since: Instant) -> Run {
+        Run { asker, number, request, since, commit: None }
+    }
+
+    /// What it opens, if that stays open.
+    pub fn opens(&self) -> Option<Kind> {
+        self.request.opens.filter(|_| self.request.stays)
     }
 }
 
@@ -134,7 +131,7 @@ impl Program {
         self.out.extend_from_slice(&((HEAD + body.len()) as u32).to_be_bytes());
         self.out.extend_from_slice(&run.number.to_be_bytes());
         self.out.extend_from_slice(body);
-        self.weight += run.weight;
+        self.weight += run.request.weight;
         self.sent += 1;
         self.runs.push_back(run);
     }
@@ -195,7 +192,7 @@ impl Program {
             return Err(Failure(format!("the reply to a request of client {} isn't its own", run.number)));
         }
         *at += HEAD + frame.len();
-        self.weight -= run.weight;
+        self.weight -= run.request.weight;
         self.answered += 1;
         Ok(Some((run, &frame[HEAD..])))
     }

@@ -1,5 +1,8 @@
 //! The operations as the gateway passes them on: what a request names, opens and costs.
 
+/// The column of data, as a Raw names it.
+const DATA: u8 = 1;
+
 pub const BEGIN: u8 = 0x01;
 pub const GET: u8 = 0x02;
 pub const SET: u8 = 0x03;
@@ -11,6 +14,7 @@ pub const COLLECT_BEGIN: u8 = 0x08;
 pub const COLLECT_STEP: u8 = 0x09;
 pub const MINOR: u8 = 0x0A;
 pub const MAJOR: u8 = 0x0C;
+pub const SPLIT: u8 = 0x0D;
 pub const SWEEP: u8 = 0x0F;
 pub const ORACLE_RESTART: u8 = 0x10;
 pub const RAW: u8 = 0x11;
@@ -19,6 +23,7 @@ pub const DELETE: u8 = 0x13;
 pub const SCAN: u8 = 0x31;
 pub const COMMIT: u8 = 0x32;
 pub const READ: u8 = 0x33;
+pub const STATUS: u8 = 0x34;
 
 /// The requests that the gateway answers itself.
 pub const STATISTICS: u8 = 0x70;
@@ -54,9 +59,11 @@ pub const LONGEST_BODY: usize = (1 << 20) - HEAD;
 pub const MOST_WEIGHT: u32 = 2048;
 pub const TURN_WEIGHT: u32 = 64;
 
-/// The longest frames of replies: of a read or a scan, of a blocked collector, of a Read, and of all others.
+/// The longest frames of replies: of a read or a scan, of a blocked collector, of a report (fourteen numbers of eight
+/// bytes, and a row), of a Read, and of all others.
 pub const READ_ROOM: usize = 65_558;
-const BLOCKED_ROOM: usize = 4_085;
+const BLOCKED_ROOM: usize = 4_086;
+const REPORT_ROOM: usize = 4_117;
 const LONGEST_ROOM: usize = 1_048_580;
 const SMALL_ROOM: usize = 32;
 
@@ -67,6 +74,9 @@ const CELL_ROOM: usize = 65_541;
 /// The most visits and scanned cells, and the most cells of a Commit or a Read, that count.
 const MOST_VISITS: u32 = 1000;
 pub const MOST_CELLS: u32 = 256;
+
+/// The bytes of the longest row.
+pub const LONGEST_ROW: usize = 4000;
 
 #[derive(Clone, Copy, PartialEq, Eq, Hash, Debug)]
 pub enum Kind {
@@ -87,6 +97,7 @@ pub type Cell = (Box<[u8]>, Box<[u8]>);
 
 /// A request, as far as the gateway looks at it. `opens` is what it opens, which stays open after the answer, or not;
 /// `names` is the thing in it, which ends with each answer that is no refusal, if `ends` is set.
+#[derive(Clone, Copy)]
 pub struct Request {
     pub code: u8,
     pub weight: u32,
@@ -101,7 +112,7 @@ impl Request {
     /// The request of a body.
     pub fn of(body: &[u8]) -> Request {
         let code = body.first().copied().unwrap_or(0);
-        let name = body.get(1..9).and_then(|bytes| Some(u64::from_be_bytes(bytes.try_into().ok()?)));
+        let name = body.get(1..9).map(be64);
         let named = |kind| name.map(|name| (kind, name));
         let stays_open = code == READ && body.get(9) == Some(&1);
         let (names, opens) = match code {
@@ -129,6 +140,7 @@ fn costs(code: u8, body: &[u8]) -> (u32, usize) {
         GET | RAW => (1, READ_ROOM),
         SCAN => (1 + last(), READ_ROOM),
         COLLECT_STEP => (1 + 3 * last(), BLOCKED_ROOM),
+        STATUS => (1, REPORT_ROOM),
         COMMIT => (1 + 3 * number_at(9).min(MOST_CELLS) + size, SMALL_ROOM),
         READ => {
             let cells = number_at(10).min(MOST_CELLS);
@@ -142,6 +154,11 @@ fn costs(code: u8, body: &[u8]) -> (u32, usize) {
 /// Whether an operation writes or removes files, or restarts the oracle.
 pub fn is_for_admin(code: u8) -> bool {
     matches!(code, MINOR..=ORACLE_RESTART | CHECKPOINT)
+}
+
+/// Whether a Raw reads the column of data, where values stand that aren't committed. Behind the column are two stamps.
+pub fn reads_data(body: &[u8]) -> bool {
+    body.len().checked_sub(17).is_some_and(|at| body[at] == DATA)
 }
 
 /// Whether a body that opens something has exactly the fields of its operation.
@@ -189,7 +206,7 @@ pub fn cells_of(body: &[u8]) -> Option<Vec<Cell>> {
 pub struct Fields<'a>(pub &'a [u8]);
 
 impl<'a> Fields<'a> {
-    fn take(&mut self, count: usize) -> Option<&'a [u8]> {
+    pub fn take(&mut self, count: usize) -> Option<&'a [u8]> {
         let taken = self.0.get(..count)?;
         self.0 = &self.0[count..];
         Some(taken)
@@ -242,6 +259,12 @@ pub fn put_counted(to: &mut Vec<u8>, bytes: &[u8]) {
     to.extend_from_slice(bytes);
 }
 
+/// Adds a cell, as `Fields` takes it.
+pub fn put_cell(to: &mut Vec<u8>, (row, family): &Cell) {
+    put_counted(to, row);
+    put_counted(to, family);
+}
+
 #[cfg(test)]
 mod tests {
     use super::*;
@@ -258,13 +281,13 @@ mod tests {
         let one = [0, 0, 0, 0, 0, 0, 0, 1];
         let counted = |code, count: u32| [&[code][..], &one, &count.to_be_bytes()].concat();
         let (commit, read) = ([&[COMMIT][..], &[0; 8]].concat(), [&[READ][..], &[0; 9]].concat());
-        let cases: [(Vec<u8>, u32, usize); 14] = [
+        let cases: [(Vec<u8>, u32, usize); 16] = [
             (vec![BEGIN], 1, 32),
             (counted(SCAN, 1), 2, 65_558),
             (counted(SCAN, 1000), 1001, 65_558),
             (counted(SCAN, u32::MAX), 1001, 65_558),
             (vec![SCAN], 1, 65_558),
-            (counted(COLLECT_STEP, 10), 31, 4085),
+            (counted(COLLECT_STEP, 10), 31, 4086),
             (vec![SWEEP], 2048, 32),
             (of_cells(&commit, 0), 1, 32),
             (of_cells(&commit, 1), 4, 32),
@@ -273,10 +296,19 @@ mod tests {
             (of_cells(&read, 1), 2, 65_558),
             (of_cells(&read, 15), 16, 983_132),
             (of_cells(&read, 256), 257, 1_048_580),
+            (body_of(STATUS, &[0; 4]), 1, 4 + 1 + 14 * 8 + 4000),
+            (vec![STATUS], 1, 4117),
         ];
         for (body, weight, room) in cases {
             assert_eq!(costs(body[0], &body), (weight, room), "{body:?}");
         }
+    }
+
+    #[test]
+    fn a_report_is_everybodys() {
+        let request = Request::of(&body_of(STATUS, &[0; 4]));
+        assert_eq!((request.names, request.opens, request.ends), (None, None, false));
+        assert!(!is_for_admin(STATUS));
     }
 
     #[test]

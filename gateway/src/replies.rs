@@ -34,6 +34,7 @@ impl Gateway {
 
     fn deliver(&mut self, run: Run, reply: &[u8]) {
         self.counts.checkpoints += u64::from(reply == CHECKPOINT_MADE);
+        self.counts.splits += u64::from(reply.first() == Some(&(SPLIT | REPLY)));
         match &run.asker {
             Asker::Client(place) => self.answer_client(*place, &run, reply),
             Asker::End(place) => self.has_ended(*place, run.number),
@@ -47,17 +48,17 @@ impl Gateway {
     fn answer_client(&mut self, place: usize, run: &Run, reply: &[u8]) {
         let client = &mut self.clients[place];
         client.in_flight -= 1;
-        client.room -= run.room;
-        self.replies_held -= run.room;
+        client.room -= run.request.room;
+        self.replies_held -= run.request.room;
         if !self.watches.is_empty() {
             self.tell_of_commit(run, reply);
         }
         self.note(run, Some(place), reply);
-        if run.code != 0 {
+        if run.request.code != 0 {
             self.counts.note(reply);
         }
         self.own.commits.set(self.own.commits.get() + u64::from(stamp_of_commit(reply).is_some()));
-        self.note_time(place, run.code, run.since);
+        self.note_time(place, run.request.code, run.since);
         self.put(place, reply);
         if reply == MEMTABLE_FULL {
             self.make_room(place);
@@ -82,15 +83,14 @@ impl Gateway {
 
     /// Records what a reply says of a session, a cleaner or a collector: that it has opened, goes on, or has ended.
     fn note(&mut self, run: &Run, place: Option<usize>, reply: &[u8]) {
-        let Some(kind) = run.opens else {
-            if let (true, Some(key)) = (self.things.has_ended(run, reply), run.names) {
+        let Some(kind) = run.opens() else {
+            if let (true, Some(key)) = (self.things.has_ended(run, reply), run.request.names) {
                 self.close(key);
             }
             return;
         };
         let client = place.map(|place| &mut self.clients[place]);
-        let user = client.as_ref().map_or(shares::ADMINISTRATOR, |client| client.user);
-        let number = client.as_ref().map_or(0, |client| client.number);
+        let (user, number) = client.as_ref().map_or((shares::ADMINISTRATOR, 0), |client| (client.user, client.number));
         match opened(kind, reply) {
             Some(name) => {
                 let asked = self.program.sent - 1;

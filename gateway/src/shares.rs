@@ -1,4 +1,5 @@
-//! The users' shares of sessions, cleaners, collectors and connections, of which there are only so many.
+//! The users' shares of sessions, cleaners, collectors and connections, of which there are only so many. How a user's
+//! connections share its sessions, `Gateway::may_open` says.
 
 use crate::options::Options;
 use crate::protocol::Kind;

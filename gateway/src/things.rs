@@ -1,7 +1,7 @@
 //! Open sessions, cleaners and collectors, as far as the program's replies tell of them. Whose they are the program
 //! knows; here they are counted, and found when they are idle or one is to be taken away.
 
-use std::collections::HashMap;
+use std::collections::{BTreeMap, HashMap};
 use std::time::Instant;
 
 use crate::program::Run;
@@ -71,7 +71,7 @@ impl Things {
 
     /// Whether a thing of a run has ended with this reply, which also tells how far it is.
     pub fn has_ended(&mut self, run: &Run, reply: &[u8]) -> bool {
-        let Some((kind, name)) = run.names else { return false };
+        let Some((kind, name)) = run.request.names else { return false };
         let Some(thing) = self.by_name.get_mut(&(kind, name)) else { return false };
         if thing.number != run.number {
             return false;
@@ -80,7 +80,7 @@ impl Things {
             (_, REFUSED) => reply[1] == kind.unknown(),
             (Kind::Cleaner, _) => reply[1] != 1,
             (Kind::Collector, _) => reply[1] == 3,
-            _ => run.ends || (run.code == STEP && has_ended_by_step(thing, reply)),
+            _ => run.request.ends || (run.request.code == STEP && has_ended_by_step(thing, reply)),
         }
     }
 
@@ -97,6 +97,21 @@ impl Things {
         if self.written > WRITTEN_OF_ALL || count > MOST_CELLS as usize {
             self.written -= size_of(thing);
         }
+    }
+
+    /// The session that was idle longest, among those for which something holds.
+    pub fn idlest_session(&self, holds: impl Fn(&Thing) -> bool) -> Option<(Kind, u64)> {
+        let sessions = self.by_name.iter().filter(|(key, thing)| key.0 == Kind::Session && holds(thing));
+        sessions.min_by_key(|(_, session)| (session.asked, session.order)).map(|(key, _)| *key)
+    }
+
+    /// The client of a user that has the most sessions, and how many. Of several such clients it is the newest.
+    pub fn richest(&self, user: usize) -> Option<(u64, usize)> {
+        let mut counts: BTreeMap<u64, usize> = BTreeMap::new();
+        for (_, session) in self.by_name.iter().filter(|(key, thing)| key.0 == Kind::Session && thing.user == user) {
+            *counts.entry(session.client).or_default() += 1;
+        }
+        counts.into_iter().max_by_key(|(_, count)| *count)
     }
 
     /// When the oldest session began.

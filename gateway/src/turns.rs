@@ -36,7 +36,7 @@ impl Gateway {
     /// Whether the program may get more now.
     pub fn may_give(&self) -> bool {
         let is_open = self.program.weight < MOST_WEIGHT && !self.program.is_full();
-        is_open && !(self.waits_for_idle && self.program.weight > 0)
+        is_open && !(self.queues.waits_for_idle && self.program.weight > 0)
     }
 
     /// Gives turns as long as the program may have more before it.
@@ -44,20 +44,20 @@ impl Gateway {
         while let Some((body, reply)) = self.own.next(true) {
             self.ask(body, Asker::Own(reply));
         }
-        if self.own.next_weight().is_some() && !std::mem::replace(&mut self.own_is_queued, true) {
-            self.turns.push_back(None);
+        if self.own.next_weight().is_some() && !std::mem::replace(&mut self.queues.own_is_queued, true) {
+            self.queues.turns.push_back(None);
         }
         while self.may_give() {
-            let Some(turn) = self.turns.pop_front() else { break };
+            let Some(turn) = self.queues.turns.pop_front() else { break };
             let next = match turn {
                 Some(place) => self.take_turn(place),
                 None => self.take_own_turn(),
             };
-            self.waits_for_idle = next == Next::Idle;
+            self.queues.waits_for_idle = next == Next::Idle;
             match next {
                 Next::Done => self.is_out_of_turns(turn),
-                Next::More => self.turns.push_back(turn),
-                Next::Idle => self.turns.push_front(turn),
+                Next::More => self.queues.turns.push_back(turn),
+                Next::Idle => self.queues.turns.push_front(turn),
             }
         }
     }
@@ -66,15 +66,15 @@ impl Gateway {
         match turn.map(|place| self.clients.get_mut(place)) {
             Some(Some(client)) => client.is_queued = false,
             Some(None) => {}
-            None => self.own_is_queued = false,
+            None => self.queues.own_is_queued = false,
         }
         turn.into_iter().for_each(|place| self.end_where_done(place));
     }
 
     /// Sends a request of the gateway's own.
     fn ask(&mut self, body: Vec<u8>, asker: Asker) {
-        let run = Run::new(asker, ADMINISTRATOR, &Request::of(&body), self.now);
-        if let Some(kind) = run.opens {
+        let run = Run::new(asker, ADMINISTRATOR, Request::of(&body), self.now);
+        if let Some(kind) = run.opens() {
             self.shares.add(shares::ADMINISTRATOR, kind as usize);
         }
         self.program.send(&body, run);
@@ -112,7 +112,7 @@ impl Gateway {
             client.since = client.came_at;
         }
         if client.is_to_be_read() {
-            self.again.push(place);
+            self.queues.again.push(place);
         }
         next
     }
@@ -135,7 +135,7 @@ impl Gateway {
             match verdict {
                 Verdict::Wait => return (at, Next::Done),
                 _ if is_asked && request.weight > TURN_WEIGHT && self.program.weight > 0 => return (at, Next::Idle),
-                Verdict::Pass => self.send(place, &request, body),
+                Verdict::Pass => self.send(place, request, body),
                 _ if self.clients[place].in_flight > 0 => return (at, Next::Done),
                 _ => {
                     self.do_itself(place, body, verdict);
@@ -167,19 +167,25 @@ impl Gateway {
     }
 
     /// Sends a client's request to the program.
-    fn send(&mut self, place: usize, request: &Request, body: &[u8]) {
+    fn send(&mut self, place: usize, request: Request, body: &[u8]) {
         let client = &mut self.clients[place];
         // What only the administrator may ask of the program is asked in its name, if the gateway lets this client do
-        // so, and so are raw reads, by which clients find out what has become of a commit.
-        let is_admin = request.code == RAW || (is_for_admin(request.code) && !self.has_admin);
+        // so, and so are raw reads of locks and records, by which clients find out what has become of a commit.
+        let is_admin = match request.code {
+            RAW => !(self.has_admin && reads_data(body)),
+            code => !self.has_admin && is_for_admin(code),
+        };
         let number = if is_admin { ADMINISTRATOR } else { client.name };
         let mut run = Run::new(Asker::Client(place), number, request, client.since);
-        if let Some(kind) = run.opens {
+        if let Some(kind) = run.opens() {
             client.counts[kind as usize] += 1;
             self.shares.add(client.user, kind as usize);
         }
         if request.code == COMMIT {
             run.commit = Some(body.into());
+        }
+        if matches!(request.code, SET | DELETE | COMMIT) {
+            self.own.writes.note(body);
         }
         if let Some(thing) =
             request.names.and_then(|key| self.things.by_name.get_mut(&key)).filter(|thing| thing.number == number)
@@ -190,7 +196,7 @@ impl Gateway {
         client.asked += 1;
         client.room += request.room;
         self.replies_held += request.room;
-        self.counts.requests.0[request.code as usize] += 1;
+        self.counts.requests[request.code as usize] += 1;
         // A body of the number alone would say that the client is gone
         self.program.send(if body.is_empty() { &[0] } else { body }, run);
     }
@@ -230,10 +236,9 @@ impl Gateway {
     /// Who answers a request that opens something: the gateway refuses it beyond the limits of client and user.
     fn verdict_on_opening(&mut self, place: usize, kind: Kind, body: &[u8]) -> Verdict {
         let client = &self.clients[place];
-        let (user, kind) = (client.user, kind as usize);
-        let has_left = client.counts[kind] < self.options.most_open()[kind];
-        let is_given = has_left && matches!(self.shares.of(user, kind), Share::Left);
-        if is_given || !has_form(body) || (has_left && self.allow(user, kind)) {
+        let has_left = client.counts[kind as usize] < self.options.most_open()[kind as usize];
+        let is_given = has_left && matches!(self.shares.of(client.user, kind as usize), Share::Left);
+        if is_given || !has_form(body) || (has_left && self.may_open(place, kind)) {
             return Verdict::Pass;
         }
         Verdict::Refuse(TOO_MANY)
@@ -243,10 +248,10 @@ impl Gateway {
     /// round, so that no other client waits for many.
     fn do_itself(&mut self, place: usize, body: &[u8], verdict: Verdict) {
         let code = body.first().copied().unwrap_or(0);
-        self.counts.requests.0[code as usize] += 1;
+        self.counts.requests[code as usize] += 1;
         let client = &mut self.clients[place];
         client.asked += 1;
-        self.later.push(place);
+        self.queues.later.push(place);
         let reply = match verdict {
             Verdict::Sweep => return self.begin_sweep(place),
             Verdict::BackUp => return self.back_up(place, &body[1..]),
@@ -273,7 +278,7 @@ impl Gateway {
     fn administer(&mut self, place: usize, body: &[u8]) -> Vec<u8> {
         let client = &self.clients[place];
         match body[0] {
-            STATISTICS => self.statistics(client.is_trusted()),
+            STATISTICS => self.statistics(place),
             CLIENTS if client.is_trusted() => self.listing(),
             KILL if client.is_admin => vec![KILL | REPLY, self.kill_number(be64(&body[1..]), place).into()],
             WATCH => {

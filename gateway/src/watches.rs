@@ -163,10 +163,10 @@ impl Gateway {
     /// Tells of a commit, by the reply to a Step or a Commit.
     pub fn tell_of_commit(&mut self, run: &Run, reply: &[u8]) {
         let Some(stamp) = stamp_of_commit(reply) else { return };
-        let session =
-            run.names.and_then(|key| self.things.by_name.get(&key)).filter(|thing| thing.number == run.number);
+        let named = run.request.names;
+        let session = named.and_then(|key| self.things.by_name.get(&key)).filter(|thing| thing.number == run.number);
         let cells = run.commit.as_deref().and_then(cells_of).unwrap_or_default();
-        for (watch, message) in self.watches.told(stamp, session, run.names.is_none(), cells) {
+        for (watch, message) in self.watches.told(stamp, session, named.is_none(), cells) {
             self.tell(watch, message);
         }
     }
@@ -207,10 +207,7 @@ fn is_family(family: &[u8]) -> bool {
 /// A commit with its cells, unless they are too long.
 fn change(stamp: &[u8], cells: &[&Cell]) -> Message {
     let mut told = [stamp, &(cells.len() as u32).to_be_bytes()].concat();
-    for (row, family) in cells {
-        put_counted(&mut told, row);
-        put_counted(&mut told, family);
-    }
+    cells.iter().for_each(|cell| put_cell(&mut told, cell));
     if told.len() > CHANGE_SIZE {
         Message::Unnamed
     } else {
