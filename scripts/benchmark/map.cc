@@ -1,6 +1,6 @@
 // map: answers requests as tabletd does, from one ordered map of C++'s standard library with the same three columns, but with no
-// limits, no files and no proof: Begin, Get, Set, Step and Stop, Read and Commit of values, and Minor and Major, which change nothing
-// here.
+// limits, no files and no proof: Begin, Get, Set, Step and Stop, Read, Commit and Scan of values, and Minor and Major, which change
+// nothing here. With --clients the client's number goes before a request and its reply; other words mean nothing.
 #include <cstdint>
 #include <cstdio>
 #include <cstdlib>
@@ -20,9 +20,10 @@ using std::string;
 using std::string_view;
 
 constexpr uint64_t kAny = UINT64_MAX;
-constexpr size_t kPiece = 262144;
+constexpr size_t kPiece = 262144, kMostBytes = 57344;
 
 // The kind of a column, which follows the cell's place in a key: a value by its start, a lock, a record of a commit.
+constexpr string_view kEnd("\0\0", 2);
 constexpr string_view kData("data\0\0", 6), kLock("lock\0\0", 6), kWrite("write\0\0", 7);
 
 uint64_t Number(const char* at, int size) {
@@ -53,6 +54,24 @@ struct Fields {
   }
 };
 
+// A text in which a byte 0 is followed by FF, with two bytes 0 behind it.
+void AddSpelled(string& out, string_view text) {
+  for (char byte : text) {
+    out.push_back(byte);
+    if (byte == 0) out.push_back('\xFF');
+  }
+  out.append(kEnd);
+}
+
+// Takes the text that is spelled so at the front of a place.
+string TakeSpelled(string_view& place) {
+  string text;
+  size_t at = 0;
+  for (; place.substr(at, 2) != kEnd; at += place[at] == 0 ? 2 : 1) text.push_back(place[at]);
+  place.remove_prefix(at + 2);
+  return text;
+}
+
 // The three columns of all cells, in one map by key: place, column and stamp, the newest first.
 class Cells {
  public:
@@ -64,6 +83,16 @@ class Cells {
     if (found->first.compare(0, key_.size() - 8, key_, 0, key_.size() - 8) != 0) return false;
     *value = found->second;
     return ~Number(found->first.data() + key_.size() - 8, 8) >= least;
+  }
+
+  // The place of the first cell behind this place: empty if there is none.
+  string_view PlaceBehind(string_view place) {
+    key_.assign(place);
+    if (!place.empty()) key_.push_back('\xFF');
+    auto found = map_.lower_bound(key_);
+    if (found == map_.end()) return {};
+    size_t family = found->first.find(kEnd, found->first.find(kEnd) + 2);
+    return string_view(found->first).substr(0, family + 2);
   }
 
   void Put(string_view place, string_view column, uint64_t stamp, string_view value) {
@@ -115,6 +144,8 @@ class Server {
       case 0x05:
         sessions_.erase(fields.Stamp());
         return;
+      case 0x31:
+        return Scan(fields, out);
       case 0x32:
         return Commit(fields, out);
       case 0x33:
@@ -123,21 +154,17 @@ class Server {
       case 0x0C:
         return;
     }
-    std::fprintf(stderr, "map: a request that it doesn't know\n");
-    std::exit(1);
+    // BadRequest
+    out.back() = '\xFF';
+    out.push_back('\x16');
   }
 
  private:
   // The place of a cell: its row, in which a byte 0 is followed by FF, and its family, each with two bytes 0 behind it.
   const string& Place(Fields& fields) {
     place_.clear();
-    for (char byte : fields.Text()) {
-      place_.push_back(byte);
-      if (byte == 0) place_.push_back('\xFF');
-    }
-    place_.append(2, '\0');
-    place_.append(fields.Text());
-    place_.append(2, '\0');
+    AddSpelled(place_, fields.Text());
+    AddSpelled(place_, fields.Text());
     return place_;
   }
 
@@ -193,6 +220,42 @@ class Server {
     }
     out.push_back(is_there);
     if (is_there) AddField(out, value);
+  }
+
+  // The cells behind a cell that have a value, up to a row, of all families.
+  void Scan(Fields& fields, string& out) {
+    uint64_t start = fields.Stamp();
+    bool has_keys_alone = fields.Flag();
+    string place = fields.Flag() ? Place(fields) : "", end;
+    bool has_end = fields.Flag();
+    if (has_end) AddSpelled(end, fields.Text());
+    if (fields.Flag()) fields.Text();
+    string items, found;
+    uint32_t count = 0;
+    string_view next;
+    for (uint32_t cells = fields.Count(); cells > 0 && items.size() < kMostBytes; cells--) {
+      next = cells_.PlaceBehind(place);
+      if (next.empty() || (has_end && next > end && next.substr(0, end.size()) != end)) {
+        next = {};
+        break;
+      }
+      place = next;
+      found.clear();
+      Find(start, place, found);
+      if (found[0] == 0) continue;
+      AddCell(place, items);
+      items.append(has_keys_alone ? "\3" : found);
+      count++;
+    }
+    out.push_back(next.empty() ? 1 : 2);
+    if (!next.empty()) AddCell(place, out);
+    Add(out, count, 4);
+    out.append(items);
+  }
+
+  void AddCell(string_view place, string& out) {
+    AddField(out, TakeSpelled(place));
+    AddField(out, TakeSpelled(place));
   }
 
   void Set(Fields& fields) {
@@ -277,7 +340,9 @@ void Write(const string& out) {
 
 }  // namespace
 
-int main() {
+int main(int count, char** words) {
+  size_t number = 0;
+  for (int i = 1; i < count; i++) number = string_view(words[i]) == "--clients" ? 4 : number;
   Server& server = *new Server;
   std::vector<char> piece(kPiece);
   string in, out;
@@ -287,7 +352,10 @@ int main() {
     for (size_t size; in.size() - at >= 4 && in.size() - at - 4 >= (size = Number(&in[at], 4)); at += 4 + size) {
       size_t head = out.size();
       out.append(4, '\0');
-      server.Answer(string_view(in).substr(at + 4, size), out);
+      out.append(in, at + 4, number);
+      string_view request = string_view(in).substr(at + 4 + number, size - number);
+      // A client that is gone
+      if (request.empty()) out.push_back('\x85'); else server.Answer(request, out);
       string length;
       Add(length, out.size() - head - 4, 4);
       out.replace(head, 4, length);

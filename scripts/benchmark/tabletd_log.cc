@@ -2,7 +2,6 @@
 // SECONDS seconds, and prints the rows per second that were answered Done. As soon as at most AHEAD Commits wait for an
 // answer, it sends more, so that BATCH wait. With AHEAD 0 a batch is sent when all of the one before is answered.
 #include <csignal>
-#include <cstdint>
 #include <cstdio>
 #include <cstdlib>
 #include <fcntl.h>
@@ -21,13 +20,6 @@ constexpr int kValueBytes = 100;
 // The bytes of a frame's length, and the first bytes of the answer Done.
 constexpr int kLengthBytes = 4;
 const std::string kDone = "\xb2\x01";
-
-// A field: its length in four bytes, and its bytes.
-std::string Field(const std::string& bytes) {
-  std::string field;
-  for (int shift = 24; shift >= 0; shift -= 8) field += static_cast<char>(bytes.size() >> shift);
-  return field + bytes;
-}
 
 // The frame of a Commit of one new row.
 std::string Commit(std::mt19937_64* dice) {
@@ -86,8 +78,7 @@ int Answered(Program* program) {
   int answered = 0;
   size_t at = 0;
   while (at + kLengthBytes <= bytes.size()) {
-    uint32_t length = 0;
-    for (int byte = 0; byte < kLengthBytes; byte++) length = length << 8 | static_cast<uint8_t>(bytes[at + byte]);
+    const uint32_t length = NumberAt(bytes, at);
     if (at + kLengthBytes + length > bytes.size()) break;
     Check(bytes.compare(at + kLengthBytes, kDone.size(), kDone) == 0, "a Commit isn't answered Done");
     at += kLengthBytes + length;
