@@ -163,6 +163,13 @@ class Wire:
         self.socket.close()
 
 
+def listens(path: str) -> bool:
+    """Whether a socket at a path takes connections. It has its path a moment before."""
+    # The fourth word of a line is the flags of a socket: this bit says that it listens
+    sockets = [line.split() for line in Path("/proc/net/unix").read_text().splitlines()[1:]]
+    return any(words[-1] == path and int(words[3], 16) & 1 << 16 for words in sockets)
+
+
 class Gateway:
     """A gateway in a process of its own, at a socket in a folder of its own."""
 

@@ -3,7 +3,6 @@ authorities."""
 
 from __future__ import annotations
 
-import os
 import shutil
 import socket
 import subprocess
@@ -12,7 +11,7 @@ import unittest
 from pathlib import Path
 
 from duqishom import Store
-from tests.gateways import BEGIN, Gateway, Wire, free_port, until
+from tests.gateways import BEGIN, Gateway, Wire, free_port, listens, until
 from tests.pages import TOP
 
 ENDED = (EOFError, ConnectionError)
@@ -87,7 +86,7 @@ class Tls(unittest.TestCase):
                 f"{credentials}/servers.pem": f"{self.path}/ours.crt",
             },
         )
-        self.assertTrue(until(lambda: os.path.exists(place)))
+        self.assertTrue(until(lambda: listens(place)))
         return place
 
     def test_who_gets_through(self) -> None:
