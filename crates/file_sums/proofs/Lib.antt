@@ -1,0 +1,9 @@
+mod Fronts
+mod InOrder
+mod Payloads
+mod Inner
+mod Shows
+mod Changes
+mod Sums
+mod Places
+mod Names
