@@ -1,0 +1,10 @@
+pub mod CopyLoops
+pub mod EditsAt
+pub mod FromPlaces
+pub mod InMemory
+pub mod NextInSpans
+pub mod Reading
+pub mod Reasons
+pub mod SameReads
+pub mod Spans
+pub mod Told
