@@ -1,7 +1,7 @@
 mod Added
 mod Below
 mod Beside
-mod Changed
+pub mod Changed
 mod Guarding
 mod Merging
 mod Raised

@@ -1,5 +1,5 @@
 //! Several servers over one row store and one source of stamps: their requests, merged, are a run of the snapshot
-//! machine. No program offers this yet.
+//! machine.
 #![tactic(auto)]
 
 mod laws;

@@ -1,0 +1,6 @@
+mod Floors
+mod OneVisit
+mod PartSteps
+mod Told
+mod Attempts
+mod Unoffered

@@ -1,0 +1,3 @@
+pub mod Server
+pub mod Visits
+pub mod Answers
