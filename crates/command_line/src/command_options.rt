@@ -34,13 +34,21 @@ pub const LEAST_LOG_BYTES: u32 = 4096;
 /// half of a log's upper bound.
 pub const MOST_LOG_BYTES: u32 = 33_554_432;
 
+/// The one value of `--format`: the format of files in pieces with checksums.
+pub const SUMS_FORMAT: u32 = 3;
+
 /// The options given on the command line.
 #[derive(Clone, Copy, Debug, PartialEq, Eq)]
 pub struct Options<'a> {
     /// The folder of the store. None: in memory.
     pub dir: Option<&'a str>,
+    /// A folder with the pipes to a program that keeps rows and stamps, which several servers share. None: the store is
+    /// this program's own.
+    pub rows: Option<&'a str>,
     /// Whether a folder without a log gets one. A folder with a log is opened with it in any case.
     pub log: bool,
+    /// The format of the files that a folder gets: 3. None: that which the folder has.
+    pub format: Option<u32>,
     /// The bytes of edits in a log at which a checkpoint empties it: 4,096 to 33,554,432.
     pub log_bytes: u32,
     /// The number of entries at which a memtable is compacted: 1 to 100,000.

@@ -9,7 +9,8 @@ use clap::builder::ValueParser;
 use clap::{Arg, ArgAction, Command, Error};
 pub use command_options::{
     DEFAULT_FLUSH, LEAST_CACHE, LEAST_FLUSH_BYTES, LEAST_LOG_BYTES, LEAST_SESSION_BYTES,
-    MOST_CACHE, MOST_FLUSH, MOST_FLUSH_BYTES, MOST_LOG_BYTES, MOST_MERGE, Options, VERSION,
+    MOST_CACHE, MOST_FLUSH, MOST_FLUSH_BYTES, MOST_LOG_BYTES, MOST_MERGE, Options, SUMS_FORMAT,
+    VERSION,
 };
 use std::alloc::{AllocError, Global};
 
@@ -24,9 +25,18 @@ const DIR_HELP: &str =
     "A folder that keeps the store, and no other program has: opened as its last checkpoint left it, and new \
     where it is empty [default: memory]";
 
+const ROWS_HELP: &str =
+    "A folder with the pipes rows.to, rows.from, stamps.to and stamps.from to a program that keeps rows and stamps, which \
+    several servers share: this server has sessions, cleaners and collectors alone [default: the store is its own]";
+
 const LOG_HELP: &str =
     "Make a log in the folder, if it has none: no reply leaves before the disk has what it says. A folder that has a log \
     is always opened with it [default: none is made]";
+
+const FORMAT_HELP: &str =
+    "Write the folder's files with checksums from now on, in format 3: bytes that changed on the disk are answered as the \
+    device's fault, and never as values. A folder that has the format keeps it [default: the folder's; a new one has \
+    none]";
 
 const LOG_BYTES_HELP: &str =
     "Bytes of a log's edits at which a checkpoint empties it: 4096 to 33554432 [default: 33554432]";
@@ -88,11 +98,20 @@ fn store_command<'a>(alloc: Global) -> Result<Command<'a>, AllocError> {
         .value_name("DIR")
         .help(DIR_HELP)
         .action(ArgAction::Set);
+    let rows = Arg::new(alloc, "rows")
+        .long("rows")
+        .value_name("DIR")
+        .help(ROWS_HELP)
+        .action(ArgAction::Set)
+        .conflicts_with("dir")?;
     let log = Arg::new(alloc, "log")
         .long("log")
         .help(LOG_HELP)
         .action(ArgAction::SetTrue)
         .requires_arg("dir")?;
+    let format = number(alloc, "format", "F", FORMAT_HELP, SUMS_FORMAT, SUMS_FORMAT).requires_arg(
+        "dir",
+    )?;
     let log_bytes = number(
         alloc,
         "log-bytes",
@@ -105,7 +124,9 @@ fn store_command<'a>(alloc: Global) -> Result<Command<'a>, AllocError> {
         .about(ABOUT)
         .version(VERSION)
         .arg(dir)?
+        .arg(rows)?
         .arg(log)?
+        .arg(format)?
         .arg(log_bytes)
 }
 
@@ -156,13 +177,15 @@ fn command<'a>(alloc: Global) -> Result<Command<'a>, AllocError> {
         .arg(admin)
 }
 
-/// Parses the words of the command line, the program's name first: `tabletd [--dir DIR [--log]] [--log-bytes L]
-/// [--flush N] [--flush-bytes B] [--merge M] [--cache C] [--upkeep] [--session-bytes S] [--clients [--admin A]]`,
+/// Parses the words of the command line, the program's name first: `tabletd [--dir DIR [--log] [--format 3] |
+/// --rows DIR] [--log-bytes L] [--flush N] [--flush-bytes B] [--merge M] [--cache C] [--upkeep] [--session-bytes S] [--clients [--admin A]]`,
 /// where L is 4,096 to 33,554,432, N is 1 to 100,000, B is 1,048,576 to 67,108,864, M is 2 to 64, C is 8 to 4,096, S is
 /// 1,048,576 or more and A is 1 or more. An error has the parser's text, which for a request for help or the version is
 /// that.
 pub fn options<'a>(alloc: Global, words: &'a [&'a str]) -> Result<Options<'a>, Error>
     ensures log { IfOk result (λ options. options.log ≡ true → is_some options.dir ≡ true) }
+    ensures format { IfOk result (λ options. IfSome options.format (λ format.
+        (format ≡ SUMS_FORMAT) × (is_some options.dir ≡ true))) }
     ensures log_bytes { IfOk result (λ options.
         (LEAST_LOG_BYTES ≤ options.log_bytes) × (options.log_bytes ≤ MOST_LOG_BYTES)) }
     ensures flush { IfOk result (λ options. (1 ≤ options.flush) × (options.flush ≤ MOST_FLUSH)) }
@@ -179,12 +202,15 @@ pub fn options<'a>(alloc: Global, words: &'a [&'a str]) -> Result<Options<'a>, E
 {
     let matches = command(alloc)?.try_get_matches_from(words)?;
     let dir = matches.get_str("dir");
-    // The parser has refused a log without a folder, and an administrator without clients.
+    let rows = matches.get_str("rows");
+    // The parser has refused a log or a format without a folder, and an administrator without clients.
     let log = dir.is_some() && matches.get_flag("log");
     let clients = matches.get_flag("clients");
     Ok(Options {
         dir,
+        rows,
         log,
+        format: format_of(dir.is_some(), matches.get_one::<u32>("format")),
         log_bytes: log_bytes_of(matches.get_one::<u32>("log-bytes")),
         flush: flush_of(matches.get_one::<u32>("flush")),
         flush_bytes: within(
@@ -213,6 +239,16 @@ fn within(given: Option<u32>, least: u32, most: u32) -> Option<u32>
         Some(number) if least <= number && number <= most => Some(number),
         _ => None,
     }
+}
+
+/// The format that was given, if there is a folder. The parser has refused any other number.
+fn format_of(has_folder: bool, given: Option<u32>) -> Option<u32>
+    ensures { IfSome result (λ format. (format ≡ SUMS_FORMAT) × (has_folder ≡ true)) }
+{
+    if !has_folder {
+        return None;
+    }
+    within(given, SUMS_FORMAT, SUMS_FORMAT)
 }
 
 /// The administrator that was given, if there are clients.

@@ -1,8 +1,10 @@
-//! `tabletd [--dir DIR [--log]] [--log-bytes L] [--flush N] [--flush-bytes B] [--merge M] [--cache C] [--upkeep]
-//! [--session-bytes S] [--clients [--admin A]]` serves framed requests from standard input, and writes a framed reply
-//! to each to standard output. The store is in memory, or in a folder, with or without a log. Several clients may share
+//! `tabletd [--dir DIR [--log] [--format 3]] [--log-bytes L] [--flush N] [--flush-bytes B] [--merge M] [--cache C]
+//! [--upkeep] [--session-bytes S] [--clients [--admin A]]` serves framed requests from standard input, and writes a
+//! framed reply to each to standard output. The store is in memory, or in a folder, with or without a log. Several clients may share
 //! the streams.
 #![tactic(auto)]
+
+mod row_service;
 
 ghost use Rattle.std.specs.Prelude.{◌≡◌, ◌≤◌, IfErr, IfOk, IfSome, None, OnOk, Some, false, true};
 
@@ -12,7 +14,9 @@ use command_line::{Options, options};
 use commit_log::{DirLog, Log, LogFault, OpenLog, make_log, open_log};
 use durable::{AtomicPut, DurableServer, ROOT_NAME};
 use file_store::{DirFiles, FileFault, Files, MemFiles, read_whole};
+use file_sums::{SumFiles, give_sums, has_sums};
 use oracle::{DirMark, MarkStore, MemMark};
+use row_service::serve_rows;
 use server_loop::{
     ClientServer, Config, FlushLimits, MergePolicy, Server, end_status, open_status,
 };
@@ -332,7 +336,31 @@ fn serve_memory<R: AllocGlobal + Input + Print>(
     serve(rt, made, options)
 }
 
-/// Serves the store of a folder, with its log if it has one.
+/// Whether the files of a folder are of format 3, which a folder gets if that is wanted.
+fn format_of<R: AllocGlobal + Folders<File = File>>(
+    rt: &R,
+    folder: &str,
+    is_wanted: bool,
+) -> io::Result<bool> {
+    if has_sums(rt, rt.alloc(), folder)? {
+        return Ok(true);
+    }
+    if is_wanted {
+        give_sums(rt, rt.alloc(), folder)?;
+    }
+    Ok(is_wanted)
+}
+
+/// The exit status if the format of a folder's files can't be read or noted, and its line on standard error.
+fn format_status(error: &io::Error) -> (u8, &'static str) {
+    match error.kind() {
+        io::ErrorKind::OutOfMemory => open_status(&Refusal::NoMemory),
+        io::ErrorKind::InvalidData => open_status(&Refusal::Damaged),
+        _ => open_status(&Refusal::Device),
+    }
+}
+
+/// Serves the store of a folder, in the format of its files, with its log if it has one.
 fn serve_folder<R: AllocGlobal + Input + Print + Eprint + Folders<File = File> + Clone + Drop>(
     rt: &R,
     folder: &str,
@@ -345,10 +373,38 @@ fn serve_folder<R: AllocGlobal + Input + Print + Eprint + Folders<File = File> +
         (1048576 ≤ bytes) × (bytes ≤ 67108864)) }
     requires limit { config.file_limit ≡ FILE_LIMIT }
 {
-    let mut files = match DirFiles::open(rt.clone()?, folder) {
+    let files = match DirFiles::open(rt.clone()?, folder) {
         Ok(files) => files,
         Err(fault) => return Ok(folder_status(&fault)),
     };
+    match format_of(rt, folder, options.format.is_some()) {
+        Ok(false) => serve_files(rt, folder, files, config, options),
+        Ok(true) => match SumFiles::open(rt.alloc(), files) {
+            Ok(files) => serve_files(rt, folder, files, config, options),
+            Err((fault, _)) => Ok(folder_status(&fault)),
+        },
+        Err(error) => Ok(format_status(&error)),
+    }
+}
+
+/// Serves the store of a folder with these files, with its log if it has one.
+fn serve_files<R, F>(
+    rt: &R,
+    folder: &str,
+    files: F,
+    config: Config,
+    options: &Options<'_>,
+) -> Result<(u8, &'static str), AllocError>
+where
+    R: AllocGlobal + Input + Print + Eprint + Folders<File = File> + Clone + Drop,
+    F: AtomicPut + Drop,
+    requires flush_least { 1 ≤ config.flush.entries }
+    requires flush_most { config.flush.entries ≤ 100000 }
+    requires flush_bytes { IfSome config.flush.bytes (λ bytes.
+        (1048576 ≤ bytes) × (bytes ≤ 67108864)) }
+    requires limit { config.file_limit ≡ FILE_LIMIT }
+{
+    let mut files = files;
     let Ok(mut marks) = DirMark::open(rt.clone()?, folder) else {
         return Ok(open_status(&Refusal::Device));
     };
@@ -388,6 +444,9 @@ fn serve_options<R: AllocGlobal + Input + Print + Eprint + Folders<File = File> 
         },
         file_limit: FILE_LIMIT,
     };
+    if let Some(folder) = options.rows {
+        return Ok(serve_rows(rt, folder, options));
+    }
     match options.dir {
         Some(folder) => serve_folder(rt, folder, config, options),
         None => Ok(serve_memory(rt, config, options)),
