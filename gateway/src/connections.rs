@@ -2,6 +2,7 @@
 
 use std::io::ErrorKind;
 use std::rc::Rc;
+use std::time::Duration;
 
 use mio::event::Event as Readiness;
 use mio::{Interest, Token};
@@ -17,6 +18,10 @@ use crate::sockets::{Listener, Stream};
 /// The bytes of waiting requests of all clients. Beyond this the client with the most is closed.
 const REQUESTS_OF_ALL: usize = 64 << 20;
 
+/// How long a gateway leaves a connection to others at the same socket, for each client that it has, and for how many.
+const PATIENCE: Duration = Duration::from_millis(3);
+const MOST_PATIENCE: usize = 20;
+
 /// The number of all clients that share one.
 const SHARED: u32 = 1;
 
@@ -30,10 +35,32 @@ impl Gateway {
         self.clients.iter().map(|(place, _)| place).collect()
     }
 
+    /// Connections have come. Where other gateways accept at the same socket, each takes one after the other, and the
+    /// later the more clients it has, so that all get about as many.
+    pub fn come(&mut self, listener: usize) {
+        let clients = self.shares.totals[CONNECTION].min(MOST_PATIENCE);
+        if self.options.rows.is_none() || clients == 0 {
+            return self.accept(listener);
+        }
+        if !std::mem::replace(&mut self.is_patient, true) {
+            let own = self.own.clone();
+            self.tasks.begin(async move {
+                own.sleep(PATIENCE * clients as u32).await;
+                own.tell(Event::Accept(listener));
+            });
+        }
+    }
+
     pub fn accept(&mut self, listener: usize) {
+        self.is_patient = false;
         loop {
             match self.listeners.get(listener).map(Listener::accept) {
-                Some(Ok(stream)) => self.admit(stream, self.listeners[listener].is_admin),
+                Some(Ok(stream)) => {
+                    self.admit(stream, self.listeners[listener].is_admin);
+                    if self.options.rows.is_some() {
+                        return self.come(listener);
+                    }
+                }
                 Some(Err(error)) if error.kind() == ErrorKind::WouldBlock => return,
                 Some(Err(_)) => {
                     // There are too many open files, or the connection has ended

@@ -87,6 +87,8 @@ pub struct Gateway {
     pub endings: usize,
     pub is_closing: bool,
     pub is_making_room: bool,
+    /// Whether it is to accept connections a moment later.
+    pub is_patient: bool,
     /// Whether the program has answered for the first time, and whether the last checkpoint was made.
     pub is_ready: bool,
     is_kept: bool,
@@ -126,6 +128,7 @@ impl Gateway {
             endings: 0,
             is_closing: false,
             is_making_room: false,
+            is_patient: false,
             is_ready: false,
             is_kept: true,
             end: None,
@@ -180,6 +183,9 @@ impl Gateway {
         if let (Some(folder), 1..) = (&self.options.dir, self.options.split_bytes) {
             self.tasks.begin(self.own.clone().split(folder.clone(), self.options.split_bytes));
         }
+        if self.options.rows.is_some() {
+            self.tasks.begin(self.own.clone().publish());
+        }
         let (own, pause) = (self.own.clone(), self.idle.pause);
         if !pause.is_zero() {
             self.tasks.begin(async move {
@@ -212,7 +218,7 @@ impl Gateway {
             }
             INPUT => self.program.eased(),
             OUTPUT => self.take_replies(event.is_read_closed())?,
-            LISTENERS => self.accept(which),
+            LISTENERS => self.come(which),
             TURNED_AWAY => self.turned_away_is_readable(which as u64),
             COPY => self.copy_has_said(which),
             _ => self.take_from_client(which, event),
@@ -230,6 +236,7 @@ impl Gateway {
         }
         self.look_at_turned_away();
         let (asked, clients, copies) = (self.program.runs.len(), self.shares.totals[CONNECTION], self.backups.len());
+        self.own.answered.set(self.program.answered);
         self.own.state.set(State { asked, clients, endings: self.endings, copies });
         self.tasks.run(&self.own);
         for event in self.own.events.take() {

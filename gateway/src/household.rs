@@ -25,6 +25,11 @@ pub const MOST_TABLETS: u32 = 1024;
 const VISITS: u32 = 16;
 const LOGGED_VISITS: u32 = 4;
 
+/// After so many answers a server of several publishes its floor, and so far apart it is to do so at most.
+const ANSWERS_BETWEEN_FLOORS: u64 = 4096;
+const FIRST_FLOOR: Duration = Duration::from_secs(1);
+const BETWEEN_FLOORS: Duration = Duration::from_secs(300);
+
 /// How often a refused request is repeated, and the pause before that.
 const TRIES: u32 = 5;
 const PAUSE: Duration = Duration::from_millis(200);
@@ -82,6 +87,8 @@ pub struct Household {
     pub has_log: Cell<bool>,
     /// How many commits of clients the program has answered.
     pub commits: Cell<u64>,
+    /// How many requests the program has answered.
+    pub answered: Cell<u64>,
     pub writes: Writes,
     pub state: Cell<State>,
     pub events: RefCell<Vec<Event>>,
@@ -250,6 +257,28 @@ impl Household {
             let Some(name) = open else { continue };
             if let Some(whole) = self.end(Kind::Collector, name).await {
                 (due, open) = (after.max(whole * u64::from(self.visits())), None);
+            }
+        }
+    }
+
+    /// Has a server of several publish its floor now and then, which it does by itself after so many answers. So one
+    /// that has nothing to do doesn't keep old versions for all. As long as it has enough to do, it isn't asked.
+    pub async fn publish(self: Rc<Self>) {
+        let mut pause = FIRST_FLOOR;
+        loop {
+            let before = self.answered.get();
+            self.sleep(pause).await;
+            pause = BETWEEN_FLOORS;
+            if self.answered.get() - before >= ANSWERS_BETWEEN_FLOORS {
+                continue;
+            }
+            // A server knows no later stamp than its last one, and without sessions its floor is the next
+            if let Some(start) = opened(Kind::Session, &self.ask(vec![BEGIN]).await) {
+                self.ask(body_of(STOP, &start.to_be_bytes())).await;
+            }
+            for _ in self.answered.get() - before..ANSWERS_BETWEEN_FLOORS {
+                // A body that is no request
+                self.ask(vec![0]).await;
             }
         }
     }

@@ -38,12 +38,18 @@ pub struct Options {
     /// the folder of the store: a new store in memory where none is named
     #[arg(long)]
     pub dir: Option<PathBuf>,
+    /// have the program ask for its rows through the pipes in this folder, at whose other ends is a bridge
+    #[arg(long, value_name = "FOLDER", conflicts_with_all = ["dir", "admin", "log"])]
+    pub rows: Option<PathBuf>,
     /// have the folder get a log: a new one gets a log where nothing is said
     #[arg(long, requires = "dir", overrides_with = "no_log")]
     log: bool,
     /// have a new folder get no log
     #[arg(long)]
     no_log: bool,
+    /// format of the folder's files from now on: 3 has checksums
+    #[arg(long, value_name = "F", requires = "dir")]
+    format: Option<String>,
     /// bytes of a log before a checkpoint empties it
     #[arg(long, value_name = "L")]
     log_bytes: Option<String>,
@@ -148,12 +154,13 @@ impl Options {
     /// The program's words, beside those of its clients. Some only go with a folder.
     pub fn program_words(&self) -> Vec<String> {
         let mut words = Vec::new();
-        if let Some(folder) = &self.dir {
-            words.extend(["--dir".into(), folder.to_string_lossy().into_owned()]);
+        for (name, folder) in [("--dir", &self.dir), ("--rows", &self.rows)] {
+            words.extend(folder.iter().flat_map(|folder| [name.into(), folder.to_string_lossy().into_owned()]));
         }
         let flags = [("--log", self.log), ("--upkeep", self.upkeep && self.dir.is_some())];
         words.extend(flags.into_iter().filter(|flag| flag.1).map(|flag| flag.0.to_string()));
         let given = [
+            ("--format", &self.format),
             ("--log-bytes", &self.log_bytes),
             ("--flush", &self.flush),
             ("--flush-bytes", &self.flush_bytes),

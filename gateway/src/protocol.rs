@@ -156,6 +156,11 @@ pub fn is_for_admin(code: u8) -> bool {
     matches!(code, MINOR..=ORACLE_RESTART | CHECKPOINT)
 }
 
+/// Whether a program that shares its rows with others, and has no files, offers an operation of the protocol.
+pub fn is_for_shared_rows(code: u8) -> bool {
+    !matches!(code, MINOR..=CHECKPOINT | COMMIT | READ | STATUS)
+}
+
 /// Whether a Raw reads the column of data, where values stand that aren't committed. Behind the column are two stamps.
 pub fn reads_data(body: &[u8]) -> bool {
     body.len().checked_sub(17).is_some_and(|at| body[at] == DATA)
@@ -309,6 +314,13 @@ mod tests {
         let request = Request::of(&body_of(STATUS, &[0; 4]));
         assert_eq!((request.names, request.opens, request.ends), (None, None, false));
         assert!(!is_for_admin(STATUS));
+    }
+
+    #[test]
+    fn operations_for_shared_rows() {
+        let offered: Vec<u8> = (0..0x70).filter(|code| is_for_shared_rows(*code)).take(16).collect();
+        assert_eq!(offered, [0, 1, 2, 3, 4, 5, 6, 7, 8, 9, 0x13, 0x14, 0x15, 0x16, 0x17, 0x18]);
+        assert_eq!([SCAN, COMMIT, READ, STATUS, 0x35].map(is_for_shared_rows), [true, false, false, false, true]);
     }
 
     #[test]

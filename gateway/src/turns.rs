@@ -206,6 +206,9 @@ impl Gateway {
         let client = &self.clients[place];
         let is_allowed = client.is_admin || !self.has_admin;
         let is_swept = body.len() == 1 && self.options.dir.is_some() && !self.own.has_log.get();
+        if self.options.rows.is_some() && !is_for_shared_rows(request.code) {
+            return Verdict::Refuse(BAD_REQUEST);
+        }
         if request.room > room {
             let is_too_much = request.room > READ_ROOM && client.replies_held() == 0;
             return if is_too_much { Verdict::Refuse(NO_MEMORY) } else { Verdict::Wait };
@@ -281,7 +284,8 @@ impl Gateway {
             STATISTICS => self.statistics(place),
             CLIENTS if client.is_trusted() => self.listing(),
             KILL if client.is_admin => vec![KILL | REPLY, self.kill_number(be64(&body[1..]), place).into()],
-            WATCH => {
+            // Commits of other servers over the same rows don't pass here
+            WATCH if self.options.rows.is_none() => {
                 let reply = self.watches.begin(place, body, self.things.opened);
                 self.clients[place].watches += usize::from(reply[0] != REFUSED);
                 reply
