@@ -8,7 +8,7 @@ import sys
 from collections.abc import Sequence
 from contextlib import nullcontext
 
-from duqishom import backups, dumps, inspection, serving, statistics, watch_command, web
+from duqishom import backups, cluster, dumps, inspection, serving, statistics, watch_command, web
 from duqishom.program import ProgramEnded
 from duqishom.refusals import Refused
 from duqishom.remote import shown_address, socket_at
@@ -36,6 +36,7 @@ COMMANDS = {
     "restore": backups.restore_main,
     "dump": dumps.dump_main,
     "load": dumps.load_main,
+    "cluster": cluster.main,
 }
 
 # The subcommands as the help shows them.
@@ -47,6 +48,7 @@ SHOWN = (
     ("web --socket PATH", "a web page that says how a store is"),
     ("verify FOLDER", "reads all of a folder, or of a backup"),
     ("restore BACKUP FOLDER", "copies a backup back"),
+    ("cluster init, status", "makes and shows a store in a pool of a Ceph cluster"),
     ("dump, load", "write the cells of a store as lines of JSON, and read them"),
 )
 
@@ -81,6 +83,7 @@ def parser() -> argparse.ArgumentParser:
         help="have the folder get a log, or a new one get none: a new one gets a log if nothing is said",
     )
     made.add_argument("--new", action="store_true", help="with --no-log: the folder never had a root, whatever files are there")
+    made.add_argument("--format", metavar="F", help="given to the program: 3 has the folder's files get checksums from now on")
     made.add_argument("--log-bytes", metavar="L", help="given to the program: bytes of a log before a checkpoint empties it")
     made.add_argument("--flush", metavar="N", help="given to the program: how many entries a memtable has before it is compacted")
     made.add_argument("--flush-bytes", metavar="B", help="given to the program: how many bytes of entries compact a memtable too")
@@ -132,7 +135,7 @@ def main(given: Sequence[str]) -> int:
 
 def opened(options: argparse.Namespace) -> Store:
     """The store that the options name."""
-    named = ("log-bytes", "flush", "flush-bytes", "merge", "cache", "session-bytes")
+    named = ("format", "log-bytes", "flush", "flush-bytes", "merge", "cache", "session-bytes")
     words = [word for name in named if (value := getattr(options, name.replace("-", "_"))) for word in (f"--{name}", value)]
     return Store(
         options.program,

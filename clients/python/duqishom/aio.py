@@ -86,7 +86,7 @@ from duqishom.plans import (
 )
 from duqishom.program import ProgramEnded
 from duqishom.progress import Reached, Report, unreported
-from duqishom.refusals import Refused, TooManySessions, UnknownSession
+from duqishom.refusals import BadRequest, Refused, TooManySessions, UnknownSession
 from duqishom.remote import Address, ConnectionLost, Fate, address_of
 from duqishom.reports import ServerStatus
 from duqishom.scans import (
@@ -679,7 +679,10 @@ class Store:
         if transaction.stream is None or not transaction.session.has_stepped or transaction.session.first is None:
             return False
         session = transaction.session
-        fate = await self.fate(session.start, *transaction.session.first)
+        try:
+            fate = await self.fate(session.start, *transaction.session.first)
+        except BadRequest:
+            raise lost from None
         LOG.warning("the connection was lost while session %d committed: %s", session.start, fate)
         if isinstance(fate, Pending):
             raise lost

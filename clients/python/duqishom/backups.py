@@ -11,6 +11,7 @@ from duqishom.copies import NotCopied, restore
 from duqishom.files import ROOT_FILE, Entry, SortedFile, length_of
 from duqishom.folders import FolderDamaged, has_log, holder_of
 from duqishom.inspection import Folder, committed, note_state, status_of
+from duqishom.pieces import place_in
 from duqishom.progress import BYTES, CELLS, ProgressLine, Report, Tally, add_progress, tallied, unreported
 from duqishom.sums import SUMS_FILE, check_sums
 
@@ -53,7 +54,7 @@ def whole(path: Path, progress: Report = unreported) -> str:
     """A one-line summary of a folder, after all of it was read. `progress` is told how many bytes of the files are
     checked, how many are compared with a backup's sums, and then how many cells are found. FolderDamaged, or BadForm for a
     lock or a record, if it isn't intact."""
-    if not (path / ROOT_FILE).exists():
+    if not place_in(path, 0).exists():
         raise FolderDamaged(path / ROOT_FILE, "there is no root")
     folder = Folder(path)
     check(folder, progress)

@@ -9,8 +9,9 @@ from io import BytesIO
 from pathlib import Path
 from typing import BinaryIO
 
-from duqishom.files import LOG_FILE, MARK_FILE, ROOT_FILE, SIGN_FILE, file_name, renewed_log, sign_of, spelled_mark
+from duqishom.files import LOG_FILE, MARK_FILE, SIGN_FILE, renewed_log, sign_of, spelled_mark
 from duqishom.folders import read_log, read_mark, root_in
+from duqishom.pieces import FORMAT_FILE, FORMAT_TEXT, place_in
 from duqishom.progress import BYTES, Report, Tally, unreported
 from duqishom.sums import PIECE, SUMS_FILE, compare_sums, read_sums, spelled_sums
 
@@ -32,24 +33,28 @@ def copy_checkpoint(source: str, target: str, progress: Report = unreported) -> 
     """
     place, copy, copied = Path(source), empty_folder(target), dict[str, str]()
     while True:
-        data = (place / ROOT_FILE).read_bytes()
+        file = place_in(place, 0)
+        data = file.read_bytes()
         try:
-            sums = copy_files(place, copy, data, beside_root(place, data), progress, copied)
+            sums = copy_files(file, copy, data, beside_root(file, data), progress, copied)
             break
         except FileNotFoundError:
-            if (place / ROOT_FILE).read_bytes() == data:
+            if place_in(place, 0).read_bytes() == data:
                 raise
     write_synced(copy / SUMS_FILE, BytesIO(spelled_sums(sums)))
-    write_synced(copy / ROOT_FILE, BytesIO(data))
+    write_synced(copy / file.name, BytesIO(data))
 
 
-def beside_root(place: Path, data: bytes) -> dict[str, bytes]:
-    """The files of a copy beside a root of these bytes: the mark, and for a folder with a log its sign and an empty
-    log."""
-    root, log = root_in(place, data), read_log(place)
+def beside_root(file: Path, data: bytes) -> dict[str, bytes]:
+    """The files of a copy beside a root, which is this file with these bytes: the mark, the note of the format, and for a
+    folder with a log its sign and an empty log."""
+    place = file.parent
+    root, log = root_in(file, data), read_log(place)
     beside: dict[str, bytes] = {}
+    if (place / FORMAT_FILE).exists():
+        beside[FORMAT_FILE] = FORMAT_TEXT
     if log is not None:
-        beside = {SIGN_FILE: sign_of(log.store)} if log.format == 2 else {}
+        beside |= {SIGN_FILE: sign_of(log.store)} if log.format == 2 else {}
         beside[LOG_FILE] = renewed_log(log, root)
     # A store that has drawn no stamp yet has no mark
     mark = max(read_mark(place), 0 if log is None else log.mark())
@@ -63,13 +68,14 @@ def restore(backup: str, target: str, progress: Report = unreported) -> None:
     is created. `progress` is told how many bytes are copied. NotCopied if the other folder has files, and FolderDamaged if
     the files of a backup don't have its sums."""
     place, copy = Path(backup), empty_folder(target)
-    kept = (SIGN_FILE, LOG_FILE, MARK_FILE)
+    kept = (FORMAT_FILE, SIGN_FILE, LOG_FILE, MARK_FILE)
     beside = {name: (place / name).read_bytes() for name in kept if (place / name).exists()}
-    data, wanted = (place / ROOT_FILE).read_bytes(), read_sums(place)
-    sums = copy_files(place, copy, data, beside, progress, {})
+    file = place_in(place, 0)
+    data, wanted = file.read_bytes(), read_sums(place)
+    sums = copy_files(file, copy, data, beside, progress, {})
     if wanted is not None:
         compare_sums(place, wanted, sums)
-    write_synced(copy / ROOT_FILE, BytesIO(data))
+    write_synced(copy / file.name, BytesIO(data))
 
 
 def empty_folder(target: str) -> Path:
@@ -84,23 +90,23 @@ def empty_folder(target: str) -> Path:
 
 
 def copy_files(
-    place: Path, copy: Path, data: bytes, beside: Mapping[str, bytes], progress: Report, copied: dict[str, str]
+    file: Path, copy: Path, data: bytes, beside: Mapping[str, bytes], progress: Report, copied: dict[str, str]
 ) -> dict[str, str]:
-    """Copies the files that a root of these bytes names, and writes the files in `beside`: the sums of all these and of the
-    root, by their names. The root is to be written last, so an incomplete copy has no root.
+    """Copies the files that a root names, which is this file with these bytes, and writes the files in `beside`: the sums of
+    all these and of the root, by their names. The root is to be written last, so an incomplete copy has no root.
 
     The files in `copied` are there already, with these sums: no later file takes the name of one in a root. Files that are
     copied are added to them; one that this root doesn't name is removed."""
-    root = root_in(place, data)
-    names = {file_name(reference.name) for tablet in root.tablets for reference in tablet.files}
+    place, root = file.parent, root_in(file, data)
+    names = {place_in(place, reference.name).name for tablet in root.tablets for reference in tablet.files}
     size = sum((place / name).stat().st_size for name in names) + sum(map(len, (*beside.values(), data)))
     done = Tally(progress, size, BYTES)
     for name in sorted(names):
         if name in copied:
             done.add((copy / name).stat().st_size)
         else:
-            with (place / name).open("rb") as file:
-                copied[name] = write_synced(copy / name, file, done)
+            with (place / name).open("rb") as source:
+                copied[name] = write_synced(copy / name, source, done)
     for path in copy.iterdir():
         if path.name not in names:
             path.unlink()
@@ -109,7 +115,7 @@ def copy_files(
         sums[name] = write_synced(copy / name, BytesIO(said), done)
     # Behind the root nothing may end the copying, so it is counted before it is written
     done.add(len(data))
-    return sums | {ROOT_FILE: hashlib.sha256(data).hexdigest()}
+    return sums | {file.name: hashlib.sha256(data).hexdigest()}
 
 
 def write_synced(path: Path, source: BinaryIO, copied: Tally | None = None) -> str:

@@ -21,7 +21,6 @@ from duqishom.files import (
     Log,
     Root,
     SortedFile,
-    file_name,
     key_of,
     log_of,
     mark_of,
@@ -41,6 +40,7 @@ from duqishom.operations import (
     Step,
     Sweep,
 )
+from duqishom.pieces import FORMAT_FILE, FORMAT_TEXT, payload_of, place_in
 from duqishom.program import ENDS, Program, ProgramEnded
 from duqishom.recording import Recording
 from duqishom.refusals import Refused
@@ -141,7 +141,7 @@ def log_words(folder: str, log: bool | None, new: bool = False) -> list[str]:
     """The words that give a folder a log if it has none, or no words if that isn't asked for. If `log` is None, a
     folder without a root gets one, since its store is new. NotOpened where no log is wanted, and the folder has files
     or a mark of a store whose root is gone, unless it is said to be new: with a log the program looks by itself."""
-    is_new = not os.path.exists(os.path.join(folder, ROOT_FILE))
+    is_new = not place_in(Path(folder), 0).exists()
     if is_new and log is False and not new and (why := why_lost(folder)):
         raise NotOpened(5, why)
     return ["--log"] if log or (log is None and is_new) else []
@@ -200,7 +200,7 @@ def why_not_opened(folder: str | None, status: int) -> str:
     holder = holder_of(folder)
     if status == 4 and holder is not None:
         return f"{folder} is in use by {holder}"
-    for name in (LOCK_FILE, MARK_FILE, SIGN_FILE, LOG_FILE, ROOT_FILE):
+    for name in (LOCK_FILE, FORMAT_FILE, MARK_FILE, SIGN_FILE, LOG_FILE, place_in(Path(folder), 0).name):
         file = Path(folder) / name
         try:
             data = file.read_bytes()
@@ -213,6 +213,8 @@ def why_not_opened(folder: str | None, status: int) -> str:
                 mark_of(data)
                 continue
             return f"{file} is no mark: it has {len(data)} bytes, {data[:8].hex(' ')}"
+        if name == FORMAT_FILE and data != FORMAT_TEXT:
+            return f"{file} names no format that this program has"
     if not os.access(folder, os.W_OK | os.X_OK):
         return f"{folder} can't be written to"
     try:
@@ -250,20 +252,20 @@ def process_named(process: int) -> str:
 
 def read_root(folder: Path) -> Root:
     """The root of a folder, or a new store's if there is no root file."""
-    file = folder / ROOT_FILE
+    file = place_in(folder, 0)
     try:
         data = file.read_bytes()
     except FileNotFoundError:
         return NEW_ROOT
-    return root_in(folder, data)
+    return root_in(file, data)
 
 
-def root_in(folder: Path, data: bytes) -> Root:
-    """The root of a folder, from the bytes of its file."""
+def root_in(file: Path, data: bytes) -> Root:
+    """The root in a file with these bytes."""
     try:
-        return root_of(data)
+        return root_of(bytes(payload_of(file, data)))
     except BadForm as bad:
-        raise FolderDamaged(folder / ROOT_FILE, bad.what, bad.at) from None
+        raise FolderDamaged(file, bad.what, bad.at) from None
 
 
 def read_mark(folder: Path) -> int:
@@ -363,15 +365,14 @@ def check_folder(folder: Path) -> Root:
     check_mark(folder, mark, root)
     check_marked(folder, mark, log)
     for reference in sorted({reference for tablet in root.tablets for reference in tablet.files}):
-        file = folder / file_name(reference.name)
+        file = place_in(folder, reference.name)
         try:
-            data = file.read_bytes()
+            data = payload_of(file, file.read_bytes())
+            if reference.length is not None and reference.length != len(data):
+                raise FolderDamaged(file, f"the root says {reference.length} bytes, and it has {len(data)}")
+            SortedFile(data).check()
         except FileNotFoundError:
             raise FolderDamaged(file, "the root names this file, and it isn't there") from None
-        if reference.length is not None and reference.length != len(data):
-            raise FolderDamaged(file, f"the root says {reference.length} bytes, and it has {len(data)}")
-        try:
-            SortedFile(data).check()
         except BadForm as bad:
             raise FolderDamaged(file, bad.what, bad.at) from None
     return root

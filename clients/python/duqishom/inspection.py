@@ -25,13 +25,11 @@ from duqishom.columns import BadForm, Kind, Record, read_lock, read_record
 from duqishom.files import (
     LOG_FILE,
     MARK_FILE,
-    ROOT_FILE,
     Bytes,
     Key,
     Root,
     RootTablet,
     SortedFile,
-    file_name,
     key_of,
 )
 from duqishom.folders import (
@@ -46,6 +44,7 @@ from duqishom.folders import (
     read_mark,
     read_root,
 )
+from duqishom.pieces import SUMMED, SUMS_FORMAT, number_in, payload_of, place_in
 from duqishom.texts import bytes_of, text_of
 
 WORDS = ("stats", "files", "tablets", "log", "locks", "cells")
@@ -89,21 +88,21 @@ class Folder:
 
     def _opened(self, name: int) -> SortedFile:
         """A file, with its header and its footer."""
-        place = self.path / file_name(name)
+        place = place_in(self.path, name)
         try:
             with place.open("rb") as file:
                 size = os.fstat(file.fileno()).st_size
                 data: Bytes = mmap.mmap(file.fileno(), 0, access=mmap.ACCESS_READ) if size else b""
         except FileNotFoundError:
             raise FolderDamaged(place, "the root names this file, and it isn't there") from None
-        return self._checked(name, lambda: SortedFile(data))
+        return self._checked(name, lambda: SortedFile(payload_of(place, data)))
 
     def _checked(self, name: int, read: Callable[[], Read]) -> Read:
         """The result of a read of a file. FolderDamaged if the file is malformed."""
         try:
             return read()
         except BadForm as bad:
-            raise FolderDamaged(self.path / file_name(name), bad.what, bad.at) from None
+            raise FolderDamaged(place_in(self.path, name), bad.what, bad.at) from None
 
     def check(self) -> None:
         """Reads the whole folder, as a program does at an open. FolderDamaged at the first wrong byte."""
@@ -112,13 +111,13 @@ class Folder:
             for name, length in tablet.files:
                 size = self.files[name].size
                 if length is not None and length != size:
-                    raise FolderDamaged(self.path / file_name(name), f"the root says {length} bytes, and it has {size}")
+                    raise FolderDamaged(place_in(self.path, name), f"the root says {length} bytes, and it has {size}")
         for name, file in self.files.items():
             self._checked(name, file.check)
 
     def unnamed(self) -> list[int]:
         """The files that exist and that the root doesn't name."""
-        names = {int(path.name[1:17], 16) for path in self.path.glob("t????????????????.tab")}
+        names = {number_in(path.name) % SUMMED for path in self.path.glob("t????????????????.tab")}
         return sorted(names - set(self.files) - {0})
 
     def may_have_locks(self) -> bool:
@@ -201,12 +200,14 @@ def files(folder: Folder) -> Iterator[str]:
         for name, _ in tablet.files:
             owners[name].append(str(tablet.number))
     for name, file in folder.files.items():
+        place = place_in(folder.path, name)
+        form = SUMS_FORMAT if number_in(place.name) == name + SUMMED else file.format
         sizes = f"{file.size:>14,} bytes {file.count:>12,} entries {file.blocks:>9,} blocks"
-        yield f"{file_name(name)} {sizes}  format {file.format}  tablets {' '.join(owners[name])}"
+        yield f"{place.name} {sizes}  format {form}  tablets {' '.join(owners[name])}"
     for name in folder.unnamed():
         with suppress(FileNotFoundError):
-            size = (folder.path / file_name(name)).stat().st_size
-            yield f"{file_name(name)} {size:>14,} bytes  not named by the root"
+            place = place_in(folder.path, name)
+            yield f"{place.name} {place.stat().st_size:>14,} bytes  not named by the root"
 
 
 def tablets(folder: Folder) -> Iterator[str]:
@@ -345,7 +346,7 @@ def main(words: Sequence[str]) -> int:
 
 def note_state(command: str, folder: str) -> None:
     """Says on the standard error if a folder has no checkpoint, and which process has it open, if any."""
-    if not os.path.exists(os.path.join(folder, ROOT_FILE)):
+    if not place_in(Path(folder), 0).exists():
         print(f"{command}: {folder} has no checkpoint", file=sys.stderr)
     holder = holder_of(folder)
     if holder is not None:

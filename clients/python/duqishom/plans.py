@@ -440,13 +440,25 @@ class StorePlans:
 
     def free(self, cell: Cell, patience: Patience) -> Plan[None]:
         """Waits for the lock of a cell to go, as long as the patience says, and then cleans it."""
-        first = lock = yield from ask(Raw(*cell, Qualifier.LOCK, 0, MOST_STAMP))
+        first = lock = yield from self._locked_by(cell)
         for _ in range(patience.tries):
-            if lock is None or first is None or lock.stamp != first.stamp:
+            if lock is None or lock != first:
                 return
             yield Pause(patience.pause)
-            lock = yield from ask(Raw(*cell, Qualifier.LOCK, 0, MOST_STAMP))
+            lock = yield from self._locked_by(cell)
         yield from self.clean(*cell)
+
+    def _locked_by(self, cell: Cell) -> Plan[int | None]:
+        """The start of the session whose lock stands on a cell, or None. Where raw reads are refused, a read as of now meets it."""
+        try:
+            lock = yield from ask(Raw(*cell, Qualifier.LOCK, 0, MOST_STAMP))
+            return None if lock is None else lock.stamp
+        except BadRequest:
+            start = yield from ask(Begin())
+        [[found], _] = yield [Gets(start, [cell]), Stop(start)]
+        if isinstance(found, Refused):
+            raise found
+        return found.start if isinstance(found, Pending) else None
 
     def collect(self, visits: int) -> Plan[int]:
         """Erases old versions, by trips of so many visits: the floor up to which that was done."""
@@ -480,7 +492,7 @@ class StorePlans:
     def fate(self, start: int, row: bytes, family: bytes, patience: Patience) -> Plan[Fate]:
         """What became of a session's commit, by its first cell. A record there that names the session says that it has
         committed. Its lock is waited for, and then cleaned, unless the patience says otherwise; where neither stands,
-        nothing was committed."""
+        nothing was committed. BadRequest where raw reads are refused, as of a cluster."""
         lock = yield from ask(Raw(row, family, Qualifier.LOCK, start, start))
         if lock is not None and patience.cleans:
             yield from self.free(Cell(row, family), patience)

@@ -10,9 +10,10 @@ from pathlib import Path
 
 from duqishom.cells import Cell
 from duqishom.columns import BadForm
-from duqishom.files import LOG_FILE, NEW_ROOT, ROOT_FILE, BrokenFile, Bytes, SortedFile, file_name
+from duqishom.files import LOG_FILE, NEW_ROOT, ROOT_FILE, BrokenFile, Bytes, SortedFile
 from duqishom.folders import FolderDamaged, check_over, read_frames, read_root
 from duqishom.inspection import Folder, finished, value_of
+from duqishom.pieces import payload_before, place_in
 
 # The size of a piece that is read at once, in bytes: a disk's block that can't be read takes no more with it.
 PIECE = 4096
@@ -28,17 +29,19 @@ class SalvagedFolder(Folder):
         if self.root == NEW_ROOT and any(path.glob("t????????????????.tab")):
             self.lost.append(f"{path / ROOT_FILE}: there is no root, which would name the files")
         lengths = dict(reference for tablet in self.root.tablets for reference in tablet.files)
-        self.files = {name: self._salvaged(path / file_name(name), lengths[name]) for name in sorted(lengths)}
+        self.files = {name: self._salvaged(place_in(path, name), lengths[name]) for name in sorted(lengths)}
         self.log = self._salvaged_log()
 
     def _salvaged(self, place: Path, length: int | None) -> SortedFile:
         """A file, whose length the root may say."""
         try:
-            data = readable(place)
+            data, bad_piece = payload_before(place, readable(place))
         except OSError as failure:
             self.lost.append(f"{place}: {failure.strerror}")
             return BrokenFile(b"")
         try:
+            if bad_piece is not None:
+                raise bad_piece
             file = SortedFile(data)
             file.check()
             if length not in (None, len(data)):

@@ -1,7 +1,7 @@
 """`python3 -m duqishom serve`: becomes the gateway, a program in Rust, with the same words behind the client's defaults.
 
 What the client decides for a store of its own it decides for a gateway's too: the program, its tuning, and whether a
-new folder gets a log.
+new folder gets a log. With `--rados` it doesn't become one gateway, but starts several (`workers`).
 """
 
 from __future__ import annotations
@@ -14,6 +14,7 @@ import sys
 from collections.abc import Sequence
 from pathlib import Path
 
+from duqishom import workers
 from duqishom.folders import NotOpened, log_words, tuned
 from duqishom.program import default_program
 
@@ -44,9 +45,23 @@ def found_gateway() -> str | None:
     return os.environ.get("DUQISHOM_GATEWAY") or next(filter(None, map(shutil.which, places)), None)
 
 
+def parser() -> Parser:
+    """A parser of some of the gateway's options, to which others are left."""
+    return Parser(prog="duqishom serve", add_help=False, allow_abbrev=False, fromfile_prefix_chars="@")
+
+
+def is_over_bridge(words: Sequence[str]) -> bool:
+    """Whether the words, and those of files among them, say that the rows are a bridge's."""
+    parsing = parser()
+    parsing.add_argument("--rados")
+    parsing.add_argument("--memory-bridge", nargs="?", const="")
+    given, _ = parsing.parse_known_args(words)
+    return given.rados is not None or given.memory_bridge is not None
+
+
 def command_of(words: Sequence[str]) -> list[str]:
     """The words of the gateway: the client's defaults, and these words with those of files in the place of @FILE."""
-    parsing = Parser(prog="duqishom serve", add_help=False, allow_abbrev=False, fromfile_prefix_chars="@")
+    parsing = parser()
     parsing.add_argument("--program")
     parsing.add_argument("--dir")
     parsing.add_argument("--log", action=argparse.BooleanOptionalAction)
@@ -60,12 +75,14 @@ def command_of(words: Sequence[str]) -> list[str]:
 
 
 def main(words: Sequence[str]) -> int:
-    """Becomes the gateway. The status is the gateway's, or 2 if it can't be started."""
+    """Becomes the gateway, or the parent of several. The status is the gateway's, or 2 if it can't be started."""
     gateway = found_gateway()
     try:
         if gateway is None:
             raise FileNotFoundError(NOT_BUILT)
         os.environ["DUQISHOM_PYTHON"] = sys.executable
+        if is_over_bridge(words):
+            return workers.serve(parser(), words, gateway)
         os.execvp(gateway, ["duqishom-gateway", *command_of(words)])
     except (OSError, NotOpened) as failure:
         print(f"duqishom: {failure}", file=sys.stderr)

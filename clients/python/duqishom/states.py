@@ -12,8 +12,9 @@ from pathlib import Path
 
 from duqishom.administration import Client, Listing
 from duqishom.figures import duration
-from duqishom.files import LOG_FILE, ROOT_FILE, file_name
+from duqishom.files import LOG_FILE
 from duqishom.folders import read_root
+from duqishom.pieces import SUMMED, number_in, place_in
 from duqishom.refusals import BadRequest
 from duqishom.remote import Address
 from duqishom.reports import ServerStatus, TabletReport
@@ -40,8 +41,8 @@ def size_of(file: Path) -> int:
 def folder_state(folder: Path) -> Iterator[tuple[str, object]]:
     """The figures of a folder, whose tablets and files are those of the last checkpoint."""
     root = read_root(folder)
-    named = {file_name(name) for tablet in root.tablets for name, _ in tablet.files}
-    every = {file.name: size_of(file) for file in folder.glob("t*.tab") if file.name != ROOT_FILE}
+    named = {place_in(folder, name).name for tablet in root.tablets for name, _ in tablet.files}
+    every = {file.name: size_of(file) for file in folder.glob("t*.tab") if number_in(file.name) % SUMMED != 0}
     yield "tablets", len(root.tablets)
     yield "files", len(named)
     yield "bytes of files", sum(every.get(name, 0) for name in named)
@@ -50,7 +51,7 @@ def folder_state(folder: Path) -> Iterator[tuple[str, object]]:
     yield "bytes of the log", size_of(folder / LOG_FILE)
     yield "greatest stamp of the checkpoint", root.top
     with suppress(FileNotFoundError):
-        yield "seconds since the checkpoint", round(time.time() - (folder / ROOT_FILE).stat().st_mtime)
+        yield "seconds since the checkpoint", round(time.time() - place_in(folder, 0).stat().st_mtime)
     yield "bytes free on the disk", shutil.disk_usage(folder).free
 
 

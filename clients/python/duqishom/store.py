@@ -73,7 +73,7 @@ from duqishom.plans import (
 from duqishom.program import ProgramEnded
 from duqishom.progress import Report, unreported
 from duqishom.recording import Recording
-from duqishom.refusals import Refused
+from duqishom.refusals import BadRequest, Refused
 from duqishom.remote import Address, ConnectionLost, Fate, Gateway
 from duqishom.reports import ServerStatus
 from duqishom.sessions import Session
@@ -485,11 +485,14 @@ class Store(AutoCommit):
 
     def _is_committed(self, lost: ConnectionLost, transaction: Transaction) -> bool:
         """Whether a transaction was committed whose connection was lost. The loss is raised where a lock of it stands, and may not
-        be cleaned."""
+        be cleaned, or where it can't be told, as of a cluster."""
         session = transaction._session
         if not session.has_stepped or session.first is None:
             return False
-        fate = self.fate(session.start, *session.first)
+        try:
+            fate = self.fate(session.start, *session.first)
+        except BadRequest:
+            raise lost from None
         LOG.warning("the connection was lost while session %d committed: %s", session.start, fate)
         if isinstance(fate, Pending):
             raise lost

@@ -8,8 +8,9 @@ import re
 from collections.abc import Mapping
 from pathlib import Path
 
-from duqishom.files import LOCK_FILE, LOG_FILE, MARK_FILE, ROOT_FILE, SIGN_FILE, Root, file_name
+from duqishom.files import LOCK_FILE, LOG_FILE, MARK_FILE, SIGN_FILE, Root
 from duqishom.folders import FolderDamaged
+from duqishom.pieces import FORMAT_FILE, place_in
 from duqishom.progress import BYTES, Report, Tally
 
 SUMS_FILE = "backup.sums"
@@ -56,8 +57,8 @@ def check_sums(place: Path, root: Root, progress: Report) -> bool:
     wanted = read_sums(place)
     if wanted is None:
         return False
-    names = {file_name(reference.name) for tablet in root.tablets for reference in tablet.files}
-    names.update(name for name in (ROOT_FILE, LOG_FILE, SIGN_FILE, MARK_FILE) if (place / name).exists())
+    names = {place_in(place, number).name for number in {0, *(file.name for tablet in root.tablets for file in tablet.files)}}
+    names.update(name for name in (FORMAT_FILE, LOG_FILE, SIGN_FILE, MARK_FILE) if (place / name).exists())
     read = Tally(progress, sum((place / name).stat().st_size for name in names), BYTES)
     compare_sums(place, wanted, {name: sum_of(place / name, read) for name in sorted(names)})
     return True

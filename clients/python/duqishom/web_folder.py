@@ -10,9 +10,10 @@ from pathlib import Path
 
 from duqishom.answers import Qualifier
 from duqishom.columns import BadForm
-from duqishom.files import LOG_FILE, MOST_FILES, ROOT_FILE, Key, Root, file_name
+from duqishom.files import LOG_FILE, MOST_FILES, Key, Root
 from duqishom.folders import FolderDamaged, has_log, read_mark, read_root
 from duqishom.inspection import Folder
+from duqishom.pieces import place_in
 from duqishom.states import folder_state, size_of
 from duqishom.texts import text_of
 
@@ -141,7 +142,7 @@ class FolderReader:
     def _moment(self) -> float:
         """The time as of which the folder has the locks: now with a log, and without one that of the last
         checkpoint."""
-        return time.time() if self.state.has_log else time_of(self.path / ROOT_FILE)
+        return time.time() if self.state.has_log else time_of(place_in(self.path, 0))
 
 
 def text_of_error(error: Exception) -> str:
@@ -160,7 +161,7 @@ def time_of(file: Path) -> float:
 def tablets_of(path: Path, root: Root) -> tuple[TabletState, ...]:
     """The tablets of a root."""
     said = {file for tablet in root.tablets for file in tablet.files}
-    sizes = {file.name: size_of(path / file_name(file.name)) if file.length is None else file.length for file in said}
+    sizes = {file.name: size_of(place_in(path, file.name)) if file.length is None else file.length for file in said}
     return tuple(
         TabletState(tablet.number, tablet.end, len(tablet.files), sum(sizes[file.name] for file in tablet.files))
         for tablet in root.tablets

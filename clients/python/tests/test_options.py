@@ -56,6 +56,7 @@ REFUSED = (
     "--log-bytes 33554433",
     "--dir",
     "--log",
+    "--format 3",
     "--upkeep",
     "--flush 2 --flush 2",
     "--admin 1",

@@ -1,0 +1,112 @@
+"""Folders with --format 3: the files have checksums, older files are read beside them, and what changed on the disk is
+never a value."""
+
+from __future__ import annotations
+
+import os
+import random
+import shutil
+import unittest
+from pathlib import Path
+
+from duqishom import Device, NotOpened, Store
+from tests.folders import FolderTest
+
+FAMILY = b"c"
+ROWS = 200
+
+# The root and the tablet's files: before the option, and after it with a checkpoint.
+BEFORE = {"t0000000000000000.tab", "t0000000000000001.tab"}
+UPGRADED = {"t8000000000000000.tab", "t0000000000000001.tab", "t8000000000000002.tab"}
+
+
+def value(number: int) -> bytes:
+    return b"%0200d" % number
+
+
+def row(number: int) -> bytes:
+    return b"row%04d" % number
+
+
+class ChecksumsTest(FolderTest):
+    """A folder that gets the format, and one whose bytes change."""
+
+    def files(self) -> set[str]:
+        return {name for name in os.listdir(self.folder) if name.endswith(".tab")}
+
+    def store(self, *words: str, log: bool = True) -> Store:
+        return Store(folder=self.folder, words=words, log=log, checkpoint_at_close=False)
+
+    def fill(self, store: Store) -> None:
+        for number in range(ROWS):
+            store.put(row(number), FAMILY, value(number))
+        store.checkpoint()
+
+    def are_there(self, store: Store) -> None:
+        cells = {found: text for found, _, text in store.scan()}
+        self.assertEqual(cells, {row(number): value(number) for number in range(ROWS)})
+
+    def test_a_folder_gets_the_format(self) -> None:
+        with self.store() as store:
+            self.fill(store)
+        self.assertEqual(self.files(), BEFORE)
+        self.assertFalse((self.path / "format").exists())
+        with self.store("--format", "3") as store:
+            self.are_there(store)
+            store.put(row(0), FAMILY, value(0))
+            store.checkpoint()
+        self.assertEqual((self.path / "format").read_bytes(), b"3\n")
+        self.assertEqual(self.files(), UPGRADED)
+        # From now on without the option too.
+        store = self.store()
+        self.are_there(store)
+        store.major(1)
+        store.checkpoint()
+        store.sweep()
+        store.put(row(1), FAMILY, value(1))
+        store.kill()
+        self.assertTrue(all(name.startswith("t8") for name in self.files()))
+        with self.store() as store:
+            self.are_there(store)
+
+    def test_an_unknown_format(self) -> None:
+        (self.path / "format").write_bytes(b"4\n")
+        with self.assertRaises(NotOpened):
+            self.store()
+
+    def test_changed_bits(self) -> None:
+        with self.store("--format", "3") as store:
+            self.fill(store)
+        whole = self.path
+        chance = random.Random(7)
+        for name in sorted(self.files()):
+            for _ in range(20):
+                with self.subTest(name=name):
+                    self.changed(whole, name, chance)
+
+    def changed(self, whole: Path, name: str, chance: random.Random) -> None:
+        """Opens a copy of the folder in which one bit of a file is another."""
+        copy = whole.parent / (whole.name + ".copy")
+        shutil.copytree(whole, copy)
+        self.addCleanup(shutil.rmtree, copy, ignore_errors=True)
+        try:
+            path = copy / name
+            raw = bytearray(path.read_bytes())
+            raw[chance.randrange(len(raw))] ^= 1 << chance.randrange(8)
+            path.write_bytes(raw)
+            try:
+                store = Store(folder=str(copy), log=True, checkpoint_at_close=False)
+            except NotOpened:
+                return
+            try:
+                self.are_there(store)
+            except Device:
+                pass
+            finally:
+                store.kill()
+        finally:
+            shutil.rmtree(copy)
+
+
+if __name__ == "__main__":
+    unittest.main()
