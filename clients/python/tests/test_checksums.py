@@ -7,6 +7,7 @@ import os
 import random
 import shutil
 import unittest
+from contextlib import suppress
 from pathlib import Path
 
 from duqishom import Device, NotOpened, Store
@@ -58,13 +59,13 @@ class ChecksumsTest(FolderTest):
         self.assertEqual((self.path / "format").read_bytes(), b"3\n")
         self.assertEqual(self.files(), UPGRADED)
         # From now on without the option too.
-        store = self.store()
-        self.are_there(store)
-        store.major(1)
-        store.checkpoint()
-        store.sweep()
-        store.put(row(1), FAMILY, value(1))
-        store.kill()
+        with self.store() as store:
+            self.are_there(store)
+            store.major(1)
+            store.checkpoint()
+            store.sweep()
+            store.put(row(1), FAMILY, value(1))
+            store.kill()
         self.assertTrue(all(name.startswith("t8") for name in self.files()))
         with self.store() as store:
             self.are_there(store)
@@ -94,16 +95,8 @@ class ChecksumsTest(FolderTest):
             raw = bytearray(path.read_bytes())
             raw[chance.randrange(len(raw))] ^= 1 << chance.randrange(8)
             path.write_bytes(raw)
-            try:
-                store = Store(folder=str(copy), log=True, checkpoint_at_close=False)
-            except NotOpened:
-                return
-            try:
+            with suppress(NotOpened, Device), Store(folder=str(copy), log=True, checkpoint_at_close=False) as store:
                 self.are_there(store)
-            except Device:
-                pass
-            finally:
-                store.kill()
         finally:
             shutil.rmtree(copy)
 
