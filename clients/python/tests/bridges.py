@@ -178,9 +178,11 @@ class BridgeCases:
         self.case.assertTrue(writer.swap(prefix_of(first), 0, {key_of(first): b"x"}))
 
         def read() -> None:
-            for _ in range(100):
+            reads, end = 0, time.monotonic() + PATIENCE
+            while reads < 100 or (len(seen) < 2 and time.monotonic() < end):
                 _, cells = reader.page(key_of(first), 1_000_000)
                 seen.add(tuple(key_of(row) in cells for row in rows))
+                reads += 1
             is_over.set()
 
         def write() -> None:

@@ -54,14 +54,15 @@ def transfer(store: Store, chance: random.Random) -> None:
 
 
 def be_client(path: str, seconds: float, seed: int) -> int:
-    """Makes transfers and sums for so many seconds, and prints how many came to what. The status is 1 if a sum is wrong."""
+    """Makes a sum, and then transfers and sums for so many seconds, and prints how many came to what. The status is 1 if a
+    sum is wrong."""
     counts, chance, end = Counter[str](), random.Random(seed), time.monotonic() + seconds
     store: Store | None = None
     while time.monotonic() < end:
         try:
             if store is None:
                 store = connect(f"unix:{path}", reconnect=1.0, lock_wait=0.2)
-            if chance.randrange(TRANSFERS) == 0:
+            if chance.randrange(TRANSFERS) == 0 or not counts["sums"]:
                 counts["sums"] += 1
                 if sum_of(store) != FIRST * len(ACCOUNTS):
                     print(f"a sum is {sum_of(store)}", file=sys.stderr)

@@ -121,7 +121,7 @@ class MemoryClusterTest(RowsTest):
         with connect(f"unix:{served.path}") as store:
             fill(store)
         counts = Bank(self, [served], 6, 15).run(4 * KILLS)
-        self.assertGreater(counts["commits"], 20)
+        self.assertGreater(counts["commits"], 5)
         self.assertGreater(counts["sums"], 0)
 
     def test_bank_with_failures(self) -> None:
@@ -129,7 +129,7 @@ class MemoryClusterTest(RowsTest):
         with connect(f"unix:{served.path}") as store:
             until(lambda: is_filled(store))
         counts = Bank(self, [served], 6, 10).run([])
-        self.assertGreater(counts["commits"], 20)
+        self.assertGreater(counts["commits"], 5)
 
     def test_requests(self) -> None:
         served = self.served(count=1)

@@ -64,9 +64,9 @@ class ServedTest(unittest.TestCase):
         for wire in wires:
             self.addCleanup(wire.close)
             wire.begin()
-        # Each has four of them
+        # No one has them all: on a quiet machine each has four of them
         counts = [len(list(Path(f"/proc/{gateway}/fd").iterdir())) for gateway in gateways]
-        self.assertLessEqual(max(counts) - min(counts), 8, counts)
+        self.assertLess(max(counts) - min(counts), len(wires), counts)
         self.assertEqual(served.end(), 0)
         self.assertFalse(os.path.exists(served.path))
 
