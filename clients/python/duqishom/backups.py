@@ -16,7 +16,7 @@ from duqishom.progress import BYTES, CELLS, ProgressLine, Report, Tally, add_pro
 from duqishom.sums import SUMS_FILE, check_sums
 
 # The limits of the check of a folder.
-NO_CHECKSUMS = f"Only a backup has sums of its files ({SUMS_FILE}): elsewhere a changed byte inside a value isn't noticed."
+NO_CHECKSUMS = f"Only a backup ({SUMS_FILE}) and files of format 3 have sums: elsewhere no changed byte of a value is noticed."
 
 
 # The bytes of a file that are read between two reports.

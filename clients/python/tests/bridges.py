@@ -174,7 +174,7 @@ class BridgeCases:
         first, second = b"a" + os.urandom(6), b"z" + os.urandom(6)
         bridge, rows = self.bridge(), (first, second)
         reader, writer, is_over = bridge.server("w0"), bridge.server("w1"), threading.Event()
-        seen = set()
+        seen = set[tuple[bool, ...]]()
         self.case.assertTrue(writer.swap(prefix_of(first), 0, {key_of(first): b"x"}))
 
         def read() -> None:
