@@ -2,5 +2,5 @@
 
 mod memory;
 mod pipes;
-mod rows;
+mod row_calls;
 mod stamps;
