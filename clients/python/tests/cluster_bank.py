@@ -11,9 +11,10 @@ import time
 import unittest
 from collections import Counter
 from collections.abc import Sequence
+from contextlib import suppress
 from dataclasses import dataclass
 
-from duqishom import ConnectionLost, Refused, Store, Transaction, TransactionFailed, connect
+from duqishom import ConnectionLost, ProgramEnded, Refused, Store, Transaction, TransactionFailed, connect
 from tests.gateways import PACKAGE, PATIENCE, until
 from tests.served import Served, kill
 
@@ -116,9 +117,20 @@ class Bank:
             counts.update(json.loads(told) if told else {})
         for served in self.all_served:
             self.case.assertTrue(until(served.is_ready), served.said())
-            with connect(f"unix:{served.path}") as store:
-                self.case.assertEqual(sum_of(store), FIRST * len(ACCOUNTS))
+            self._sum_at(served)
         return counts
+
+    def _sum_at(self, served: Served) -> None:
+        """Checks the sum, which is asked for until it is answered: a store that fails by chance still does."""
+        sums = list[int]()
+
+        def is_answered() -> bool:
+            with suppress(Refused, ProgramEnded, TransactionFailed, OSError), connect(f"unix:{served.path}") as store:
+                sums.append(sum_of(store))
+            return bool(sums)
+
+        self.case.assertTrue(until(is_answered))
+        self.case.assertEqual(sums, [FIRST * len(ACCOUNTS)])
 
     def _client(self) -> subprocess.Popen[str]:
         self._begun += 1

@@ -4,8 +4,9 @@ from __future__ import annotations
 
 import json
 import unittest
+from contextlib import suppress
 
-from duqishom import BadRequest, ProgramEnded, Refused, Store, Transaction, TransactionFailed, connect
+from duqishom import BadRequest, ProgramEnded, Refused, Transaction, TransactionFailed, connect
 from duqishom.fields import counted, number
 from tests.cluster_bank import Bank, fill
 from tests.gateways import BEGIN, COLLECT_BEGIN, COLUMN, STATISTICS, Wire, clean_begin, clean_step, get, scan, set_, step, stop, until
@@ -126,8 +127,7 @@ class MemoryClusterTest(RowsTest):
 
     def test_bank_with_failures(self) -> None:
         served = self.served("--race 0.1 --lose 0.01 --fail 0.003 --end 0.0005 --seed 4", 3)
-        with connect(f"unix:{served.path}") as store:
-            until(lambda: is_filled(store))
+        self.assertTrue(until(lambda: is_filled(served)))
         counts = Bank(self, [served], 6, 10).run([])
         self.assertGreater(counts["commits"], 5)
 
@@ -144,13 +144,12 @@ def write_three(transaction: Transaction) -> None:
     transaction.set(b"xyz", b"bal", b"2")
 
 
-def is_filled(store: Store) -> bool:
+def is_filled(served: Served) -> bool:
     """Fills a bank, unless that fails."""
-    try:
+    with suppress(Refused, ProgramEnded, TransactionFailed, OSError), connect(f"unix:{served.path}") as store:
         fill(store)
-    except (Refused, ProgramEnded, TransactionFailed):
-        return False
-    return True
+        return True
+    return False
 
 
 if __name__ == "__main__":
