@@ -1,4 +1,5 @@
 mod Tables
+mod Eights
 mod Cuts
 mod Entries
 mod FieldParts

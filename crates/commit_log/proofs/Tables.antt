@@ -42,7 +42,7 @@ even n =
 halved : (m n : ℕ) → m ≡ n * 2 → next_bit m ≡ n
 halved m n twice = ap next_bit twice ∙ even n
 
-shifted_out : (n : ℕ) → iterate next_bit 8 (n * 256) ≡ n
+pub shifted_out : (n : ℕ) → iterate next_bit 8 (n * 256) ≡ n
 shifted_out n =
     ap (iterate next_bit 7) (halved (n * 256) (n * 128) (omega arith))
     ∙ ap (iterate next_bit 6) (halved (n * 128) (n * 64) (omega arith))
