@@ -28,6 +28,10 @@ abbrev pub text_after : Option Place → List ℕ
 text_after None = []
 text_after (Some place) = text (version place.0 place.1 Write 0)
 
+-- says that a request begins; there is no reply
+abbrev pub begin_body : List ℕ
+begin_body = 0x06 ∷ []
+
 -- asks for a row
 abbrev pub fetch_body : List ℕ → List ℕ
 fetch_body row = 0x01 ∷ field (row_prefix row)

@@ -1,6 +1,6 @@
 //! A wire to rows and stamps in memory.
 
-ghost use Rattle.std.specs.Prelude.{◌≡◌, ◌<◌, ◌^◌, All, Some, false, [], IfOk, OnOk, IsOkUnless, length};
+ghost use Rattle.std.specs.Prelude.{◌≡◌, ◌<◌, ◌^◌, All, Some, false, ⊤, [], IfOk, OnOk, IsOkUnless, length};
 ghost use Rattle.std.specs.FinMap.{empty};
 ghost use Rattle.std.specs.List.{AllByRecursion};
 ghost use Rattle.cell_key.specs.Cells.{after_edits, IsEditOf};
@@ -108,6 +108,8 @@ impl RowWire for MemoryWire {
 
     ghost failed = { λ _. false };
 
+    fn begin(&mut self) {}
+
     fn fetch(&mut self, row: &Row) -> Result<FetchedRow, Refusal> {
         let edits = copies_of(self.alloc, row, &self.edits)?;
         Ok(FetchedRow {
@@ -140,6 +142,8 @@ impl RowWire for MemoryWire {
 
 impl StampWire for MemoryWire {
     ghost last = { λ wire. Some wire.last };
+
+    ghost told = { λ _ _. ⊤ };
 
     ghost failed = { λ _. false };
 

@@ -5,7 +5,7 @@ ghost use Rattle.std.specs.List.{flat_map};
 ghost use Rattle.byteorder.specs.Endian.{big_bytes};
 ghost use Rattle.cell_key.specs.Keys.{text};
 ghost use Rattle.cell_key.specs.Places.{place_named, Place};
-ghost use Rattle.remote_rows.specs.Messages.{draw_body, edit_fields, fetch_body, field, page_body, publish_body, row_prefix, swap_body, text_after};
+ghost use Rattle.remote_rows.specs.Messages.{begin_body, draw_body, edit_fields, fetch_body, field, page_body, publish_body, row_prefix, swap_body, text_after};
 
 use byteorder::{BigEndian, ByteOrder};
 use cell_key::{CellKey, Edit, Family, Qualifier, Refusal, Row, Stamp};
@@ -174,6 +174,14 @@ pub(crate) fn page_message(alloc: Global, from: &[u8], most: u32) -> Result<Vec<
     push_field(&mut body, from)?;
     push_u32(&mut body, most)?;
     message(alloc, &body)
+}
+
+/// Says that a request begins: no reply comes. Allocates nothing.
+#[tactic(auto, unfolding(crate::specs::Messages::field))]
+pub(crate) fn begin_message() -> [u8; 5]
+    ensures { result ≡ field begin_body }
+{
+    [0, 0, 0, 1, 6]
 }
 
 /// Asks for a stamp. Allocates nothing.

@@ -1,7 +1,7 @@
 //! A wire through two pipes. Its messages are in `specs/Messages.antt`, and each reply is a field too: its length as
 //! four bytes, and its body.
 
-ghost use Rattle.std.specs.Prelude.{◌≡◌, ◌≤◌, vec_len, Ok, Some, None, IfOk, IfErr, IsErrOf, IsOkUnless};
+ghost use Rattle.std.specs.Prelude.{◌≡◌, ◌≤◌, vec_len, Ok, Some, None, ⊤, IfOk, IfErr, IsErrOf, IsOkUnless};
 ghost use Rattle.remote_rows.specs.Wires.{IsWireRefusal};
 
 use crate::wire::{FetchedRow, Page, RowWire, StampWire, Swap};
@@ -35,6 +35,8 @@ pub struct PipeWire<W: Write, R: Read> {
     to: W,
     from: R,
     is_failed: bool,
+    /// A request has begun, of which the other end isn't told yet.
+    begins: bool,
 }
 
 impl<W: Write, R: Read> PipeWire<W, R> {
@@ -45,6 +47,7 @@ impl<W: Write, R: Read> PipeWire<W, R> {
             to,
             from,
             is_failed: false,
+            begins: false,
         }
     }
 
@@ -67,6 +70,17 @@ impl<W: Write, R: Read> PipeWire<W, R> {
             return self.fail();
         }
         Ok(())
+    }
+
+    /// Sends a message of a request. The first one comes behind the word that the request begins.
+    fn send_of_request(&mut self, message: &[u8]) -> Result<(), Refusal>
+        ensures { IsOkUnless result Refusal.Device }
+    {
+        if self.begins {
+            self.send(&messages::begin_message())?;
+            self.begins = false;
+        }
+        self.send(message)
     }
 
     /// Reads bytes.
@@ -113,7 +127,7 @@ impl<W: Write, R: Read> PipeWire<W, R> {
         ensures some { IfOk result (λ body. 1 ≤ vec_len body) }
         ensures refusal { IfErr result IsWireRefusal }
     {
-        self.send(message)?;
+        self.send_of_request(message)?;
         let len = self.read_len(MOST_REPLY)?;
         let Ok(mut body) = vec![in self.alloc; 0u8; len] else {
             self.is_failed = true;
@@ -128,7 +142,7 @@ impl<W: Write, R: Read> PipeWire<W, R> {
     fn ask_byte(&mut self, message: &[u8], kind: u8) -> Result<u8, Refusal>
         ensures { IsOkUnless result Refusal.Device }
     {
-        self.send(message)?;
+        self.send_of_request(message)?;
         let len = self.read_len(2)?;
         let mut body = [0u8; 2];
         self.read(&mut body[..len])?;
@@ -172,6 +186,10 @@ impl<W: Write, R: Read> RowWire for PipeWire<W, R> {
 
     ghost failed = { λ wire. wire.is_failed };
 
+    fn begin(&mut self) {
+        self.begins = true;
+    }
+
     fn fetch(&mut self, row: &Row) -> Result<FetchedRow, Refusal> {
         let prefix = messages::row_prefix(self.alloc, row)?;
         let message = messages::fetch_message(self.alloc, &prefix)?;
@@ -204,6 +222,8 @@ impl<W: Write, R: Read> RowWire for PipeWire<W, R> {
 
 impl<W: Write, R: Read> StampWire for PipeWire<W, R> {
     ghost last = { λ _. None };
+
+    ghost told = { λ _ _. ⊤ };
 
     ghost failed = { λ wire. wire.is_failed };
 

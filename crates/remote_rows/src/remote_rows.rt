@@ -280,6 +280,7 @@ impl<W: RowWire> SharedRows for RemoteRows<W> {
     ghost lost = { λ rows. W.failed rows.wire };
 
     fn forget(&mut self) {
+        self.wire.begin();
         self.held = None;
         self.is_raced = false;
     }

@@ -69,7 +69,7 @@ impl<W: StampWire> Stamps for RemoteStamps<W> {
 }
 
 impl<W: StampWire> SharedStamps for RemoteStamps<W> {
-    ghost allows = { λ _ _. ⊤ };
+    ghost allows = { λ stamps. W.told stamps.wire };
 
     ghost lost = { λ stamps. W.failed stamps.wire };
 

@@ -42,6 +42,11 @@ pub trait RowWire {
     /// The wire has failed for good.
     ghost failed: { Self → Bool };
 
+    /// A request begins, or is made again: what is asked next is for it. Asks nothing, and changes nothing.
+    fn begin(&mut self)
+        ensures kept { KeepsRows seen self.old self.new }
+        ensures same { failed self.new ≡ failed self.old };
+
     /// A row with all its versions, and its guard.
     ///
     /// # Errors
@@ -90,6 +95,9 @@ pub trait StampWire {
     /// The last stamp, if the other end tells it: then nobody else draws.
     ghost last: { Self → Option ℕ };
 
+    /// The other end has told this number as the least floor that all servers have published.
+    ghost told: { Self → ℕ → Type 0 };
+
     /// The wire has failed for good.
     ghost failed: { Self → Bool };
 
@@ -114,6 +122,7 @@ pub trait StampWire {
     ///
     /// `Device` if the wire or the other end failed.
     fn publish(&mut self, floor: Stamp) -> Result<Stamp, Refusal>
+        ensures told { IfOk result (told self.new) }
         ensures alone { IfSome (last self.old) (λ _. IfOk result (λ least. least ≡ floor)) }
         ensures kept { last self.new ≡ last self.old }
         ensures refusal { IsOkUnless result Refusal.Device };

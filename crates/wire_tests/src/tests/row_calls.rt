@@ -11,6 +11,9 @@ use rows::{BatchLimits, Rows};
 use std::alloc::Global;
 use std::test::Fail;
 
+/// Says that a request begins.
+const BEGIN: &[u8] = b"\0\0\0\x01\x06";
+
 /// Asks for the row Bob.
 const FETCH: &[u8] = b"\0\0\0\x0A\x01\0\0\0\x05Bob\0\0";
 
@@ -85,16 +88,22 @@ fn is_raced(rt: HostRuntime) -> Result<(), Fail> {
     let alloc = rt.alloc();
     let wire = new_wire(
         alloc,
-        &[FETCH, SWAP],
+        &[FETCH, SWAP, BEGIN, FETCH, FETCH],
         b"\0\0\0\x2E\x81\0\0\0\0\0\0\0\x07\0\0\0\x01\
 \0\0\0\x18Bob\0\0bal\0\0data\0\0\xFF\xFF\xFF\xFF\xFF\xFF\xFF\xFC\0\0\0\x017\
-\0\0\0\x02\x82\x01",
+\0\0\0\x02\x82\x01\
+\0\0\0\x01\xFF\
+\0\0\0\x0D\x81\0\0\0\0\0\0\0\x08\0\0\0\0",
     );
     let mut rows = RemoteRows::new(alloc, wire);
     assert!(rt; rows.apply(&bob(alloc)?, change(alloc)?) == Err(Refusal::Device));
     assert!(rt; rows.faults() == 1 && rows.is_raced());
     rows.forget();
+    rows.forget();
     assert!(rt; !rows.is_raced());
+    // The other end is told once that a request begins, before its first message.
+    assert!(rt; data(alloc, &mut rows) == Err(Refusal::Device));
+    assert!(rt; data(alloc, &mut rows)?.is_none() && rows.faults() == 2);
     Ok(())
 }
 
