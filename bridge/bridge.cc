@@ -8,7 +8,16 @@
 //   03 Page: field first text, u32 most            83: u8 is last, u32 count, and of each key: field text, field value
 //   04 Draw                                        84: u64 stamp
 //   05 Publish: u64 floor                          85: u64 least floor
+//   06 a request of the server begins              nothing
 // FF: the engine failed, and nothing was changed. Where that isn't known, the pipes are closed instead.
+//
+// A server may have a recording: a file to which frames are added, each before its reply is given:
+//   01 field row prefix, u64 guard, place          02 field row prefix, u64 guard, u32 count, and of each edit: u8 puts,
+//   03 field first text, u32 count, places            field text; and when that was done 82 00 place, or 82 01: raced
+//   04 u64 stamp                                   05 u64 floor, u64 least, u64 version made or 0, u64 version seen
+//   06 a request of the server begins              FF u8 message: it failed, and nothing was changed
+//   08 u32 count, and of each tablet: field object, u64 epoch; before the first message of rows, and when they have changed
+// where a place is: field object, u64 version.
 #include <fcntl.h>
 #include <poll.h>
 #include <signal.h>
@@ -23,6 +32,7 @@
 #include <cstdlib>
 #include <cstring>
 #include <iostream>
+#include <memory>
 #include <sstream>
 #include <string_view>
 
@@ -93,6 +103,60 @@ void put_cells(Bytes& to, const Cells& cells) {
   }
 }
 
+// The file to which a server's messages are noted, or none.
+class Recording {
+ public:
+  explicit Recording(const std::string& path) : path_(path) {
+    if (path.empty()) return;
+    file_ = open(path.c_str(), O_WRONLY | O_CREAT | O_EXCL | O_NOFOLLOW | O_CLOEXEC, 0600);
+    if (file_ < 0) throw Failed(path + ": " + std::strerror(errno));
+  }
+
+  Recording(const Recording&) = delete;
+
+  ~Recording() {
+    if (file_ >= 0) close(file_);
+  }
+
+  // Adds the tablets, if they aren't the ones that were noted last.
+  void note_tablets(std::shared_ptr<const Places> tablets) {
+    if (file_ < 0 || tablets == tablets_) return;
+    Bytes noted;
+    put_number(noted, tablets->size(), 4);
+    for (const Tablet& tablet : *tablets) {
+      put_field(noted, tablet.object);
+      put_number(noted, tablet.epoch, 8);
+    }
+    note(8, noted);
+    tablets_ = std::move(tablets);
+  }
+
+  // Adds a frame, which begins with this number. If it can't be added, that is the end of all.
+  void note(int code, const Bytes& rest = "") {
+    if (file_ < 0) return;
+    Bytes frame;
+    put_number(frame, rest.size() + 1, 4);
+    put_number(frame, static_cast<uint64_t>(code), 1);
+    frame += rest;
+    for (size_t at = 0; at < frame.size();) {
+      const ssize_t count = write(file_, frame.data() + at, frame.size() - at);
+      if (count < 0 && errno == EINTR) continue;
+      if (count <= 0) give_up(path_ + ": " + std::strerror(errno));
+      at += static_cast<size_t>(count);
+    }
+  }
+
+ private:
+  const std::string path_;
+  int file_ = -1;
+  std::shared_ptr<const Places> tablets_;
+};
+
+void put_place(Bytes& to, const Place& place) {
+  put_field(to, place.object);
+  put_number(to, place.version, 8);
+}
+
 // A Swap's edits, all of keys of its row.
 std::vector<Edit> edits_of(Fields& fields, const Bytes& prefix) {
   std::vector<Edit> edits;
@@ -106,50 +170,107 @@ std::vector<Edit> edits_of(Fields& fields, const Bytes& prefix) {
   return edits;
 }
 
-// The body of the reply to a body.
-Bytes answered(Engine& engine, const Bytes& server, std::string_view body) {
-  Fields fields(body);
-  const uint64_t code = fields.number(1);
-  Bytes reply(1, static_cast<char>(code | 0x80));
-  if (code == 1) {
-    const Bytes prefix = fields.field();
-    fields.end();
-    const Row row = engine.fetch(prefix);
-    put_number(reply, row.guard, 8);
-    put_cells(reply, row.cells);
-  } else if (code == 2) {
-    const Bytes prefix = fields.field();
-    const uint64_t guard = fields.number(8);
-    const std::vector<Edit> edits = edits_of(fields, prefix);
-    fields.end();
-    put_number(reply, !engine.swap(prefix, guard, edits), 1);
-  } else if (code == 3) {
-    const Bytes from = fields.field();
-    const uint32_t most = static_cast<uint32_t>(fields.number(4));
-    fields.end();
-    const Page page = engine.page(from, most);
-    put_number(reply, page.is_last, 1);
-    put_cells(reply, page.cells);
-  } else if (code == 4) {
-    fields.end();
-    put_number(reply, engine.draw(), 8);
-  } else if (code == 5) {
-    const uint64_t floor = fields.number(8);
-    fields.end();
-    put_number(reply, engine.publish(server, floor), 8);
-  } else {
-    throw Malformed();
-  }
+Bytes fetched(Engine& engine, Recording& recording, Fields& fields) {
+  const Bytes prefix = fields.field();
+  fields.end();
+  const Row row = engine.fetch(prefix);
+  Bytes reply, noted;
+  put_number(reply, row.guard, 8);
+  put_field(noted, prefix);
+  noted += reply;
+  put_place(noted, row.at);
+  recording.note(1, noted);
+  put_cells(reply, row.cells);
   return reply;
 }
 
-Bytes reply_to(Engine& engine, const Bytes& server, std::string_view body) {
+Bytes swapped(Engine& engine, Recording& recording, Fields& fields) {
+  const Bytes prefix = fields.field();
+  const uint64_t guard = fields.number(8);
+  const std::vector<Edit> edits = edits_of(fields, prefix);
+  fields.end();
+  Bytes noted, reply;
+  put_field(noted, prefix);
+  put_number(noted, guard, 8);
+  put_number(noted, edits.size(), 4);
+  for (const Edit& edit : edits) {
+    put_number(noted, edit.value.has_value(), 1);
+    put_field(noted, edit.text);
+  }
+  recording.note(2, noted);
+  const std::optional<Place> done = engine.swap(prefix, guard, edits);
+  put_number(reply, !done, 1);
+  noted = reply;
+  if (done) put_place(noted, *done);
+  recording.note(0x82, noted);
+  return reply;
+}
+
+Bytes paged(Engine& engine, Recording& recording, Fields& fields) {
+  const Bytes from = fields.field();
+  const uint32_t most = static_cast<uint32_t>(fields.number(4));
+  fields.end();
+  const Page page = engine.page(from, most);
+  Bytes noted, reply;
+  put_field(noted, from);
+  put_number(noted, page.at.size(), 4);
+  for (const Place& place : page.at) put_place(noted, place);
+  recording.note(3, noted);
+  put_number(reply, page.is_last, 1);
+  put_cells(reply, page.cells);
+  return reply;
+}
+
+Bytes drawn(Engine& engine, Recording& recording, Fields& fields) {
+  fields.end();
+  const Bytes stamp = eight(engine.draw());
+  recording.note(4, stamp);
+  return stamp;
+}
+
+Bytes published(Engine& engine, Recording& recording, const Bytes& server, Fields& fields) {
+  const uint64_t floor = fields.number(8);
+  fields.end();
+  const Floor told = engine.publish(server, floor);
+  recording.note(5, eight(floor) + eight(told.least) + eight(told.made) + eight(told.seen));
+  return eight(told.least);
+}
+
+// The body of the reply to a message of rows, between two looks at the tablets.
+Bytes answered_by_rows(Engine& engine, Recording& recording, uint64_t code, Fields& fields) {
+  recording.note_tablets(engine.places());
+  const Bytes reply = code == 1 ? fetched(engine, recording, fields)
+                      : code == 2 ? swapped(engine, recording, fields)
+                                  : paged(engine, recording, fields);
+  recording.note_tablets(engine.places());
+  return reply;
+}
+
+// The body of the reply to a body, which begins with a code, behind its own code.
+Bytes answered(Engine& engine, Recording& recording, const Bytes& server, uint64_t code, Fields& fields) {
+  if (code >= 1 && code <= 3) return answered_by_rows(engine, recording, code, fields);
+  if (code == 4) return drawn(engine, recording, fields);
+  if (code == 5) return published(engine, recording, server, fields);
+  throw Malformed();
+}
+
+// The reply to a body: none if it needs none.
+std::optional<Bytes> reply_to(Engine& engine, Recording& recording, const Bytes& server, std::string_view body) {
+  Fields fields(body);
+  const uint64_t code = fields.number(1);
+  if (code == 6) {
+    fields.end();
+    recording.note(6);
+    return std::nullopt;
+  }
   try {
-    return answered(engine, server, body);
+    const Bytes reply = answered(engine, recording, server, code, fields);
+    return Bytes(1, static_cast<char>(code | 0x80)) + reply;
   } catch (const Fenced& why) {
     give_up(why.what());
   } catch (const Failed& why) {
     tell(server + ": " + why.what());
+    recording.note(0xff, Bytes(1, static_cast<char>(code)));
     return Bytes(1, '\xff');
   }
 }
@@ -229,8 +350,13 @@ class Pair {
 // A server: a folder with its pipes, and the thread that answers it, one request after the other.
 class Server {
  public:
-  Server(Engine& engine, const std::string& folder, const std::string& name)
-      : engine_(engine), name_(name), rows_(folder, "rows"), stamps_(folder, "stamps"), stop_(eventfd(0, EFD_CLOEXEC)) {
+  Server(Engine& engine, const std::string& folder, const std::string& name, const std::string& recording)
+      : engine_(engine),
+        name_(name),
+        recording_(recording),
+        rows_(folder, "rows"),
+        stamps_(folder, "stamps"),
+        stop_(eventfd(0, EFD_CLOEXEC)) {
     thread_ = std::thread([this] { run(); });
   }
 
@@ -267,13 +393,15 @@ class Server {
   bool serve(Pair& pair) {
     if (!pair.read_some()) return false;
     while (const auto body = pair.next()) {
-      if (!pair.put(reply_to(engine_, name_, *body), stop_)) return false;
+      const auto reply = reply_to(engine_, recording_, name_, *body);
+      if (reply && !pair.put(*reply, stop_)) return false;
     }
     return true;
   }
 
   Engine& engine_;
   const std::string name_;
+  Recording recording_;
   Pair rows_, stamps_;
   const int stop_;
   std::atomic<bool> has_ended_{false};
@@ -282,17 +410,19 @@ class Server {
 
 struct Options {
   Where where{"", "", "admin"};
-  std::string machine, forgotten;
+  std::string machine, forgotten, split;
   std::vector<std::string> servers;
   bool initializes = false, tells = false, takes_more = false;
 };
 
 const char USAGE[] =
     "usage: duqishom-bridge --rados CONF --pool NAME [--user USER] [--machine NAME] --servers FOLDER.. [--more]\n"
-    "       duqishom-bridge --rados CONF --pool NAME [--user USER] --init | --status | --forget MACHINE\n"
+    "       duqishom-bridge --rados CONF --pool NAME [--user USER] --init | --status | --forget MACHINE | --split END\n"
     "Each FOLDER gets the pipes of a server, whose name is the folder's. With --more each line of the standard input is\n"
-    "one more folder, which takes the place of one with the same name, and the end of the input ends the bridge.\n"
-    "--init takes the ends of tablets, as lines of hexadecimal digits, from the standard input.\n";
+    "one more folder, which takes the place of one with the same name, and the end of the input ends the bridge. Behind\n"
+    "a tab a line may have the file of the server's recording.\n"
+    "--init takes the ends of tablets, as lines of hexadecimal digits, from the standard input.\n"
+    "--split takes the end of a tablet's first part in the same way, or the word largest: the tablet with most keys.\n";
 
 [[noreturn]] void refuse() {
   std::cerr << USAGE;
@@ -312,6 +442,7 @@ Options options_of(int count, char** words) {
     else if (word == "--user") options.where.user = value();
     else if (word == "--machine") options.machine = value();
     else if (word == "--forget") options.forgotten = value();
+    else if (word == "--split") options.split = value();
     else if (word == "--init") options.initializes = true;
     else if (word == "--status") options.tells = true;
     else if (word == "--more") options.takes_more = true;
@@ -322,26 +453,32 @@ Options options_of(int count, char** words) {
   return options;
 }
 
+// The bytes of hexadecimal digits.
+Bytes bytes_of_digits(const std::string& text) {
+  Bytes bytes;
+  for (size_t at = 0; at + 1 < text.size(); at += 2) bytes += static_cast<char>(std::stoi(text.substr(at, 2), nullptr, 16));
+  return bytes;
+}
+
 // The bytes of the lines of the standard input, which are hexadecimal digits.
 std::vector<Bytes> lines_of_bytes() {
   std::vector<Bytes> all;
-  for (std::string line; std::getline(std::cin, line);) {
-    Bytes bytes;
-    for (size_t at = 0; at + 1 < line.size(); at += 2) bytes += static_cast<char>(std::stoi(line.substr(at, 2), nullptr, 16));
-    all.push_back(bytes);
-  }
+  for (std::string line; std::getline(std::cin, line);) all.push_back(bytes_of_digits(line));
   return all;
 }
 
 using Servers = std::map<std::string, std::unique_ptr<Server>>;
 
-// Serves a folder, in the place of the one with the same name.
-void take(Engine& engine, Servers& servers, std::string folder) {
+// Serves the folder of a line, in the place of the one with the same name.
+void take(Engine& engine, Servers& servers, const std::string& line) {
+  const size_t tab = line.find('\t');
+  std::string folder = line.substr(0, tab);
+  const std::string recording = tab == std::string::npos ? "" : line.substr(tab + 1);
   while (folder.size() > 1 && folder.back() == '/') folder.pop_back();
   const std::string name = folder.substr(folder.rfind('/') + 1);
   servers.erase(name);
   engine.admit(name);
-  servers[name] = std::make_unique<Server>(engine, folder, name);
+  servers[name] = std::make_unique<Server>(engine, folder, name, recording);
 }
 
 // Takes further folders until a signal or the end of the input.
@@ -403,6 +540,10 @@ int run(const Options& options, int signals) {
     tell_status(options.where);
   } else if (!options.forgotten.empty()) {
     forget(options.where, options.forgotten);
+  } else if (options.split == "largest") {
+    split_largest(options.where);
+  } else if (!options.split.empty()) {
+    split(options.where, bytes_of_digits(options.split));
   } else if (!options.servers.empty() || options.takes_more) {
     return bridge(options, signals);
   } else {
@@ -417,6 +558,8 @@ int run(const Options& options, int signals) {
 int main(int count, char** words) {
   using namespace duqishom;
   signal(SIGPIPE, SIG_IGN);
+  // A file that may not grow is a failed write
+  signal(SIGXFSZ, SIG_IGN);
   sigset_t ends;
   sigemptyset(&ends);
   for (int each : {SIGTERM, SIGINT}) sigaddset(&ends, each);

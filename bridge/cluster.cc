@@ -6,8 +6,6 @@
 
 namespace duqishom {
 
-namespace {
-
 Bytes hexadecimal(const Bytes& bytes) {
   static const char DIGITS[] = "0123456789abcdef";
   Bytes text;
@@ -18,21 +16,14 @@ Bytes hexadecimal(const Bytes& bytes) {
   return text;
 }
 
+namespace {
+
 // Makes an object, if it isn't there.
 void make(Pool& pool, const std::string& object, const Omap& entries) {
   librados::ObjectWriteOperation operation;
   operation.create(false);
   if (!entries.empty()) operation.omap_set(entries);
   check(object, pool.write(object, operation));
-}
-
-// The version of an object.
-uint64_t version_of(Pool& pool, const std::string& object) {
-  uint64_t version = 0, size = 0;
-  librados::ObjectReadOperation operation;
-  operation.stat2(&size, nullptr, nullptr);
-  check(object, pool.read(object, operation, &version));
-  return version;
 }
 
 }  // namespace
@@ -64,15 +55,16 @@ void initialize(const Where& where, const std::vector<Bytes>& ends) {
   std::cout << "a store of " << objects.size() << " tablets is in the pool " << where.pool << "\n";
 }
 
-// As lines: tablet END OBJECT EPOCH VERSION, stamps VERSION, bridge MACHINE ADDRESS, floor SERVER FLOOR. The end is in
-// hexadecimal digits, or - for the last tablet.
+// As lines: tablet END OBJECT EPOCH VERSION, split OBJECT END OTHER STAGE, stamps VERSION, bridge MACHINE ADDRESS, floor
+// SERVER FLOOR. The ends are in hexadecimal digits, or - for the last tablet.
 void tell_status(const Where& where) {
   Pool pool(where);
-  for (const Tablet& tablet : places_of(pool.entries(PLACES, ""))) {
+  for (const Tablet& tablet : read_places(pool)) {
     std::cout << "tablet " << (tablet.end ? hexadecimal(*tablet.end) : "-") << " " << tablet.object << " " << tablet.epoch << " "
-              << version_of(pool, tablet.object) << "\n";
+              << pool.version(tablet.object) << "\n"
+              << split_line(pool, tablet);
   }
-  std::cout << "stamps " << version_of(pool, STAMPS) << "\n";
+  std::cout << "stamps " << pool.version(STAMPS) << "\n";
   for (const auto& [name, value] : pool.entries(FLOORS, std::string(1, ADDRESS))) {
     std::cout << "bridge " << name.substr(1) << " " << bytes_of(value) << "\n";
   }

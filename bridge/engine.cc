@@ -3,9 +3,9 @@
 
 #include <algorithm>
 #include <cerrno>
+#include <chrono>
 #include <cstdio>
 #include <cstring>
-#include <set>
 
 namespace duqishom {
 
@@ -13,20 +13,16 @@ using librados::bufferlist;
 using librados::ObjectReadOperation;
 using librados::ObjectWriteOperation;
 
-const std::string PLACES = "places", STAMPS = "stamps", FLOORS = "floors", EPOCH = "e", LAST = "l";
+const std::string PLACES = "places", STAMPS = "stamps", FLOORS = "floors", EPOCH = "e", LAST = "l", SPLIT = "s";
 
 namespace {
 
-// How often something is read again because others changed it meanwhile.
+// How often something is read again because others changed it meanwhile, and the pause if it is a split.
 constexpr int TRIES = 1000;
+constexpr std::chrono::milliseconds PAUSE{50};
 
 // The stamps of one write, and the versions above which they would reach 2^63.
 constexpr uint64_t OF_A_WRITE = 4096, MOST_VERSION = (uint64_t{1} << 51) - 1;
-
-Bytes entry(const Omap& entries, const std::string& key) {
-  const auto found = entries.find(key);
-  return found == entries.end() ? Bytes() : bytes_of(found->second);
-}
 
 // What is answered where an operation wasn't done.
 [[noreturn]] void fail(const std::string& what, int error) {
@@ -49,6 +45,13 @@ std::string key(char kind, const Bytes& rest) { return std::string(1, kind) + re
 void check(const std::string& what, int done) {
   if (done < 0) fail(what, done);
 }
+
+Bytes entry(const Omap& entries, const std::string& key) {
+  const auto found = entries.find(key);
+  return found == entries.end() ? Bytes() : bytes_of(found->second);
+}
+
+std::pair<bufferlist, int> is(const Bytes& value) { return {list_of(value), LIBRADOS_CMPXATTR_OP_EQ}; }
 
 Bytes eight(uint64_t number) {
   Bytes bytes(8, '\0');
@@ -77,7 +80,13 @@ uint64_t digits_of(const Bytes& text) {
   return std::stoull(text, nullptr, 16);
 }
 
-Places places_of(const Omap& entries) {
+Epoch epoch_of(const Omap& entries) {
+  const Bytes value = entry(entries, EPOCH);
+  return {eight_of(value.substr(0, 8)), value.size() > 8};
+}
+
+// The places in the entries of their object.
+static Places places_of(const Omap& entries) {
   Places places;
   for (const auto& [name, list] : entries) {
     const Bytes value = bytes_of(list);
@@ -87,6 +96,28 @@ Places places_of(const Omap& entries) {
   }
   if (places.empty() || places.back().end) throw Failed("there is no last tablet");
   return places;
+}
+
+Places read_places(Pool& pool) {
+  for (int tries = 0; tries < TRIES; ++tries) {
+    std::set<uint64_t> versions;
+    const Omap entries = pool.entries(PLACES, "", &versions);
+    if (versions.size() == 1) return places_of(entries);
+  }
+  throw Failed("the places change too often to be read");
+}
+
+size_t place_of(const Places& places, const Bytes& text) {
+  size_t low = 0, high = places.size() - 1;
+  while (low < high) {
+    const size_t middle = (low + high) / 2;
+    if (text < *places[middle].end) {
+      high = middle;
+    } else {
+      low = middle + 1;
+    }
+  }
+  return low;
 }
 
 Pool::Pool(const Where& where) {
@@ -128,7 +159,7 @@ int Pool::write(const std::string& object, ObjectWriteOperation& operation, uint
   return done;
 }
 
-Omap Pool::entries(const std::string& object, const std::string& prefix) {
+Omap Pool::entries(const std::string& object, const std::string& prefix, std::set<uint64_t>* versions) {
   Omap all;
   bool more = true;
   std::string after;
@@ -136,7 +167,9 @@ Omap Pool::entries(const std::string& object, const std::string& prefix) {
     Omap found;
     ObjectReadOperation operation;
     operation.omap_get_vals2(after, prefix, 1024, &found, &more, nullptr);
-    const int done = read(object, operation);
+    uint64_t version = 0;
+    const int done = read(object, operation, &version);
+    if (versions) versions->insert(version);
     if (done == -ENOENT && object == PLACES) throw Failed("the pool has no store: make one with cluster init");
     check(object, done);
     if (found.empty()) break;
@@ -146,9 +179,19 @@ Omap Pool::entries(const std::string& object, const std::string& prefix) {
   return all;
 }
 
+uint64_t Pool::version(const std::string& object) {
+  uint64_t version = 0, size = 0;
+  ObjectReadOperation operation;
+  operation.stat2(&size, nullptr, nullptr);
+  const int done = read(object, operation, &version);
+  if (done == -ENOENT) return 0;
+  check(object, done);
+  return version;
+}
+
 bool Pool::put_if(const std::string& object, const std::string& key, const Bytes& was, const Bytes& value) {
   ObjectWriteOperation operation;
-  operation.omap_cmp({{key, {list_of(was), LIBRADOS_CMPXATTR_OP_EQ}}}, nullptr);
+  operation.omap_cmp({{key, is(was)}}, nullptr);
   operation.omap_set({{key, list_of(value)}});
   const int done = write(object, operation);
   if (done != -ECANCELED) check(object, done);
@@ -179,6 +222,7 @@ Engine::Engine(const Where& where, const std::string& machine) : pool_(where), m
   take_place();
   open_stamps();
   std::thread([this] { draw_for_ever(); }).detach();
+  std::thread([this] { mender_.mend_for_ever(); }).detach();
 }
 
 // Machines.
@@ -194,20 +238,24 @@ void Engine::take_place() {
 
 void Engine::admit(const Bytes& server) { pool_.put_if(FLOORS, key(FLOOR, machine_ + "/" + server), "", digits(0)); }
 
-uint64_t Engine::publish(const Bytes& server, uint64_t floor) {
+Floor Engine::publish(const Bytes& server, uint64_t floor) {
   ++counts.publishes;
+  Floor told{floor};
   const std::string name = key(FLOOR, machine_ + "/" + server);
   ObjectWriteOperation operation;
   operation.omap_cmp({{name, {list_of(digits(floor)), LIBRADOS_CMPXATTR_OP_LT}}}, nullptr);
   operation.omap_set({{name, list_of(digits(floor))}});
-  const int done = pool_.write(FLOORS, operation);
+  uint64_t version = 0;
+  const int done = pool_.write(FLOORS, operation, &version);
   // A higher one stays, as of an earlier server of this name
   if (done != -ECANCELED) check(FLOORS, done);
-  uint64_t least = floor;
-  for (const auto& each : pool_.entries(FLOORS, std::string(1, FLOOR))) {
-    least = std::min(least, digits_of(bytes_of(each.second)));
+  if (done == 0) told.made = version;
+  std::set<uint64_t> versions;
+  for (const auto& each : pool_.entries(FLOORS, std::string(1, FLOOR), &versions)) {
+    told.least = std::min(told.least, digits_of(bytes_of(each.second)));
   }
-  return least;
+  told.seen = *versions.rbegin();
+  return told;
 }
 
 void Engine::leave() { pool_.remove_machine(machine_); }
@@ -216,27 +264,32 @@ void Engine::leave() { pool_.remove_machine(machine_); }
 
 std::shared_ptr<const Places> Engine::places() {
   std::lock_guard<std::mutex> guard(places_lock_);
-  if (!places_) places_ = std::make_shared<const Places>(places_of(pool_.entries(PLACES, "")));
+  if (!places_) {
+    places_ = std::make_shared<const Places>(read_places(pool_));
+    // A split that is over may have left something
+    mender_.wake();
+  }
   return places_;
 }
 
-void Engine::forget_places() {
-  std::lock_guard<std::mutex> guard(places_lock_);
-  places_.reset();
+// Whether a tablet's entries were read as the places have it. If not, they are read again.
+bool Engine::is_at(const Tablet& tablet, const Omap& told) {
+  const Epoch epoch = epoch_of(told);
+  if (epoch.is_frozen) mender_.wake();
+  if (epoch.number == tablet.epoch) return true;
+  look_again(tablet);
+  return false;
 }
 
-// The number of the tablet that has a text.
-static size_t place_of(const Places& places, const Bytes& text) {
-  size_t low = 0, high = places.size() - 1;
-  while (low < high) {
-    const size_t middle = (low + high) / 2;
-    if (text < *places[middle].end) {
-      high = middle;
-    } else {
-      low = middle + 1;
-    }
+// A tablet isn't as the places have it, or it is frozen. They are read again, after a pause if they have it as before.
+void Engine::look_again(const Tablet& tablet) {
+  {
+    std::lock_guard<std::mutex> guard(places_lock_);
+    places_.reset();
   }
-  return low;
+  const auto all = places();
+  const auto is_as_before = [&](const Tablet& each) { return each.object == tablet.object && each.epoch == tablet.epoch; };
+  if (std::any_of(all->begin(), all->end(), is_as_before)) std::this_thread::sleep_for(PAUSE);
 }
 
 Engine::Marks Engine::marks(const Tablet& tablet, const Bytes& prefix) {
@@ -245,7 +298,7 @@ Engine::Marks Engine::marks(const Tablet& tablet, const Bytes& prefix) {
   ObjectReadOperation operation;
   operation.omap_get_vals_by_keys({EPOCH, name}, &found, nullptr);
   check(tablet.object, pool_.read(tablet.object, operation));
-  return {eight_of(entry(found, EPOCH)), eight_of(entry(found, name))};
+  return {epoch_of(found), eight_of(entry(found, name))};
 }
 
 Row Engine::fetch(const Bytes& prefix) {
@@ -262,6 +315,7 @@ std::optional<Row> Engine::fetch_once(const Bytes& prefix) {
   const Tablet& tablet = (*all)[place_of(*all, prefix)];
   const std::string cells = key(KEY, prefix), guard = key(GUARD, prefix);
   Row row;
+  row.at.object = tablet.object;
   std::string after;
   bool more = true;
   while (more) {
@@ -269,11 +323,8 @@ std::optional<Row> Engine::fetch_once(const Bytes& prefix) {
     ObjectReadOperation operation;
     operation.omap_get_vals2(after, cells, UINT64_MAX, &found, &more, nullptr);
     operation.omap_get_vals_by_keys({EPOCH, guard}, &told, nullptr);
-    check(tablet.object, pool_.read(tablet.object, operation));
-    if (eight_of(entry(told, EPOCH)) != tablet.epoch) {
-      forget_places();
-      return std::nullopt;
-    }
+    check(tablet.object, pool_.read(tablet.object, operation, &row.at.version));
+    if (!is_at(tablet, told)) return std::nullopt;
     const uint64_t now = eight_of(entry(told, guard));
     if (!after.empty() && now != row.guard) return std::nullopt;
     row.guard = now;
@@ -284,19 +335,20 @@ std::optional<Row> Engine::fetch_once(const Bytes& prefix) {
   return row;
 }
 
-bool Engine::swap(const Bytes& prefix, uint64_t guard, const std::vector<Edit>& edits) {
+std::optional<Place> Engine::swap(const Bytes& prefix, uint64_t guard, const std::vector<Edit>& edits) {
   ++counts.swaps;
+  std::optional<Place> done;
   for (int tries = 0; tries < TRIES; ++tries) {
-    if (const auto done = swap_once(prefix, guard, edits)) {
-      counts.raced += !*done;
-      return *done;
+    if (swap_once(prefix, guard, edits, done)) {
+      counts.raced += !done;
+      return done;
     }
   }
-  throw Failed("a tablet changes its place too often");
+  throw Failed("a tablet changes its place too often, or its split has no end");
 }
 
-// Whether the edits were done: none if the row is elsewhere now.
-std::optional<bool> Engine::swap_once(const Bytes& prefix, uint64_t guard, const std::vector<Edit>& edits) {
+// False if the row is elsewhere now, or its tablet is frozen. Where the edits were done is told, if they were.
+bool Engine::swap_once(const Bytes& prefix, uint64_t guard, const std::vector<Edit>& edits, std::optional<Place>& place) {
   const auto all = places();
   const Tablet& tablet = (*all)[place_of(*all, prefix)];
   const std::string name = key(GUARD, prefix);
@@ -316,12 +368,15 @@ std::optional<bool> Engine::swap_once(const Bytes& prefix, uint64_t guard, const
   ObjectWriteOperation operation;
   // A guard that isn't there compares as the empty text. A tablet always has an epoch
   const Bytes was = guard == 0 ? Bytes() : eight(guard);
-  operation.omap_cmp({{EPOCH, {list_of(eight(tablet.epoch)), LIBRADOS_CMPXATTR_OP_EQ}},
-                      {name, {list_of(was), LIBRADOS_CMPXATTR_OP_EQ}}}, nullptr);
+  operation.omap_cmp({{EPOCH, is(eight(tablet.epoch))}, {name, is(was)}}, nullptr);
   operation.omap_set(set);
   if (!erased.empty()) operation.omap_rm_keys(erased);
-  const int done = pool_.write(tablet.object, operation);
-  if (done == 0) return true;
+  uint64_t version = 0;
+  const int done = pool_.write(tablet.object, operation, &version);
+  if (done == 0) {
+    place = Place{tablet.object, version};
+    return true;
+  }
   Marks now{};
   try {
     now = marks(tablet, prefix);
@@ -330,11 +385,11 @@ std::optional<bool> Engine::swap_once(const Bytes& prefix, uint64_t guard, const
     throw Unknown(why.what());
   }
   if (done == -ECANCELED) {
-    if (now.epoch == tablet.epoch) return false;
-    forget_places();
-    return std::nullopt;
+    if (now.epoch.number == tablet.epoch && !now.epoch.is_frozen) return true;
+    look_again(tablet);
+    return false;
   }
-  if (now.guard != guard) throw Unknown(std::strerror(-done));
+  if (now.epoch.number != tablet.epoch || now.guard != guard) throw Unknown(std::strerror(-done));
   fail(tablet.object, done);
 }
 
@@ -356,7 +411,6 @@ Page Engine::page(const Bytes& from, uint32_t most) {
 std::optional<Page> Engine::page_once(const Bytes& from, size_t most) {
   const auto all = places();
   Page page;
-  std::vector<std::pair<std::string, uint64_t>> seen;
   for (size_t at = place_of(*all, from); at < all->size() && page.cells.size() < most; ++at) {
     const Tablet& tablet = (*all)[at];
     std::string after = key(KEY, from);
@@ -371,17 +425,18 @@ std::optional<Page> Engine::page_once(const Bytes& from, size_t most) {
       operation.omap_get_vals_by_keys(single, &told, nullptr);
       uint64_t version = 0;
       check(tablet.object, pool_.read(tablet.object, operation, &version));
-      if (eight_of(entry(told, EPOCH)) != tablet.epoch) {
-        forget_places();
-        return std::nullopt;
-      }
+      if (!is_at(tablet, told)) return std::nullopt;
       if (begins) {
-        seen.emplace_back(tablet.object, version);
-      } else if (seen.back().second != version) {
+        page.at.push_back({tablet.object, version});
+      } else if (page.at.back().version != version) {
         return std::nullopt;
       }
       told.erase(EPOCH);
       begins = false;
+      // Behind its end a tablet may still have keys that have moved
+      const auto moved = tablet.end ? found.lower_bound(key(KEY, *tablet.end)) : found.end();
+      more = more && moved == found.end();
+      found.erase(moved, found.end());
       for (const Omap* part : {&told, &found}) {
         for (const auto& [name, value] : *part) page.cells.emplace_back(name.substr(1), bytes_of(value));
       }
@@ -390,13 +445,8 @@ std::optional<Page> Engine::page_once(const Bytes& from, size_t most) {
     }
   }
   if (page.cells.size() > most) page.cells.resize(most);
-  if (!seen.empty()) seen.pop_back();
-  for (const auto& [object, version] : seen) {
-    uint64_t now = 0, size = 0;
-    ObjectReadOperation operation;
-    operation.stat2(&size, nullptr, nullptr);
-    check(object, pool_.read(object, operation, &now));
-    if (now != version) return std::nullopt;
+  for (size_t at = 0; at + 1 < page.at.size(); ++at) {
+    if (pool_.version(page.at[at].object) != page.at[at].version) return std::nullopt;
   }
   return page;
 }

@@ -312,7 +312,6 @@ impl Gateway {
 
     /// The program has ended: all connections close, and the status is its own, unless its input was ended here.
     pub fn program_has_ended(&mut self) -> Result<(), Failure> {
-        self.program.end_recording()?;
         let status = self.program.wait()?;
         let is_asked_for = self.is_closing && status.success();
         let status = if is_asked_for { i32::from(!self.is_kept) } else { self.told_of_end(status) };

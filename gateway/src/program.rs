@@ -71,6 +71,8 @@ pub struct Program {
     piece: Box<[u8]>,
     is_stuck: bool,
     recording: Option<Recording>,
+    /// How many bytes of the requests to be written are in the recording.
+    noted: usize,
     grace: Duration,
     pub runs: VecDeque<Run>,
     pub weight: u32,
@@ -106,6 +108,7 @@ impl Program {
             piece: vec![0; PIECE].into(),
             is_stuck: false,
             recording,
+            noted: 0,
             grace: options.grace,
             runs: VecDeque::new(),
             weight: 0,
@@ -146,15 +149,25 @@ impl Program {
         self.is_stuck = false;
     }
 
+    /// Adds the requests that are to be written to the recording.
+    fn note_requests(&mut self) -> Result<(), Failure> {
+        if let (Some(recording), true) = (&mut self.recording, self.noted < self.out.len()) {
+            recording.note_requests(&self.out[self.noted..])?;
+            self.noted = self.out.len();
+        }
+        Ok(())
+    }
+
     /// Writes what it takes now. What it doesn't read any more, its end will tell.
     pub fn flush(&mut self) -> Result<(), Failure> {
+        if self.input.is_some() {
+            self.note_requests()?;
+        }
         while let (Some(input), false, false) = (&mut self.input, self.is_stuck, self.out.is_empty()) {
             match input.write(&self.out) {
                 Ok(count) => {
-                    if let Some(recording) = &mut self.recording {
-                        recording.note_requests(&self.out[..count])?;
-                    }
                     self.out.advance(count);
+                    self.noted = self.noted.saturating_sub(count);
                 }
                 Err(error) if error.kind() == ErrorKind::WouldBlock => self.is_stuck = true,
                 Err(error) if error.kind() == ErrorKind::Interrupted => {}
@@ -200,11 +213,6 @@ impl Program {
     /// Ends its input, after all that was sent.
     pub fn close_input(&mut self) {
         self.input = None;
-    }
-
-    /// Writes the last frames of a recording.
-    pub fn end_recording(&mut self) -> Result<(), Failure> {
-        self.recording.take().map_or(Ok(()), Recording::close)
     }
 
     /// The status with which it has ended.

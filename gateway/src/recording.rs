@@ -1,8 +1,8 @@
 //! A recording: the frames that go to the program and come from it, with the clients' numbers, in two files, which
-//! `tablet_audit --clients` judges.
+//! `tablet_audit --clients` judges. Requests are noted before the program gets them, and replies before the clients do.
 
 use std::fs::File;
-use std::io::{BufWriter, Write};
+use std::io::Write;
 use std::path::{Path, PathBuf};
 
 use crate::failure::Failure;
@@ -11,27 +11,19 @@ use crate::sockets::private;
 /// A file of frames.
 struct Frames {
     path: PathBuf,
-    file: BufWriter<File>,
+    file: File,
 }
 
 impl Frames {
     fn open(path: PathBuf) -> Result<Frames, Failure> {
         match private(&path) {
-            Ok(file) => Ok(Frames { path, file: BufWriter::new(file) }),
+            Ok(file) => Ok(Frames { path, file }),
             Err(error) => Err(Failure(format!("{}: {error}", path.display()))),
         }
     }
 
     fn add(&mut self, bytes: &[u8]) -> Result<(), Failure> {
-        self.file.write_all(bytes).map_err(|error| self.failed(error))
-    }
-
-    fn end(mut self) -> Result<(), Failure> {
-        self.file.flush().map_err(|error| self.failed(error))
-    }
-
-    fn failed(&self, error: std::io::Error) -> Failure {
-        Failure(format!("{}: {error}", self.path.display()))
+        self.file.write_all(bytes).map_err(|error| Failure(format!("{}: {error}", self.path.display())))
     }
 }
 
@@ -53,11 +45,5 @@ impl Recording {
 
     pub fn note_replies(&mut self, frames: &[u8]) -> Result<(), Failure> {
         self.replies.add(frames)
-    }
-
-    /// Writes the last bytes to the files.
-    pub fn close(self) -> Result<(), Failure> {
-        let ended = self.requests.end();
-        self.replies.end().and(ended)
     }
 }

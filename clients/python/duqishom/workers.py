@@ -27,10 +27,11 @@ from dataclasses import dataclass, field
 from pathlib import Path
 
 from duqishom.cluster import BUILT, add_place, found_bridge, place_words
+from duqishom.messages import MESSAGES
 from duqishom.program import default_program
 
 # The options of a gateway that its workers can't share.
-NOT_SHARED = ("--dir", "--rows", "--admin", "--tcp", "--record", "--standby", "--checkpoint")
+NOT_SHARED = ("--dir", "--rows", "--admin", "--tcp", "--standby", "--checkpoint")
 
 # The statuses if the command is refused, and if the bridge has ended.
 REFUSED, BROKEN = 2, 70
@@ -75,6 +76,15 @@ def notify(state: str) -> None:
     if place := os.environ.get("NOTIFY_SOCKET"):
         with suppress(OSError), socket.socket(socket.AF_UNIX, socket.SOCK_DGRAM) as manager:
             manager.sendto(f"{state}\n".encode(), "\0" + place[1:] if place.startswith("@") else place)
+
+
+def new_recording(folder: Path, name: str) -> Path:
+    """A new folder for the recording of a server that begins: its name, and the next number. OSError if it can't be
+    made."""
+    numbers = [int(place.name.rpartition(".")[2]) for place in folder.glob(f"{name}.*") if place.name.rpartition(".")[2].isdigit()]
+    made = folder / f"{name}.{max(numbers, default=0) + 1}"
+    made.mkdir(mode=0o700)
+    return made
 
 
 class Listening:
@@ -129,11 +139,12 @@ class Listening:
 
 @dataclass
 class Worker:
-    """A server with its gateway: its name, its folder of pipes, and the process of the gateway. It waits for its pipes if
-    there is no process, and before that until it is due."""
+    """A server with its gateway: its name, its folder of pipes, that of its recording if there is one, and the process of
+    the gateway. It waits for its pipes if there is no process, and before that until it is due."""
 
     name: str
     folder: Path | None = None
+    record: Path | None = None
     process: subprocess.Popen[bytes] | None = None
     due: float = 0.0
     began: float = 0.0
@@ -152,6 +163,7 @@ class Workers:
     listening: Listening
     folder: Path
     workers: list[Worker]
+    record: Path | None = None
     starts: int = 0
     is_ready: bool = False
     is_closing: bool = False
@@ -207,17 +219,20 @@ class Workers:
             self.starts += 1
             worker.folder = self.folder / str(self.starts) / worker.name
             worker.folder.mkdir(parents=True, mode=0o700)
+            worker.record = None if self.record is None else new_recording(self.record, worker.name)
+            messages = "" if worker.record is None else f"\t{worker.record / MESSAGES}"
             with suppress(BrokenPipeError):
                 assert self.bridge.stdin is not None
-                self.bridge.stdin.write(f"{worker.folder}\n".encode())
+                self.bridge.stdin.write(f"{worker.folder}{messages}\n".encode())
         if worker.folder is not None and (worker.folder / LAST_PIPE).exists():
             self._begin(worker, now)
         return None
 
     def _begin(self, worker: Worker, now: float) -> None:
         become = [sys.executable, "-c", BECOME, str(os.getpid()), str(self.listening.socket.fileno())]
+        recorded = [] if worker.record is None else ["--record", str(worker.record)]
         worker.process = subprocess.Popen(
-            [*become, *self.gateway_command, "--rows", str(worker.folder)],
+            [*become, *self.gateway_command, *recorded, "--rows", str(worker.folder)],
             stdin=subprocess.DEVNULL,
             stderr=subprocess.PIPE,
             pass_fds=[self.listening.socket.fileno()],
@@ -236,6 +251,10 @@ class Workers:
         worker.process = None
         if not worker.was_ready:
             return REFUSED if status == 0 else status if status > 0 else 128 - status
+        if self.record is not None and status == BROKEN:
+            # Its recording can't grow, or its gateway has failed
+            tell(f"{worker.name} has ended with status {status}")
+            return BROKEN
         lasted = now - worker.began
         worker.pause = FIRST_PAUSE if lasted >= LASTS else min(LAST_PAUSE, 2 * worker.pause)
         tell(f"{worker.name} has ended with status {status}, and is begun again")
@@ -308,6 +327,7 @@ def add_options(parsing: argparse.ArgumentParser) -> None:
     parsing.add_argument("--mode", type=lambda text: int(text, 8), help="its mode (600, or 660 with --group)")
     parsing.add_argument("--group", type=group_of, help="its group, by number or name")
     parsing.add_argument("--machine", metavar="NAME", help="the name of these servers: of the host, and the socket's path")
+    parsing.add_argument("--record", metavar="FOLDER", help="keep frames and messages there, for cluster audit")
     parsing.add_argument("--program", help="the tabletd to start")
 
 
@@ -339,7 +359,11 @@ def serve(parsing: argparse.ArgumentParser, words: Sequence[str], gateway: str) 
         listening = Listening(options.socket, mode, options.group)
         try:
             workers = [Worker(f"w{place}") for place in range(options.workers)]
-            all_of_them = Workers(bridge_command(options), command, listening, folder, workers)
+            record = None
+            if options.record is not None:
+                record = Path(options.record).absolute()
+                record.mkdir(mode=0o700, parents=True, exist_ok=True)
+            all_of_them = Workers(bridge_command(options), command, listening, folder, workers, record)
             for each in (signal.SIGTERM, signal.SIGINT):
                 signal.signal(each, lambda *_: all_of_them.close())
             return all_of_them.run()

@@ -12,6 +12,8 @@ import unittest
 from collections.abc import Callable, Sequence
 from pathlib import Path
 
+from duqishom.messages import Kind, edits_at, mapped, objects_of_page, page_from, seen_in
+from tests.gateways import folder_of
 from tests.pipes import Server, prefix_of
 
 # The longest wait in seconds.
@@ -34,18 +36,18 @@ class Bridge:
         self.process = subprocess.Popen([*command, "--more"], stdin=subprocess.PIPE, stderr=subprocess.DEVNULL, bufsize=0)
         case.addCleanup(self.end)
 
-    def folder(self, name: str) -> Path:
-        """A new folder for the server of a name, of which the bridge is told."""
+    def folder(self, name: str, record: Path | None = None) -> Path:
+        """A new folder for the server of a name, of which the bridge is told, and of the file of its recording."""
         self._count += 1
         place = self._folder / str(self._count) / name
         place.mkdir(parents=True)
         assert self.process.stdin is not None
-        self.process.stdin.write(f"{place}\n".encode())
+        self.process.stdin.write(f"{place}\n".encode() if record is None else f"{place}\t{record}\n".encode())
         return place
 
-    def server(self, name: str) -> Server:
+    def server(self, name: str, record: Path | None = None) -> Server:
         """A server of a name, which takes the place of the one before."""
-        server = Server(self.folder(name))
+        server = Server(self.folder(name, record))
         self._case.addCleanup(server.close)
         return server
 
@@ -114,6 +116,32 @@ class BridgeCases:
             guard += is_done
             self.case.assertEqual(server.fetch(prefix), (guard, cells))
         self.case.assertEqual(server.fetch(other), (0, {}))
+
+    def test_recording(self) -> None:
+        record = Path(folder_of(self.case), "messages")
+        row, server = self.row(), self.bridge().server("w0", record)
+        prefix, text, other = prefix_of(row), key_of(row), key_of(row, b"lock")
+        server.begin()
+        self.case.assertEqual(server.fetch(prefix), (0, {}))
+        self.case.assertTrue(server.swap(prefix, 0, {text: b"1", other: None}))
+        server.begin()
+        self.case.assertFalse(server.swap(prefix, 0, {text: b"2"}))
+        server.begin()
+        server.page(text, 1)
+        stamp = server.draw()
+        server.publish(7)
+        server.publish(5)
+        server.close()
+        data = mapped(record)
+        made, raced, read, drawn, floor, lower = seen_in(data)
+        self.case.assertEqual((made.prefix, made.guard, made.changes, made.has_edits), (prefix, 0, True, True))
+        self.case.assertEqual(edits_at(data, made.at), [(True, text), (False, other)])
+        self.case.assertEqual((raced.is_raced, raced.changes), (True, False))
+        self.case.assertEqual((drawn.kind, drawn.version, drawn.changes), (Kind.STAMP, stamp, True))
+        self.case.assertEqual((floor.kind, floor.version >= floor.written > 0, lower.written), (Kind.FLOOR, True, 0))
+        self.case.assertEqual((read.pages, page_from(data, read.pages[0])), ([read.at], text))
+        # The change made the version that was read after it
+        self.case.assertEqual(objects_of_page(data, read.at)[0], (made.object, made.version))
 
     def test_long_row(self) -> None:
         row, server = os.urandom(3990) + bytes(10), self.bridge().server("w0")
@@ -244,7 +272,8 @@ class BridgeCases:
         bodies = (
             b"",
             b"\0",
-            b"\6",
+            b"\6\0",
+            b"\7",
             b"\1",
             b"\1" + bytes(5),
             b"\2" + len(prefix).to_bytes(4, "big") + prefix + bytes(8) + b"\0\0\0\1\1\0\0\0\1nx",

@@ -96,6 +96,10 @@ class Server:
             came += piece
         return bytes(came)
 
+    def begin(self) -> None:
+        """Says that a request begins."""
+        self._write("rows", counted(b"\6"))
+
     def fetch(self, prefix: bytes) -> tuple[int, dict[bytes, bytes]]:
         """The guard of a row, and its keys with their values."""
         guard, rest = take(self.ask("rows", b"\1" + counted(prefix)), 8)

@@ -16,9 +16,11 @@ from duqishom import cluster, connect
 from tests.bridges import Bridge, BridgeCases, key_of
 from tests.cluster_bank import Bank, fill
 from tests.folders import said
+from tests.gateways import folder_of
 from tests.pipes import EngineFailed, prefix_of
 from tests.served import Served, kill
 from tests.test_cluster import RowsTest
+from tests.test_cluster_audit import audited
 
 # The cluster, and its folder if scripts/ceph_up has made it.
 CONF, FOLDER = os.environ.get("DUQISHOM_CEPH", ""), os.environ.get("DUQISHOM_CEPH_FOLDER", "")
@@ -51,6 +53,15 @@ def make_store() -> None:
     ends = "\n".join(cluster.fence_of(row).hex() for row in (b"b", b"m", b"t"))
     status, told = cluster.asked([*PLACE, "--init"], ends)
     assert status == 0, told
+
+
+def lose_an_osd() -> None:
+    """Kills an OSD, and starts it again, if the cluster is that of the tests alone."""
+    if FOLDER:
+        time.sleep(8)
+        kill(int(Path(FOLDER, "run", "osd.1.process").read_text()))
+        time.sleep(10)
+        subprocess.run([UP, FOLDER, "--again", "1"], check=True)
 
 
 @unittest.skipUnless(CONF, "DUQISHOM_CEPH names no cluster")
@@ -162,8 +173,8 @@ class CephClusterTest(RowsTest):
     def setUp(self) -> None:
         make_store()
 
-    def over(self, machine: str, count: int) -> Served:
-        served = Served(self, [*PLACE, "--machine", machine], count)
+    def over(self, machine: str, count: int, *words: str) -> Served:
+        served = Served(self, [*PLACE, "--machine", machine, *words], count)
         self.assertTrue(served.is_ready(), served.said())
         return served
 
@@ -184,24 +195,21 @@ class CephClusterTest(RowsTest):
                 self.assertEqual(here.get(b"Bob", b"bal"), b"%d!" % count)
 
     def test_bank(self) -> None:
-        all_served = [self.over("one", 3), self.over("two", 3)]
+        place = Path(folder_of(self))
+        all_served = [self.over(name, 3, "--record", str(place / name)) for name in ("one", "two")]
         with connect(f"unix:{all_served[0].path}") as store:
             fill(store)
-        worker = threading.Thread(target=self.lose_an_osd)
+        worker = threading.Thread(target=lose_an_osd)
         worker.start()
         counts = Bank(self, all_served, 8, 40).run(3 * ["client", "tabletd", "duqishom-gateway", "client", "duqishom-bridge"])
         worker.join()
         print(dict(counts))
         self.assertGreater(counts["commits"], 20)
         self.assertGreater(counts["sums"], 0)
-
-    def lose_an_osd(self) -> None:
-        """Kills an OSD, and starts it again, if the cluster is that of the tests alone."""
-        if FOLDER:
-            time.sleep(8)
-            kill(int(Path(FOLDER, "run", "osd.1.process").read_text()))
-            time.sleep(10)
-            subprocess.run([UP, FOLDER, "--again", "1"], check=True)
+        self.assertEqual([served.end() for served in all_served], [0, 0])
+        status, told = audited([place / "one", place / "two"])
+        print(told)
+        self.assertEqual(status, 0, told)
 
 
 if __name__ == "__main__":

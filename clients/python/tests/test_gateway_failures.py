@@ -55,13 +55,15 @@ class Failures(unittest.TestCase):
             self.assert_failed(gateway, rf"{place}/{full}: File too large \(os error 27\)")
             self.assertEqual(os.path.getsize(f"{place}/{full}"), 40_000)
 
-    def test_a_recording_whose_last_bytes_can_not_be_written(self) -> None:
+    def test_nothing_is_done_without_its_record(self) -> None:
         place = folder_of(self)
         gateway = Gateway(self, ["--record", place])
-        self.limit(gateway, 10)
-        self.assertEqual(gateway.wire().commit(b"r", b"v")[:2], b"\x84\x04")
-        gateway.process.terminate()
-        self.assert_failed(gateway, rf"{place}/(requests|replies): File too large \(os error 27\)")
+        wire = gateway.wire()
+        before = os.path.getsize(f"{place}/requests")
+        self.limit(gateway, before + 3)
+        self.assertRaises(ENDED, wire.begin)
+        self.assert_failed(gateway, rf"{place}/requests: File too large \(os error 27\)")
+        self.assertEqual(os.path.getsize(f"{place}/requests"), before + 3)
 
     def test_what_nothing_expects(self) -> None:
         twice = "sys.stdout.buffer.write(b'\\0\\0\\0\\5\\0\\0\\0\\2\\x90') and plain(body)"

@@ -70,6 +70,8 @@ class RowsTest(unittest.TestCase):
         self.send(set_(start, b"row", b"value"))
         self.assertEqual(self.reply(), b"\x83")
         self.send(step(start))
+        # The request begins, which needs no answer
+        self.assertEqual(self.asked("rows"), b"\6")
         self.assertEqual(self.asked("rows"), b"\1" + counted(b"row\0\0"))
         self.answer("rows", b"\x81" + number(8, 7) + number(4, 0))
         self.assertEqual(self.asked("rows")[:17], b"\2" + counted(b"row\0\0") + number(8, 7)[:7])
