@@ -39,6 +39,7 @@ DEBIAN = {
     "./usr/share/man/man1/duqishom.1.gz": "-rw-r--r--",
     "./usr/share/man/man1/tabletd.1.gz": "-rw-r--r--",
 }
+LIBRADOS = Path("/usr/include/rados/librados.hpp")
 PYTHON, PAGES = "./usr/lib/python3/dist-packages/duqishom/", "./usr/share/doc/duqishom/docs/"
 
 # The files of the wheel besides the sources, each with whether it can be executed.
@@ -88,6 +89,8 @@ class Packages(unittest.TestCase):
         self.assertEqual({mode for path, mode in modes.items() if path.endswith("/")}, {"drwxr-xr-x"})
         files = {path: mode for path, mode in modes.items() if not path.endswith("/")}
         wanted = DEBIAN | dict.fromkeys((PYTHON + path for path in sources()), "-rw-r--r--")
+        if LIBRADOS.exists():
+            wanted["./usr/bin/duqishom-bridge"] = "-rwxr-xr-x"
         wanted |= dict.fromkeys((PAGES + page.name for page in TOP.glob("docs/*.md")), "-rw-r--r--")
         self.assertEqual(files, wanted)
         about = subprocess.check_output(["dpkg-deb", "--field", self.made[0], "Version", "Depends"], text=True)
