@@ -6,6 +6,9 @@ use std::time::Duration;
 use clap::{CommandFactory, Parser};
 use nix::unistd::{Gid, Group, Uid, User};
 
+/// The format that a folder's files have where nothing is said to the program: it takes no word for it.
+const UNSUMMED: &str = "2";
+
 /// Serves one store to many clients, with the frames of tabletd. @FILE stands for the words of a file.
 // Those words, and the client's defaults in front of all, are put in by `duqishom serve`.
 #[derive(Parser)]
@@ -47,7 +50,7 @@ pub struct Options {
     /// have a new folder get no log
     #[arg(long)]
     no_log: bool,
-    /// format of the folder's files from now on: 3 has checksums
+    /// format of the folder's files from now on: 3 has checksums, which a new one gets where nothing is said; 2 none
     #[arg(long, value_name = "F", requires = "dir")]
     format: Option<String>,
     /// bytes of a log before a checkpoint empties it
@@ -159,8 +162,9 @@ impl Options {
         }
         let flags = [("--log", self.log), ("--upkeep", self.upkeep && self.dir.is_some())];
         words.extend(flags.into_iter().filter(|flag| flag.1).map(|flag| flag.0.to_string()));
+        let format = self.format.clone().filter(|format| format != UNSUMMED);
         let given = [
-            ("--format", &self.format),
+            ("--format", &format),
             ("--log-bytes", &self.log_bytes),
             ("--flush", &self.flush),
             ("--flush-bytes", &self.flush_bytes),

@@ -30,10 +30,16 @@ const FEWEST_ROWS: usize = 64;
 const MOST_BYTES: usize = 8 << 20;
 const BESIDE: usize = 32;
 
-/// The root of a folder, its head in format 2, and the bytes of its stamp, its floor and its next names.
+/// The root of a folder with checksums and of one without, its head in format 2, and the bytes of its stamp, its floor and
+/// its next names.
+const SUMMED_ROOT: &str = "t8000000000000000.tab";
 const ROOT: &str = "t0000000000000000.tab";
 const ROOT_HEAD: &[u8] = b"TABROOT2";
 const ROOT_NUMBERS: usize = 28;
+
+/// The most bytes of a piece of a file with checksums, and those before its payload.
+const PIECE: usize = 1030;
+const PIECE_HEAD: usize = 6;
 
 type Row = Box<[u8]>;
 
@@ -292,9 +298,18 @@ impl Household {
     }
 }
 
+/// The payload of a file with checksums. At these the program looks.
+fn payload(file: &[u8]) -> Vec<u8> {
+    file.chunks(PIECE).flat_map(|piece| piece.iter().skip(PIECE_HEAD)).copied().collect()
+}
+
 /// What the root of a folder says, or that of a new store if there is none.
 fn last_root(folder: &Path) -> Option<Vec<Tablet>> {
-    match fs::read(folder.join(ROOT)) {
+    let root = match fs::read(folder.join(SUMMED_ROOT)) {
+        Err(error) if error.kind() == ErrorKind::NotFound => fs::read(folder.join(ROOT)),
+        summed => summed.map(|file| payload(&file)),
+    };
+    match root {
         Ok(root) => rooted(&root),
         Err(error) if error.kind() == ErrorKind::NotFound => Some(vec![Tablet { end: None, bytes: 0 }]),
         Err(_) => None,
@@ -401,6 +416,13 @@ mod tests {
         let of = |end: &[u8]| Tablet { end: (!end.is_empty()).then(|| end.into()), bytes: 62 };
         assert_eq!(rooted(&root), Some(vec![of(b"m"), of(b"")]));
         assert_eq!((rooted(&root[..60]), rooted(b"TABROOT1")), (None, None));
+    }
+
+    #[test]
+    fn pieces() {
+        let whole = [&[7; 6][..], &[1; 1024]].concat();
+        assert_eq!((payload(&whole[..6]), payload(&whole[..9])), (vec![], vec![1; 3]));
+        assert_eq!(payload(&[&whole[..], &whole, &whole[..7]].concat()), [1; 2049]);
     }
 
     /// The reply to a Status: so many tablets, and the one that was asked for, with these bytes in its files.

@@ -9,6 +9,7 @@ from collections.abc import Sequence
 from contextlib import nullcontext
 
 from duqishom import backups, cluster, dumps, inspection, serving, statistics, watch_command, web
+from duqishom.pieces import SUMS_FORMAT, UNSUMMED_FORMAT
 from duqishom.program import ProgramEnded
 from duqishom.refusals import Refused
 from duqishom.remote import shown_address, socket_at
@@ -49,6 +50,7 @@ SHOWN = (
     ("verify FOLDER", "reads all of a folder, or of a backup"),
     ("restore BACKUP FOLDER", "copies a backup back"),
     ("cluster init, status", "makes and shows a store in a pool of a Ceph cluster"),
+    ("cluster audit FOLDER", "judges recordings of all servers of a cluster"),
     ("dump, load", "write the cells of a store as lines of JSON, and read them"),
 )
 
@@ -83,7 +85,8 @@ def parser() -> argparse.ArgumentParser:
         help="have the folder get a log, or a new one get none: a new one gets a log if nothing is said",
     )
     made.add_argument("--new", action="store_true", help="with --no-log: the folder never had a root, whatever files are there")
-    made.add_argument("--format", metavar="F", help="given to the program: 3 has the folder's files get checksums from now on")
+    formats = "3 has the folder's files get checksums from now on, or 2 a new one none: a new one gets them if nothing is said"
+    made.add_argument("--format", metavar="F", type=int, choices=(UNSUMMED_FORMAT, SUMS_FORMAT), help=formats)
     made.add_argument("--log-bytes", metavar="L", help="given to the program: bytes of a log before a checkpoint empties it")
     made.add_argument("--flush", metavar="N", help="given to the program: how many entries a memtable has before it is compacted")
     made.add_argument("--flush-bytes", metavar="B", help="given to the program: how many bytes of entries compact a memtable too")
@@ -119,6 +122,8 @@ def main(given: Sequence[str]) -> int:
     options = parsing.parse_args(given)
     if options.log and options.dir is None:
         parsing.error("--log needs --dir")
+    if options.format and options.dir is None:
+        parsing.error("--format needs --dir")
     told = help_of(options.words)
     if told is not None:
         print(told)
@@ -135,7 +140,7 @@ def main(given: Sequence[str]) -> int:
 
 def opened(options: argparse.Namespace) -> Store:
     """The store that the options name."""
-    named = ("format", "log-bytes", "flush", "flush-bytes", "merge", "cache", "session-bytes")
+    named = ("log-bytes", "flush", "flush-bytes", "merge", "cache", "session-bytes")
     words = [word for name in named if (value := getattr(options, name.replace("-", "_"))) for word in (f"--{name}", value)]
     return Store(
         options.program,
@@ -146,6 +151,7 @@ def opened(options: argparse.Namespace) -> Store:
         record=options.record,
         log=options.log,
         new=options.new,
+        checksums=None if options.format is None else options.format == SUMS_FORMAT,
     )
 
 

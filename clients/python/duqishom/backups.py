@@ -8,7 +8,7 @@ from collections.abc import Iterator, Sequence
 from pathlib import Path
 
 from duqishom.copies import NotCopied, restore
-from duqishom.files import ROOT_FILE, Entry, SortedFile, length_of
+from duqishom.files import Entry, SortedFile, length_of
 from duqishom.folders import FolderDamaged, has_log, holder_of
 from duqishom.inspection import Folder, committed, note_state, status_of
 from duqishom.pieces import place_in
@@ -55,7 +55,7 @@ def whole(path: Path, progress: Report = unreported) -> str:
     checked, how many are compared with a backup's sums, and then how many cells are found. FolderDamaged, or BadForm for a
     lock or a record, if it isn't intact."""
     if not place_in(path, 0).exists():
-        raise FolderDamaged(path / ROOT_FILE, "there is no root")
+        raise FolderDamaged(place_in(path, 0), "there is no root")
     folder = Folder(path)
     check(folder, progress)
     summed = f", as in {SUMS_FILE}" if check_sums(path, folder.root, progress) else ""

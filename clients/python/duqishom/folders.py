@@ -16,7 +16,6 @@ from duqishom.files import (
     LOG_FILE,
     MARK_FILE,
     NEW_ROOT,
-    ROOT_FILE,
     SIGN_FILE,
     Log,
     Root,
@@ -40,7 +39,7 @@ from duqishom.operations import (
     Step,
     Sweep,
 )
-from duqishom.pieces import FORMAT_FILE, FORMAT_TEXT, payload_of, place_in
+from duqishom.pieces import FORMAT_FILE, FORMAT_TEXT, SUMS_FORMAT, payload_of, place_in
 from duqishom.program import ENDS, Program, ProgramEnded
 from duqishom.recording import Recording
 from duqishom.refusals import Refused
@@ -147,6 +146,19 @@ def log_words(folder: str, log: bool | None, new: bool = False) -> list[str]:
     return ["--log"] if log or (log is None and is_new) else []
 
 
+def has_store(folder: str) -> bool:
+    """Whether a folder has any file of a store."""
+    place = Path(folder)
+    names = (FORMAT_FILE, MARK_FILE, SIGN_FILE, LOG_FILE, place_in(place, 0).name)
+    return any((place / name).exists() for name in names) or any(place.glob("t*.tab"))
+
+
+def format_words(folder: str, checksums: bool | None) -> list[str]:
+    """The words that have the files of a folder get checksums from now on, or no words if that isn't asked for. If `checksums`
+    is None, a folder that has nothing of a store gets them."""
+    return ["--format", str(SUMS_FORMAT)] if checksums or (checksums is None and not has_store(folder)) else []
+
+
 def why_lost(folder: str) -> str:
     """What a folder without a root has of a store, or an empty text if it has nothing, or a program has it open."""
     if holder_of(folder) is not None:
@@ -156,7 +168,8 @@ def why_lost(folder: str) -> str:
         with suppress(FolderDamaged):
             found += [MARK_FILE] if read_mark(Path(folder)) > 0 else []
         if found:
-            return f"{folder} has {found[0]} of a store and no root, {ROOT_FILE}: say that it is new if it never had one"
+            root = place_in(Path(folder), 0).name
+            return f"{folder} has {found[0]} of a store and no root, {root}: say that it is new if it never had one"
     return ""
 
 
@@ -167,11 +180,14 @@ def started(
     recording: Recording | None = None,
     log: bool | None = None,
     new: bool = False,
+    checksums: bool | None = None,
 ) -> Connection:
     """A program that has opened its store, and whose frames are recorded. NotOpened if it can't."""
     if folder is not None and (why := why_no_folder(folder)):
         raise NotOpened(4, why)
     placed = [] if folder is None else ["--dir", folder, *log_words(folder, log, new)]
+    if folder is not None and not any(word.startswith("--format") for word in words):
+        placed += format_words(folder, checksums)
     running = Program(program, (*placed, *tuned(words, folder is not None)), recording)
     try:
         # An empty body is refused, and changes nothing
@@ -332,12 +348,13 @@ def check_over(folder: Path, log: Log | None, root: Root) -> None:
     """Checks that a folder's log continues its root. FolderDamaged if it doesn't."""
     if log is None or log.is_over(root) and root != NEW_ROOT:
         return
+    place = place_in(folder, 0)
     if root != NEW_ROOT:
-        raise FolderDamaged(folder / ROOT_FILE, "the log is over another root")
+        raise FolderDamaged(place, "the log is over another root")
     if any(True for _ in log.edits()):
-        raise FolderDamaged(folder / ROOT_FILE, "the log has edits, and there is no root")
+        raise FolderDamaged(place, "the log has edits, and there is no root")
     if not log.is_over_any():
-        raise FolderDamaged(folder / ROOT_FILE, "the log names a root, and there is none")
+        raise FolderDamaged(place, "the log names a root, and there is none")
 
 
 def check_mark(folder: Path, mark: int, root: Root) -> None:

@@ -34,6 +34,7 @@ def connect(
     collect: int = COMMITS,
     new: bool = False,
     split_bytes: int = SPLIT_BYTES,
+    checksums: bool | None = None,
 ) -> Store:
     """Opens the store of a folder, which is made if it isn't there, or that of the gateway at `unix:PATH`, at the path
     of a socket, or at HOST:PORT; a new one in memory if no address is given. The options are those of `Store`.
@@ -62,6 +63,7 @@ def connect(
         collect,
         new,
         split_bytes,
+        checksums,
     )
 
 

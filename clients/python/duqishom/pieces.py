@@ -13,14 +13,17 @@ from zlib import crc32
 from duqishom.columns import BadForm
 from duqishom.files import Bytes, file_name
 
-# The format of files in pieces.
-SUMS_FORMAT = 3
+# The format of files in pieces, and the one before it, which has no checksums.
+SUMS_FORMAT, UNSUMMED_FORMAT = 3, 2
 
 # What is added to the number of a file where it is of this format.
 SUMMED = 2**63
 
 # The most bytes of payload in a piece. One with fewer is the last of its file.
 MOST_PAYLOAD = 1024
+
+# The most bytes of a file whose payload is put together in memory. That of a longer one is in a file without a name.
+MOST_IN_MEMORY = 2**20
 
 # The numbers before the payload of a piece: its length and its checksum.
 HEAD = struct.Struct(">HI")
@@ -39,9 +42,10 @@ def number_in(name: str) -> int:
 
 
 def place_in(folder: Path, number: int) -> Path:
-    """The file of a number in a folder: the one of format 3, if it is there."""
-    summed = folder / file_name(number + SUMMED)
-    return summed if summed.exists() else folder / file_name(number)
+    """The file of a number in a folder: the one of format 3, if it is there, or if neither is and the folder has the format."""
+    summed, plain = (folder / file_name(known) for known in (number + SUMMED, number))
+    has_summed = summed.exists() or (not plain.exists() and (folder / FORMAT_FILE).exists())
+    return summed if has_summed else plain
 
 
 def spelled(number: int, payload: bytes) -> bytes:
@@ -75,11 +79,13 @@ def payload_of(place: Path, data: Bytes) -> Bytes:
     number = number_in(place.name)
     if number < SUMMED:
         return data
+    if len(data) <= MOST_IN_MEMORY:
+        return b"".join(payloads(number, data))
     with tempfile.TemporaryFile() as file:
         for payload in payloads(number, data):
             file.write(payload)
         file.flush()
-        return mmap.mmap(file.fileno(), 0, access=mmap.ACCESS_READ) if file.tell() else b""
+        return mmap.mmap(file.fileno(), 0, access=mmap.ACCESS_READ)
 
 
 def payload_before(place: Path, data: Bytes) -> tuple[Bytes, BadForm | None]:

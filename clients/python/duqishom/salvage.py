@@ -10,7 +10,7 @@ from pathlib import Path
 
 from duqishom.cells import Cell
 from duqishom.columns import BadForm
-from duqishom.files import LOG_FILE, NEW_ROOT, ROOT_FILE, BrokenFile, Bytes, SortedFile
+from duqishom.files import LOG_FILE, NEW_ROOT, BrokenFile, Bytes, SortedFile
 from duqishom.folders import FolderDamaged, check_over, read_frames, read_root
 from duqishom.inspection import Folder, finished, value_of
 from duqishom.pieces import payload_before, place_in
@@ -27,7 +27,7 @@ class SalvagedFolder(Folder):
         self.path, self.root = path, read_root(path)
         self.lost: list[str] = []
         if self.root == NEW_ROOT and any(path.glob("t????????????????.tab")):
-            self.lost.append(f"{path / ROOT_FILE}: there is no root, which would name the files")
+            self.lost.append(f"{place_in(path, 0)}: there is no root, which would name the files")
         lengths = dict(reference for tablet in self.root.tablets for reference in tablet.files)
         self.files = {name: self._salvaged(place_in(path, name), lengths[name]) for name in sorted(lengths)}
         self.log = self._salvaged_log()

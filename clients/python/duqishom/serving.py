@@ -1,7 +1,7 @@
 """`python3 -m duqishom serve`: becomes the gateway, a program in Rust, with the same words behind the client's defaults.
 
 What the client decides for a store of its own it decides for a gateway's too: the program, its tuning, and whether a
-new folder gets a log. With `--rados` it doesn't become one gateway, but starts several (`workers`).
+new folder gets a log and checksums. With `--rados` it doesn't become one gateway, but starts several (`workers`).
 """
 
 from __future__ import annotations
@@ -15,7 +15,7 @@ from collections.abc import Sequence
 from pathlib import Path
 
 from duqishom import workers
-from duqishom.folders import NotOpened, log_words, tuned
+from duqishom.folders import NotOpened, format_words, log_words, tuned
 from duqishom.program import default_program
 
 # The places of the gateway: in a package that was built with one, and in the repository that this package is in.
@@ -66,12 +66,14 @@ def command_of(words: Sequence[str]) -> list[str]:
     parsing.add_argument("--dir")
     parsing.add_argument("--log", action=argparse.BooleanOptionalAction)
     parsing.add_argument("--new", action="store_true")
+    parsing.add_argument("--format")
     given, others = parsing.parse_known_args(words)
     has_folder = given.dir is not None
     own = ["--program", given.program or default_program(), *tuned([], has_folder)]
     logged = log_words(given.dir, given.log, given.new) if has_folder else ["--log"] if given.log else []
     placed = ["--dir", given.dir, *logged] if has_folder else logged
-    return [*own, *placed, *others]
+    formed = ["--format", given.format] if given.format else format_words(given.dir, None) if has_folder else []
+    return [*own, *placed, *formed, *others]
 
 
 def main(words: Sequence[str]) -> int:

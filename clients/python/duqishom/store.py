@@ -117,6 +117,7 @@ class Store(AutoCommit):
         collect: int = COMMITS,
         new: bool = False,
         split_bytes: int = SPLIT_BYTES,
+        checksums: bool | None = None,
     ) -> None:
         """Starts the program, from TABLETD, PATH or the repository if none is named, with these words on its command
         line.
@@ -130,6 +131,9 @@ class Store(AutoCommit):
         false; a folder with a store gets one if `log` is true. A folder that has a log is always opened with it. With
         `log` false a folder without a root is opened only if nothing of a store is there, or `new` is true: a store
         that never made a checkpoint has lost nothing then.
+
+        The files of a new folder have checksums, so that bytes that changed on the disk are found, unless `checksums` is false;
+        those of a folder with a store get them from now on if `checksums` is true. A folder that has them keeps them.
 
         With a socket, no program is started: the store is the one that a gateway serves there, beside other clients. What of it
         is open when this client ends, the gateway ends. OSError where nobody serves there, and ConnectionLost where the gateway
@@ -160,8 +164,10 @@ class Store(AutoCommit):
             raise ValueError("a store at a socket has its program and folder already, and is recorded by its gateway")
         if log and folder is None:
             raise ValueError("a log is in a folder, and none is named")
+        if checksums and folder is None:
+            raise ValueError("files with checksums are in a folder, and none is named")
         self._connection: Connection = Gateway(self._socket) if self._socket is not None else started(
-            program, self.folder, words, None if record is None else Recording(record, self.folder), log, new
+            program, self.folder, words, None if record is None else Recording(record, self.folder), log, new, checksums
         )
         self._is_closed = False
         self._support = Support(is_alone=None if self._is_remote else True)

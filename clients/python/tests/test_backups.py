@@ -30,7 +30,7 @@ class Copies(FolderTest):
         super().setUp()
         self.store = self.path / "store"
         self.store.mkdir()
-        with Store(folder=self.store, checkpoint_at_close=False) as store:
+        with Store(folder=self.store, checkpoint_at_close=False, checksums=False) as store:
             store.run(lambda t: t.set(b"a", FAMILY, b"1"))
             store.split(b"m")
             store.run(lambda t: t.set(b"z", FAMILY, b"2"))
@@ -112,7 +112,7 @@ class Sums(FolderTest):
     def setUp(self) -> None:
         super().setUp()
         self.copy = self.path / "copy"
-        with Store(folder=self.folder) as store:
+        with Store(folder=self.folder, checksums=False) as store:
             store.put(b"a", FAMILY, b"value")
             store.backup(self.copy)
 
@@ -134,6 +134,18 @@ class Sums(FolderTest):
         self.assertRegex(said("verify", self.copy)[1], told)
         self.assertRegex(said("restore", self.copy, self.path / "restored")[1], told)
         self.assertFalse((self.path / "restored" / SUMS_FILE).exists())
+
+    def test_those_of_files_with_checksums(self) -> None:
+        new, copy, restored = (self.path / name for name in ("new", "another", "restored"))
+        new.mkdir()
+        with Store(folder=new) as store:
+            store.put(b"a", FAMILY, b"value")
+            store.backup(copy)
+        names = [line.split()[1] for line in (copy / SUMS_FILE).read_text().splitlines()]
+        self.assertEqual(names, [SIGN_FILE, LOG_FILE, "format", MARK_FILE, "t8000000000000000.tab", "t8000000000000001.tab"])
+        self.assertIn(f", as in {SUMS_FILE}\n", said("restore", copy, restored)[1])
+        with Store(folder=restored) as store:
+            self.assertEqual(store.get(b"a", FAMILY), b"value")
 
     def test_one_byte(self) -> None:
         """A byte inside a value, which no form shows; and one of each other file."""
@@ -240,7 +252,7 @@ class Salvage(FolderTest):
         super().setUp()
         self.store, self.out = self.path / "store", self.path / "out"
         self.store.mkdir()
-        with Store(folder=self.store, checkpoint_at_close=False, words=["--merge", "64"]) as store:
+        with Store(folder=self.store, checkpoint_at_close=False, words=["--merge", "64"], checksums=False) as store:
             for cells in ("a1 b2 c3", "bx d4", "e5 f6"):
                 store.checkpoint()
                 for row, value in cells.encode().split():

@@ -1,5 +1,5 @@
-"""Folders with --format 3: the files have checksums, older files are read beside them, and what changed on the disk is
-never a value."""
+"""Folders with --format 3, which new ones get: the files have checksums, older files are read beside them, and what changed
+on the disk is never a value."""
 
 from __future__ import annotations
 
@@ -10,8 +10,9 @@ import unittest
 from contextlib import suppress
 from pathlib import Path
 
-from duqishom import Device, NotOpened, Store
-from tests.folders import FolderTest
+from duqishom import Device, NotOpened, Store, connect
+from tests.folders import FolderTest, said
+from tests.gateways import Gateway
 
 FAMILY = b"c"
 ROWS = 200
@@ -19,6 +20,9 @@ ROWS = 200
 # The root and the tablet's files: before the option, and after it with a checkpoint.
 BEFORE = {"t0000000000000000.tab", "t0000000000000001.tab"}
 UPGRADED = {"t8000000000000000.tab", "t0000000000000001.tab", "t8000000000000002.tab"}
+
+# Words for a new folder, and whether it has the format then.
+WORDS: list[tuple[list[str], bool]] = [([], True), (["--format", "2"], False), (["--format", "3"], True)]
 
 
 def value(number: int) -> bytes:
@@ -35,8 +39,8 @@ class ChecksumsTest(FolderTest):
     def files(self) -> set[str]:
         return {name for name in os.listdir(self.folder) if name.endswith(".tab")}
 
-    def store(self, *words: str, log: bool = True) -> Store:
-        return Store(folder=self.folder, words=words, log=log, checkpoint_at_close=False)
+    def store(self, *words: str, checksums: bool | None = None) -> Store:
+        return Store(folder=self.folder, words=words, log=True, checkpoint_at_close=False, checksums=checksums)
 
     def fill(self, store: Store) -> None:
         for number in range(ROWS):
@@ -48,7 +52,7 @@ class ChecksumsTest(FolderTest):
         self.assertEqual(cells, {row(number): value(number) for number in range(ROWS)})
 
     def test_a_folder_gets_the_format(self) -> None:
-        with self.store() as store:
+        with self.store(checksums=False) as store:
             self.fill(store)
         self.assertEqual(self.files(), BEFORE)
         self.assertFalse((self.path / "format").exists())
@@ -99,6 +103,75 @@ class ChecksumsTest(FolderTest):
                 self.are_there(store)
         finally:
             shutil.rmtree(copy)
+
+
+class NewFoldersTest(FolderTest):
+    """What format a folder has if it is new, and if it isn't."""
+
+    def has_sums(self, folder: Path) -> bool:
+        """Whether a folder has the format, which all its files then have."""
+        files = [name for name in os.listdir(folder) if name.endswith(".tab")]
+        has_sums = (folder / "format").exists()
+        self.assertTrue(files and all(name.startswith("t8") == has_sums for name in files), files)
+        return has_sums
+
+    def opened(self, checksums: bool | None) -> bool:
+        """Opens the store and changes it. Whether the folder has the format then."""
+        with Store(folder=self.folder, checksums=checksums) as store:
+            self.assertEqual(store.get(row(0), FAMILY), value(0))
+            store.put(row(1), FAMILY, value(1))
+            store.major(1)
+            store.checkpoint()
+            store.sweep()
+        return self.has_sums(self.path)
+
+    def test_a_new_folder_gets_it(self) -> None:
+        for number, (checksums, log) in enumerate(((None, None), (None, False), (True, None))):
+            folder = self.path / str(number)
+            with connect(folder, checksums=checksums, log=log) as store:
+                store.put(row(0), FAMILY, value(0))
+            self.assertTrue(self.has_sums(folder))
+
+    def test_a_folder_keeps_its_own(self) -> None:
+        with Store(folder=self.folder, checksums=False) as store:
+            store.put(row(0), FAMILY, value(0))
+        self.assertFalse(self.has_sums(self.path))
+        opened = [self.opened(checksums) for checksums in (None, False, True, None, False)]
+        self.assertEqual(opened, [False, False, True, True, True])
+
+    def test_a_store_without_a_checkpoint_keeps_its_own(self) -> None:
+        with Store(folder=self.folder, checksums=False) as store:
+            store.put(row(0), FAMILY, value(0))
+            store.kill()
+        self.assertFalse(self.opened(None))
+
+    def test_a_store_in_memory(self) -> None:
+        with self.assertRaises(ValueError):
+            Store(checksums=True)
+        with Store(checksums=False) as store:
+            store.put(row(0), FAMILY, value(0))
+
+    def test_the_command(self) -> None:
+        for number, (words, has_sums) in enumerate(WORDS):
+            folder = self.path / str(number)
+            folder.mkdir()
+            for given in (words, ["--format", "2"]):
+                status, text = said("--dir", folder, *given, "set", "Bob", "bal", "1")
+                self.assertEqual((status, self.has_sums(folder)), (0, has_sums), text)
+        for refused in (["--format", "3"], ["--dir", self.folder, "--format", "4"]):
+            with self.assertRaises(SystemExit):
+                said(*refused, "status")
+
+    def test_a_gateway(self) -> None:
+        for number, (words, has_sums) in enumerate(WORDS):
+            folder = self.path / str(number)
+            folder.mkdir()
+            for given in (words, ["--format", "2"]):
+                gateway = Gateway(self, ["--dir", str(folder), *given])
+                with Store(socket=gateway.path) as store:
+                    store.put(row(0), FAMILY, value(0))
+                gateway.end()
+                self.assertEqual(self.has_sums(folder), has_sums)
 
 
 if __name__ == "__main__":

@@ -43,7 +43,7 @@ CELLS = int(os.environ.get("FOLDER_CELLS", "1000"))
 KILLS = int(os.environ.get("FOLDER_KILLS", "50"))
 OF_A_TRANSACTION = 100
 ROW, OTHER, FAMILY = b"counter", b"other", b"c"
-ROOT, FILE = "t0000000000000000.tab", "t0000000000000001.tab"
+ROOT, FILE = "t8000000000000000.tab", "t8000000000000001.tab"
 
 
 def kill(store: Store) -> None:
@@ -54,9 +54,9 @@ def kill(store: Store) -> None:
 class Folders(FolderTest):
     """The state that a folder keeps."""
 
-    def opened(self, *words: str) -> Store:
+    def opened(self, *words: str, checksums: bool | None = None) -> Store:
         """The store of the folder, without a log if it is new. Its end makes no checkpoint."""
-        return Store(folder=self.folder, words=words, checkpoint_at_close=False, log=False, new=True)
+        return Store(folder=self.folder, words=words, checkpoint_at_close=False, log=False, new=True, checksums=checksums)
 
     def counter(self) -> bytes | None:
         """The folder's value of one cell."""
@@ -77,7 +77,7 @@ class Folders(FolderTest):
         self.assertEqual(subprocess.run(command, cwd=TOP / "clients" / "python").returncode, 0)
         self.assertEqual(self.counter(), b"7")
         # An opening with a log has put the root again
-        root = self.path / "t0000000000000000.tab"
+        root = self.path / ROOT
         store = Store(folder=self.folder)
         was = root.stat().st_ino
         store.close()
@@ -251,14 +251,15 @@ class Folders(FolderTest):
             self.assertEqual(store.begin(), 1002)
 
     def test_statuses(self) -> None:
-        with self.opened() as store:
+        root, tablet = "t0000000000000000.tab", "t0000000000000001.tab"
+        with self.opened(checksums=False) as store:
             store.run(lambda transaction: transaction.set(ROW, FAMILY, b"1"))
             store.checkpoint()
             self.assert_ends_with(4, f"{self.folder} is in use by process [0-9]+ .* has started$")
         for name, kept, status, why in (
-            (FILE, None, 5, "the root names this file, and it isn't there"),
-            (FILE, b"TABLET02", 5, "the root says [0-9]+ bytes, and it has 8"),
-            (ROOT, b"TABROOT2", 5, "the root ends inside a field, at byte 8"),
+            (tablet, None, 5, "the root names this file, and it isn't there"),
+            (tablet, b"TABLET02", 5, "the root says [0-9]+ bytes, and it has 8"),
+            (root, b"TABROOT2", 5, "the root ends inside a field, at byte 8"),
             ("oracle.mark", None, 5, "the mark 0 is below the root's greatest stamp 2"),
             ("oracle.mark", b"7 bytes", 4, "is no mark: it has 7 bytes"),
         ):
@@ -318,7 +319,7 @@ class Folders(FolderTest):
     def test_what_a_stop_left_is_removed(self) -> None:
         with Store(folder=self.folder) as store:
             store.run(lambda transaction: transaction.set(ROW, FAMILY, b"1"))
-        for name in ("t0000000000000000.new", "t0000000000000001.new", "oracle.new"):
+        for name in ("t8000000000000000.new", "t8000000000000001.new", "oracle.new"):
             (self.path / name).write_bytes(b"garbage")
         self.assertEqual(self.counter(), b"1")
         self.assert_nothing_is_left()

@@ -241,7 +241,7 @@ class Inspection(FolderTest):
         self.assertIn("3 tablets", self.inspected("stats")[1][1])
 
     def test_damage_is_named(self) -> None:
-        with Store(folder=self.folder) as store:
+        with Store(folder=self.folder, checksums=False) as store:
             store.run(lambda transaction: transaction.set(b"r", b"c", b"v"))
         file = self.path / "t0000000000000001.tab"
         whole = file.read_bytes()

@@ -15,6 +15,7 @@ from pathlib import Path
 
 from duqishom import BadRequest, NotCopied, Patience, Store, Transaction, TransactionFailed, aio
 from duqishom.files import ROOT_FILE, file_name
+from duqishom.pieces import SUMMED, place_in
 from tests.folders import FolderTest, said
 from tests.gateways import BEGIN, CHECKPOINT, SWEEP, Gateway, Wire, frame, raw, stand_in, until
 
@@ -207,7 +208,7 @@ class Refusals(FolderTest):
                     self.assertRaisesRegex(NotCopied, why, store.backup, self.path / place)
                     store.stop(store.begin())
                 gateway.stop()
-                self.assertFalse((self.path / place / ROOT_FILE).exists())
+                self.assertFalse(place_in(self.path / place, 0).exists())
 
     def test_a_full_disk(self) -> None:
         """A limit of the file size simulates it."""
@@ -217,8 +218,8 @@ class Refusals(FolderTest):
         with Store(socket=gateway.path) as store:
             store.run(lambda t: t.set(b"r", FAMILY, b"v"))
             resource.prlimit(gateway.process.pid, resource.RLIMIT_FSIZE, (30, resource.RLIM_INFINITY))
-            self.assertRaisesRegex(NotCopied, f"File too large.*copy/{FILE}", store.backup, self.path / "copy")
-            self.assertFalse((self.path / "copy" / ROOT_FILE).exists())
+            self.assertRaisesRegex(NotCopied, f"File too large.*copy/{file_name(SUMMED + 1)}", store.backup, self.path / "copy")
+            self.assertFalse(place_in(self.path / "copy", 0).exists())
             self.assertEqual(store.sweep(), 0)
             resource.prlimit(gateway.process.pid, resource.RLIMIT_FSIZE, (resource.RLIM_INFINITY, resource.RLIM_INFINITY))
             self.assertEqual(said("--socket", gateway.path, "backup", self.path / "again")[0], 0)

@@ -44,9 +44,9 @@ def put(store: Store, value: bytes) -> None:
 class Logs(FolderTest):
     """The log of a private store."""
 
-    def opened(self, log: bool | None = None, *words: str) -> Store:
+    def opened(self, log: bool | None = None, *words: str, checksums: bool | None = None) -> Store:
         """The store of the folder. Its end makes no checkpoint."""
-        return Store(folder=self.folder, words=words, checkpoint_at_close=False, log=log)
+        return Store(folder=self.folder, words=words, checkpoint_at_close=False, log=log, checksums=checksums)
 
     def value(self) -> bytes | None:
         """The folder's value of one cell."""
@@ -191,7 +191,7 @@ class Logs(FolderTest):
         other.mkdir()
         with Store(folder=other) as store:
             put(store, b"0")
-        with self.opened() as store:
+        with self.opened(checksums=False) as store:
             put(store, b"0")
             store.checkpoint()
             root = (self.path / ROOT).read_bytes()

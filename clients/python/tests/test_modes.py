@@ -15,8 +15,8 @@ from duqishom.copies import restore
 from duqishom.program import default_program
 from tests.folders import FolderTest
 
-ROOT, FILES, MARK, LOCK = "t0000000000000000.tab", ("t0000000000000001.tab", "t0000000000000002.tab"), "oracle.mark", "lock"
-NAMES = (ROOT, *FILES, MARK, "oracle.old", LOCK)
+ROOT, FILES, MARK, LOCK = "t8000000000000000.tab", ("t8000000000000001.tab", "t8000000000000002.tab"), "oracle.mark", "lock"
+NAMES = (ROOT, *FILES, MARK, "oracle.old", LOCK, "format")
 LOG_NAMES = ("commit.log", "commit.id")
 ROW, FAMILY = b"counter", b"c"
 

@@ -22,7 +22,7 @@ CALLS = "write,pwrite64,writev,fdatasync,fsync,rename,renameat,renameat2,openat,
 NEW_MARK = "oracle.new"
 
 # The file of the root.
-ROOT = "t0000000000000000.tab"
+ROOT = "t8000000000000000.tab"
 
 # A call on an open file, and a call on a file by its path.
 ON_FILE = re.compile(r"(write|pwrite64|writev|ftruncate|fdatasync|fsync)\((\d+)<([^>]*)>.* = \d+$")

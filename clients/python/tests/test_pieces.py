@@ -63,8 +63,8 @@ class FoldersOfPiecesTest(FolderTest):
 
     def setUp(self) -> None:
         super().setUp()
-        for words, rows in (((), range(100)), (("--format", "3"), range(100, 200))):
-            with Store(folder=self.folder, words=words, log=True) as store:
+        for checksums, rows in ((False, range(100)), (True, range(100, 200))):
+            with Store(folder=self.folder, log=True, checksums=checksums) as store:
                 for row in rows:
                     store.put(b"row%03d" % row, b"c", b"value %d" % row)
         with Store(folder=self.folder) as store:

@@ -20,6 +20,7 @@ from duqishom.backups import whole
 from duqishom.copies import restore
 from duqishom.dumps import dump, line_of, load
 from duqishom.files import ROOT_FILE
+from duqishom.pieces import SUMMED, number_in, payload_of, place_in
 from duqishom.progress import BYTES, CELLS, Reached, Report, Tally, tallied
 from duqishom.sums import SUMS_FILE
 from tests.folders import FolderTest, said
@@ -67,8 +68,9 @@ class Functions(FolderTest):
         return told.ends()
 
     def size(self, path: Path) -> int:
-        """The bytes of a store's sorted files."""
-        return sum(file.stat().st_size for file in path.glob("t*.tab") if file.name != ROOT_FILE)
+        """The bytes of a store's sorted files, without their checksums."""
+        files = (file for file in path.glob("t*.tab") if number_in(file.name) % SUMMED)
+        return sum(len(payload_of(file, file.read_bytes())) for file in files)
 
     def test_of_a_folder(self) -> None:
         copies, count = [self.path / name for name in ("copy", "again")], 50
@@ -81,7 +83,7 @@ class Functions(FolderTest):
             [(part, done)] = self.told(lambda told: store.backup(copies[0], told)).items()
         whole_copy = sum(file.stat().st_size for file in copies[0].iterdir() if file.name != SUMS_FILE)
         self.assertEqual((part, done), ((BYTES, whole_copy), whole_copy))
-        self.assertFalse((self.path / "stopped" / ROOT_FILE).exists())
+        self.assertFalse(place_in(self.path / "stopped", 0).exists())
         size = self.size(copies[0])
         parts = self.told(lambda told: whole(copies[0], told))
         self.assertEqual(parts, {(BYTES, size): size, (BYTES, whole_copy): whole_copy, (CELLS, None): count})
@@ -89,7 +91,7 @@ class Functions(FolderTest):
         self.assertEqual(parts, {(BYTES, whole_copy): whole_copy})
         self.assertRaises(Stopped, whole, copies[0], stop)
         self.assertRaises(Stopped, restore, str(copies[0]), str(self.path / "third"), stop)
-        self.assertFalse((self.path / "third" / ROOT_FILE).exists())
+        self.assertFalse(place_in(self.path / "third", 0).exists())
 
     def test_of_cells(self) -> None:
         lines = [line_of((b"%d" % number, FAMILY, b"v")) for number in range(600)]
@@ -153,7 +155,7 @@ class Gateways(FolderTest):
             gateway.statistics()
             (self.path / FILE).write_bytes(b"file")
             self.assertTrue(until(lambda: self.copies(gateway) == {}))
-            self.assertFalse((place / ROOT_FILE).exists())
+            self.assertFalse(place_in(place, 0).exists())
             (place / FILE).unlink()
 
     def test_it_goes_on(self) -> None:
