@@ -140,7 +140,8 @@ class Bank:
         return subprocess.Popen(command, cwd=PACKAGE, stdout=subprocess.PIPE, text=True)
 
     def _kill(self, served: Served, name: str) -> None:
-        """Kills a process of some servers, and begins them again if that is the end of them."""
+        """Kills a process of some servers, which are ready, and begins them again if that is the end of them."""
+        self.case.assertTrue(served.is_ready(), served.said())
         found = served.processes(name)
         if found:
             kill(self._chance.choice(found))

@@ -57,11 +57,12 @@ class Served:
 
     def start(self) -> None:
         with self.log.open("a") as log:
+            self._said_before = log.tell()
             self.process = subprocess.Popen(self._command, cwd=PACKAGE, stderr=log)
 
     def is_ready(self) -> bool:
-        """Whether all servers are ready, for which it waits, unless it ends before."""
-        until(lambda: self.process.poll() is not None or "duqishom: ready" in self.said())
+        """Whether all servers are ready since the last start, for which it waits, unless it ends before."""
+        until(lambda: self.process.poll() is not None or b"duqishom: ready" in self.log.read_bytes()[self._said_before :])
         return self.process.poll() is None and listens(self.path)
 
     def said(self) -> list[str]:
