@@ -1,7 +1,7 @@
 """`python3 -m duqishom cluster`: makes a store in a pool of a Ceph cluster, shows it, splits its tablets, forgets a machine that
 is gone, and audits recordings of all servers.
 
-The bridge does the first three: a program in C++, which `scripts/build_bridge` builds in a clone of the repository.
+The bridge does all but the last: a program in C++, which `scripts/build_bridge` builds in a clone of the repository.
 """
 
 from __future__ import annotations
