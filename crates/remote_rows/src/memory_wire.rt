@@ -108,6 +108,8 @@ impl RowWire for MemoryWire {
 
     ghost failed = { λ _. false };
 
+    ghost begun = { λ _. ⊤ };
+
     fn begin(&mut self) {}
 
     fn fetch(&mut self, row: &Row) -> Result<FetchedRow, Refusal> {

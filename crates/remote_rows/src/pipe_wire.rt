@@ -1,7 +1,7 @@
 //! A wire through two pipes. Its messages are in `specs/Messages.antt`, and each reply is a field too: its length as
 //! four bytes, and its body.
 
-ghost use Rattle.std.specs.Prelude.{◌≡◌, ◌≤◌, vec_len, Ok, Some, None, ⊤, IfOk, IfErr, IsErrOf, IsOkUnless};
+ghost use Rattle.std.specs.Prelude.{◌≡◌, ◌≤◌, vec_len, Ok, Some, None, ⊤, true, IfOk, IfErr, IsErrOf, IsOkUnless};
 ghost use Rattle.remote_rows.specs.Wires.{IsWireRefusal};
 
 use crate::wire::{FetchedRow, Page, RowWire, StampWire, Swap};
@@ -185,6 +185,8 @@ impl<W: Write, R: Read> RowWire for PipeWire<W, R> {
     ghost seen = { record { cells = λ _. None; guard = λ _ _. 0 } };
 
     ghost failed = { λ wire. wire.is_failed };
+
+    ghost begun = { λ wire. wire.begins ≡ true };
 
     fn begin(&mut self) {
         self.begins = true;

@@ -273,7 +273,7 @@ impl<W: RowWire> Rows for RemoteRows<W> {
 }
 
 impl<W: RowWire> SharedRows for RemoteRows<W> {
-    ghost forgot = { λ rows. rows.held ≡ None };
+    ghost forgot = { λ rows. (rows.held ≡ None) × W.begun rows.wire };
 
     ghost raced = { λ rows. rows.is_raced };
 

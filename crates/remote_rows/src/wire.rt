@@ -42,8 +42,12 @@ pub trait RowWire {
     /// The wire has failed for good.
     ghost failed: { Self → Bool };
 
+    /// A request has begun, for which nothing was asked yet.
+    ghost begun: { Self → Type 0 };
+
     /// A request begins, or is made again: what is asked next is for it. Asks nothing, and changes nothing.
     fn begin(&mut self)
+        ensures begun { begun self.new }
         ensures kept { KeepsRows seen self.old self.new }
         ensures same { failed self.new ≡ failed self.old };
 
