@@ -1,5 +1,6 @@
 //! Tablets that hold too much: samples of the rows that clients write, by which a tablet is split in its middle, and
-//! the task that looks how large the tablets are.
+//! the task that looks how large the tablets are. `docs/GATEWAY.md`, "Large tablets", has the rule, which the Python
+//! client keeps too.
 
 use std::cell::{Cell, RefCell};
 use std::collections::hash_map::RandomState;

@@ -39,7 +39,7 @@ from duqishom.operations import (
     Step,
     Sweep,
 )
-from duqishom.pieces import FORMAT_FILE, FORMAT_TEXT, SUMS_FORMAT, payload_of, place_in
+from duqishom.pieces import FORMAT_FILE, FORMAT_TEXT, SUMS_FORMAT, files_in, payload_of, place_in
 from duqishom.program import ENDS, Program, ProgramEnded
 from duqishom.recording import Recording
 from duqishom.refusals import Refused
@@ -149,8 +149,8 @@ def log_words(folder: str, log: bool | None, new: bool = False) -> list[str]:
 def has_store(folder: str) -> bool:
     """Whether a folder has any file of a store."""
     place = Path(folder)
-    names = (FORMAT_FILE, MARK_FILE, SIGN_FILE, LOG_FILE, place_in(place, 0).name)
-    return any((place / name).exists() for name in names) or any(place.glob("t*.tab"))
+    names = (FORMAT_FILE, MARK_FILE, SIGN_FILE, LOG_FILE)
+    return any((place / name).exists() for name in names) or bool(files_in(place))
 
 
 def format_words(folder: str, checksums: bool | None) -> list[str]:
@@ -163,12 +163,13 @@ def why_lost(folder: str) -> str:
     """What a folder without a root has of a store, or an empty text if it has nothing, or a program has it open."""
     if holder_of(folder) is not None:
         return ""
+    place = Path(folder)
     with suppress(OSError):
-        found = sorted(name for name in os.listdir(folder) if re.fullmatch(r"t[0-9a-f]{16}\.tab", name))
+        found = [file.name for file in files_in(place)]
         with suppress(FolderDamaged):
-            found += [MARK_FILE] if read_mark(Path(folder)) > 0 else []
+            found += [MARK_FILE] if read_mark(place) > 0 else []
         if found:
-            root = place_in(Path(folder), 0).name
+            root = place_in(place, 0).name
             return f"{folder} has {found[0]} of a store and no root, {root}: say that it is new if it never had one"
     return ""
 

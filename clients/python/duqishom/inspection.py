@@ -44,7 +44,7 @@ from duqishom.folders import (
     read_mark,
     read_root,
 )
-from duqishom.pieces import SUMMED, SUMS_FORMAT, number_in, payload_of, place_in
+from duqishom.pieces import SUMMED, SUMS_FORMAT, files_in, number_in, payload_of, place_in
 from duqishom.texts import bytes_of, text_of
 
 WORDS = ("stats", "files", "tablets", "log", "locks", "cells")
@@ -117,7 +117,7 @@ class Folder:
 
     def unnamed(self) -> list[int]:
         """The files that exist and that the root doesn't name."""
-        names = {number_in(path.name) % SUMMED for path in self.path.glob("t????????????????.tab")}
+        names = {number_in(file.name) % SUMMED for file in files_in(self.path)}
         return sorted(names - set(self.files) - {0})
 
     def may_have_locks(self) -> bool:

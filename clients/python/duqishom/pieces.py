@@ -4,6 +4,7 @@
 from __future__ import annotations
 
 import mmap
+import re
 import struct
 import tempfile
 from collections.abc import Iterator
@@ -31,6 +32,9 @@ HEAD = struct.Struct(">HI")
 # What a checksum covers before the payload: the file's number on the disk, the piece's number, and its length.
 PLACE = struct.Struct(">QQH")
 
+# The name of a file on the disk: of a tablet's, or of a root.
+FILE = re.compile("t[0-9a-f]{16}\\.tab")
+
 # The file that says that a folder's files are of format 3, and its text.
 FORMAT_FILE = "format"
 FORMAT_TEXT = b"3\n"
@@ -39,6 +43,11 @@ FORMAT_TEXT = b"3\n"
 def number_in(name: str) -> int:
     """The number in the name of a file on the disk."""
     return int(name[1:17], 16)
+
+
+def files_in(folder: Path) -> list[Path]:
+    """The files of tablets and the roots of a folder, in the order of their numbers."""
+    return sorted(file for file in folder.glob("t*.tab") if FILE.fullmatch(file.name))
 
 
 def place_in(folder: Path, number: int) -> Path:

@@ -13,7 +13,7 @@ from duqishom.columns import BadForm
 from duqishom.files import LOG_FILE, NEW_ROOT, BrokenFile, Bytes, SortedFile
 from duqishom.folders import FolderDamaged, check_over, read_frames, read_root
 from duqishom.inspection import Folder, finished, value_of
-from duqishom.pieces import payload_before, place_in
+from duqishom.pieces import files_in, payload_before, place_in
 
 # The size of a piece that is read at once, in bytes: a disk's block that can't be read takes no more with it.
 PIECE = 4096
@@ -26,7 +26,7 @@ class SalvagedFolder(Folder):
         """FolderDamaged if the root can't be read, for it says which files there are, and which is newer."""
         self.path, self.root = path, read_root(path)
         self.lost: list[str] = []
-        if self.root == NEW_ROOT and any(path.glob("t????????????????.tab")):
+        if self.root == NEW_ROOT and files_in(path):
             self.lost.append(f"{place_in(path, 0)}: there is no root, which would name the files")
         lengths = dict(reference for tablet in self.root.tablets for reference in tablet.files)
         self.files = {name: self._salvaged(place_in(path, name), lengths[name]) for name in sorted(lengths)}

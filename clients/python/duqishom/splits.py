@@ -1,5 +1,5 @@
 """The tablets of a folder of its own that hold too much: a store splits each in its middle, by samples of the rows that it
-writes, so that merges stay small."""
+writes. `docs/GATEWAY.md`, "Large tablets", has the rule, which the gateway keeps too."""
 
 from __future__ import annotations
 

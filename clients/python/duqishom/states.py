@@ -14,7 +14,7 @@ from duqishom.administration import Client, Listing
 from duqishom.figures import duration
 from duqishom.files import LOG_FILE
 from duqishom.folders import read_root
-from duqishom.pieces import SUMMED, number_in, place_in
+from duqishom.pieces import SUMMED, files_in, number_in, place_in
 from duqishom.refusals import BadRequest
 from duqishom.remote import Address
 from duqishom.reports import ServerStatus, TabletReport
@@ -42,7 +42,7 @@ def folder_state(folder: Path) -> Iterator[tuple[str, object]]:
     """The figures of a folder, whose tablets and files are those of the last checkpoint."""
     root = read_root(folder)
     named = {place_in(folder, name).name for tablet in root.tablets for name, _ in tablet.files}
-    every = {file.name: size_of(file) for file in folder.glob("t*.tab") if number_in(file.name) % SUMMED != 0}
+    every = {file.name: size_of(file) for file in files_in(folder) if number_in(file.name) % SUMMED != 0}
     yield "tablets", len(root.tablets)
     yield "files", len(named)
     yield "bytes of files", sum(every.get(name, 0) for name in named)

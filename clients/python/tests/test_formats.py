@@ -236,6 +236,8 @@ class Inspection(FolderTest):
         self.assertEqual(self.inspected("locks"), (0, [f"left c: session {left} sets it; its first cell is left c"], ""))
         self.assertEqual(self.inspected("cells", "r1")[1], [line for line in lines if line.startswith("r1")])
         self.assertEqual([line.split()[0] for line in self.inspected("tablets")[1]], [str(t.number) for t in store.tablets()])
+        # A name that is no file's of a store
+        (self.path / f"t{'-' * 16}.tab").touch()
         for what in ("stats", "files"):
             self.assertEqual(self.inspected(what)[0], 0)
         self.assertIn("3 tablets", self.inspected("stats")[1][1])
