@@ -20,10 +20,8 @@ use crate::things::opened;
 /// The most tablets of a store, which are numbered from 1.
 pub const MOST_TABLETS: u32 = 1024;
 
-/// The visits of a collector in one request: few, so that no client waits long. With a log the program makes no more than
-/// the second.
-const VISITS: u32 = 16;
-const LOGGED_VISITS: u32 = 4;
+/// The visits of a collector in one request: so few that no client waits long. With a log the program makes no more.
+const VISITS: u32 = 4;
 
 /// After so many answers a server of several publishes its floor, and so far apart it is to do so at most.
 const ANSWERS_BETWEEN_FLOORS: u64 = 4096;
@@ -256,7 +254,7 @@ impl Household {
             }
             let Some(name) = open else { continue };
             if let Some(whole) = self.end(Kind::Collector, name).await {
-                (due, open) = (after.max(whole * u64::from(self.visits())), None);
+                (due, open) = (after.max(whole * u64::from(VISITS)), None);
             }
         }
     }
@@ -283,21 +281,12 @@ impl Household {
         }
     }
 
-    /// The visits of a collector in one request.
-    fn visits(&self) -> u32 {
-        if self.has_log.get() {
-            LOGGED_VISITS
-        } else {
-            VISITS
-        }
-    }
-
     /// Takes the steps of a cleaner or a collector until it has ended, and returns how many left more to do. One that is
     /// refused too often in a row is left open (`None`).
     async fn end(&self, kind: Kind, name: u64) -> Option<u64> {
         let mut body = body_of(if kind == Kind::Cleaner { CLEAN_STEP } else { COLLECT_STEP }, &name.to_be_bytes());
         if kind == Kind::Collector {
-            body.extend_from_slice(&self.visits().to_be_bytes());
+            body.extend_from_slice(&VISITS.to_be_bytes());
         }
         let (mut tries, mut whole) = (0, 0);
         while tries < TRIES {

@@ -15,8 +15,9 @@ from duqishom.several import CommitDone
 # The commits after which a store of its own collects for the first time.
 COMMITS = 10_000
 
-# The visits of a trip: few, so that a commit behind which there is one takes not much longer.
-VISITS = 16
+# The visits of a trip: few, so that a commit behind which there is one takes not much longer. With a log the program makes
+# no more for a request.
+VISITS = 4
 
 
 class OwnCollection:

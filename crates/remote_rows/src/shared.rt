@@ -1,6 +1,6 @@
 //! Rows and stamps that other servers change too: what a server asks of them besides the calls of `rows`.
 
-ghost use Rattle.std.specs.Prelude.{◌≡◌, ◌≤◌, ℕ, Bool, IfOk, IfErr, IfSome};
+ghost use Rattle.std.specs.Prelude.{◌≡◌, ◌≤◌, ℕ, Bool, false, IfOk, IfErr, IfSome};
 ghost use Rattle.cell_key.specs.Faults.{HasReason};
 ghost use Rattle.rows.specs.Calls.{OnlyReads};
 ghost use Rattle.rows.specs.Sources.{IsDrawRefusal};
@@ -20,11 +20,12 @@ pub trait SharedRows: Rows {
     /// The rows are lost for good.
     ghost lost: { Self → Bool };
 
-    /// Forgets what was read: a request begins. Nothing changes.
+    /// Forgets what was read: a request begins, and no edits were refused yet. Nothing changes.
     fn forget(&mut self)
         ensures reads { OnlyReads Self.seen self.old self.new }
         ensures told { Self.faults self.new ≡ Self.faults self.old }
-        ensures forgot { forgot self.new };
+        ensures forgot { forgot self.new }
+        ensures calm { raced self.new ≡ false };
 
     /// Whether edits were refused since `forget` because their row had changed since it was read. The request is then to
     /// be made again.
