@@ -21,6 +21,15 @@ fn compare_fronts(a: &[u8], b: &[u8]) -> Ordering
     front.cmp(&other)
 }
 
+/// Compares two texts in byte order as slices. A function of its own, since it needs the addresses of the slices, which
+/// `compare_texts` then keeps in registers.
+#[inline(never)]
+fn compare_slices(a: &[u8], b: &[u8]) -> Ordering
+    ensures { result ≡ byte_cmp a.now b.now }
+{
+    a.cmp(&b)
+}
+
 /// The length from which texts are compared as slices, which takes longer steps.
 const LONG: usize = 64;
 
@@ -31,7 +40,7 @@ pub fn compare_texts(a: &[u8], b: &[u8]) -> Ordering
     ensures { result ≡ byte_cmp a.now b.now }
 {
     if a.len() >= LONG && b.len() >= LONG {
-        return a.cmp(&b);
+        return compare_slices(a, b);
     }
     let mut left = a;
     let mut right = b;
@@ -47,7 +56,7 @@ pub fn compare_texts(a: &[u8], b: &[u8]) -> Ordering
         let at = a.len() - 8;
         return compare_fronts(a.split_at(at).1, b.split_at(at).1);
     }
-    left.cmp(&right)
+    compare_slices(left, right)
 }
 
 /// Whether two texts of the same length are equal, if they are equal up to their ends `left` and `right` of fewer than
