@@ -13,6 +13,7 @@ use Rattle.sorted_file.specs.declared.block.BlockRow.{BlockRow}
 use Rattle.sorted_file.specs.declared.file.SortedFile.{SortedFile}
 use Rattle.sorted_file.specs.declared.block.Block.{Block}
 use Rattle.sorted_file.proofs.OpenBlocks.{open_in, open_named}
+use Rattle.sorted_file.proofs.Results.{as_told}
 use Rattle.sorted_file.proofs.Rows.{IsNamed}
 use Rattle.sorted_file.proofs.Starts.{parsed_as}
 
@@ -51,6 +52,11 @@ same_file (Some m) file cache h = record {
   still = λ o.
       record { list = o.list; bounds = o.bounds; bounded = o.bounded; numbered = o.numbered; keyed = o.keyed; locks_kept = o.locks_kept; lasts = o.lasts; counted = o.counted; measured = o.measured; format = o.format; image = o.image; there = o.there; form = o.form; rows = o.rows; blocks = o.blocks; cached = h o };
 }
+
+-- a file from whose cache a block was evicted is the same file
+pub evicted_file : (told : Option Contents) (file : SortedFile) (cache : LruCache ℕ Block) → ((rows : List BlockRow) → AreCached rows file.cache.entries → AreCached rows cache.entries)
+    → IsSameFile told file (record { alloc = file.alloc; name = file.name; rows = file.rows; count = file.count; bytes = file.bytes; bounds = file.bounds; numbers = file.numbers; lock_keys = file.lock_keys; lock_values = file.lock_values; named_locks = file.named_locks; cache = cache })
+evicted_file told file cache still = same_file told file cache (as_told told _ (λ m e o. still file.rows.items o.cached))
 
 -- after a block was read, a cached block was cached before or is that block
 pub kept_or_read : (told : Option Contents) (file : SortedFile) (n : ℕ) (block : Block) (row : BlockRow) → slice_get file.rows.items n ≡ Some row → IsReadNow told (name_of file) row block

@@ -69,9 +69,9 @@ pub(crate) fn next_entry<'a>(
     Some((entry, key, rest))
 }
 
-/// The offsets of the entries in these bytes; `None` if the bytes are no entry list. Answers `NoMemory` if there is no
-/// memory.
-fn starts_of(alloc: Global, bytes: &[u8]) -> Result<Option<Vec<u32>>, Refusal>
+/// The offsets of the entries in these bytes; `None` if the bytes are no entry list. They take the memory of `room`.
+/// Answers `NoMemory` if there is no memory.
+fn starts_of(bytes: &[u8], room: Vec<u32>) -> Result<Option<Vec<u32>>, Refusal>
     requires { length bytes.now < 2 ^ 32 }
     ensures found { IfOk result (λ found.
         IfSome found (λ starts. IsSpelling bytes.now starts.items)) }
@@ -79,7 +79,7 @@ fn starts_of(alloc: Global, bytes: &[u8]) -> Result<Option<Vec<u32>>, Refusal>
         → bytes.now ≢ block_bytes es)) }
     ensures refusal { IsOkUnless result Refusal.NoMemory }
 {
-    let mut starts = room_for_starts(alloc, bytes.len())?;
+    let mut starts = room_for_starts(room, bytes.len())?;
     let mut last = None;
     let mut rest = bytes;
     'entries: while !rest.is_empty() {
@@ -93,18 +93,33 @@ fn starts_of(alloc: Global, bytes: &[u8]) -> Result<Option<Vec<u32>>, Refusal>
     Ok(Some(starts))
 }
 
-/// An empty list with room for the entries' offsets of a block of `len` bytes, if their values are short.
-pub(crate) fn room_for_starts(alloc: Global, len: usize) -> Result<Vec<u32>, Refusal>
+/// An empty list in the memory of `room`, with room for the entries' offsets of a block of `len` bytes, if their values
+/// are short.
+pub(crate) fn room_for_starts(room: Vec<u32>, len: usize) -> Result<Vec<u32>, Refusal>
     ensures none { IfOk result (λ starts. starts.items ≡ []) }
     ensures refusal { IsOkUnless result Refusal.NoMemory }
 {
-    let starts = Vec::with_capacity(alloc, (len / 32).min(128))?;
+    let mut starts = room;
+    starts.clear();
+    starts.reserve((len / 32).min(128))?;
     Ok(starts)
 }
 
 impl Block {
-    /// The block of these bytes; `None` if they are no entry list. Answers `NoMemory` if there is no memory.
-    pub(crate) fn parse(alloc: Global, bytes: Vec<u8>) -> Result<Option<Block>, Refusal>
+    /// A block without entries. Allocates nothing.
+    pub(crate) fn new(alloc: Global) -> Block
+        ensures bytes { result.bytes.items ≡ [] }
+        ensures starts { result.starts.items ≡ [] }
+    {
+        Block {
+            bytes: Vec::new(alloc),
+            starts: Vec::new(alloc),
+        }
+    }
+
+    /// The block of these bytes; `None` if they are no entry list. Its offsets take the memory of `room`. Answers
+    /// `NoMemory` if there is no memory.
+    pub(crate) fn parse(bytes: Vec<u8>, room: Vec<u32>) -> Result<Option<Block>, Refusal>
         requires { length bytes.items < 2 ^ 32 }
         ensures parsed { IfOk result (λ found. IfSome found (λ block. (es : List Entry)
             × IsParsed es block × (bytes.items ≡ block_bytes es))) }
@@ -112,7 +127,7 @@ impl Block {
             → bytes.items ≢ block_bytes es)) }
         ensures refusal { IsOkUnless result Refusal.NoMemory }
     {
-        let Some(starts) = starts_of(alloc, &bytes)? else {
+        let Some(starts) = starts_of(&bytes, room)? else {
             return Ok(None);
         };
         Ok(Some(Block { bytes, starts }))

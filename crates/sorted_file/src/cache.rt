@@ -73,3 +73,19 @@ pub(crate) fn promote(cache: &mut LruCache<usize, Block>, number: usize)
 {
     let _ = cache.promote(&number);
 }
+
+/// The block that is evicted next, if the cache is full, or an empty block: the room for another one.
+pub(crate) fn evict(alloc: Global, cache: &mut LruCache<usize, Block>) -> Block
+    ensures still { (rows : List Row) → AreCached rows cache.old.entries
+        → AreCached rows cache.new.entries }
+    ensures kept { (e : ℕ × Cached) → Contains cache.new.entries e
+        → Contains cache.old.entries e }
+{
+    if cache.len() < cache.cap().get() {
+        return Block::new(alloc);
+    }
+    match cache.pop_lru() {
+        Some((_, block)) => block,
+        None => Block::new(alloc),
+    }
+}

@@ -58,7 +58,7 @@ fn read_format<F: Files>(
         → Tells (F.contents files.old) name image → length image ≡ size → IsNoFile image }
     ensures reads { ReadsFiles F.contents F.faults files.old files.new result }
 {
-    let head = read_part(alloc, name, 0, HEAD, files)?;
+    let head = read_part(Vec::new(alloc), name, 0, HEAD, files)?;
     let Some(format) = format_of(&head) else {
         return Err(Refusal::Damaged);
     };
@@ -90,7 +90,7 @@ fn read_foot<F: Files>(
     ensures reads { ReadsFiles F.contents F.faults files.old files.new result }
 {
     let len = format.foot_len();
-    let foot = read_part(alloc, name, size - len, len, files)?;
+    let foot = read_part(Vec::new(alloc), name, size - len, len, files)?;
     let Some(at) = index_offset(format, &foot, size) else {
         return Err(Refusal::Damaged);
     };
@@ -117,7 +117,13 @@ fn read_frame<F: Files>(
     ensures reads { ReadsFiles F.contents F.faults files.old files.new result }
 {
     let (at, foot) = read_foot(alloc, name, format, size, files)?;
-    let index = read_part(alloc, name, at, size - format.foot_len() - at, files)?;
+    let index = read_part(
+        Vec::new(alloc),
+        name,
+        at,
+        size - format.foot_len() - at,
+        files,
+    )?;
     Ok((index, foot))
 }
 
@@ -190,7 +196,7 @@ impl Opening {
         if row.length > self.size - self.end || row.length > LONGEST_BLOCK {
             return Err(Refusal::Damaged);
         }
-        let bytes = read_part(self.alloc, self.name, self.end, row.length, files)?;
+        let bytes = read_part(Vec::new(self.alloc), self.name, self.end, row.length, files)?;
         let Some(read) = read_block(self.alloc, bytes, over)? else {
             return Err(Refusal::Damaged);
         };

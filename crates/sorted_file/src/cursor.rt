@@ -83,7 +83,13 @@ impl<'a> FileCursor<'a> {
             HasNoBlock m self.now.name row.now) }
         ensures reads { ReadsFiles F.contents F.faults files.old files.new result }
     {
-        let block = read_part(self.alloc, self.name, row.offset, row.length as u64, files)?;
+        let block = read_part(
+            Vec::new(self.alloc),
+            self.name,
+            row.offset,
+            row.length as u64,
+            files,
+        )?;
         let Some(rest) = bytes_from(&block, self.from) else {
             return Err(Refusal::Damaged);
         };

@@ -15,7 +15,7 @@ ghost use Rattle.sorted_file.specs.declared.block.BlockRow.{BlockRow as Row};
 
 use crate::block::{Block, BlockRow, newest_at, number_of_block, rows_to};
 use crate::bounds::ColumnBounds;
-use crate::cache::{few_blocks, keep, no_blocks, promote, resize};
+use crate::cache::{evict, few_blocks, keep, no_blocks, promote, resize};
 use crate::check::{Opening, read_file};
 use crate::cursor::FileCursor;
 use crate::format::HEAD;
@@ -278,7 +278,8 @@ impl SortedFile {
                 Ok(found)
             }
             None => {
-                let block = self.read_block(number, files)?;
+                let room = evict(self.alloc, &mut self.cache);
+                let block = self.read_block(number, room, files)?;
                 let found = newest_at(self.alloc, &block, key, lo)?;
                 keep(&mut self.cache, number, block);
                 Ok(found)
@@ -286,9 +287,14 @@ impl SortedFile {
         }
     }
 
-    /// A block, read from the file. Answers `Damaged` if there is no block that begins with the text in the index,
-    /// `Device` if a device fails, and `NoMemory` if there is no memory.
-    fn read_block<F: Files>(&self, number: usize, files: &mut F) -> Result<Block, Refusal>
+    /// A block, read from the file into the memory of `room`. Answers `Damaged` if there is no block that begins with the
+    /// text in the index, `Device` if a device fails, and `NoMemory` if there is no memory.
+    fn read_block<F: Files>(
+        &self,
+        number: usize,
+        room: Block,
+        files: &mut F,
+    ) -> Result<Block, Refusal>
         requires { number < length self.now.rows.items }
         ensures read { IfOk result (λ block. (row : Row)
             → slice_get self.now.rows.items number ≡ Some row
@@ -301,8 +307,9 @@ impl SortedFile {
         ensures reads { ReadsFiles F.contents F.faults files.old files.new result }
     {
         let row = &self.rows[number];
-        let bytes = read_part(self.alloc, self.name, row.offset, row.length as u64, files)?;
-        let Some(block) = Block::parse(self.alloc, bytes)? else {
+        let len = row.length as u64;
+        let bytes = read_part(room.bytes, self.name, row.offset, len, files)?;
+        let Some(block) = Block::parse(bytes, room.starts)? else {
             return Err(Refusal::Damaged);
         };
         if !block.begins_with(&row.first) {

@@ -172,7 +172,7 @@ fn gather(
         → bytes.now ≢ block_bytes es)) }
     ensures refusal { IsOkUnless result Refusal.NoMemory }
 {
-    let mut starts = room_for_starts(alloc, bytes.len())?;
+    let mut starts = room_for_starts(Vec::new(alloc), bytes.len())?;
     let mut columns = Columns::with_room(alloc)?;
     let mut last = None;
     let mut rest = bytes;
@@ -208,7 +208,7 @@ impl GatheredBlock {
         ensures refusal { IsOkUnless result Refusal.NoMemory }
     {
         let bytes = Vec::with_capacity(alloc, BLOCK_LIMIT as usize)?;
-        let starts = room_for_starts(alloc, BLOCK_LIMIT as usize)?;
+        let starts = room_for_starts(Vec::new(alloc), BLOCK_LIMIT as usize)?;
         let block = Block { bytes, starts };
         let columns = Columns::with_room(alloc)?;
         Ok(GatheredBlock { block, columns })

@@ -1,6 +1,6 @@
 //! Sources, which give entries one after another, and reads of parts of files.
 
-ghost use Rattle.std.specs.Prelude.{◌≡◌, ◌≤◌, ◌+◌, ℕ, List, Option, option_map, is_some, IfOk, OnOk, IsErrOf, IfErr, IfSome, if◌then◌else◌, length, ◌<◌};
+ghost use Rattle.std.specs.Prelude.{◌≡◌, ◌≤◌, ◌+◌, ℕ, List, Option, option_map, is_some, IfOk, OnOk, IsErrOf, IfErr, IfSome, if◌then◌else◌, length, ◌<◌, IsOkUnless};
 ghost use Rattle.cell_key.specs.Entries.{Entry, IsEntryList, Takes, lent_entry};
 ghost use Rattle.cell_key.specs.Faults.{HasReason};
 ghost use Rattle.file_store.specs.Store.{Contents, Reads, bytes_of, part};
@@ -89,10 +89,24 @@ fn read_into<F: Files>(
     files.read_at(name, offset, buffer).map_err(refusal_of)
 }
 
-/// `len` bytes of a file from an offset on. Answers `Damaged` if the file ends before that, `Device` if a device fails,
-/// and `NoMemory` if there is no memory.
+/// Any `len` bytes, in the memory of `room` if they fit there. Answers `NoMemory` if there is no memory.
+fn with_length(room: Vec<u8>, len: usize) -> Result<Vec<u8>, Refusal>
+    ensures length { IfOk result (λ bytes. length bytes.items ≡ len) }
+    ensures refusal { IsOkUnless result Refusal.NoMemory }
+{
+    let mut bytes = room;
+    if bytes.capacity() < len {
+        bytes.clear();
+        bytes.reserve_exact(len)?;
+    }
+    bytes.resize(len, 0)?;
+    Ok(bytes)
+}
+
+/// `len` bytes of a file from an offset on, in the memory of `room` if they fit there. Answers `Damaged` if the file ends
+/// before that, `Device` if a device fails, and `NoMemory` if there is no memory.
 pub(crate) fn read_part<F: Files>(
-    alloc: Global,
+    room: Vec<u8>,
     name: u64,
     offset: u64,
     len: u64,
@@ -109,7 +123,7 @@ pub(crate) fn read_part<F: Files>(
         length (part (bytes_of m name) offset len) < len) }
     ensures reads { ReadsFiles F.contents F.faults files.old files.new result }
 {
-    let mut bytes = vec![in alloc; 0; len as usize]?;
+    let mut bytes = with_length(room, len as usize)?;
     let read = read_into(name, offset, &mut bytes, files)?;
     if read < len as usize {
         return Err(Refusal::Damaged);
