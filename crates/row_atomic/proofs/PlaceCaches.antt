@@ -6,7 +6,7 @@ use Rattle.std.specs.Map.{lookup, lookup_entry, remove_entry}
 use Rattle.std.specs.Option.{option_map_or}
 use Rattle.lru.specs.LruCache.{LruCache, lru_cache, promoted, put_entries}
 use Rattle.lru.proofs.CallerLemmas.{Contains-lookup, Contains-promoted, Contains-put_entries}
-use Rattle.metadata_table.specs.Places.{PlaceView}
+use Rattle.metadata_table.specs.Places.{EndsBefore, PlaceView}
 use Rattle.metadata_table.specs.Table.{IsNumbered, IsTable, naming, with_files}
 use Rattle.tablet.specs.declared.tablet.Tablet.{Tablet}
 use Rattle.row_atomic.specs.Clusters.{ArePlaced}
@@ -115,3 +115,23 @@ at_kept places ts row i placed held =
     let number = held.number in
     let index : held.place.tablet - 1 ≡ i = omega arith in
     subst (HasTabletAt places ts row) index (holder_index places ts row held.place placed held.holder).at
+
+-- the only tablet has the number 1 and holds every row
+pub only_held : (places : List PlaceView) (row : List ℕ) → IsTable places → length places ≡ 1 → IsHeldBy places row 1
+only_held [] row table one = absurd (omega (arith, one))
+only_held (p ∷ []) row table one =
+    let numbered = table.numbered.0 in
+    let from = numbered.from in
+    let to = numbered.to in
+    record {
+      place = p;
+      holder = record {
+        before = [];
+        after = [];
+        parts = refl;
+        past = tt;
+        within = subst (λ (end : Option (List ℕ)). ¬ EndsBefore end row) (sym table.rising) (λ before. before);
+      };
+      number = omega (arith, from, to);
+    }
+only_held (p ∷ q ∷ ps) row table one = absurd (omega (arith, one))

@@ -111,7 +111,7 @@ impl PlaceCache {
 }
 
 /// The index of the tablet that holds a row, from the cache, or else from the table, and then it is cached. A table's only
-/// tablet holds every row: then the cache isn't asked.
+/// tablet has the number 1 and holds every row: then neither is searched.
 pub(crate) fn index_of(table: &MetadataTable, cache: &mut PlaceCache, row: &Row) -> usize
     requires { AreHeld table.now cache.old.numbers.entries }
     ensures holder { IsHeldBy table.now row.now (result + 1) }
@@ -122,7 +122,7 @@ pub(crate) fn index_of(table: &MetadataTable, cache: &mut PlaceCache, row: &Row)
         ≡ hits_after (number_kept row.now cache.old.numbers.entries) cache.old.hits }
 {
     if table.len() == 1 {
-        return table.locate(row).tablet as usize - 1;
+        return 0;
     }
     let number = match cache.find(row) {
         Some(number) => number,
