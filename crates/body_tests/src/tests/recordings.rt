@@ -415,21 +415,33 @@ fn is_judged(alloc: Global, recording: &Recording, said: bool) -> Result<bool, R
     }
 }
 
-#[test]
-fn wrong_and_free_replies(rt: HostRuntime) -> Result<(), Fail> {
-    for recording in WRONG {
-        assert!(rt;
-            is_judged(rt.alloc(), &recording, false)?,
-            "{:?}",
-            recording.2
-        );
+/// The recordings, and whether the last reply of each is accepted.
+const JUDGED: [(&[Recording], bool); 4] = [
+    (&WRONG, false),
+    (&FREE, true),
+    (&WRONG_SCANS, false),
+    (&FREE_SCANS, true),
+];
+
+/// The last exchange of the first recording of a list that is judged otherwise.
+fn first_wrong(
+    alloc: Global,
+    recordings: &[Recording],
+    said: bool,
+) -> Result<Option<Exchange>, Refusal> {
+    for recording in recordings {
+        if !is_judged(alloc, recording, said)? {
+            return Ok(Some(recording.2));
+        }
     }
-    for recording in FREE {
-        assert!(rt;
-            is_judged(rt.alloc(), &recording, true)?,
-            "{:?}",
-            recording.2
-        );
+    Ok(None)
+}
+
+#[test]
+fn recorded_replies(rt: HostRuntime) -> Result<(), Fail> {
+    for (recordings, said) in JUDGED {
+        let wrong = first_wrong(rt.alloc(), recordings, said)?;
+        assert!(rt; wrong.is_none(), "{wrong:?}");
     }
     Ok(())
 }
@@ -445,25 +457,6 @@ const STOPPED_BY_RESTART: [Exchange; 2] = [
         b"\x86\x01\0\0\0\0\0\0\0\x01\0\0\0\0\0\0\0\x03",
     ),
 ];
-
-#[test]
-fn wrong_and_free_scans(rt: HostRuntime) -> Result<(), Fail> {
-    for recording in WRONG_SCANS {
-        assert!(rt;
-            is_judged(rt.alloc(), &recording, false)?,
-            "{:?}",
-            recording.2
-        );
-    }
-    for recording in FREE_SCANS {
-        assert!(rt;
-            is_judged(rt.alloc(), &recording, true)?,
-            "{:?}",
-            recording.2
-        );
-    }
-    Ok(())
-}
 
 #[test]
 fn reopened_audit(rt: HostRuntime) -> Result<(), Fail> {
